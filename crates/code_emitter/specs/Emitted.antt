@@ -4,9 +4,8 @@ use Rattle.std.specs.Prelude.{◌≡◌, ℕ, ◌+◌, ◌≤◌, List, ◌++◌
 use Rattle.std.specs.declared.alloc.AllocError.{AllocError}
 use Rattle.pcode_assembler.specs.declared.instr.Instr.{Instr}
 use Rattle.typed_tree.specs.declared.tree.Stmt.{Stmt}
-use Rattle.code_emitter.specs.declared.scope.Scope.{Scope}
-use Rattle.code_emitter.specs.Code.{placed, stmt_code}
-use Rattle.code_emitter.specs.Sizes.{all_tables, measured}
+use Rattle.code_scheme.specs.Scopes.{Scope}
+use Rattle.code_scheme.specs.Sizes.{all_tables, measured}
 
 -- this code, of statements with these sizes
 abbrev pub Emits : Result (Unit {0}) AllocError → List Instr → List Instr → List ℕ → List ℕ → List Instr → List ℕ
@@ -15,10 +14,6 @@ Emits answer before after sizes left code table =
     (rest : List ℕ) → sizes ≡ table ++ rest → length before + length code ≤ 4294967295
     → OnOk answer ((after ≡ before ++ code) × (left ≡ rest))
 
--- some statements one after another, from this place on
-abbrev pub statements_code : Scope → List Stmt → ℕ → List Instr
-statements_code scope statements place = placed (map (λ s. stmt_code s scope) statements) place
-
--- what is told of them
+-- what is told of some statements
 abbrev pub statements_table : Scope → List Stmt → List ℕ
 statements_table scope statements = all_tables (map (λ s. measured s scope) statements)

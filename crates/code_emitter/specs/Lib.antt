@@ -1,4 +1,1 @@
-pub mod Code
 pub mod Emitted
-pub mod Need
-pub mod Sizes

@@ -40,7 +40,7 @@ module _ (frame limit size : ℕ) where
   pub has_room : (count : ℕ) (cells : List Cell) → length cells - count < limit → has_room_after count (framed cells) ≡ Ok tt
   has_room count cells h = ap (λ b. unless_fault b OutOfBounds) (lt-ltb (length cells - count) limit h)
 
-  in_use_is : (address used : ℕ) → address < used → in_use address used ≡ Ok address
+  pub in_use_is : (address used : ℕ) → address < used → in_use address used ≡ Ok address
   in_use_is address used h = ap (λ b. if b then Ok address else Err OutOfBounds) (lt-ltb address used h)
 
   -- a push
@@ -63,12 +63,12 @@ module _ (frame limit size : ℕ) where
         let e : length (below ++ cell ∷ []) - 1 ≡ length below = omega (arith, length_one below cell) in
         ap (slice_get (below ++ cell ∷ [])) e ∙ slice_get_seam below cell []
 
-    one_popped : (cell : Cell) → take (length (below ++ cell ∷ []) - 1) (below ++ cell ∷ []) ≡ below
+    pub one_popped : (cell : Cell) → take (length (below ++ cell ∷ []) - 1) (below ++ cell ∷ []) ≡ below
     one_popped cell =
         let e : length (below ++ cell ∷ []) - 1 ≡ length below = omega (arith, length_one below cell) in
         ap (λ n. take n (below ++ cell ∷ [])) e ∙ take-append_seam below (cell ∷ [])
 
-    has_one : (cell : Cell) → has 1 (framed (below ++ cell ∷ [])) ≡ Ok tt
+    pub has_one : (cell : Cell) → has 1 (framed (below ++ cell ∷ [])) ≡ Ok tt
     has_one cell = has_some 1 (below ++ cell ∷ []) (omega (arith, length_one below cell))
 
     pub defines : (cell : Cell) → top_is_defined 1 (framed (below ++ cell ∷ [])) ≡ Ok (list_all is_defined (cell ∷ []))
@@ -127,15 +127,15 @@ module _ (frame limit size : ℕ) where
 
     -- two numbers at the top
     module _ (a b : ℤ) where
-      abbrev two : List Cell
+      abbrev pub two : List Cell
       two = (below ++ Number a ∷ []) ++ Number b ∷ []
 
-      right_at : slice_get two (length two - 1) ≡ Some (Number b)
+      pub right_at : slice_get two (length two - 1) ≡ Some (Number b)
       right_at =
           let e : length two - 1 ≡ length (below ++ Number a ∷ []) = omega (arith, length_two below (Number a) (Number b), length_one below (Number a)) in
           ap (slice_get two) e ∙ slice_get_seam (below ++ Number a ∷ []) (Number b) []
 
-      left_at : slice_get two (length two - 2) ≡ Some (Number a)
+      pub left_at : slice_get two (length two - 2) ≡ Some (Number a)
       left_at =
           let e : length two - 2 ≡ length below = omega (arith, length_two below (Number a) (Number b)) in
           ap (slice_get two) e ∙ ap (λ cs. slice_get cs (length below)) (append_assoc below (Number a ∷ []) (Number b ∷ []))
@@ -147,7 +147,7 @@ module _ (frame limit size : ℕ) where
           ap (λ n. take n two) e ∙ ap (take (length below)) (append_assoc below (Number a ∷ []) (Number b ∷ []))
           ∙ take-append_seam below (Number a ∷ Number b ∷ [])
 
-      has_two : has 2 (framed two) ≡ Ok tt
+      pub has_two : has 2 (framed two) ≡ Ok tt
       has_two = has_some 2 two (omega (arith, length_two below (Number a) (Number b)))
 
       numbers_are : two_numbers (framed two) ≡ Ok (a, b)

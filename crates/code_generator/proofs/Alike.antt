@@ -8,7 +8,8 @@ use Rattle.std.proofs.lemmas.List.{length-set}
 use Rattle.std.proofs.lemmas.Option.{slice_get_within}
 use Rattle.meaning.specs.declared.store.Value.{Value}
 use Rattle.meaning.specs.declared.store.Value.TheVariants as value
-use Rattle.meaning.specs.Store.{Step, Place, Store, Environment, place_eq, stored, written, undefined}
+use Rattle.types.specs.Components.{Steps}
+use Rattle.meaning.specs.Store.{Place, Store, Environment, place_eq, stored, written, undefined}
 use Rattle.stack_machine.specs.declared.cell.Cell.{Cell}
 use Rattle.stack_machine.specs.declared.cell.Cell.TheVariants.{Undefined, Number}
 use Rattle.stack_machine.specs.declared.stop.MachineFault.TheVariants.{OutOfBounds}
@@ -25,6 +26,13 @@ abbrev pub HasFit : Option Value → Type 0
 HasFit None = Unit {0}
 HasFit (Some (value.Number n)) = Fits n
 
+-- a variable of a frame
+pub record Extent : Type 0 where
+  -- where it begins in its frame
+  pub start : ℕ
+  -- the steps to its scalar components, which lie one behind another
+  pub components : List Steps
+
 -- an activation of a block, and its frame
 pub record Activation : Type 0 where
   -- its number in the program's meaning
@@ -33,8 +41,8 @@ pub record Activation : Type 0 where
   pub frame : ℕ
   -- the frame that its static link leads to; the program's leads nowhere
   pub outer : Option ℕ
-  -- where a variable of its own begins in its frame, by the variable's root
-  pub owns : ℕ → Option ℕ
+  -- a variable of its own, by the variable's root
+  pub owns : ℕ → Option Extent
   -- where the cell of a variable parameter lies in its frame, by the parameter's root, and the place that it stands for
   pub refers : ℕ → Option (ℕ × Place)
 
@@ -42,19 +50,14 @@ pub record Activation : Type 0 where
 abbrev pub World : Type 0
 World = List Activation
 
--- where a scalar lies within its variable, by the steps that lead to it: a variable is a scalar itself
-abbrev pub path_offset : List Step → Option ℕ
-path_offset [] = Some 0
-path_offset (step ∷ steps) = None
-
 -- a place is a scalar of an activation's own variable, and lies in this cell
 pub record Lies (a : Activation) (p : Place) (cell : ℕ) : Type 0 where
   pub its : p.activation ≡ a.number
-  pub start : ℕ
-  pub owned : a.owns p.variable ≡ Some start
+  pub extent : Extent
+  pub owned : a.owns p.variable ≡ Some extent
   pub inward : ℕ
-  pub reached : path_offset p.steps ≡ Some inward
-  pub cell_is : cell ≡ a.frame + start + inward
+  pub reached : slice_get extent.components inward ≡ Some p.steps
+  pub cell_is : cell ≡ a.frame + extent.start + inward
 
 -- a place is a scalar of a living activation, and lies in this cell
 pub record LiesIn (world : World) (p : Place) (cell : ℕ) : Type 0 where
@@ -203,7 +206,7 @@ leads_from : (world : World) (level : ℕ) (a b : Activation) → Leads world le
 leads_from world zero a b l = l.0
 leads_from world (suc level) a b l = l.1
 
-leads_to : (world : World) (level : ℕ) (a b : Activation) → Leads world level a b → Contains world b
+pub leads_to : (world : World) (level : ℕ) (a b : Activation) → Leads world level a b → Contains world b
 leads_to world zero a b l = subst (Contains world) l.1 l.0
 leads_to world (suc level) a b l = leads_to world level l.0 b l.3
 
@@ -221,33 +224,20 @@ base_is world store cells (suc level) a c alike l =
 -- how code reaches a variable: over so many static links, at an offset of the frame there; it lies there itself, or
 -- its address does
 pub data Way : Type 0 where
-  Direct : (level offset : ℕ) → Way
+  Direct : (level : ℕ) (extent : Extent) → Way
   ByAddress : (level offset : ℕ) → Way
 
 -- in this activation a variable is visible, and is reached in this way
 abbrev pub Shown : Environment → World → Activation → ℕ → Way → Type 0
-Shown env world a root (Direct level offset) =
-    (b : Activation) × Leads world level a b × (b.owns root ≡ Some offset) × (env root ≡ Some (record { activation = b.number; variable = root; steps = [] }))
+Shown env world a root (Direct level extent) =
+    (b : Activation) × Leads world level a b × (b.owns root ≡ Some extent)
+    × (env.variables root ≡ Some (record { activation = b.number; variable = root; steps = [] }))
 Shown env world a root (ByAddress level offset) =
-    (b : Activation) × Leads world level a b × (p : Place) × (b.refers root ≡ Some (offset, p)) × (env root ≡ Some p)
-
--- the environment of an activation has the variables that its code reaches, each in its way
-pub record Shows (env : Environment) (world : World) (a : Activation) (ways : ℕ → Option Way) : Type 0 where
-  pub each : (root : ℕ) (way : Way) → ways root ≡ Some way → Shown env world a root way
+    (b : Activation) × Leads world level a b × (p : Place) × (b.refers root ≡ Some (offset, p)) × (env.variables root ≡ Some p)
 
 -- a variable is visible, and its place lies in this cell
 abbrev pub HasCell : Environment → World → ℕ → ℕ → Type 0
-HasCell env world root cell = (p : Place) × (env root ≡ Some p) × LiesIn world p cell
-
--- a variable that is reached directly is a scalar and lies where it is looked for
-pub direct_lies : (env : Environment) (world : World) (a : Activation) (root level offset : ℕ) → Shown env world a root (Direct level offset)
-    → (b : Activation) × Leads world level a b × HasCell env world root (b.frame + offset)
-direct_lies env world a root level offset s =
-    let b = s.0 in
-    let whole : Place = record { activation = b.number; variable = root; steps = [] } in
-    let lies : Lies b whole (b.frame + offset) = record { its = refl; start = offset; owned = s.2; inward = 0; reached = refl; cell_is = omega arith } in
-    let there : LiesIn world whole (b.frame + offset) = record { owner = b; lives = leads_to world level a b s.1; lies = lies } in
-    (b, s.1, (whole, s.3, there))
+HasCell env world root cell = (p : Place) × (env.variables root ≡ Some p) × LiesIn world p cell
 
 -- where a variable is reached by its address, that is the address of its cell
 pub address_lies : (env : Environment) (world : World) (store : Store) (cells : List Cell) (a : Activation) (root level offset : ℕ) → IsClosed world

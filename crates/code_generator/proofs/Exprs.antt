@@ -1,14 +1,16 @@
 -- The code of an expression leaves its value on top, or stops as the expression does.
 use Rattle.std.proofs.Common.{◌≡◌, ℕ, ◌+◌, ◌<◌, ◌≤◌, max, List, [], ◌∷◌, ◌++◌, length, map, Option, Some, None, Ok, refl, sym, ap, ◌∙◌, subst, arith}
-use Rattle.std.proofs.Common.{length-append, append_assoc, append-nil, Bool, true, false}
-use Rattle.std.specs.Prelude.{ℤ, pos, neg_ℤ, ◌+ℤ◌, ◌-ℤ◌, ◌*ℤ◌, int_le, int_lt, int_div, unsigned_abs, nat_lt, not, ◌&&◌, ◌||◌, fold}
+use Rattle.std.proofs.Common.{length-append, append_assoc, Bool, true, false}
+use Rattle.std.specs.Prelude.{ℤ, pos, neg_ℤ, ◌+ℤ◌, ◌-ℤ◌, ◌*ℤ◌, int_le, int_lt, int_div, unsigned_abs, nat_eq, nat_lt, not, ◌&&◌, ◌||◌, fold}
 use Rattle.std.specs.Int.{w32, cast_signed, int_rem_euclid, int_wrapping_add, int_wrapping_sub, int_wrapping_mul, int_wrapping_div, int_wrapping_neg}
 use Rattle.std.specs.Ordering.{int_eq}
-use Rattle.std.proofs.lemmas.Bool.{eqb-true, leb-true, ltb-true, and_parts}
-use Rattle.std.proofs.lemmas.List.{length-map}
+use Rattle.std.proofs.lemmas.Bool.{eqb-true, ltb-true, and_parts}
 use Rattle.pcode_assembler.specs.declared.instr.Instr.{Instr}
 use Rattle.pcode_assembler.specs.declared.instr.Instr.TheVariants as instr
+use Rattle.types.specs.Types.{is_ordinal}
+use Rattle.types.specs.declared.form.TypeForm.{TypeForm}
 use Rattle.typed_tree.specs.declared.tree.Access.{Access}
+use Rattle.typed_tree.specs.declared.tree.Variable.{Variable as DeclaredVariable}
 use Rattle.typed_tree.specs.declared.tree.Monadic.{Monadic}
 use Rattle.typed_tree.specs.declared.tree.Monadic.TheVariants as monadic
 use Rattle.typed_tree.specs.declared.tree.Dyadic.{Dyadic}
@@ -18,7 +20,6 @@ use Rattle.typed_tree.specs.declared.tree.Relation.TheVariants as relation
 use Rattle.typed_tree.specs.declared.tree.Width.{Width}
 use Rattle.typed_tree.specs.declared.tree.Written.{Written}
 use Rattle.typed_tree.specs.declared.tree.Whole.{Whole}
-use Rattle.typed_tree.specs.declared.tree.Whole.TheVariants.{Text}
 use Rattle.typed_tree.specs.declared.tree.Expr.{Expr}
 use Rattle.typed_tree.specs.declared.tree.Link.{Link}
 use Rattle.typed_tree.specs.declared.tree.Expr.TheOpen.{Expr-F, Link-F}
@@ -27,64 +28,45 @@ use Rattle.typed_tree.specs.declared.tree.Expr.TheViews.{roll-Expr, roll-Link}
 use Rattle.typed_tree.specs.declared.tree.Expr.TheFolds.{fold-Expr, fold-Link, map-Expr, map-Link, fold-roll-Expr, fold-roll-Link, ind-Expr}
 use Rattle.meaning.specs.declared.store.Value.{Value}
 use Rattle.meaning.specs.declared.store.Value.TheVariants as value
-use Rattle.meaning.specs.Store as meant
-use Rattle.meaning.specs.Store.{Environment, held, stored}
+use Rattle.meaning.specs.Store.{held}
 use Rattle.meaning.specs.Effect as effect
-use Rattle.meaning.specs.Effect.{Reply, Gives, Action, ◌>>=◌, fetched, require, give}
+use Rattle.meaning.specs.Effect.{Reply, Action, ◌>>=◌, fetch, require, give}
 use Rattle.meaning.specs.Meaning.{Evaluation, Combination, value_of, link_of, value_step, operated, combined, relates, in_turn, width_of, order_of}
 use Rattle.meaning.specs.Meaning as meaning
 use Rattle.meaning.specs.Integers.{is_within, magnitude, truth}
 use Rattle.stack_machine.specs.declared.cell.Cell.{Cell}
-use Rattle.stack_machine.specs.declared.cell.Cell.TheVariants.{Undefined, Number}
+use Rattle.stack_machine.specs.declared.cell.Cell.TheVariants.{Number}
 use Rattle.stack_machine.specs.Frames as frames
 use Rattle.stack_machine.specs.Frames.{Attempt}
 use Rattle.stack_machine.specs.Rows as rows
 use Rattle.stack_machine.specs.Machine.{State, obeyed, and_then, checked, with_frames}
-use Rattle.code_emitter.specs.Code.{joined, variable_offset, monadic_code, dyadic_code, relation_instr, variable_code, width_code, check_positive, expr_code}
-use Rattle.code_emitter.specs.Code.{link_code, expr_step, link_step, expr_depth, link_depth, expr_depth_step, link_depth_step, width_depth, monadic_depth}
-use Rattle.code_emitter.specs.Code.{compare_code, default_width, row_length}
+use Rattle.code_scheme.specs.Code.{joined, monadic_code, dyadic_code, relation_instr, variable_code, width_code, check_positive, expr_code, link_code}
+use Rattle.code_scheme.specs.Code.{expr_step}
+use Rattle.code_scheme.specs.Code.{link_step, compare_code, default_width, whole_code}
+use Rattle.code_scheme.specs.Depth.{access_depth, expr_depth, link_depth, expr_depth_step, link_depth_step, width_depth, monadic_depth, whole_depth}
+use Rattle.code_scheme.specs.Scopes.{access_offset, behind_fields, row_length}
 use Rattle.typed_tree.specs.WellFormed.{all_hold, monadic_is_well_formed, dyadic_is_well_formed, expr_is_well_formed, link_is_well_formed, is_well_formed_expr}
-use Rattle.typed_tree.specs.WellFormed.{is_well_formed_link, is_well_formed_width, is_whole, are_characters, length_of}
+use Rattle.typed_tree.specs.WellFormed.{is_well_formed_link, is_well_formed_width, is_well_formed_whole, is_whole, leads_to_ordinal, length_of, whole_indexes}
 use Rattle.check_remover.specs.Strip.{moved}
-use Rattle.code_emitter.proofs.Pieces.{start_within}
-use Rattle.code_generator.proofs.Reach.{StandsAt, Stands, stands_front, stands_back, Comes, comes_less, comes_on, stays_here}
+use Rattle.code_scheme.proofs.Pieces.{start_within}
+use Rattle.code_generator.proofs.Reach.{StandsAt, Stands, stands_front, stands_back, Comes, comes_on, stays_here}
 use Rattle.code_generator.proofs.Rows.{cells_of, length-cells_of, compares, same_order, order_fits}
 use Rattle.code_generator.proofs.Setting.{Setting, on, Based, linked, Here, acts, passes, fails, Evaluates, gives, evaluates_from, then_evaluates}
-use Rattle.code_generator.proofs.Alike.{cell_of, HasFit, cell_within, alike_above, base_is, direct_lies}
-use Rattle.code_generator.proofs.Acts.{framed, length_one, pushes, loads, defines, on_one_is, is_in_range, is_not_zero, squares, sums, differs, multiplies}
+use Rattle.code_generator.proofs.Accesses.{Indexes, expressions, wells, as_many_wells, codes, depths, leads, begins, entered, fetch_runs}
+use Rattle.code_generator.proofs.Evaluating.{sites, frames_of, fetched_at, RunsAs, CombinesAs, ExprRuns, LinkRuns, one_held}
+use Rattle.code_generator.proofs.Wholes.{few_components, row_evaluates, whole_runs}
+use Rattle.code_generator.proofs.Acts.{length_one, pushes, on_one_is, is_in_range, is_not_zero, squares, sums, differs, multiplies}
 use Rattle.code_generator.proofs.Acts.{on_two_is, divides, leaves}
 use Rattle.code_generator.proofs.Numbers.{Fits, sum_is, difference_is, product_is, fits_negated, negated_is, fits_magnitude, magnitude_is, fits_quotient}
 use Rattle.code_generator.proofs.Numbers.{quotient_is, fits_remainder, fits_truth, same_truth, same_test, same_positive, fits_next, fits_previous, same_below}
 use Rattle.code_generator.proofs.Numbers.{same_above, same_char}
 
 module _ (g : Setting) where
-  abbrev variables : ℕ
-  variables = length g.tree.variables.items
+  abbrev variables : List DeclaredVariable
+  variables = g.tree.variables.items
 
-  abbrev sites : ℕ
-  sites = length g.tree.sites.items
-
-  -- the store in the running frame
-  abbrev frames_of : List Cell → frames.Frames
-  frames_of = framed g.running.frame g.limit g.size
-
-  -- the machine behind the fetch of an instruction
-  abbrev fetched_at : List Cell → ℕ → List ℕ → State
-  fetched_at cells place output = record (on g cells place output) { place = g.target.to place + 1 }
-
-  -- the code c of an evaluation
-  abbrev pub RunsAs : List Instr → ℕ → Bool → Evaluation → Type 0
-  RunsAs c depth well evaluation =
-      (place : ℕ) (base held : List Cell) (s : effect.State) → Stands g.target place c → well ≡ true → Based g s.store base
-      → g.below + length held + depth ≤ g.limit
-      → Evaluates g s.turns (on g (base ++ held) place s.output) held (place + length c) (evaluation g.environment s)
-
-  -- the code c of an operator and its right operand
-  abbrev pub CombinesAs : List Instr → ℕ → Bool → Combination → Type 0
-  CombinesAs c depth well combination =
-      (place : ℕ) (base held : List Cell) (a : ℤ) (s : effect.State) → Stands g.target place c → well ≡ true → Based g s.store base
-      → g.below + length held + depth ≤ g.limit → Fits a
-      → Evaluates g s.turns (on g ((base ++ held) ++ Number a ∷ []) place s.output) held (place + length c) (combination g.environment (value.Number a) s)
+  abbrev types : List TypeForm
+  types = g.tree.types
 
   -- a number that is pushed
   number_runs : (n : ℤ) (place : ℕ) (base held : List Cell) (s : effect.State) → Here g place (instr.LoadConstant n) → Fits n → Based g s.store base
@@ -96,67 +78,44 @@ module _ (g : Setting) where
       (pushes g.running.frame g.limit g.size (base ++ held) n (omega arith))) fit (omega arith)
 
   -- a constant
-  constant_runs : (number : ℕ) (n : ℤ) → RunsAs (expr_step g.scope (Constant number n)) (expr_depth_step (Constant number n))
-      (expr_is_well_formed variables sites (Constant number n)) (value_step (Constant number n))
+  constant_runs : (number : ℕ) (n : ℤ) → RunsAs g (expr_step g.scope (Constant number n)) (expr_depth_step (Constant number n))
+      (expr_is_well_formed variables types (sites g) (Constant number n)) (value_step (Constant number n))
   constant_runs number n place base held s stands well based room =
       number_runs n place base held (record s { visited = s.visited ++ record { number = number; environment = g.environment; store = s.store } ∷ [] })
       stands.0 (record { is = well }) (record { full = based.full; alike = based.alike }) room
 
-  -- what a variable holds, on top, and its check
-  fetched_runs : (place defined : ℕ) (base held : List Cell) (s : effect.State) (found : Option Value)
-      → StandsAt g.target place (instr.CheckDefined defined 1) (g.target.is_open defined) → defined < sites → Based g s.store base
-      → g.below + length held < g.limit → HasFit found
-      → Evaluates g s.turns (on g ((base ++ held) ++ cell_of found ∷ []) place s.output) held (place + 1) (fetched found defined s)
-  fetched_runs place defined base held s None stands within based room fit =
-      fails g (instr.CheckDefined defined 1) ((base ++ held) ++ Undefined ∷ []) place defined s.output _ refl refl s.turns stands within
-      (defines g.running.frame g.limit g.size (base ++ held) (linked g s.store base held based) Undefined)
-  fetched_runs place defined base held s (Some (value.Number n)) stands within based room fit =
-      gives g 0 _ base held (place + 1) n s based
-      (passes g (instr.CheckDefined defined 1) ((base ++ held) ++ Number n ∷ []) place defined s.output _ refl refl stands
-      (defines g.running.frame g.limit g.size (base ++ held) (linked g s.store base held based) (Number n)))
-      fit room
-
-  variable_runs : (access : Access) (defined : ℕ) → RunsAs (variable_code g.scope access.root defined) 1
-      (nat_lt access.root variables && nat_lt defined sites) (value_step (Variable access defined))
-  variable_runs access defined place base held s stands well based room =
-      let parts = and_parts _ _ well in
-      let root_within = ltb-true access.root variables parts.0 in
-      let site_within = ltb-true defined sites parts.1 in
-      let offset = variable_offset g.scope access.root in
-      let way = direct_lies g.environment g.world g.running access.root 0 offset (g.shows access.root root_within) in
-      let owner = way.0 in
-      let p = way.2.0 in
-      let lies = way.2.2 in
-      let cells = base ++ held in
-      let above = alike_above g.world s.store base held based.alike in
-      let s' : effect.State = record s { visited = s.visited ++ record { number = access.number; environment = g.environment; store = s.store } ∷ [] } in
-      let cell = cell_of (stored s.store p) in
-      let long = length-append base held in
-      let full = based.full in
-      let loaded = acts g (instr.Load 0 offset) cells (cells ++ cell ∷ []) place s.output _ stands.0 refl
-      (loads g.running.frame g.limit g.size cells 0 offset owner.frame cell (omega arith) (base_is g.world s.store cells 0 g.running owner above way.1)
-      (cell_within g.world s.store cells p (owner.frame + offset) above lies) (above.scalars p (owner.frame + offset) lies)) in
-      let rest = fetched_runs (place + 1) defined base held s' (stored s.store p) stands.1.0 site_within (record { full = full; alike = based.alike })
-      (omega arith) (above.fits p (owner.frame + offset) lies) in
-      let whole = evaluates_from g 1 s.turns _ _ held (place + 1 + 1) (fetched (stored s.store p) defined s') loaded rest in
-      let e : place + 1 + 1 ≡ place + 2 = omega arith in
-      subst (λ o. Evaluates g s.turns (on g cells place s.output) held (place + 2) (fetched o defined s')) (sym (ap (meant.held s.store) way.2.1))
-      (subst (λ q. Evaluates g s.turns (on g cells place s.output) held q (fetched (stored s.store p) defined s')) e whole)
+  -- what a variable or a component holds
+  variable_runs : (access : Access) (indexes : Indexes g) (defined : ℕ)
+      → RunsAs g (variable_code g.scope access (codes g indexes) defined) (access_depth (depths g indexes))
+      (all_hold (wells g indexes) && (leads_to_ordinal variables types (sites g) access.root access.selectors.items (length (wells g indexes))
+      && nat_lt defined (sites g)))
+      (λ env. meaning.accessed access (map value_of (expressions g indexes)) env >>= λ q. fetch q defined)
+  variable_runs access indexes defined place base held s stands good based room =
+      let parts = and_parts _ _ good in
+      let parts' = and_parts _ _ parts.1 in
+      let led_to = leads g (is_ordinal types) access.root access.selectors.items (length (expressions g indexes))
+      (subst (λ k. leads_to_ordinal variables types (sites g) access.root access.selectors.items k ≡ true) (as_many_wells g indexes) parts'.0) in
+      let start = begins g access (is_ordinal g.tree.types) (length (expressions g indexes)) led_to in
+      subst (λ r. Evaluates g s.turns (on g (base ++ held) place s.output) held (place + length (variable_code g.scope access (codes g indexes) defined))
+      (effect.and_then r (λ q. fetch q defined))) (sym (start.meant (map value_of (expressions g indexes)) s))
+      (fetch_runs g (behind_fields access.selectors.items) indexes (access_offset g.scope access) start.there start.its led_to.last defined place base held
+      (entered g access.number s) start.part start.ends led_to.is_wanted start.well parts.0 (led_to.counts ∙ sym start.counts)
+      (ltb-true defined (sites g) parts'.1) stands (record { full = based.full; alike = based.alike }) room)
 
   -- an operation that is never in error: the instruction leaves a number, which is the one that is meant
   given_runs : (apply : Instr) (place : ℕ) (stack base held : List Cell) (c d : ℤ) (s : effect.State) (attempt : Attempt frames.Frames) → Here g place apply
-      → obeyed g.target.sites apply (fetched_at stack place s.output) ≡ and_then attempt (with_frames (fetched_at stack place s.output))
-      → attempt ≡ Ok (frames_of ((base ++ held) ++ Number d ∷ [])) → d ≡ c → Fits c → Based g s.store base → g.below + length held < g.limit
+      → obeyed g.target.sites apply (fetched_at g stack place s.output) ≡ and_then attempt (with_frames (fetched_at g stack place s.output))
+      → attempt ≡ Ok (frames_of g ((base ++ held) ++ Number d ∷ [])) → d ≡ c → Fits c → Based g s.store base → g.below + length held < g.limit
       → Evaluates g s.turns (on g stack place s.output) held (place + 1) (give (value.Number c) s)
   given_runs apply place stack base held c d s attempt here rule does same fit based room =
       gives g 1 _ base held (place + 1) c s based (acts g apply stack ((base ++ held) ++ Number c ∷ []) place s.output attempt here rule (does ∙ ap (λ v. Ok
-      (frames_of ((base ++ held) ++ Number v ∷ []))) same)) fit room
+      (frames_of g ((base ++ held) ++ Number v ∷ []))) same)) fit room
 
   -- a test of the number on top, which stays there
   tested_runs : (check : Instr) (site place : ℕ) (base held : List Cell) (n : ℤ) (s : effect.State) (holds : Attempt Bool) (good : Bool)
       → StandsAt g.target place check (g.target.is_open site) → moved g.target.to check ≡ check
-      → obeyed g.target.sites check (fetched_at ((base ++ held) ++ Number n ∷ []) place s.output) ≡ checked g.target.sites site
-      (fetched_at ((base ++ held) ++ Number n ∷ []) place s.output) holds → holds ≡ Ok good → site < sites → Based g s.store base
+      → obeyed g.target.sites check (fetched_at g ((base ++ held) ++ Number n ∷ []) place s.output) ≡ checked g.target.sites site
+      (fetched_at g ((base ++ held) ++ Number n ∷ []) place s.output) holds → holds ≡ Ok good → site < (sites g) → Based g s.store base
       → g.below + length held < g.limit → Fits n
       → Evaluates g s.turns (on g ((base ++ held) ++ Number n ∷ []) place s.output) held (place + 1)
       (effect.and_then (require good site s) (λ _. give (value.Number n)))
@@ -169,10 +128,10 @@ module _ (g : Setting) where
   checked_runs : (check apply : Instr) (site place : ℕ) (stack base held : List Cell) (c d : ℤ) (s : effect.State) (holds : Attempt Bool)
       (attempt : Attempt frames.Frames) (good : Bool) → StandsAt g.target place check (g.target.is_open site) → Here g (place + 1) apply
       → moved g.target.to check ≡ check
-      → obeyed g.target.sites check (fetched_at stack place s.output) ≡ checked g.target.sites site (fetched_at stack place s.output) holds
-      → obeyed g.target.sites apply (fetched_at stack (place + 1) s.output) ≡ and_then attempt (with_frames (fetched_at stack (place + 1) s.output))
+      → obeyed g.target.sites check (fetched_at g stack place s.output) ≡ checked g.target.sites site (fetched_at g stack place s.output) holds
+      → obeyed g.target.sites apply (fetched_at g stack (place + 1) s.output) ≡ and_then attempt (with_frames (fetched_at g stack (place + 1) s.output))
       → holds ≡ Ok good
-      → (good ≡ true → (attempt ≡ Ok (frames_of ((base ++ held) ++ Number d ∷ []))) × (d ≡ c) × Fits c) → site < sites → Based g s.store base
+      → (good ≡ true → (attempt ≡ Ok (frames_of g ((base ++ held) ++ Number d ∷ []))) × (d ≡ c) × Fits c) → site < (sites g) → Based g s.store base
       → g.below + length held < g.limit
       → Evaluates g s.turns (on g stack place s.output) held (place + 2) (effect.and_then (require good site s) (λ _. give (value.Number c)))
   checked_runs check apply site place stack base held c d s holds attempt true stands here same rule rule' e does within based room =
@@ -188,10 +147,10 @@ module _ (g : Setting) where
   -- a result that is checked to be of type integer
   result_runs : (check apply : Instr) (overflow place : ℕ) (stack base held : List Cell) (c d : ℤ) (s : effect.State) (holds : Attempt Bool)
       (attempt : Attempt frames.Frames) → StandsAt g.target place check (g.target.is_open overflow) → Here g (place + 1) apply → moved g.target.to check ≡ check
-      → obeyed g.target.sites check (fetched_at stack place s.output) ≡ checked g.target.sites overflow (fetched_at stack place s.output) holds
-      → obeyed g.target.sites apply (fetched_at stack (place + 1) s.output) ≡ and_then attempt (with_frames (fetched_at stack (place + 1) s.output))
+      → obeyed g.target.sites check (fetched_at g stack place s.output) ≡ checked g.target.sites overflow (fetched_at g stack place s.output) holds
+      → obeyed g.target.sites apply (fetched_at g stack (place + 1) s.output) ≡ and_then attempt (with_frames (fetched_at g stack (place + 1) s.output))
       → holds ≡ Ok (frames.is_integer c)
-      → attempt ≡ Ok (frames_of ((base ++ held) ++ Number d ∷ [])) → (Fits c → d ≡ c) → overflow < sites → Based g s.store base
+      → attempt ≡ Ok (frames_of g ((base ++ held) ++ Number d ∷ [])) → (Fits c → d ≡ c) → overflow < (sites g) → Based g s.store base
       → g.below + length held < g.limit
       → Evaluates g s.turns (on g stack place s.output) held (place + 2) (meaning.whole overflow c s)
   result_runs check apply overflow place stack base held c d s holds attempt stands here same rule rule' e does is within based room =
@@ -216,16 +175,17 @@ module _ (g : Setting) where
     below_limit = let full = based.full in omega (arith, length-append base held)
 
     one_given : (apply : Instr) (f : ℤ → ℤ) (c : ℤ) → Here g place apply
-        → obeyed g.target.sites apply (fetched_at one place s.output) ≡ and_then (frames.on_one f (frames_of one))
-        (with_frames (fetched_at one place s.output)) → f n ≡ c → Fits c
+        → obeyed g.target.sites apply (fetched_at g one place s.output) ≡ and_then (frames.on_one f (frames_of g one))
+        (with_frames (fetched_at g one place s.output)) → f n ≡ c → Fits c
         → Evaluates g s.turns (on g one place s.output) held (place + 1) (give (value.Number c) s)
     one_given apply f c here rule same fit' =
-        given_runs apply place one base held c (f n) s (frames.on_one f (frames_of one)) here rule
+        given_runs apply place one base held c (f n) s (frames.on_one f (frames_of g one)) here rule
         (on_one_is g.running.frame g.limit g.size cells within_frame f n below_limit) same fit' based room
 
     truth_given : (apply : Instr) (test : ℤ → Bool) → Here g place apply
-        → obeyed g.target.sites apply (fetched_at one place s.output) ≡ and_then (frames.on_one (λ v. frames.truth (test v)) (frames_of one))
-        (with_frames (fetched_at one place s.output)) → Evaluates g s.turns (on g one place s.output) held (place + 1) (give (value.Number (truth (test n))) s)
+        → obeyed g.target.sites apply (fetched_at g one place s.output) ≡ and_then (frames.on_one (λ v. frames.truth (test v)) (frames_of g one))
+        (with_frames (fetched_at g one place s.output)) → Evaluates g s.turns (on g one place s.output) held (place + 1) (give (value.Number (truth
+        (test n))) s)
     truth_given apply test here rule =
         one_given apply (λ v. frames.truth (test v)) (truth (test n)) here rule (same_truth (test n)) (subst Fits (same_truth (test n)) (fits_truth (test n)))
 
@@ -239,9 +199,9 @@ module _ (g : Setting) where
     -- a test of a number that is meant where the test holds
     step_tested : (check : Instr) (site : ℕ) (d c : ℤ) (there : ℕ) (good : Bool) → StandsAt g.target there check (g.target.is_open site)
         → moved g.target.to check ≡ check
-        → obeyed g.target.sites check (fetched_at (cells ++ Number d ∷ []) there s.output) ≡ checked g.target.sites site
-        (fetched_at (cells ++ Number d ∷ []) there s.output) (Ok good)
-        → (good ≡ true → (d ≡ c) × Fits c) → site < sites
+        → obeyed g.target.sites check (fetched_at g (cells ++ Number d ∷ []) there s.output) ≡ checked g.target.sites site
+        (fetched_at g (cells ++ Number d ∷ []) there s.output) (Ok good)
+        → (good ≡ true → (d ≡ c) × Fits c) → site < sites g
         → Evaluates g s.turns (on g (cells ++ Number d ∷ []) there s.output) held (there + 1)
         (effect.and_then (require good site s) (λ _. give (value.Number c)))
     step_tested check site d c there true stands same rule does within =
@@ -256,9 +216,9 @@ module _ (g : Setting) where
     stepped_runs : (step check : Instr) (site : ℕ) (f : ℤ → ℤ → ℤ) (c : ℤ) (good : Bool) → Here g place (instr.LoadConstant (pos 1))
         → Here g (place + 1) step → StandsAt g.target (place + 1 + 1) check (g.target.is_open site)
         → ((m : State) → obeyed g.target.sites step m ≡ and_then (frames.on_two f m.frames) (with_frames m)) → moved g.target.to check ≡ check
-        → obeyed g.target.sites check (fetched_at (cells ++ Number (f n (pos 1)) ∷ []) (place + 1 + 1) s.output) ≡ checked g.target.sites site
-        (fetched_at (cells ++ Number (f n (pos 1)) ∷ []) (place + 1 + 1) s.output) (Ok good)
-        → (good ≡ true → (f n (pos 1) ≡ c) × Fits c) → site < sites → g.below + length held + 2 ≤ g.limit
+        → obeyed g.target.sites check (fetched_at g (cells ++ Number (f n (pos 1)) ∷ []) (place + 1 + 1) s.output) ≡ checked g.target.sites site
+        (fetched_at g (cells ++ Number (f n (pos 1)) ∷ []) (place + 1 + 1) s.output) (Ok good)
+        → (good ≡ true → (f n (pos 1) ≡ c) × Fits c) → site < (sites g) → g.below + length held + 2 ≤ g.limit
         → Evaluates g s.turns (on g one place s.output) held (place + 3) (effect.and_then (require good site s) (λ _. give (value.Number c)))
     stepped_runs step check site f c good at1 at2 at3 rule same rule' does within deep =
         let full = based.full in
@@ -266,14 +226,14 @@ module _ (g : Setting) where
         let after = cells ++ Number (f n (pos 1)) ∷ [] in
         let pushed = acts g (instr.LoadConstant (pos 1)) one two place s.output _ at1 refl
         (pushes g.running.frame g.limit g.size one (pos 1) (omega (arith, length_one cells (Number n), length-append base held))) in
-        let stepped = acts g step two after (place + 1) s.output (frames.on_two f (frames_of two)) at2 (rule (fetched_at two (place + 1) s.output))
+        let stepped = acts g step two after (place + 1) s.output (frames.on_two f (frames_of g two)) at2 (rule (fetched_at g two (place + 1) s.output))
         (on_two_is g.running.frame g.limit g.size cells within_frame n (pos 1) f below_limit) in
         let p : place + 1 + 1 + 1 ≡ place + 3 = omega arith in
         subst (λ q. Evaluates g s.turns (on g one place s.output) held q (effect.and_then (require good site s) (λ _. give (value.Number c)))) p
         (evaluates_from g 2 s.turns _ _ held (place + 1 + 1 + 1) (effect.and_then (require good site s) (λ _. give (value.Number c)))
         (comes_on g.target 1 1 _ _ _ pushed stepped) (step_tested check site (f n (pos 1)) c (place + 1 + 1) good at3 same rule' does within))
 
-    operated_runs : (operation : Monadic) → Stands g.target place (monadic_code operation) → monadic_is_well_formed variables sites operation ≡ true
+    operated_runs : (operation : Monadic) → Stands g.target place (monadic_code operation) → monadic_is_well_formed variables types (sites g) operation ≡ true
         → g.below + length held + monadic_depth operation ≤ g.limit
         → Evaluates g s.turns (on g one place s.output) held (place + length (monadic_code operation)) (operated operation (value.Number n) s)
     operated_runs monadic.Plus stands well deep = left_as_it_is
@@ -287,41 +247,42 @@ module _ (g : Setting) where
         refl refl
         (squares g.running.frame g.limit g.size cells within_frame n)
         (on_one_is g.running.frame g.limit g.size cells within_frame (λ v. int_wrapping_mul w32 v v) n below_limit) (product_is n n fit fit)
-        (ltb-true overflow sites well) based room
+        (ltb-true overflow (sites g) well) based room
     operated_runs monadic.Odd stands well deep = truth_given instr.Odd frames.is_odd stands.0 refl
     operated_runs monadic.Ord stands well deep = left_as_it_is
     operated_runs (monadic.Chr no_char) stands well deep =
         tested_runs (instr.CheckRange no_char (pos 0) (pos 127)) no_char place base held n s _ (is_within (pos 0) (pos 127) n) stands.0 refl refl
-        (is_in_range g.running.frame g.limit g.size cells within_frame (pos 0) (pos 127) n ∙ ap Ok (same_char n)) (ltb-true no_char sites well) based room fit
+        (is_in_range g.running.frame g.limit g.size cells within_frame (pos 0) (pos 127) n ∙ ap Ok (same_char n)) (ltb-true no_char
+        (sites g) well) based room fit
     operated_runs (monadic.Succ no_successor last) stands well deep =
-        let parts = and_parts (nat_lt no_successor sites) (is_whole last) well in
+        let parts = and_parts (nat_lt no_successor (sites g)) (is_whole last) well in
         let good : Fits last = record { is = parts.1 } in
         let low = neg_ℤ (pos 2147483647) in
         let m = int_wrapping_add w32 n (pos 1) in
         let tested = is_in_range g.running.frame g.limit g.size cells within_frame low last m ∙ ap Ok (same_below n last fit good) in
         stepped_runs instr.Add (instr.CheckRange no_successor low last) no_successor (int_wrapping_add w32) (n +ℤ pos 1) (int_lt n last) stands.0 stands.1.0
-        stands.1.1.0 (λ m. refl) refl (ap (checked g.target.sites no_successor (fetched_at (cells ++ Number m ∷ []) (place + 1 + 1) s.output)) tested)
+        stands.1.1.0 (λ m. refl) refl (ap (checked g.target.sites no_successor (fetched_at g (cells ++ Number m ∷ []) (place + 1 + 1) s.output)) tested)
         (λ less. let f = fits_next n last fit good less in (sum_is n (pos 1) fit (record { is = refl }) f, f))
-        (ltb-true no_successor sites parts.0) deep
+        (ltb-true no_successor (sites g) parts.0) deep
     operated_runs (monadic.Pred no_predecessor first) stands well deep =
-        let parts = and_parts (nat_lt no_predecessor sites) (is_whole first) well in
+        let parts = and_parts (nat_lt no_predecessor (sites g)) (is_whole first) well in
         let good : Fits first = record { is = parts.1 } in
         let high = pos 2147483647 in
         let m = int_wrapping_sub w32 n (pos 1) in
         let tested = is_in_range g.running.frame g.limit g.size cells within_frame first high m ∙ ap Ok (same_above n first fit good) in
         stepped_runs instr.Subtract (instr.CheckRange no_predecessor first high) no_predecessor (int_wrapping_sub w32) (n -ℤ pos 1) (int_lt first n) stands.0
         stands.1.0 stands.1.1.0 (λ m. refl) refl
-        (ap (checked g.target.sites no_predecessor (fetched_at (cells ++ Number m ∷ []) (place + 1 + 1) s.output)) tested)
+        (ap (checked g.target.sites no_predecessor (fetched_at g (cells ++ Number m ∷ []) (place + 1 + 1) s.output)) tested)
         (λ more. let f = fits_previous n first fit good more in (difference_is n (pos 1) fit (record { is = refl }) f, f))
-        (ltb-true no_predecessor sites parts.0) deep
+        (ltb-true no_predecessor (sites g) parts.0) deep
 
   -- an operation on one operand
-  monadic_runs : (number : ℕ) (operation : Monadic) (c : List Instr) (depth : ℕ) (well : Bool) (v : Evaluation) → RunsAs c depth well v
-      → RunsAs (c ++ monadic_code operation) (max depth (monadic_depth operation)) (monadic_is_well_formed variables sites operation && well)
+  monadic_runs : (number : ℕ) (operation : Monadic) (c : List Instr) (depth : ℕ) (well : Bool) (v : Evaluation) → RunsAs g c depth well v
+      → RunsAs g (c ++ monadic_code operation) (max depth (monadic_depth operation)) (monadic_is_well_formed variables types (sites g) operation && well)
       (λ e. effect.enter number e >>= λ _. v e >>= operated operation)
   monadic_runs number operation c depth well v runs place base held s stands good based room =
       let s' : effect.State = record s { visited = s.visited ++ record { number = number; environment = g.environment; store = s.store } ∷ [] } in
-      let parts = and_parts (monadic_is_well_formed variables sites operation) well good in
+      let parts = and_parts (monadic_is_well_formed variables types (sites g) operation) well good in
       let e : place + length c + length (monadic_code operation) ≡ place + length (c ++ monadic_code operation) = omega
       (arith, length-append c (monadic_code operation)) in
       let rest = stands_back g.target place c (monadic_code operation) stands in
@@ -350,11 +311,11 @@ module _ (g : Setting) where
     within_limit = let full = based.full in omega (arith, length-append base held)
 
     truths_given : (apply : Instr) (test : ℤ → ℤ → Bool) → Here g place apply
-        → obeyed g.target.sites apply (fetched_at two place s.output) ≡ and_then (frames.on_two (λ x y. frames.truth (test x y)) (frames_of two))
-        (with_frames (fetched_at two place s.output)) → Evaluates g s.turns (on g two place s.output) held (place + 1)
+        → obeyed g.target.sites apply (fetched_at g two place s.output) ≡ and_then (frames.on_two (λ x y. frames.truth (test x y)) (frames_of g two))
+        (with_frames (fetched_at g two place s.output)) → Evaluates g s.turns (on g two place s.output) held (place + 1)
         (give (value.Number (truth (test a b))) s)
     truths_given apply test here rule =
-        given_runs apply place two base held (truth (test a b)) (frames.truth (test a b)) s (frames.on_two (λ x y. frames.truth (test x y)) (frames_of two))
+        given_runs apply place two base held (truth (test a b)) (frames.truth (test a b)) s (frames.on_two (λ x y. frames.truth (test x y)) (frames_of g two))
         here rule
         (on_two_is g.running.frame g.limit g.size (base ++ held) in_frame a b (λ x y. frames.truth (test x y)) within_limit) (same_truth (test a b))
         (subst Fits (same_truth (test a b)) (fits_truth (test a b))) based room
@@ -371,14 +332,15 @@ module _ (g : Setting) where
     -- a result of type integer of both, checked
     both_checked : (check apply : Instr) (overflow : ℕ) (c d : ℤ) (holds : Attempt Bool) (attempt : Attempt frames.Frames)
         → StandsAt g.target place check (g.target.is_open overflow) → Here g (place + 1) apply → moved g.target.to check ≡ check
-        → obeyed g.target.sites check (fetched_at two place s.output) ≡ checked g.target.sites overflow (fetched_at two place s.output) holds
-        → obeyed g.target.sites apply (fetched_at two (place + 1) s.output) ≡ and_then attempt (with_frames (fetched_at two (place + 1) s.output))
-        → holds ≡ Ok (frames.is_integer c) → attempt ≡ Ok (frames_of ((base ++ held) ++ Number d ∷ [])) → (Fits c → d ≡ c) → nat_lt overflow sites ≡ true
+        → obeyed g.target.sites check (fetched_at g two place s.output) ≡ checked g.target.sites overflow (fetched_at g two place s.output) holds
+        → obeyed g.target.sites apply (fetched_at g two (place + 1) s.output) ≡ and_then attempt (with_frames (fetched_at g two (place + 1) s.output))
+        → holds ≡ Ok (frames.is_integer c) → attempt ≡ Ok (frames_of g ((base ++ held) ++ Number d ∷ [])) → (Fits c → d ≡ c) → nat_lt overflow (sites g) ≡ true
         → Evaluates g s.turns (on g two place s.output) held (place + 2) (meaning.whole overflow c s)
     both_checked check apply overflow c d holds attempt stands here same rule rule' e does is well =
-        result_runs check apply overflow place two base held c d s holds attempt stands here same rule rule' e does is (ltb-true overflow sites well) based room
+        result_runs check apply overflow place two base held c d s holds attempt stands here same rule rule' e does is (ltb-true overflow
+        (sites g) well) based room
 
-    combined_runs : (operation : Dyadic) → Stands g.target place (dyadic_code operation) → dyadic_is_well_formed variables sites operation ≡ true
+    combined_runs : (operation : Dyadic) → Stands g.target place (dyadic_code operation) → dyadic_is_well_formed variables types (sites g) operation ≡ true
         → Evaluates g s.turns (on g two place s.output) held (place + length (dyadic_code operation)) (combined operation (value.Number a) (value.Number b) s)
     combined_runs (dyadic.Plus overflow) stands well =
         both_checked (instr.CheckSum overflow) instr.Add overflow (a +ℤ b) (int_wrapping_add w32 a b) _ _ stands.0 stands.1.0 refl refl refl
@@ -397,101 +359,93 @@ module _ (g : Setting) where
         stands.0 stands.1.0 refl refl refl
         (is_not_zero g.running.frame g.limit g.size left_held above b)
         (λ good. (divides g.running.frame g.limit g.size (base ++ held) in_frame a b within_limit good, quotient_is a b fit, fits_quotient a b fit))
-        (ltb-true by_zero sites well) based room
+        (ltb-true by_zero (sites g) well) based room
     combined_runs (dyadic.Mod by_zero_or_less) stands well =
         checked_runs (check_positive by_zero_or_less) instr.Modulo by_zero_or_less place two base held (int_rem_euclid a b) (int_rem_euclid a b) s _ _
         (int_le (pos 1) b) stands.0 stands.1.0 refl refl refl
         (is_in_range g.running.frame g.limit g.size left_held above (pos 1) (pos 2147483647) b ∙ ap Ok (same_positive b fit'))
         (λ good. (leaves g.running.frame g.limit g.size (base ++ held) in_frame a b within_limit good, refl, fits_remainder a b fit' good))
-        (ltb-true by_zero_or_less sites well) based room
+        (ltb-true by_zero_or_less (sites g) well) based room
     combined_runs dyadic.And stands well = truths_given instr.And (λ x y. frames.is_true x && frames.is_true y) stands.0 refl
     combined_runs dyadic.Or stands well = truths_given instr.Or (λ x y. frames.is_true x || frames.is_true y) stands.0 refl
     combined_runs (dyadic.Relation r) stands well = relation_runs r stands
 
-  -- characters are pushed, the first one first
-  pub characters_come : (characters : List ℕ) (place : ℕ) (cells : List Cell) (output : List ℕ)
-      → Stands g.target place (map (λ c. instr.LoadConstant (pos c)) characters) → length cells + length characters ≤ g.limit
-      → Comes g.target 0 (on g cells place output) (on g (cells ++ cells_of (map pos characters)) (place + length characters) output)
-  characters_come [] place cells output stands room =
-      let e : place ≡ place + 0 = omega arith in
-      subst (λ p. Comes g.target 0 (on g cells place output) (on g (cells ++ []) p output)) e
-      (subst (λ cs. Comes g.target 0 (on g cells place output) (on g cs place output)) (sym (append-nil cells)) (stays_here g.target _))
-  characters_come (c ∷ characters) place cells output stands room =
-      let one = cells ++ Number (pos c) ∷ [] in
-      let long = length_one cells (Number (pos c)) in
-      let rest = cells_of (map pos characters) in
-      let e : place + 1 + length characters ≡ place + length (c ∷ characters) = omega arith in
-      let first = acts g (instr.LoadConstant (pos c)) cells one place output _ stands.0 refl
-      (pushes g.running.frame g.limit g.size cells (pos c) (omega arith)) in
-      let others = characters_come characters (place + 1) one output stands.1 (omega arith) in
-      let all = comes_less g.target 0 (1 + 0) _ _ (omega arith) (comes_on g.target 1 0 _ _ _ first others) in
-      subst (λ cs. Comes g.target 0 (on g cells place output) (on g cs (place + length (c ∷ characters)) output))
-      (append_assoc cells (Number (pos c) ∷ []) rest)
-      (subst (λ p. Comes g.target 0 (on g cells place output) (on g (one ++ rest) p output)) e all)
-
-  -- a length that is no greater than the greatest
-  pub same_length : (characters : List ℕ) → are_characters characters ≡ true → length characters ≡ row_length (length characters)
-  same_length characters well = let few = leb-true (length characters) 65536 (and_parts _ _ well).0 in omega arith
-
-  -- two strings are compared
-  compare_runs : (number : ℕ) (r : Relation) (left right : Whole)
-      → RunsAs (compare_code r left right) (max (length_of left + length_of right) 2) (expr_is_well_formed variables sites (Compare number r left right))
-      (value_step (Compare number r left right))
-  compare_runs number r (Text a left) (Text b right) place base held s stands good based room =
-      let entered : ℕ → effect.State → effect.State = λ entry t. record t
-      { visited = t.visited ++ record { number = entry; environment = g.environment; store = t.store } ∷ [] } in
-      let s' = entered b (entered number (entered a s)) in
-      let c = map (λ x. instr.LoadConstant (pos x)) left.items in
-      let d = map (λ x. instr.LoadConstant (pos x)) right.items in
-      let n = length left.items in
-      let m = row_length n in
-      let relate = instr.LoadConstant (pos 0) ∷ relation_instr r ∷ [] in
-      let last = instr.Compare m ∷ relate in
-      let parts = and_parts (are_characters left.items) _ good in
-      let parts' = and_parts (are_characters right.items) _ parts.1 in
-      let same = same_length left.items parts.0 in
-      let as_long : n ≡ length right.items = eqb-true n (length right.items) parts'.1 in
-      let numbers = map pos left.items in
-      let others = map pos right.items in
-      let long = length-map left.items pos in
-      let long' = length-map right.items pos in
+  -- two rows give way to their order, and that is compared with 0
+  ordered_runs : (r : Relation) (count place : ℕ) (base held : List Cell) (ns ms : List ℤ) (s : effect.State) → length ns ≡ count → length ms ≡ count
+      → Stands g.target place (instr.Compare count ∷ instr.LoadConstant (pos 0) ∷ relation_instr r ∷ []) → Based g s.store base
+      → g.below + length held + 2 ≤ g.limit
+      → Evaluates g s.turns (on g (((base ++ held) ++ cells_of ns) ++ cells_of ms) place s.output) held (place + 3) (give (meaning.compared r ns ms) s)
+  ordered_runs r count place base held ns ms s long as_long stands based deep =
       let cells = base ++ held in
-      let one = cells ++ cells_of numbers in
-      let both = one ++ cells_of others in
       let full = based.full in
       let few = length-append base held in
-      let in_frame = linked g s.store base held based in
-      let first_codes = length-map left.items (λ x. instr.LoadConstant (pos x)) in
-      let other_codes = length-map right.items (λ x. instr.LoadConstant (pos x)) in
-      let behind = stands_back g.target place c (d ++ last) stands in
-      let here = place + n in
-      let there = here + length right.items in
-      let stands1 : Stands g.target here (d ++ last) = subst (λ l. Stands g.target (place + l) (d ++ last)) first_codes behind in
-      let stands2 : Stands g.target there last = subst (λ l. Stands g.target (here + l) last) other_codes (stands_back g.target here d last stands1) in
-      let pushed = characters_come left.items place cells s.output (stands_front g.target place c (d ++ last) stands) (omega arith) in
-      let pushed' = characters_come right.items here one s.output (stands_front g.target here d last stands1)
-      (omega (arith, length-append cells (cells_of numbers), length-cells_of numbers)) in
-      let order = rows.order numbers others in
+      let both = (cells ++ cells_of ns) ++ cells_of ms in
+      let order = rows.order ns ms in
       let ordered = cells ++ Number order ∷ [] in
-      let is_order : order ≡ order_of numbers others = same_order numbers others (long ∙ as_long ∙ sym long') in
-      let compared = acts g (instr.Compare m) both ordered there s.output _ stands2.0 refl
-      (compares g.running.frame g.limit g.size cells in_frame numbers others m (long ∙ same) (long' ∙ sym as_long ∙ same) (omega arith)) in
-      let zero = acts g (instr.LoadConstant (pos 0)) ordered (ordered ++ Number (pos 0) ∷ []) (there + 1) s.output _ stands2.1.0 refl
+      let is_order : order ≡ order_of ns ms = same_order ns ms (long ∙ sym as_long) in
+      let compared = acts g (instr.Compare count) both ordered place s.output _ stands.0 refl
+      (compares g.running.frame g.limit g.size cells (linked g s.store base held based) ns ms count long as_long (omega arith)) in
+      let zero = acts g (instr.LoadConstant (pos 0)) ordered (ordered ++ Number (pos 0) ∷ []) (place + 1) s.output _ stands.1.0 refl
       (pushes g.running.frame g.limit g.size ordered (pos 0) (omega (arith, length_one cells (Number order)))) in
-      let fit : Fits order = subst Fits (sym is_order) (order_fits numbers others) in
-      let zero_fits : Fits (pos 0) = record { is = refl } in
-      let based' : Based g s'.store base = record { full = based.full; alike = based.alike } in
-      let related = relation_runs (there + 1 + 1) base held order (pos 0) s' based' (omega arith) fit zero_fits r stands2.1.1 in
-      let all = comes_on g.target 0 2 _ _ _ pushed (comes_on g.target 0 2 _ _ _ pushed' (comes_on g.target 1 1 _ _ _ compared zero)) in
-      let whole = evaluates_from g 2 s.turns _ _ held (there + 1 + 1 + 1) (give (value.Number (truth (relates r order (pos 0)))) s') all related in
-      let e : there + 1 + 1 + 1 ≡ place + length (c ++ (d ++ last)) = omega (arith, length-append c (d ++ last), length-append d last) in
-      subst (λ p. Evaluates g s.turns (on g cells place s.output) held p (give (value.Number (truth (relates r (order_of numbers others) (pos 0)))) s')) e
-      (subst (λ o. Evaluates g s.turns (on g cells place s.output) held (there + 1 + 1 + 1) (give (value.Number (truth (relates r o (pos 0)))) s')) is_order
-      whole)
+      let fit : Fits order = subst Fits (sym is_order) (order_fits ns ms) in
+      let related = relation_runs (place + 1 + 1) base held order (pos 0) s based (omega arith) fit (record { is = refl }) r stands.1.1 in
+      let whole = evaluates_from g 2 s.turns _ _ held (place + 1 + 1 + 1) (give (value.Number (truth (relates r order (pos 0)))) s)
+      (comes_on g.target 1 1 _ _ _ compared zero) related in
+      let e : place + 1 + 1 + 1 ≡ place + 3 = omega arith in
+      subst (λ p. Evaluates g s.turns (on g both place s.output) held p (give (meaning.compared r ns ms) s)) e
+      (subst (λ o. Evaluates g s.turns (on g both place s.output) held (place + 1 + 1 + 1) (give (value.Number (truth (relates r o
+      (pos 0)))) s)) is_order whole)
 
-  -- what is held with one number more on top, over the same cells
-  pub one_held : (base held : List Cell) (a : ℤ) → base ++ (held ++ Number a ∷ []) ≡ (base ++ held) ++ Number a ∷ []
-  one_held base held a = sym (append_assoc base held (Number a ∷ []))
+  -- two whole values are compared
+  compare_runs : (number : ℕ) (r : Relation) (left : Whole) (left_indexes : Indexes g) (right : Whole)
+      (right_indexes : Indexes g)
+      → RunsAs g (compare_code r (length_of left) (whole_code g.scope left (codes g left_indexes)) (whole_code g.scope right (codes g right_indexes)))
+      (max (whole_depth left (depths g left_indexes)) (max (whole_depth right (depths g right_indexes) + length_of left) 2))
+      (all_hold (whole_indexes left (wells g left_indexes)) && (is_well_formed_whole variables types (sites g) left (length (wells g left_indexes))
+      && (all_hold (whole_indexes right (wells g right_indexes))
+      && (is_well_formed_whole variables types (sites g) right (length (wells g right_indexes)) && nat_eq (length_of left) (length_of right)))))
+      (λ env. meaning.whole_of left (map value_of (expressions g left_indexes)) env >>= λ ns. effect.enter number env >>= λ _.
+      meaning.whole_of right (map value_of (expressions g right_indexes)) env >>= λ ms. give (meaning.compared r ns ms))
+  compare_runs number r left left_indexes right right_indexes place base held s stands good based deep =
+      let n = length_of left in
+      let c = whole_code g.scope left (codes g left_indexes) in
+      let d = whole_code g.scope right (codes g right_indexes) in
+      let last = instr.Compare (row_length n) ∷ instr.LoadConstant (pos 0) ∷ relation_instr r ∷ [] in
+      let one = and_parts (all_hold (whole_indexes left (wells g left_indexes))) _ good in
+      let two = and_parts (is_well_formed_whole variables types (sites g) left (length (wells g left_indexes))) _ one.1 in
+      let three = and_parts (all_hold (whole_indexes right (wells g right_indexes))) _ two.1 in
+      let four = and_parts (is_well_formed_whole variables types (sites g) right (length (wells g right_indexes))) (nat_eq n (length_of right)) three.1 in
+      let as_long : n ≡ length_of right = eqb-true n (length_of right) four.1 in
+      let left_well = subst (λ k. is_well_formed_whole variables types (sites g) left k ≡ true) (as_many_wells g left_indexes) two.0 in
+      let right_well = subst (λ k. is_well_formed_whole variables types (sites g) right k ≡ true) (as_many_wells g right_indexes) four.0 in
+      let same : n ≡ row_length n = few_components g left (length (expressions g left_indexes)) left_well in
+      let behind = stands_back g.target place c (d ++ last) stands in
+      let there = place + length c in
+      let end = there + length d + 3 in
+      let e : end ≡ place + length (c ++ (d ++ last)) = omega (arith, length-append c (d ++ last), length-append d last) in
+      let next' : List ℤ → List ℤ → Action Value = λ ns ms. give (meaning.compared r ns ms) in
+      let next : List ℤ → Action Value = λ ns. effect.enter number g.environment >>= λ _.
+      meaning.whole_of right (map value_of (expressions g right_indexes)) g.environment >>= next' ns in
+      subst (λ p. Evaluates g s.turns (on g (base ++ held) place s.output) held p
+      (effect.and_then (meaning.whole_of left (map value_of (expressions g left_indexes)) g.environment s) next)) e
+      (row_evaluates g s.turns _ held held there end n (meaning.whole_of left (map value_of (expressions g left_indexes)) g.environment s) next
+      (whole_runs g left left_indexes place base held s (stands_front g.target place c (d ++ last) stands) one.0 left_well based (omega arith))
+      (λ base2 ns s2 based2 long fits.
+      let above = held ++ cells_of ns in
+      let high = length-append held (cells_of ns) in
+      let s3 = entered g number s2 in
+      let wide = length-cells_of ns in
+      subst (λ cells. Evaluates g s2.turns (on g cells there s2.output) held end (next ns s2)) (sym (append_assoc base2 held (cells_of ns)))
+      (row_evaluates g s2.turns _ above held (there + length d) end (length_of right)
+      (meaning.whole_of right (map value_of (expressions g right_indexes)) g.environment s3) (next' ns)
+      (whole_runs g right right_indexes there base2 above s3 (stands_front g.target there d last behind) three.0 right_well
+      (record { full = based2.full; alike = based2.alike }) (omega arith))
+      (λ base3 ms s4 based4 long' fits'.
+      subst (λ cells. Evaluates g s4.turns (on g (cells ++ cells_of ms) (there + length d) s4.output) held end (next' ns ms s4)) (append_assoc base3 held
+      (cells_of ns))
+      (ordered_runs r (row_length n) (there + length d) base3 held ns ms s4 (long ∙ same) (long' ∙ sym as_long ∙ same)
+      (stands_back g.target there d last behind)
+      based4 (omega arith))))))
 
   -- a value above what is held and one number more
   above_one : (turns : ℕ) (m : State) (held : List Cell) (a : ℤ) (held' : List Cell) (place place' : ℕ) (r : Reply Value) (next : Value → Action Value)
@@ -503,16 +457,16 @@ module _ (g : Setting) where
       then_evaluates g turns m (held ++ Number a ∷ []) held' place place' r next e
       (λ base n s based fit room.
       let one = length_one held (Number a) in
-      subst (λ cells. Evaluates g s.turns (on g (cells ++ Number n ∷ []) place s.output) held' place' (next (value.Number n) s)) (sym (one_held base held a))
+      subst (λ cells. Evaluates g s.turns (on g (cells ++ Number n ∷ []) place s.output) held' place' (next (value.Number n) s)) (sym (one_held g base held a))
       (h base n s based fit (omega arith)))
 
   -- an operator and its right operand
-  link_runs : (number : ℕ) (operation : Dyadic) (c : List Instr) (depth : ℕ) (well : Bool) (v : Evaluation) → RunsAs c depth well v
-      → CombinesAs (c ++ dyadic_code operation) (depth + 1) (dyadic_is_well_formed variables sites operation && well)
+  link_runs : (number : ℕ) (operation : Dyadic) (c : List Instr) (depth : ℕ) (well : Bool) (v : Evaluation) → RunsAs g c depth well v
+      → CombinesAs g (c ++ dyadic_code operation) (depth + 1) (dyadic_is_well_formed variables types (sites g) operation && well)
       (meaning.link_step (record { number = number; operation = operation; operand = v }))
   link_runs number operation c depth well v runs place base held a s stands good based room fit =
       let s' : effect.State = record s { visited = s.visited ++ record { number = number; environment = g.environment; store = s.store } ∷ [] } in
-      let parts = and_parts (dyadic_is_well_formed variables sites operation) well good in
+      let parts = and_parts (dyadic_is_well_formed variables types (sites g) operation) well good in
       let one = length_one held (Number a) in
       let e : place + length c + length (dyadic_code operation) ≡ place + length (c ++ dyadic_code operation) = omega
       (arith, length-append c (dyadic_code operation)) in
@@ -521,21 +475,14 @@ module _ (g : Setting) where
       let operand = runs place base (held ++ Number a ∷ []) s' (stands_front g.target place c (dyadic_code operation) stands) parts.1 based (omega arith) in
       subst (λ p. Evaluates g s.turns (on g ((base ++ held) ++ Number a ∷ []) place s.output) held p (effect.and_then (v g.environment s') next)) e
       (subst (λ cells. Evaluates g s.turns (on g cells place s.output) held (place + length c + length (dyadic_code operation))
-      (effect.and_then (v g.environment s') next)) (one_held base held a)
+      (effect.and_then (v g.environment s') next)) (one_held g base held a)
       (above_one s.turns _ held a held (place + length c) (place + length c + length (dyadic_code operation)) (v g.environment s') next operand
       (λ base2 n s2 based2 fit2 room2. combined_runs (place + length c) base2 held a n s2 based2 room2 fit fit2 operation rest parts.0)))
 
-  -- what is shown of an expression, and of an operator and its right operand
-  abbrev pub ExprRuns : Expr → Type 0
-  ExprRuns e = RunsAs (expr_code g.scope e) (expr_depth e) (is_well_formed_expr variables sites e) (value_of e)
-
-  abbrev LinkRuns : Link → Type 0
-  LinkRuns l = CombinesAs (link_code g.scope l) (link_depth l) (is_well_formed_link variables sites l) (link_of l)
-
   -- the operators of a chain, from left to right
-  links_run : (links : List ((l : Link) × LinkRuns l)) (depth place : ℕ) (base held : List Cell) (a : ℤ) (s : effect.State)
+  links_run : (links : List ((l : Link) × LinkRuns g l)) (depth place : ℕ) (base held : List Cell) (a : ℤ) (s : effect.State)
       → Stands g.target place (joined (map (link_code g.scope) (map (λ l. l.0) links)))
-      → all_hold (map (is_well_formed_link variables sites) (map (λ l. l.0) links)) ≡ true → Based g s.store base
+      → all_hold (map (is_well_formed_link variables types (sites g)) (map (λ l. l.0) links)) ≡ true → Based g s.store base
       → g.below + length held + fold max depth (map link_depth (map (λ l. l.0) links)) ≤ g.limit → g.below + length held < g.limit → Fits a
       → Evaluates g s.turns (on g ((base ++ held) ++ Number a ∷ []) place s.output) held
       (place + length (joined (map (link_code g.scope) (map (λ l. l.0) links))))
@@ -557,10 +504,10 @@ module _ (g : Setting) where
       (λ base2 n s2 based2 fit2 room2. links_run links (max depth (link_depth l.0)) (place + length c) base2 held n s2
       (stands_back g.target place c rest stands) (and_parts _ _ good).1 based2 deep room2 fit2))
 
-  chain_runs : (first : (e : Expr) × ExprRuns e) (links : List ((l : Link) × LinkRuns l))
-      → RunsAs (expr_code g.scope first.0 ++ joined (map (link_code g.scope) (map (λ l. l.0) links)))
+  chain_runs : (first : (e : Expr) × ExprRuns g e) (links : List ((l : Link) × LinkRuns g l))
+      → RunsAs g (expr_code g.scope first.0 ++ joined (map (link_code g.scope) (map (λ l. l.0) links)))
       (fold max (expr_depth first.0) (map link_depth (map (λ l. l.0) links)))
-      (is_well_formed_expr variables sites first.0 && all_hold (map (is_well_formed_link variables sites) (map (λ l. l.0) links)))
+      (is_well_formed_expr variables types (sites g) first.0 && all_hold (map (is_well_formed_link variables types (sites g)) (map (λ l. l.0) links)))
       (λ e. value_of first.0 e >>= λ v. in_turn (map link_of (map (λ l. l.0) links)) e v)
   chain_runs first links place base held s stands good based deep =
       let c = expr_code g.scope first.0 in
@@ -574,76 +521,82 @@ module _ (g : Setting) where
       (λ base2 n s2 based2 fit2 room2. links_run links (expr_depth first.0) (place + length c) base2 held n s2 (stands_back g.target place c rest stands)
       (and_parts _ _ good).1 based2 deep room2 fit2))
 
-  same_runs : (c c' : List Instr) (d d' : ℕ) (w w' : Bool) (v v' : Evaluation) → c ≡ c' → d ≡ d' → w ≡ w' → v ≡ v' → RunsAs c' d' w' v' → RunsAs c d w v
+  same_runs : (c c' : List Instr) (d d' : ℕ) (w w' : Bool) (v v' : Evaluation) → c ≡ c' → d ≡ d' → w ≡ w' → v ≡ v' → RunsAs g c' d' w' v' → RunsAs g c d w v
   same_runs c c' d d' w w' v v' p q r t runs =
-      subst (λ x. RunsAs x d w v) (sym p) (subst (λ x. RunsAs c' x w v) (sym q) (subst (λ x. RunsAs c' d' x v) (sym r) (subst (λ x. RunsAs c' d' w' x) (sym t)
+      subst (λ x. RunsAs g x d w v) (sym p) (subst (λ x. RunsAs g c' x w v) (sym q) (subst (λ x. RunsAs g c' d' x v) (sym r) (subst
+      (λ x. RunsAs g c' d' w' x) (sym t)
       runs)))
 
-  same_combines : (c c' : List Instr) (d d' : ℕ) (w w' : Bool) (v v' : Combination) → c ≡ c' → d ≡ d' → w ≡ w' → v ≡ v' → CombinesAs c' d' w' v'
-      → CombinesAs c d w v
+  same_combines : (c c' : List Instr) (d d' : ℕ) (w w' : Bool) (v v' : Combination) → c ≡ c' → d ≡ d' → w ≡ w' → v ≡ v' → CombinesAs g c' d' w' v'
+      → CombinesAs g c d w v
   same_combines c c' d d' w w' v v' p q r t runs =
-      subst (λ x. CombinesAs x d w v) (sym p) (subst (λ x. CombinesAs c' x w v) (sym q) (subst (λ x. CombinesAs c' d' x v) (sym r) (subst (λ x. CombinesAs c'
+      subst (λ x. CombinesAs g x d w v) (sym p) (subst (λ x. CombinesAs g c' x w v) (sym q) (subst (λ x. CombinesAs g c' d' x v) (sym r) (subst
+      (λ x. CombinesAs g c'
       d' w' x) (sym t) runs)))
 
   abbrev is_step : Expr-F Bool Bool → Bool
-  is_step = expr_is_well_formed variables sites
+  is_step = expr_is_well_formed variables types (sites g)
 
   abbrev is_link_step : Link-F Bool Bool → Bool
-  is_link_step = link_is_well_formed variables sites
+  is_link_step = link_is_well_formed variables types (sites g)
 
-  rolled_expr : (x : Expr-F Expr Link) → RunsAs (expr_step g.scope (map-Expr Expr Link (List Instr) (List Instr) (expr_code g.scope) (link_code g.scope) x))
+  rolled_expr : (x : Expr-F Expr Link) → RunsAs g (expr_step g.scope (map-Expr Expr Link (List Instr) (List Instr) (expr_code g.scope) (link_code g.scope) x))
       (expr_depth_step (map-Expr Expr Link ℕ ℕ expr_depth link_depth x))
       (is_step (map-Expr Expr Link Bool Bool (fold-Expr Bool Bool is_step is_link_step) (fold-Link Bool Bool is_step is_link_step) x))
-      (value_step (map-Expr Expr Link Evaluation Combination value_of link_of x)) → ExprRuns (roll-Expr x)
+      (value_step (map-Expr Expr Link Evaluation Combination value_of link_of x)) → ExprRuns g (roll-Expr x)
   rolled_expr x =
       same_runs _ _ _ _ _ _ _ _ (fold-roll-Expr (List Instr) (List Instr) (expr_step g.scope) link_step x)
       (fold-roll-Expr ℕ ℕ expr_depth_step link_depth_step x) (fold-roll-Expr Bool Bool is_step is_link_step x)
       (fold-roll-Expr Evaluation Combination value_step meaning.link_step x)
 
-  rolled_link : (x : Link-F Expr Link) → CombinesAs (link_step (map-Link Expr Link (List Instr) (List Instr) (expr_code g.scope) (link_code g.scope) x))
+  rolled_link : (x : Link-F Expr Link) → CombinesAs g (link_step (map-Link Expr Link (List Instr) (List Instr) (expr_code g.scope) (link_code g.scope) x))
       (link_depth_step (map-Link Expr Link ℕ ℕ expr_depth link_depth x))
       (is_link_step (map-Link Expr Link Bool Bool (fold-Expr Bool Bool is_step is_link_step) (fold-Link Bool Bool is_step is_link_step) x))
-      (meaning.link_step (map-Link Expr Link Evaluation Combination value_of link_of x)) → LinkRuns (roll-Link x)
+      (meaning.link_step (map-Link Expr Link Evaluation Combination value_of link_of x)) → LinkRuns g (roll-Link x)
   rolled_link x =
       same_combines _ _ _ _ _ _ _ _ (fold-roll-Link (List Instr) (List Instr) (expr_step g.scope) link_step x)
       (fold-roll-Link ℕ ℕ expr_depth_step link_depth_step x) (fold-roll-Link Bool Bool is_step is_link_step x)
       (fold-roll-Link Evaluation Combination value_step meaning.link_step x)
 
-  expr_layer : (y : Expr-F ((e : Expr) × ExprRuns e) ((l : Link) × LinkRuns l))
-      → ExprRuns (roll-Expr (map-Expr ((e : Expr) × ExprRuns e) ((l : Link) × LinkRuns l) Expr Link (λ e. e.0) (λ l. l.0) y))
+  expr_layer : (y : Expr-F ((e : Expr) × ExprRuns g e) ((l : Link) × LinkRuns g l))
+      → ExprRuns g (roll-Expr (map-Expr ((e : Expr) × ExprRuns g e) ((l : Link) × LinkRuns g l) Expr Link (λ e. e.0) (λ l. l.0) y))
   expr_layer (Constant number n) = rolled_expr (Constant number n) (constant_runs number n)
-  expr_layer (Variable access defined) = rolled_expr (Variable access defined) (variable_runs access defined)
+  expr_layer (Variable access indexes defined) =
+      rolled_expr (map-Expr ((e : Expr) × ExprRuns g e) ((l : Link) × LinkRuns g l) Expr Link (λ e. e.0) (λ l. l.0) (Variable access indexes defined))
+      (variable_runs access indexes.items defined)
   expr_layer (MonadicOf number operation operand) =
       rolled_expr (MonadicOf number operation (record { ptr = operand.ptr; alloc = operand.alloc; value = operand.value.0 }))
       (monadic_runs number operation (expr_code g.scope operand.value.0) (expr_depth operand.value.0)
-      (is_well_formed_expr variables sites operand.value.0) (value_of operand.value.0) operand.value.1)
+      (is_well_formed_expr variables types (sites g) operand.value.0) (value_of operand.value.0) operand.value.1)
   expr_layer (Chain first rest) =
-      rolled_expr (map-Expr ((e : Expr) × ExprRuns e) ((l : Link) × LinkRuns l) Expr Link (λ e. e.0) (λ l. l.0) (Chain first rest))
+      rolled_expr (map-Expr ((e : Expr) × ExprRuns g e) ((l : Link) × LinkRuns g l) Expr Link (λ e. e.0) (λ l. l.0) (Chain first rest))
       (chain_runs first.value rest.items)
-  expr_layer (Compare number r left right) = rolled_expr (Compare number r left right) (compare_runs number r left right)
+  expr_layer (Compare number r left left_indexes right right_indexes) =
+      rolled_expr (map-Expr ((e : Expr) × ExprRuns g e) ((l : Link) × LinkRuns g l) Expr Link (λ e. e.0) (λ l. l.0)
+      (Compare number r left left_indexes right right_indexes)) (compare_runs number r left left_indexes.items right right_indexes.items)
 
-  link_layer : (y : Link-F ((e : Expr) × ExprRuns e) ((l : Link) × LinkRuns l))
-      → LinkRuns (roll-Link (map-Link ((e : Expr) × ExprRuns e) ((l : Link) × LinkRuns l) Expr Link (λ e. e.0) (λ l. l.0) y))
+  link_layer : (y : Link-F ((e : Expr) × ExprRuns g e) ((l : Link) × LinkRuns g l))
+      → LinkRuns g (roll-Link (map-Link ((e : Expr) × ExprRuns g e) ((l : Link) × LinkRuns g l) Expr Link (λ e. e.0) (λ l. l.0) y))
   link_layer y =
-      rolled_link (map-Link ((e : Expr) × ExprRuns e) ((l : Link) × LinkRuns l) Expr Link (λ e. e.0) (λ l. l.0) y)
-      (link_runs y.number y.operation (expr_code g.scope y.operand.0) (expr_depth y.operand.0) (is_well_formed_expr variables sites y.operand.0)
+      rolled_link (map-Link ((e : Expr) × ExprRuns g e) ((l : Link) × LinkRuns g l) Expr Link (λ e. e.0) (λ l. l.0) y)
+      (link_runs y.number y.operation (expr_code g.scope y.operand.0) (expr_depth y.operand.0) (is_well_formed_expr variables types (sites g) y.operand.0)
       (value_of y.operand.0) y.operand.1)
 
   -- the code of an expression leaves its value on top, or stops as the expression does
-  pub expr_runs : (e : Expr) → ExprRuns e
+  pub expr_runs : (e : Expr) → ExprRuns g e
   expr_runs =
-      ind-Expr ExprRuns LinkRuns (λ x y is. subst (λ z. ExprRuns (roll-Expr z)) is (expr_layer y))
-      (λ x y is. subst (λ z. LinkRuns (roll-Link z)) is (link_layer y))
+      ind-Expr (ExprRuns g) (LinkRuns g) (λ x y is. subst (λ z. ExprRuns g (roll-Expr z)) is (expr_layer y))
+      (λ x y is. subst (λ z. LinkRuns g (roll-Link z)) is (link_layer y))
 
   -- the code of a width leaves it on top, or stops as the width does; a value has this one where none is given
   pub width_runs : (width : Option Width) (v : Written) (default : ℤ) → default_width v ≡ instr.LoadConstant default → Fits default
-      → RunsAs (width_code g.scope width v) (width_depth width) (is_well_formed_width variables sites width) (width_of width default)
+      → RunsAs g (width_code g.scope width v) (width_depth width) (is_well_formed_width variables types (sites g) width) (width_of width default)
   width_runs None v default is fit place base held s stands good based room =
       number_runs default place base held s (subst (λ i. Stands g.target place (i ∷ [])) is stands).0 fit based room
   width_runs (Some width) v default is fit place base held s stands good based room =
       let c = expr_code g.scope width.value in
       let check = check_positive width.site in
-      let parts = and_parts (nat_lt width.site sites) (is_well_formed_expr variables sites width.value) good in
+      let parts = and_parts (nat_lt width.site (sites g)) (is_well_formed_expr variables types (sites g) width.value) good in
       let e : place + length c + 1 ≡ place + length (c ++ check ∷ []) = omega (arith, length-append c (check ∷ [])) in
       let next : Value → Action Value = λ w. require (effect.is_positive w) width.site >>= λ _. give w in
       subst (λ p. Evaluates g s.turns (on g (base ++ held) place s.output) held p (effect.and_then (value_of width.value g.environment s) next)) e
@@ -652,4 +605,4 @@ module _ (g : Setting) where
       (λ base2 n s2 based2 fit room2.
       tested_runs check width.site (place + length c) base2 held n s2 _ (int_le (pos 1) n) (stands_back g.target place c (check ∷ []) stands).0 refl refl
       (is_in_range g.running.frame g.limit g.size (base2 ++ held) (linked g s2.store base2 held based2) (pos 1) (pos 2147483647) n
-      ∙ ap Ok (same_positive n fit)) (ltb-true width.site sites parts.0) based2 room2 fit))
+      ∙ ap Ok (same_positive n fit)) (ltb-true width.site (sites g) parts.0) based2 room2 fit))

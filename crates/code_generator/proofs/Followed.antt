@@ -16,7 +16,7 @@ use Rattle.stack_machine.specs.Machine.{with_frame, taken}
 use Rattle.stack_machine.specs.Run.{Outcome, machine, steps, first_state, outcome_of}
 use Rattle.code_generator.specs.Follows.{DoesAll, DoesAsMuch, IsExplained, Follows}
 use Rattle.code_generator.specs.Laws.{FramesFit, ErrorsCome}
-use Rattle.code_emitter.specs.Need.{program_need}
+use Rattle.code_scheme.specs.Need.{program_need}
 
 -- a run that finds its store full has fewer cells than the need
 full_has_fewer : (tree : Tree) (code : Code) (input : List ℕ) (cells budget : ℕ) → Follows code tree

@@ -6,15 +6,17 @@ use Rattle.std.specs.Prelude.{slice_get, slice_set, ℤ, pos, int_le, not, ◌&&
 use Rattle.std.specs.Ordering.{int_eq}
 use Rattle.std.proofs.lemmas.Int.{ints}
 use Rattle.std.proofs.lemmas.List.{length-set}
-use Rattle.std.proofs.lemmas.Option.{slice_get_within}
+use Rattle.std.proofs.lemmas.Option.{same_Some, slice_get_within}
 use Rattle.pcode_assembler.specs.declared.instr.Instr.{Instr}
 use Rattle.pcode_assembler.specs.declared.instr.Instr.TheVariants as instr
 use Rattle.typed_tree.specs.declared.tree.Direction.{Direction}
 use Rattle.typed_tree.specs.declared.tree.Direction.TheVariants as direction
 use Rattle.typed_tree.specs.declared.tree.RangeTest.{RangeTest}
+use Rattle.types.specs.Types.{is_ordinal}
+use Rattle.typed_tree.specs.WellFormed.{leads_to_ordinal}
 use Rattle.meaning.specs.declared.store.Value.TheVariants as value
 use Rattle.meaning.specs.Store as meant
-use Rattle.meaning.specs.Store.{kept, forgotten}
+use Rattle.meaning.specs.Store.{Place, kept, forgotten}
 use Rattle.meaning.specs.Counting.{has_values, next_value}
 use Rattle.meaning.specs.Meaning.{is_among}
 use Rattle.meaning.specs.Effect as effect
@@ -25,12 +27,15 @@ use Rattle.stack_machine.specs.declared.arithmetic.Dyadic.TheVariants as dyadic
 use Rattle.stack_machine.specs.Frames as frames
 use Rattle.stack_machine.specs.Frames.{is_true, truth, on_two}
 use Rattle.stack_machine.specs.Machine.{State, obeyed, and_then, with_frames}
-use Rattle.code_emitter.specs.Code.{variable_offset, held_offset, row_code, range_check}
+use Rattle.code_scheme.specs.Code.{row_code, range_check}
+use Rattle.code_scheme.specs.Scopes.{variable_offset, held_offset}
+use Rattle.code_generator.proofs.Accesses.{leads}
 use Rattle.code_generator.proofs.Reach.{Comes, Stands, StandsAt, comes_on, comes_less, stays_here}
 use Rattle.code_generator.proofs.Numbers.{Fits, same_range}
 use Rattle.code_generator.proofs.Setting.{Setting, running_at, on, Based, linked, Here, acts, passes, fails, branches_on, jumps, Executes, executes_from}
 use Rattle.code_generator.proofs.Acts.{framed, length_one, pushes, loads, stores, on_two_is, is_in_range}
-use Rattle.code_generator.proofs.Alike.{Activation, Alike, Leads, HasCell, alike_above, alike_written, alike_undefined, base_is, cell_within, direct_lies}
+use Rattle.code_generator.proofs.Alike.{Alike, LiesIn, alike_written, alike_undefined, cell_within}
+use Rattle.code_generator.proofs.Parts.{ordinal_part, variable_part}
 use Rattle.code_generator.proofs.Alike.{slice_get-front}
 
 -- cells above others
@@ -61,53 +66,82 @@ true_truth true = refl
 true_truth false = refl
 
 module _ (g : Setting) where
-  abbrev variables : ℕ
-  variables = length g.tree.variables.items
-
   abbrev frames_of : List Cell → frames.Frames
   frames_of = framed g.running.frame g.limit g.size
 
-  -- ---- the cell of a variable
+  -- ---- the cell of a scalar
 
-  module _ (root : ℕ) (within : root < variables) where
-    abbrev way : (b : Activation) × Leads g.world 0 g.running b × HasCell g.environment g.world root (b.frame + variable_offset g.scope root)
-    way = direct_lies g.environment g.world g.running root 0 (variable_offset g.scope root) (g.shows root within)
+  module _ (p : Place) (start : ℕ) (lies : LiesIn g.world p (g.running.frame + start)) where
+    scalar_inside : (store : meant.Store) (base : List Cell) → Based g store base → g.running.frame + start < length base
+    scalar_inside store base based = cell_within g.world store base p (g.running.frame + start) based.alike lies
 
+    -- what is popped into it
+    pub stores_scalar : (store : meant.Store) (base held cells : List Cell) (cell : Cell) (place : ℕ) (output : List ℕ) → Based g store base
+        → cells ≡ (base ++ held) ++ cell ∷ [] → Here g place (instr.Store 0 start)
+        → Comes g.target 1 (on g cells place output) (on g (slice_set base (g.running.frame + start) cell ++ held) (place + 1) output)
+    stores_scalar store base held cells cell place output based is here =
+        let below = base ++ held in
+        let low = scalar_inside store base based in
+        let at = length-append base held in
+        let does = stores g.running.frame g.limit g.size below (linked g store base held based) cell 0 start g.running.frame refl (omega arith)
+        ∙ ap (λ cs. Ok (frames_of cs)) (set_front base held (g.running.frame + start) cell low) in
+        acts g (instr.Store 0 start) cells (slice_set base (g.running.frame + start) cell ++ held) place output
+        (frames.store 0 start (frames_of cells)) here refl (ap (λ cs. frames.store 0 start (frames_of cs)) is ∙ does)
+
+  -- a scalar that gets a value, wherever it lies
+  pub scalar_kept : (p : Place) (cell : ℕ) (store : meant.Store) (base : List Cell) (n : ℤ) → LiesIn g.world p cell → Based g store base → Fits n
+      → Based g (kept store (Some p) (value.Number n)) (slice_set base cell (Number n))
+  scalar_kept p cell store base n lies based fit = record {
+    full = length-set base cell (Number n) ∙ based.full;
+    alike = alike_written g.world store base p cell n g.apart lies fit based.alike;
+  }
+
+  -- a variable that is an ordinal and lies where the code finds it
+  pub record IsScalar (root : ℕ) : Type 0 where
+    pub home : Place
+    pub home_is : g.environment.variables root ≡ Some home
+    pub lies : LiesIn g.world home (g.running.frame + variable_offset g.scope root)
+
+  pub is_scalar : (root : ℕ) → leads_to_ordinal g.tree.variables.items g.tree.types (length g.tree.sites.items) root [] 0 ≡ true → IsScalar root
+  is_scalar root well =
+      let l = leads g (is_ordinal g.tree.types) root [] 0 well in
+      let ends = g.ends root l.variable l.declared in
+      let above = g.above_is in
+      let start = variable_part g.tree.types g.world g.below g.environment g.running root (variable_offset g.scope root) l.variable.type_id
+      (g.shows root l.variable l.declared) (omega (arith, ends.0)) ends.1 in
+      let same = same_Some l.variable.type_id l.last l.ends in
+      record {
+        home = start.0;
+        home_is = start.1;
+        lies = ordinal_part g.tree.types g.world g.below start.0 l.variable.type_id (g.running.frame + variable_offset g.scope root)
+            (ap (is_ordinal g.tree.types) same ∙ l.is_wanted) start.2;
+      }
+
+  module _ (root : ℕ) (scalar : IsScalar root) where
     abbrev pub slot : ℕ
-    slot = way.0.frame + variable_offset g.scope root
-
-    pub inside : (store : meant.Store) (base : List Cell) → Based g store base → slot < length base
-    inside store base based = cell_within g.world store base way.2.0 slot based.alike way.2.2
+    slot = g.running.frame + variable_offset g.scope root
 
     -- what is popped into it
     pub stores_variable : (store : meant.Store) (base held cells : List Cell) (cell : Cell) (place : ℕ) (output : List ℕ) → Based g store base
         → cells ≡ (base ++ held) ++ cell ∷ [] → Here g place (instr.Store 0 (variable_offset g.scope root))
         → Comes g.target 1 (on g cells place output) (on g (slice_set base slot cell ++ held) (place + 1) output)
-    stores_variable store base held cells cell place output based is here =
-        let below = base ++ held in
-        let low = inside store base based in
-        let at = length-append base held in
-        let leads = base_is g.world store below 0 g.running way.0 (alike_above g.world store base held based.alike) way.1 in
-        let does = stores g.running.frame g.limit g.size below (linked g store base held based) cell 0 (variable_offset g.scope root) way.0.frame leads
-        (omega arith) ∙ ap (λ cs. Ok (frames_of cs)) (set_front base held slot cell low) in
-        acts g (instr.Store 0 (variable_offset g.scope root)) cells (slice_set base slot cell ++ held) place output
-        (frames.store 0 (variable_offset g.scope root) (frames_of cells)) here refl (ap (λ cs. frames.store 0 (variable_offset g.scope root) (frames_of cs)) is
-        ∙ does)
+    stores_variable = stores_scalar scalar.home (variable_offset g.scope root) scalar.lies
+
+    pub inside : (store : meant.Store) (base : List Cell) → Based g store base → slot < length base
+    inside = scalar_inside scalar.home (variable_offset g.scope root) scalar.lies
 
     pub variable_kept : (store : meant.Store) (base : List Cell) (n : ℤ) → Based g store base → Fits n
-        → Based g (kept store (g.environment root) (value.Number n)) (slice_set base slot (Number n))
-    variable_kept store base n based fit = record {
-      full = length-set base slot (Number n) ∙ based.full;
-      alike = subst (λ home. Alike g.world (kept store home (value.Number n)) (slice_set base slot (Number n))) (sym way.2.1)
-          (alike_written g.world store base way.2.0 slot n g.apart way.2.2 fit based.alike);
-    }
+        → Based g (kept store (g.environment.variables root) (value.Number n)) (slice_set base slot (Number n))
+    variable_kept store base n based fit =
+        subst (λ home. Based g (kept store home (value.Number n)) (slice_set base slot (Number n))) (sym scalar.home_is)
+        (scalar_kept scalar.home slot store base n scalar.lies based fit)
 
     pub variable_forgotten : (store : meant.Store) (base : List Cell) → Based g store base
-        → Based g (forgotten store (g.environment root)) (slice_set base slot Undefined)
+        → Based g (forgotten store (g.environment.variables root)) (slice_set base slot Undefined)
     variable_forgotten store base based = record {
       full = length-set base slot Undefined ∙ based.full;
-      alike = subst (λ home. Alike g.world (forgotten store home) (slice_set base slot Undefined)) (sym way.2.1)
-          (alike_undefined g.world store base way.2.0 slot g.apart way.2.2 based.alike);
+      alike = subst (λ home. Alike g.world (forgotten store home) (slice_set base slot Undefined)) (sym scalar.home_is)
+          (alike_undefined g.world store base scalar.home slot g.apart scalar.lies based.alike);
     }
 
   -- ---- held cells
@@ -206,16 +240,16 @@ module _ (g : Setting) where
         (subst (λ b. Comes g.target 4 (on g here place output) (on g here (if b then place + 1 + 1 + 1 + 1 else out) output)) same whole)
 
     -- a value that is held becomes that of the control variable
-    pub begins : (control place : ℕ) (within : control < variables) → Fits n → Here g place (instr.Load 0 (held_offset g.scope 0))
+    pub begins : (control place : ℕ) (scalar : IsScalar control) → Fits n → Here g place (instr.Load 0 (held_offset g.scope 0))
         → Here g (place + 1) (instr.Store 0 (variable_offset g.scope control))
-        → Comes g.target 2 (on g here place output) (on g (slice_set base (slot control within) (Number n) ++ (held ++ bounds)) (place + 2) output)
-    begins control place within fit at1 at2 =
+        → Comes g.target 2 (on g here place output) (on g (slice_set base (slot control scalar) (Number n) ++ (held ++ bounds)) (place + 2) output)
+    begins control place scalar fit at1 at2 =
         let p : place + 1 + 1 ≡ place + 2 = omega arith in
-        let after = slice_set base (slot control within) (Number n) ++ (held ++ bounds) in
+        let after = slice_set base (slot control scalar) (Number n) ++ (held ++ bounds) in
         subst (λ q. Comes g.target 2 (on g here place output) (on g after q output)) p
         (comes_on g.target 1 1 _ _ _
         (loads_held store base held bounds [] here 0 (Number n) place output based high (sym (append-nil here)) refl (omega arith) at1)
-        (stores_variable control within store base (held ++ bounds) (here ++ Number n ∷ []) (Number n) (place + 1) output based refl at2))
+        (stores_variable control scalar store base (held ++ bounds) (here ++ Number n ∷ []) (Number n) (place + 1) output based refl at2))
 
     -- the next value is held, and the next round begins
     pub steps : (i : Instr) (f : ℤ → ℤ → ℤ) (next : ℤ) (place head : ℕ) → Here g place (instr.Load 0 (held_offset g.scope 0))
@@ -236,23 +270,23 @@ module _ (g : Setting) where
         (comes_less g.target 1 5 _ _ (omega arith) whole)
 
     -- behind the loop nothing more is held, and the control variable is undefined
-    pub leaves : (control place : ℕ) (within : control < variables) → Fits n → Fits l → Here g place (instr.Store 0 (variable_offset g.scope control))
+    pub leaves : (control place : ℕ) (scalar : IsScalar control) → Fits n → Fits l → Here g place (instr.Store 0 (variable_offset g.scope control))
         → Here g (place + 1) (instr.Store 0 (variable_offset g.scope control)) → Here g (place + 1 + 1) (instr.Load 0 2)
         → Here g (place + 1 + 1 + 1) (instr.Store 0 (variable_offset g.scope control))
-        → Comes g.target 4 (on g here place output) (on g (slice_set base (slot control within) Undefined ++ held) (place + 4) output)
-    leaves control place within fit fit' at1 at2 at3 at4 =
-        let c = slot control within in
+        → Comes g.target 4 (on g here place output) (on g (slice_set base (slot control scalar) Undefined ++ held) (place + 4) output)
+    leaves control place scalar fit fit' at1 at2 at3 at4 =
+        let c = slot control scalar in
         let one = held ++ Number n ∷ [] in
         let base1 = slice_set base c (Number l) in
         let base2 = slice_set base1 c (Number n) in
-        let based1 = variable_kept control within store base l based fit' in
-        let store1 = kept store (g.environment control) (value.Number l) in
-        let based2 = variable_kept control within store1 base1 n based1 fit in
-        let store2 = kept store1 (g.environment control) (value.Number n) in
+        let based1 = variable_kept control scalar store base l based fit' in
+        let store1 = kept store (g.environment.variables control) (value.Number l) in
+        let based2 = variable_kept control scalar store1 base1 n based1 fit in
+        let store2 = kept store1 (g.environment.variables control) (value.Number n) in
         let is1 : here ≡ (base ++ one) ++ Number l ∷ [] = ap (λ cs. base ++ cs) (sym (append_assoc held (Number n ∷ []) (Number l ∷ [])))
         ∙ sym (append_assoc base one (Number l ∷ [])) in
-        let a = stores_variable control within store base one here (Number l) place output based is1 at1 in
-        let b = stores_variable control within store1 base1 held (base1 ++ one) (Number n) (place + 1) output based1
+        let a = stores_variable control scalar store base one here (Number l) place output based is1 at1 in
+        let b = stores_variable control scalar store1 base1 held (base1 ++ one) (Number n) (place + 1) output based1
         (sym (append_assoc base1 held (Number n ∷ []))) at2 in
         let cells = base2 ++ held in
         let size = length-append base2 held in
@@ -261,7 +295,7 @@ module _ (g : Setting) where
         let blank = slice_get-front base2 held (g.running.frame + 2) Undefined (based2.alike.blank g.running g.lives g.outermost) in
         let d = acts g (instr.Load 0 2) cells (cells ++ Undefined ∷ []) (place + 1 + 1) output (frames.load 0 2 (frames_of cells)) at3 refl
         (loads g.running.frame g.limit g.size cells 0 2 g.running.frame Undefined (omega arith) refl (omega arith) blank) in
-        let e = stores_variable control within store2 base2 held (cells ++ Undefined ∷ []) Undefined (place + 1 + 1 + 1) output based2 refl at4 in
+        let e = stores_variable control scalar store2 base2 held (cells ++ Undefined ∷ []) Undefined (place + 1 + 1 + 1) output based2 refl at4 in
         let whole = comes_on g.target 1 3 _ _ _ a (comes_on g.target 1 2 _ _ _ b (comes_on g.target 1 1 _ _ _ d e)) in
         let same : slice_set base2 c Undefined ≡ slice_set base c Undefined = set_twice base1 c (Number n) Undefined ∙ set_twice base c (Number l) Undefined in
         let p : place + 1 + 1 + 1 + 1 ≡ place + 4 = omega arith in

@@ -117,6 +117,7 @@ reset g slack height = record g {
   scope = record g.scope { height = height };
   above_is = g.above_is;
   shows = g.shows;
+  ends = g.ends;
 }
 
 module _ (g : Setting) (slack height : ℕ) where

@@ -29,7 +29,7 @@ abs_within : (n : ℤ) → Fits n → unsigned_abs n ≤ 2147483647
 abs_within (pos n) h = let e = h.is in grind (arith, ints)
 abs_within (negsuc n) h = let e = h.is in grind (arith, ints)
 
-fits_signed : (n : ℤ) → Fits n → FitsSigned w32 n
+pub fits_signed : (n : ℤ) → Fits n → FitsSigned w32 n
 fits_signed n h = let e = h.is in grind (arith, ints)
 
 -- results that are checked

@@ -1,17 +1,19 @@
 -- The code of a well formed tree follows its program, in full and without the checks of sites at which it never errs.
-use Rattle.std.proofs.Common.{◌≡◌, ℕ, zero, suc, nat_eq, ◌+◌, ◌<◌, ◌≤◌, ◌⊎◌, List, [], ◌∷◌, ◌++◌, length, Option, Some, None, refl, sym, ap, ◌∙◌, subst, inl}
+use Rattle.std.proofs.Common.{◌≡◌, ℕ, suc, ◌+◌, ◌<◌, ◌≤◌, ◌⊎◌, List, [], ◌∷◌, ◌++◌, length, Option, Some, None, refl, sym, ap, ◌∙◌, subst, inl}
 use Rattle.std.proofs.Common.{inr, ⊎_elim, arith, length-append, append_assoc, append-nil, ◌-◌, Bool, true, false}
-use Rattle.std.specs.Prelude.{slice_get, if◌then◌else◌}
+use Rattle.std.specs.Prelude.{nat_lt, slice_get, sum, if◌then◌else◌}
 use Rattle.std.specs.List.{list_all}
 use Rattle.std.specs.Option.{option_map_or}
 use Rattle.std.proofs.Math.Seq.{get_or-append_seam}
 use Rattle.std.proofs.lemmas.List.Sums.{count_by_more_yes, count_by_more_no}
 use Rattle.std.proofs.lemmas.Option.{slice_get-get_or, get_or_from_slice_get}
-use Rattle.std.proofs.lemmas.Bool.{and_parts, cases_lt, lt-ltb, le-ltb, le-leb, lt-leb}
+use Rattle.std.proofs.lemmas.Bool.{and_parts, or_parts, cases_lt, lt-ltb, ltb-false, le-ltb, le-leb, lt-leb}
 use Rattle.pcode_assembler.specs.declared.code.Code.{Code}
 use Rattle.pcode_assembler.specs.declared.code.Site.{Site as Plain}
 use Rattle.pcode_assembler.specs.declared.instr.Instr.{Instr}
 use Rattle.pcode_assembler.specs.declared.instr.Instr.TheVariants as instr
+use Rattle.types.specs.Components.{Steps}
+use Rattle.types.specs.declared.form.TypeForm.{TypeForm}
 use Rattle.typed_tree.specs.declared.tree.Tree.{Tree}
 use Rattle.typed_tree.specs.declared.tree.Block.{Block}
 use Rattle.typed_tree.specs.declared.tree.Variable.{Variable}
@@ -20,7 +22,7 @@ use Rattle.meaning.specs.declared.outcome.Ending.TheVariants as ending
 use Rattle.meaning.specs.Effect as effect
 use Rattle.meaning.specs.Effect.{Reply, Gives}
 use Rattle.meaning.specs.Meaning as meant
-use Rattle.meaning.specs.Meaning.{Meaning, meaning, ended, home_of, program_environment}
+use Rattle.meaning.specs.Meaning.{Meaning, meaning, ended, program_environment}
 use Rattle.stack_machine.specs.declared.stop.Stop.{Stop}
 use Rattle.stack_machine.specs.declared.stop.Stop.TheVariants as stop
 use Rattle.stack_machine.specs.Frames.{first_frames}
@@ -29,26 +31,29 @@ use Rattle.stack_machine.specs.Machine.{State, Next}
 use Rattle.stack_machine.specs.Run as runs
 use Rattle.stack_machine.specs.Run.{Outcome, machine, steps}
 use Rattle.check_remover.specs.Strip.{check_site, is_among, stays, moved, moved_place, KeepsInstructions}
-use Rattle.code_emitter.specs.Code.{count, variable_offset, program_scope, stmt_code, stmt_depth, body_code, program_code}
+use Rattle.code_scheme.specs.Code.{stmt_code, body_code, program_code}
+use Rattle.code_scheme.specs.Depth.{stmt_depth}
+use Rattle.code_scheme.specs.Scopes.{count, program_scope, variable_cells}
+use Rattle.code_generator.specs.Large.{frame_cells, is_too_large}
 use Rattle.code_generator.specs.Follows.{BeginsWith, StopsAs, DoesAll, DoesAsMuch, IsExplained, Follows}
 use Rattle.code_generator.specs.Laws.{StrippedFollows}
-use Rattle.code_emitter.specs.Need.{body_need, program_need}
+use Rattle.code_scheme.specs.Need.{body_need, program_need}
 use Rattle.code_generator.specs.Tables.{site_table}
 use Rattle.typed_tree.specs.WellFormed.{is_well_formed_block, IsWellFormed}
 use Rattle.code_generator.proofs.Reach.{Target, StandsAt, Stands, stands_front, stands_back, Comes, IsOver, comes_by, comes_on, comes_less, stays_here}
 use Rattle.code_generator.proofs.Reach.{stops_on, stops_by, longer, one_end, grows_to}
 use Rattle.code_generator.proofs.Setting.{Setting, on, Based, Halts, Ends, Executes, done}
 use Rattle.stack_machine.proofs.Growing.{begins_itself}
-use Rattle.code_emitter.proofs.Depths.{Within, stmt_within}
-use Rattle.code_generator.proofs.Alike.{Shown, Direct}
+use Rattle.code_scheme.proofs.Depths.{stmt_within}
+use Rattle.code_generator.proofs.Alike.{Alike}
+use Rattle.code_generator.proofs.ProgramScope.{each_once, few_cells, rows, summed, variable_ends, variable_shown}
 use Rattle.code_generator.proofs.ProgramWorld.{program_activation, program_world, program_lives, program_apart, entered_cells, length_entered, program_begins}
-use Rattle.code_generator.proofs.ProgramWorld.{ShowsProgram, shows_program}
 use Rattle.code_generator.proofs.Stmts.{repeats, stmt_runs}
 
 -- the instructions of a block's statement, and its depth
-abbrev body_instructions : ℕ → Option Block → List Instr
-body_instructions variables None = []
-body_instructions variables (Some block) = stmt_code block.body (program_scope variables) 1
+abbrev body_instructions : List ℕ → Option Block → List Instr
+body_instructions each None = []
+body_instructions each (Some block) = stmt_code block.body (program_scope each) 1
 
 abbrev body_depth : Option Block → ℕ
 body_depth None = 0
@@ -58,42 +63,26 @@ abbrev body_repeats : Option Block → ℕ
 body_repeats None = 0
 body_repeats (Some block) = repeats block.body
 
-body_within : (variables : ℕ) (o : Option Block) → Within (body_depth o) (body_instructions variables o) (body_need o)
-body_within variables None = record { code_is = omega arith; need_is = omega arith }
-body_within variables (Some block) = stmt_within block.body (program_scope variables) 1
+body_within : (o : Option Block) → body_depth o ≤ body_need o
+body_within None = omega arith
+body_within (Some block) = stmt_within block.body
 
-body_code_is : (variables : ℕ) (o : Option Block) → body_code variables o ≡ instr.Enter variables (count (body_depth o)) ∷ body_instructions variables o
-body_code_is variables None = refl
-body_code_is variables (Some block) = refl
+body_code_is : (each : List ℕ) (o : Option Block) → body_code each o ≡ instr.Enter (count (sum each)) (count (body_depth o)) ∷ body_instructions each o
+body_code_is each None = refl
+body_code_is each (Some block) = refl
 
--- the body of a block that may be there is well formed
-abbrev is_well_formed_body : ℕ → ℕ → Option Block → Bool
-is_well_formed_body variables sites None = true
-is_well_formed_body variables sites (Some block) = is_well_formed_block variables sites block
+module _ (variables : List Variable) (types : List TypeForm) (sites : ℕ) where
+  -- the body of a block that may be there is well formed
+  abbrev is_well_formed_body : Option Block → Bool
+  is_well_formed_body None = true
+  is_well_formed_body (Some block) = is_well_formed_block variables types sites block
 
--- that of the first block is, where those of all are
-first_is_well_formed : (variables sites : ℕ) (blocks : List Block) → list_all (is_well_formed_block variables sites) blocks ≡ true
-    → is_well_formed_body variables sites (slice_get blocks 0) ≡ true
-first_is_well_formed variables sites [] good = refl
-first_is_well_formed variables sites (block ∷ blocks) good =
-    (and_parts (is_well_formed_block variables sites block) (list_all (is_well_formed_block variables sites) blocks) good).0
-
--- a variable that the program's block declares has its place
-home_there : (root : ℕ) (variables : List Variable) (at : ℕ) → at < length variables
-    → list_all (λ variable. nat_eq variable.block 0) variables ≡ true
-    → home_of root (slice_get variables at) ≡ Some (record { activation = 0; variable = root; steps = [] })
-home_there root [] at h declared = absurd (omega arith)
-home_there root (variable ∷ variables) zero h declared =
-    ap (λ b. if b then Some (record { activation = 0; variable = root; steps = [] }) else None)
-    (and_parts (nat_eq variable.block 0) (list_all (λ (v : Variable). nat_eq v.block 0) variables) declared).0
-home_there root (variable ∷ variables) (suc at) h declared =
-    home_there root variables at (omega arith)
-    (and_parts (nat_eq variable.block 0) (list_all (λ (v : Variable). nat_eq v.block 0) variables) declared).1
-
--- the environment of the program's block has its variables
-shown_in : (tree : Tree) → IsWellFormed tree → ShowsProgram (length tree.variables.items) (program_environment tree)
-shown_in tree well =
-    shows_program (length tree.variables.items) (program_environment tree) λ root h. home_there root tree.variables.items root h well.declared
+  -- that of the first block is, where those of all are
+  first_is_well_formed : (blocks : List Block) → list_all (is_well_formed_block variables types sites) blocks ≡ true
+      → is_well_formed_body (slice_get blocks 0) ≡ true
+  first_is_well_formed [] good = refl
+  first_is_well_formed (block ∷ blocks) good =
+      (and_parts (is_well_formed_block variables types sites block) (list_all (is_well_formed_block variables types sites) blocks) good).0
 
 -- a stop that is an end of the program
 abbrev IsEnd : Stop → Type 0
@@ -218,17 +207,24 @@ leads_before sites code b j m le =
     record { over = longer sites code b j le m; begins = grows_to sites code b j le m }
 
 -- a program whose code stands in the machine's code, with the checks of some sites left out at which it never errs
-module _ (tree : Tree) (well : IsWellFormed tree) (short : length (program_code tree) ≤ 1000000) (target : Target)
+module _ (tree : Tree) (well : IsWellFormed tree) (short : is_too_large (program_code tree) ≡ false) (target : Target)
     (sites_are : target.sites ≡ site_table tree.sites.items) (stands : Stands target 0 (program_code tree)) (starts : target.to 0 ≡ 0)
     (never : (input : List ℕ) (turns site : ℕ) → (meaning tree input turns).ending ≡ ending.Error site → target.is_open site ≡ false → ⊥) where
+  -- how many cells each variable takes, and all of them
+  abbrev each : List ℕ
+  each = variable_cells tree
+
   abbrev variables : ℕ
-  variables = length tree.variables.items
+  variables = sum each
+
+  abbrev rows_there : List (List Steps)
+  rows_there = rows tree well
 
   abbrev first : Option Block
   first = slice_get tree.blocks.items 0
 
   abbrev body : List Instr
-  body = body_instructions variables first
+  body = body_instructions each first
 
   abbrev depth : ℕ
   depth = body_depth first
@@ -237,27 +233,29 @@ module _ (tree : Tree) (well : IsWellFormed tree) (short : length (program_code 
   abbrev whole : List Instr
   whole = instr.Enter variables depth ∷ (body ++ instr.Stop ∷ [])
 
-  few : variables ≤ 65536
-  few = well.few_variables
+  few_variables : variables ≤ 65536
+  few_variables = let all = summed tree well in let h = few_cells tree well in omega arith
 
-  short_depth : depth ≤ 1000000
-  short_depth =
-      let w = (body_within (count variables) first).code_is in
-      let e = ap length (body_code_is (count variables) first) in
-      omega (arith, length-append (body_code (count variables) first) (instr.Stop ∷ []))
+  small_frame : 4 + count variables + count depth ≤ 16777216
+  small_frame =
+      let of_frame = (or_parts (nat_lt 1000000 (length (program_code tree))) (nat_lt 16777216 (frame_cells (program_code tree))) short).1 in
+      let is = ap (λ c. frame_cells (c ++ (instr.Stop ∷ []))) (body_code_is each first) in
+      let h = ltb-false 16777216 (frame_cells (program_code tree)) of_frame in
+      omega arith
 
-  shallow : depth ≤ 16777216
-  shallow = let h = short_depth in omega arith
+  shallow : 4 + variables + depth ≤ 16777216
+  shallow = let h = small_frame in let fits = few_variables in omega arith
 
   count_is : (n : ℕ) → n ≤ 16777216 → count n ≡ n
   count_is n h = omega arith
 
   whole_is : program_code tree ≡ whole
   whole_is =
-      let fits = few in
-      ap (λ c. c ++ (instr.Stop ∷ [])) (body_code_is (count variables) first)
-      ∙ ap (λ n. instr.Enter n (count depth) ∷ (body_instructions n first ++ instr.Stop ∷ [])) (count_is variables (omega arith))
-      ∙ ap (λ n. instr.Enter variables n ∷ (body ++ instr.Stop ∷ [])) (count_is depth shallow)
+      let fits = few_variables in
+      let low = shallow in
+      ap (λ c. c ++ (instr.Stop ∷ [])) (body_code_is each first)
+      ∙ ap (λ n. instr.Enter n (count depth) ∷ (body ++ instr.Stop ∷ [])) (count_is variables (omega arith))
+      ∙ ap (λ n. instr.Enter variables n ∷ (body ++ instr.Stop ∷ [])) (count_is depth (omega arith))
 
   whole_stands : Stands target 0 whole
   whole_stands = subst (Stands target 0) whole_is stands
@@ -269,16 +267,6 @@ module _ (tree : Tree) (well : IsWellFormed tree) (short : length (program_code 
   abbrev slack : ℕ
   slack = body_repeats first
 
-  -- where the code finds a variable
-  shown_at : (root : ℕ) → root < variables → Shown (program_environment tree) (program_world variables) (program_activation variables) root
-      (Direct 0 (variable_offset (program_scope variables) root))
-  shown_at root h =
-      let fits = few in
-      let e : root + 4 ≡ variable_offset (program_scope variables) root = omega arith in
-      let way = ap (λ b. if b then Some (Direct 0 (root + 4)) else None) (lt-ltb root variables h) in
-      subst (λ offset. Shown (program_environment tree) (program_world variables) (program_activation variables) root (Direct 0 offset)) e
-      ((shown_in tree well).each root (Direct 0 (root + 4)) way)
-
   module _ (input : List ℕ) (cells : ℕ) where
     -- the program's block as it runs
     abbrev setting : Setting
@@ -289,18 +277,21 @@ module _ (tree : Tree) (well : IsWellFormed tree) (short : length (program_code 
       input = input;
       size = cells;
       limit = needed_cells;
-      world = program_world variables;
-      running = program_activation variables;
-      lives = program_lives variables;
-      apart = program_apart variables;
+      world = program_world rows_there;
+      running = program_activation rows_there;
+      lives = program_lives rows_there;
+      apart = program_apart rows_there (each_once tree.types tree.variables.items);
       below = 4 + variables;
       slack = slack;
-      scope = program_scope variables;
+      scope = program_scope each;
       environment = program_environment tree;
-      above_is = omega arith;
-      far = (let fits = few in let low = short_depth in omega arith);
+      above_is = (let fits = few_variables in omega arith);
+      far = shallow;
+      near = (let fits = few_variables in omega arith);
       outermost = refl;
-      shows = shown_at;
+      types_are = refl;
+      shows = variable_shown tree well;
+      ends = variable_ends tree well;
     }
 
     abbrev start : State
@@ -311,7 +302,10 @@ module _ (tree : Tree) (well : IsWellFormed tree) (short : length (program_code 
     inside = on setting (entered_cells variables ++ []) 1 []
 
     first_based : Based setting [] (entered_cells variables)
-    first_based = record { full = length_entered variables; alike = program_begins variables }
+    first_based = record {
+      full = length_entered variables;
+      alike = subst (λ n. Alike (program_world rows_there) [] (entered_cells n)) (sym (summed tree well)) (program_begins rows_there);
+    }
 
     -- the first instruction
     entry : slice_get target.code 0 ≡ Some (instr.Enter variables depth)
@@ -337,10 +331,10 @@ module _ (tree : Tree) (well : IsWellFormed tree) (short : length (program_code 
         ap (λ o. runs.outcome_of (machines.taken target.sites o start) [] (steps target.sites target.code 0)) entry
         ∙ ap (λ b. runs.outcome_of (entered_by b) [] (steps target.sites target.code 0)) (lt-leb needed_cells cells h)
 
-    body_runs : (o : Option Block) (s : effect.State) → body_repeats o ≤ slack → Stands target 1 (body_instructions variables o)
-        → is_well_formed_body variables (length tree.sites.items) o ≡ true → Based setting s.store (entered_cells variables)
+    body_runs : (o : Option Block) (s : effect.State) → body_repeats o ≤ slack → Stands target 1 (body_instructions each o)
+        → is_well_formed_body tree.variables.items tree.types (length tree.sites.items) o ≡ true → Based setting s.store (entered_cells variables)
         → 4 + variables + body_depth o ≤ needed_cells
-        → Executes setting s.turns (on setting (entered_cells variables ++ []) 1 s.output) [] (1 + length (body_instructions variables o))
+        → Executes setting s.turns (on setting (entered_cells variables ++ []) 1 s.output) [] (1 + length (body_instructions each o))
         (meant.run_of o (program_environment tree) s)
     body_runs None s apart stands good based deep = done setting 0 _ (entered_cells variables) [] 1 s based (stays_here target _)
     body_runs (Some block) s apart stands good based deep = stmt_runs block.body setting apart 1 (entered_cells variables) [] s stands good based refl (omega
@@ -387,11 +381,11 @@ module _ (tree : Tree) (well : IsWellFormed tree) (short : length (program_code 
     arrives turns h =
         finishes turns inside (1 + length body) (meant.run tree input turns) (stands_back target 1 body (instr.Stop ∷ []) whole_stands.1) (enters h)
         (body_runs first (meant.first_state input turns) (omega arith) (stands_front target 1 body (instr.Stop ∷ []) whole_stands.1)
-        (first_is_well_formed variables (length tree.sites.items) tree.blocks.items well.blocks) first_based (omega arith))
+        (first_is_well_formed tree.variables.items tree.types (length tree.sites.items) tree.blocks.items well.blocks) first_based (omega arith))
         (never input turns)
 
     needed : cells < needed_cells → cells < program_need tree
-    needed h = let w = (body_within variables first).need_is in omega arith
+    needed h = let w = body_within first in omega arith
 
     -- a run of so many instructions
     abbrev made : ℕ → Outcome
@@ -515,7 +509,7 @@ stands_itself sites (i ∷ is) before =
 
 -- the code of a well formed tree follows its program
 pub follows : (code : Code) (tree : Tree) → code.instructions.items ≡ program_code tree → code.sites.items ≡ site_table tree.sites.items
-    → length (program_code tree) ≤ 1000000 → IsWellFormed tree → Follows code tree
+    → is_too_large (program_code tree) ≡ false → IsWellFormed tree → Follows code tree
 follows code tree is sites_are short well =
     follows_there tree well short (as_it_is (site_table tree.sites.items) (program_code tree)) refl
     (stands_itself (site_table tree.sites.items) (program_code tree) []) refl (λ input turns site errs closed. cc) code is sites_are

@@ -30,7 +30,7 @@ numbers_are (n ∷ ns) = ap (λ r. r >>= λ others. Ok (n ∷ others)) (numbers_
 
 module _ (frame limit size : ℕ) where
   -- a row below others, and below nothing
-  row_is : (below row above : List Cell) (n count : ℕ) → length row + length above ≡ n → length row ≡ count
+  pub row_is : (below row above : List Cell) (n count : ℕ) → length row + length above ≡ n → length row ≡ count
       → rows.row n count (framed frame limit size ((below ++ row) ++ above)) ≡ row
   row_is below row above n count e f =
       let cells = (below ++ row) ++ above in
@@ -38,12 +38,12 @@ module _ (frame limit size : ℕ) where
       ap (λ m. take count (drop m cells)) start ∙ ap (λ cs. take count (drop (length below) cs)) (append_assoc below row above)
       ∙ ap (take count) (drop-append_seam below (row ++ above)) ∙ ap (λ m. take m (row ++ above)) (sym f) ∙ take-append_seam row above
 
-  top_row_is : (below row : List Cell) (n : ℕ) → length row ≡ n → rows.row n n (framed frame limit size (below ++ row)) ≡ row
+  pub top_row_is : (below row : List Cell) (n : ℕ) → length row ≡ n → rows.row n n (framed frame limit size (below ++ row)) ≡ row
   top_row_is below row n e =
       ap (λ cs. rows.row n n (framed frame limit size cs)) (sym (append-nil (below ++ row))) ∙ row_is below row [] n n (omega arith) e
 
   -- the cells below two pieces, of so many cells together
-  popped_is : (below row above : List Cell) (n : ℕ) → length row + length above ≡ n
+  pub popped_is : (below row above : List Cell) (n : ℕ) → length row + length above ≡ n
       → take (length ((below ++ row) ++ above) - n) ((below ++ row) ++ above) ≡ below
   popped_is below row above n e =
       let cells = (below ++ row) ++ above in
@@ -141,7 +141,3 @@ order_fits (a ∷ left) (b ∷ right) = order_fits_by (int_lt a b) (int_lt b a) 
 pub same_byte : (n : ℤ) → Fits n → texts.byte_of n ≡ meant.byte_of n
 same_byte (pos n) h = refl
 same_byte (negsuc n) h = let e = h.is in let f : n < 2147483648 = grind (arith, ints) in omega arith
-
-pub same_bytes : (characters : List ℕ) → map texts.byte_of (map pos characters) ≡ map meant.byte_of (map pos characters)
-same_bytes [] = refl
-same_bytes (c ∷ characters) = ap (λ bytes. texts.byte_of (pos c) ∷ bytes) (same_bytes characters)

@@ -5,7 +5,10 @@ use Rattle.std.proofs.Common.{subst, arith, length-append, Bool, true, false, Co
 use Rattle.std.specs.Prelude.{slice_get, ℤ, if◌then◌else◌}
 use Rattle.pcode_assembler.specs.declared.instr.Instr.{Instr}
 use Rattle.pcode_assembler.specs.declared.instr.Instr.TheVariants as instr
+use Rattle.types.specs.Components.{components_of}
+use Rattle.types.specs.Types.{cells_of}
 use Rattle.typed_tree.specs.declared.tree.Tree.{Tree}
+use Rattle.typed_tree.specs.declared.tree.Variable.{Variable}
 use Rattle.meaning.specs.declared.outcome.Ending.{Ending}
 use Rattle.meaning.specs.declared.outcome.Ending.TheVariants as ending
 use Rattle.meaning.specs.declared.store.Value.{Value}
@@ -22,8 +25,7 @@ use Rattle.stack_machine.specs.Deeds.{jumped_if_false}
 use Rattle.stack_machine.specs.Frames.{Frames, Attempt, is_true}
 use Rattle.stack_machine.specs.Machine.{State, obeyed, and_then, checked, with_frames, with_place, error_of}
 use Rattle.check_remover.specs.Strip.{moved}
-use Rattle.code_emitter.specs.declared.scope.Scope.{Scope}
-use Rattle.code_emitter.specs.Code.{variable_offset}
+use Rattle.code_scheme.specs.Scopes.{Scope, variable_offset}
 use Rattle.code_generator.specs.Follows.{StopsAs}
 use Rattle.code_generator.specs.Tables.{site_table, in_plain_numbers}
 use Rattle.code_generator.proofs.Reach.{Target, StandsAt, Comes, Stops, comes_on, comes_less, stays_here, comes_by, stops_on, stops_by}
@@ -55,11 +57,17 @@ pub record Setting : Type 0 where
   pub environment : Environment
   -- where the cells begin that are held
   pub above_is : below ≡ running.frame + scope.above
-  -- an offset reaches each cell
+  -- an offset reaches each cell, and the first above the variables
   pub far : limit ≤ 16777216
+  pub near : below ≤ 16777215
   -- until routines come, it is the program's block
   pub outermost : running.outer ≡ None
-  pub shows : (root : ℕ) → root < length tree.variables.items → Shown environment world running root (Direct 0 (variable_offset scope root))
+  pub types_are : environment.types ≡ tree.types
+  pub shows : (root : ℕ) (variable : Variable) → slice_get tree.variables.items root ≡ Some variable → Shown environment world running root
+      (Direct 0 (record { start = variable_offset scope root; components = components_of tree.types variable.type_id }))
+  -- a variable ends below the cells that are held, and takes no more than a type does
+  pub ends : (root : ℕ) (variable : Variable) → slice_get tree.variables.items root ≡ Some variable
+      → (variable_offset scope root + cells_of tree.types variable.type_id ≤ scope.above) × (cells_of tree.types variable.type_id ≤ 65536)
 
 -- an element of a table, and of the table that was made from it
 found_at : {A B : Type 0} (f : A → B) (xs : List A) (i : ℕ) → i < length xs → (x : A) × (slice_get xs i ≡ Some x) × (slice_get (map f xs) i ≡ Some (f x))

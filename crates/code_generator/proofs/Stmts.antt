@@ -7,14 +7,13 @@ use Rattle.std.specs.List.{flat_map}
 use Rattle.std.specs.Ordering.{int_eq}
 use Rattle.check_remover.specs.Strip.{stays}
 use Rattle.std.specs.Fmt.{signed_decimal}
-use Rattle.std.proofs.lemmas.Bool.{leb-true, ltb-true, and_parts}
-use Rattle.std.proofs.lemmas.List.{length-map}
+use Rattle.std.proofs.lemmas.Bool.{ltb-true, and_parts}
 use Rattle.pcode_assembler.specs.declared.instr.Instr.{Instr}
 use Rattle.pcode_assembler.specs.declared.instr.Instr.TheVariants as instr
-use Rattle.place.specs.declared.Place.{Place as SourcePlace}
 use Rattle.std.specs.declared.alloc.Global.{Global}
 use Rattle.std.specs.declared.boxed.Box.{Box}
-use Rattle.typed_tree.specs.declared.tree.Access.{Access}
+use Rattle.types.specs.declared.form.TypeForm.{TypeForm}
+use Rattle.typed_tree.specs.declared.tree.Variable.{Variable as DeclaredVariable}
 use Rattle.typed_tree.specs.declared.tree.RangeTest.{RangeTest}
 use Rattle.typed_tree.specs.declared.tree.Direction.{Direction}
 use Rattle.typed_tree.specs.declared.tree.Direction.TheVariants as direction
@@ -24,11 +23,11 @@ use Rattle.typed_tree.specs.declared.tree.Width.{Width}
 use Rattle.typed_tree.specs.declared.tree.WriteParameter.{WriteParameter}
 use Rattle.typed_tree.specs.declared.tree.Written.{Written}
 use Rattle.typed_tree.specs.declared.tree.Written.TheVariants.{Ordinal, String}
-use Rattle.typed_tree.specs.declared.tree.Whole.TheVariants.{Text}
+use Rattle.typed_tree.specs.declared.tree.Whole.{Whole}
 use Rattle.typed_tree.specs.declared.tree.Expr.{Expr}
 use Rattle.typed_tree.specs.declared.tree.Stmt.{Stmt}
 use Rattle.typed_tree.specs.declared.tree.Stmt.TheOpen.{Stmt-F}
-use Rattle.typed_tree.specs.declared.tree.Stmt.TheOpen.Stmt-F.{Empty, Assign, Write, Compound, If, While, Repeat, For, Case}
+use Rattle.typed_tree.specs.declared.tree.Stmt.TheOpen.Stmt-F.{Empty, Assign, Copy, Write, Compound, If, While, Repeat, For, Case}
 use Rattle.typed_tree.specs.declared.tree.Stmt.TheViews.{roll-Stmt}
 use Rattle.typed_tree.specs.declared.tree.Stmt.TheFolds.{fold-Stmt, map-Stmt, fold-roll-Stmt, ind-Stmt}
 use Rattle.meaning.specs.declared.outcome.Ending.TheVariants as ending
@@ -37,8 +36,8 @@ use Rattle.meaning.specs.declared.store.Value.TheVariants as value
 use Rattle.meaning.specs.Store.{kept, forgotten}
 use Rattle.meaning.specs.Counting.{has_values, next_value, value_behind}
 use Rattle.meaning.specs.Effect as effect
-use Rattle.meaning.specs.Effect.{Reply, Gives, Action, Round, ◌>>=◌, require, give}
-use Rattle.meaning.specs.Meaning.{Execution, is_so, turn_if, while_round, repeat_round, for_round, for_rounds, for_between, is_among, arm_of, number_of}
+use Rattle.meaning.specs.Effect.{Reply, Gives, Action, Round, ◌>>=◌, number_of, require, give}
+use Rattle.meaning.specs.Meaning.{Execution, is_so, turn_if, while_round, repeat_round, for_round, for_rounds, for_between, is_among, arm_of, whole_of}
 use Rattle.meaning.specs.Meaning.{alternative_of, value_of, width_of, effect_of, effect_step, parameter_of, all_of, line_ended}
 use Rattle.meaning.specs.Meaning.{default_width as default_width_of}
 use Rattle.stack_machine.specs.declared.cell.Cell.{Cell}
@@ -49,25 +48,29 @@ use Rattle.stack_machine.specs.Frames.{Attempt}
 use Rattle.stack_machine.specs.Machine as machine
 use Rattle.stack_machine.specs.Machine.{State, with_text}
 use Rattle.stack_machine.specs.Texts as texts
-use Rattle.code_emitter.specs.declared.scope.Scope.{Scope}
-use Rattle.code_emitter.specs.Code.{Placed, placed, if_code, if_else_code, while_code, repeat_code, for_code, for_entry, for_begin, for_next, for_end}
-use Rattle.code_emitter.specs.Code.{holding, held_offset, order_instr, next_instr, row_code, arms_code, case_code, count, greatest, variable_offset}
-use Rattle.code_emitter.specs.Code.{expr_code, width_code, write_instr, parameter_code, line_end_code, write_code, stmt_code, stmt_step, stmt_depth}
-use Rattle.code_emitter.specs.Code.{stmt_depth_step, arms_depth, expr_depth, parameter_depth, width_depth, default_width, ordinal_instr, ordinal_width}
-use Rattle.code_emitter.specs.Code.{row_length}
+use Rattle.code_scheme.specs.Scopes.{Scope, count, held_offset, holding, row_length}
+use Rattle.code_scheme.specs.Code.{Placed, placed, if_code, if_else_code, while_code, repeat_code, for_code, for_entry, for_begin, for_next, for_end}
+use Rattle.code_scheme.specs.Code.{order_instr, next_instr, row_code, arms_code, case_code, expr_code, width_code, write_instr, parameter_code, line_end_code}
+use Rattle.code_scheme.specs.Code.{write_code, stmt_code, stmt_step, default_width, ordinal_instr, ordinal_width, whole_code}
+use Rattle.code_scheme.specs.Depth.{greatest, stmt_depth, stmt_depth_step, arms_depth, expr_depth, parameter_depth, width_depth, whole_depth}
 use Rattle.typed_tree.specs.WellFormed.{all_hold, is_well_formed_expr, is_well_formed_width, is_well_formed_parameter, is_well_formed_test, is_well_formed_stmt}
-use Rattle.typed_tree.specs.WellFormed.{stmt_is_well_formed, are_characters}
+use Rattle.typed_tree.specs.WellFormed.{stmt_is_well_formed, is_well_formed_whole, leads_to_ordinal, length_of, whole_indexes}
 use Rattle.code_generator.proofs.Reach.{Stands, StandsAt, stands_front, stands_back, Comes, comes_less, comes_on, stays_here}
-use Rattle.code_generator.proofs.Setting.{Setting, on, Based, linked, Here, goes_on, jumps, branches_on, behind_executes, passes, fails, Executes, done}
+use Rattle.code_generator.proofs.Setting.{Setting, on, Based, linked, Here, goes_on, jumps, branches_on, behind_executes, fails, Executes, done}
 use Rattle.code_generator.proofs.Setting.{executes_from, then_executes, then_leaves, after_value}
 use Rattle.code_generator.proofs.Loops.{Rounds, RoundRuns, rounds_on, then_rounds, value_rounds, turned, loops, reset, rounds_from_reset, executes_from_reset}
-use Rattle.code_generator.proofs.Held.{slot, stores_variable, variable_kept, variable_forgotten, loads_held, stores_held, decides, begins, steps, leaves, tests}
+use Rattle.code_generator.proofs.Accesses.{Indexes, expressions, wells, codes as index_codes}
+use Rattle.code_generator.proofs.Assigns.{told, told_back, assign_runs, copy_runs}
+use Rattle.code_generator.proofs.Evaluating.{sites, ExecutesAs, fetched_at, frames_of, one_held}
+use Rattle.code_generator.proofs.Wholes.{AllFit, few_components, fitting_bytes, row_executes, whole_runs}
+use Rattle.code_generator.proofs.Held.{slot, IsScalar, is_scalar, variable_kept, variable_forgotten, loads_held, stores_held, decides}
+use Rattle.code_generator.proofs.Held.{begins, steps, leaves, tests}
 use Rattle.code_generator.proofs.Held.{compares_row, last_is, next_fits, one_fits}
-use Rattle.code_emitter.proofs.Pieces.{length-For, start_within}
-use Rattle.code_generator.proofs.Acts.{framed, length_one, is_in_range, writes}
-use Rattle.code_generator.proofs.Numbers.{Fits, fits_by_abs, same_range, sum_is, difference_is}
-use Rattle.code_generator.proofs.Rows.{cells_of, length-cells_of, same_byte, same_bytes, writes_string}
-use Rattle.code_generator.proofs.Exprs.{characters_come, expr_runs, one_held, same_length, width_runs}
+use Rattle.code_scheme.proofs.Pieces.{length-For, start_within}
+use Rattle.code_generator.proofs.Acts.{length_one, writes}
+use Rattle.code_generator.proofs.Numbers.{Fits, fits_by_abs, sum_is, difference_is}
+use Rattle.code_generator.proofs.Rows.{cells_of, length-cells_of, same_byte, writes_string}
+use Rattle.code_generator.proofs.Exprs.{expr_runs, width_runs}
 
 -- what the machine writes in a width is what the program writes
 same_integer_text : (n width : ℤ) → texts.integer_text n width ≡ effect.integer_text n width
@@ -109,83 +112,19 @@ placed_flat code_of scope [] place = refl
 placed_flat code_of scope (x ∷ xs) place = ap (λ rest. code_of scope x ++ rest) (placed_flat code_of scope xs (place + length (code_of scope x)))
 
 module _ (g : Setting) where
-  abbrev variables : ℕ
-  variables = length g.tree.variables.items
+  abbrev variables : List DeclaredVariable
+  variables = g.tree.variables.items
 
-  abbrev sites : ℕ
-  sites = length g.tree.sites.items
-
-  -- the store in the running frame
-  abbrev frames_of : List Cell → frames.Frames
-  frames_of = framed g.running.frame g.limit g.size
-
-  -- the machine behind the fetch of an instruction
-  abbrev fetched_at : List Cell → ℕ → List ℕ → State
-  fetched_at cells place output = record (on g cells place output) { place = g.target.to place + 1 }
-
-  -- the code c of an execution
-  abbrev pub ExecutesAs : Placed → ℕ → Bool → Execution → Type 0
-  ExecutesAs c depth well execution =
-      (place : ℕ) (base held : List Cell) (s : effect.State) → Stands g.target place (c g.scope place) → well ≡ true → Based g s.store base
-      → length held ≡ g.scope.height → g.below + length held + depth ≤ g.limit
-      → Executes g s.turns (on g (base ++ held) place s.output) held (place + length (c g.scope place)) (execution g.environment s)
-
-  -- a value that is checked and stored
-  stored_by : (root : ℕ) (fits : RangeTest) (place : ℕ) (base held : List Cell) (n : ℤ) (s : effect.State) (good : Bool)
-      → (int_le fits.range.first n && int_le n fits.range.last) ≡ good → Stands g.target place
-      (instr.CheckRange fits.site fits.range.first fits.range.last ∷ instr.Store 0 (variable_offset g.scope root) ∷ []) → fits.site < sites → root < variables
-      → Fits n → Based g s.store base
-      → Executes g s.turns (on g ((base ++ held) ++ Number n ∷ []) place s.output) held (place + 2)
-      (effect.and_then (require good fits.site s) (λ _. effect.store (g.environment root) (value.Number n)))
-  stored_by root fits place base held n s true holds stands h within fit based =
-      let cells = (base ++ held) ++ Number n ∷ [] in
-      let check = instr.CheckRange fits.site fits.range.first fits.range.last in
-      let tested = is_in_range g.running.frame g.limit g.size (base ++ held) (linked g s.store base held based) fits.range.first fits.range.last n
-      ∙ ap Ok holds in
-      let passed = passes g check cells place fits.site s.output _ refl refl stands.0 tested in
-      let e : place + 1 + 1 ≡ place + 2 = omega arith in
-      let kept_base = variable_kept g root within s.store base n based fit in
-      let kept_there = done g 1 _ (slice_set base (slot g root within) (Number n)) held (place + 1 + 1)
-      (record s { store = kept s.store (g.environment root) (value.Number n) })
-      (record { full = kept_base.full; alike = kept_base.alike })
-      (stores_variable g root within s.store base held cells (Number n) (place + 1) s.output based refl stands.1.0) in
-      subst (λ p. Executes g s.turns (on g cells place s.output) held p (effect.store (g.environment root) (value.Number n) s)) e
-      (executes_from g 0 s.turns _ _ held (place + 1 + 1) (effect.store (g.environment root) (value.Number n) s) passed kept_there)
-  stored_by root fits place base held n s false holds stands h within fit based =
-      let check = instr.CheckRange fits.site fits.range.first fits.range.last in
-      fails g check ((base ++ held) ++ Number n ∷ []) place fits.site s.output _ refl refl s.turns stands.0 h
-      (is_in_range g.running.frame g.limit g.size (base ++ held) (linked g s.store base held based) fits.range.first fits.range.last n ∙ ap Ok holds)
-
-  -- an assignment
-  assign_runs : (number : ℕ) (becomes : SourcePlace) (target : Access) (fits : RangeTest) (v : Expr)
-      → ExecutesAs (stmt_step (Assign number becomes target fits v)) (expr_depth v)
-      (stmt_is_well_formed variables sites (Assign number becomes target fits v)) (effect_step (Assign number becomes target fits v))
-  assign_runs number becomes target fits v place base held s stands good based high room =
-      let s1 : effect.State = record s { visited = s.visited ++ record { number = number; environment = g.environment; store = s.store } ∷ [] } in
-      let s2 : effect.State = record s1 { visited = s1.visited ++ record { number = target.number; environment = g.environment; store = s.store } ∷ [] } in
-      let c = expr_code g.scope v in
-      let rest = instr.CheckRange fits.site fits.range.first fits.range.last ∷ instr.Store 0 (variable_offset g.scope target.root) ∷ [] in
-      let e : place + length c + 2 ≡ place + length (c ++ rest) = omega (arith, length-append c rest) in
-      let next : Value → Action (Unit {0}) = λ w. require (effect.is_in fits.range w) fits.site >>= λ _. effect.store (g.environment target.root) w in
-      let parts = and_parts _ _ good in
-      let parts' = and_parts _ _ parts.1 in
-      let site_within = ltb-true fits.site sites (and_parts _ _ parts'.0).0 in
-      subst (λ p. Executes g s.turns (on g (base ++ held) place s.output) held p (effect.and_then (value_of v g.environment s2) next)) e
-      (after_value g s.turns _ held held (place + length c) (place + length c + 2) (value_of v g.environment s2) next
-      (expr_runs g v place base held s2 (stands_front g.target place c rest stands) parts'.1 based room)
-      (λ base2 n t based2 fit.
-      subst (λ test. Executes g t.turns (on g ((base2 ++ held) ++ Number n ∷ []) (place + length c) t.output) held (place + length c + 2)
-      (effect.and_then (require test fits.site t) (λ _. effect.store (g.environment target.root) (value.Number n)))) (sym (same_range fits.range n fit))
-      (stored_by target.root fits (place + length c) base2 held n t _ refl (stands_back g.target place c rest stands) site_within
-      (ltb-true target.root variables parts.0) fit based2)))
+  abbrev types : List TypeForm
+  types = g.tree.types
 
   -- a value and its width give way to a text
   text_runs : (write : Instr) (text : List ℕ) (place : ℕ) (cells after : List Cell) (output : List ℕ) (attempt : Attempt (frames.Frames × List ℕ))
-      → Here g place write → machine.obeyed g.target.sites write (fetched_at cells place output) ≡ machine.and_then attempt
-      (with_text (fetched_at cells place output))
-      → attempt ≡ Ok (frames_of after, text) → Comes g.target 1 (on g cells place output) (on g after (place + 1) (output ++ text))
+      → Here g place write → machine.obeyed g.target.sites write (fetched_at g cells place output) ≡ machine.and_then attempt
+      (with_text (fetched_at g cells place output))
+      → attempt ≡ Ok (frames_of g after, text) → Comes g.target 1 (on g cells place output) (on g after (place + 1) (output ++ text))
   text_runs write text place cells after output attempt here rule does =
-      goes_on g write cells after place output (output ++ text) here (rule ∙ ap (λ r. machine.and_then r (with_text (fetched_at cells place output))) does)
+      goes_on g write cells after place output (output ++ text) here (rule ∙ ap (λ r. machine.and_then r (with_text (fetched_at g cells place output))) does)
 
   ordinal_writes : (r : Representation) (place : ℕ) (cells : List Cell) (n w : ℤ) (output : List ℕ) → Fits n → Stands g.target place (ordinal_instr r ∷ [])
       → g.running.frame + 4 ≤ length cells
@@ -208,22 +147,22 @@ module _ (g : Setting) where
       (text_runs instr.WriteBoolean (texts.boolean_text n w) place two cells output _ stands.0 refl
       (writes g.running.frame g.limit g.size cells in_frame n w texts.boolean_text))
 
-  string_writes : (length_of_it : ℕ) (characters : List ℕ) (place : ℕ) (cells : List Cell) (w : ℤ) (output : List ℕ) → length characters ≡ length_of_it
-      → Stands g.target place (instr.WriteString length_of_it ∷ []) → g.running.frame + 4 ≤ length cells
-      → Comes g.target 1 (on g ((cells ++ cells_of (map pos characters)) ++ Number w ∷ []) place output)
-      (on g cells (place + 1) (output ++ effect.row_text (map pos characters) (value.Number w)))
-  string_writes n characters place cells w output long stands in_frame =
-      let row = map pos characters in
+  string_writes : (count : ℕ) (row : List ℤ) (place : ℕ) (cells : List Cell) (w : ℤ) (output : List ℕ) → length row ≡ count → AllFit row
+      → Stands g.target place (instr.WriteString count ∷ []) → g.running.frame + 4 ≤ length cells
+      → Comes g.target 1 (on g ((cells ++ cells_of row) ++ Number w ∷ []) place output)
+      (on g cells (place + 1) (output ++ effect.row_text row (value.Number w)))
+  string_writes count row place cells w output long fit stands in_frame =
       let string = (cells ++ cells_of row) ++ Number w ∷ [] in
       subst (λ t. Comes g.target 1 (on g string place output) (on g cells (place + 1) (output ++ t)))
-      (same_string_text (map texts.byte_of row) w ∙ ap (λ bytes. effect.string_text bytes w) (same_bytes characters))
-      (text_runs (instr.WriteString n) (texts.string_text (map texts.byte_of row) w) place string cells output _ stands.0 refl
-      (writes_string g.running.frame g.limit g.size cells in_frame row w n (length-map characters pos ∙ long)))
+      (same_string_text (map texts.byte_of row) w ∙ ap (λ bytes. effect.string_text bytes w) (fitting_bytes row fit))
+      (text_runs (instr.WriteString count) (texts.string_text (map texts.byte_of row) w) place string cells output _ stands.0 refl
+      (writes_string g.running.frame g.limit g.size cells in_frame row w count long))
 
   -- a width above the cells of a value, with which it gives way to a text
   width_writes : (width : Option Width) (v : Written) (default : ℤ) (row : List ℤ) (text : Value → List ℕ) (place : ℕ) (base held : List Cell)
       (s : effect.State) → default_width v ≡ instr.LoadConstant default → Fits default
-      → Stands g.target place (width_code g.scope width v ++ (write_instr v ∷ [])) → is_well_formed_width variables sites width ≡ true → Based g s.store base
+      → Stands g.target place (width_code g.scope width v ++ (write_instr v ∷ [])) → is_well_formed_width variables types (sites g) width ≡ true
+      → Based g s.store base
       → g.below + length held + (width_depth width + length row) ≤ g.limit
       → ((there : ℕ) (cells : List Cell) (w : ℤ) (output : List ℕ) → Stands g.target there (write_instr v ∷ []) → g.running.frame + 4 ≤ length cells
       → Comes g.target 1 (on g ((cells ++ cells_of row) ++ Number w ∷ []) there output) (on g cells (there + 1) (output ++ text (value.Number w))))
@@ -250,14 +189,47 @@ module _ (g : Setting) where
   -- a value that is written, and its width
   abbrev ParameterRuns : WriteParameter → Type 0
   ParameterRuns p =
-      ExecutesAs (λ scope _. parameter_code scope p) (parameter_depth p) (is_well_formed_parameter variables sites p) (parameter_of p)
+      ExecutesAs g (λ scope _. parameter_code scope p) (parameter_depth p) (is_well_formed_parameter variables types (sites g) p) (parameter_of p)
+
+  -- a string that is written, with these index expressions in it
+  abbrev StringRuns : Whole → Vec Expr → Option Width → List Expr → Type 0
+  StringRuns v indexes width es =
+      ExecutesAs g (λ scope _. whole_code scope v (map (expr_code scope) es)
+      ++ (width_code scope width (String v indexes) ++ (instr.WriteString (row_length (length_of v)) ∷ [])))
+      (max (whole_depth v (map expr_depth es)) (width_depth width + length_of v))
+      ((all_hold (whole_indexes v (map (is_well_formed_expr variables types (sites g)) es)) && is_well_formed_whole variables types (sites g) v (length es))
+      && is_well_formed_width variables types (sites g) width)
+      (λ env. whole_of v (map value_of es) env >>= λ row. width_of width (pos (length_of v)) env >>= λ w. effect.write (effect.row_text row w))
+
+  string_runs : (v : Whole) (vec : Vec Expr) (width : Option Width) (indexes : Indexes g) → StringRuns v vec width (expressions g indexes)
+  string_runs v vec width indexes place base held s stands good based high deep =
+      let n = length_of v in
+      let c = whole_code g.scope v (index_codes g indexes) in
+      let wide = width_code g.scope width (String v vec) in
+      let writing = instr.WriteString (row_length n) ∷ [] in
+      let shape = is_well_formed_whole variables types (sites g) v (length (expressions g indexes)) in
+      let parts = and_parts (all_hold (whole_indexes v (wells g indexes)) && shape) (is_well_formed_width variables types (sites g) width) good in
+      let inside = and_parts (all_hold (whole_indexes v (wells g indexes))) shape parts.0 in
+      let same : n ≡ row_length n = few_components g v (length (expressions g indexes)) inside.1 in
+      let behind = stands_back g.target place c (wide ++ writing) stands in
+      let e : place + length c + length wide + 1 ≡ place + length (c ++ (wide ++ writing)) = omega
+      (arith, length-append c (wide ++ writing), length-append wide writing) in
+      let next : List ℤ → Action (Unit {0}) = λ row. width_of width (pos n) g.environment >>= λ w. effect.write (effect.row_text row w) in
+      let meant = whole_of v (map value_of (expressions g indexes)) g.environment s in
+      subst (λ q. Executes g s.turns (on g (base ++ held) place s.output) held q (effect.and_then meant next)) e
+      (row_executes g s.turns _ held held (place + length c) (place + length c + length wide + 1) n meant next
+      (whole_runs g v indexes place base held s (stands_front g.target place c (wide ++ writing) stands) inside.0 inside.1 based (omega arith))
+      (λ base2 row t based2 long fit.
+      width_writes width (String v vec) (pos n) row (effect.row_text row) (place + length c) base2 held t (ap (λ m. instr.LoadConstant (pos m)) (sym same))
+      (fits_by_abs (pos n) (omega arith)) behind parts.1 based2 (omega (arith, long))
+      (λ there cells w output here in_frame. string_writes (row_length n) row there cells w output (long ∙ same) fit here in_frame)))
 
   written_runs : (v : Written) (width : Option Width) → ParameterRuns (record { value = v; width = width })
   written_runs (Ordinal v r) width place base held s stands good based high deep =
       let c = expr_code g.scope v in
       let wide = width_code g.scope width (Ordinal v r) in
       let writing = ordinal_instr r ∷ [] in
-      let parts = and_parts (is_well_formed_expr variables sites v) (is_well_formed_width variables sites width) good in
+      let parts = and_parts (is_well_formed_expr variables types (sites g) v) (is_well_formed_width variables types (sites g) width) good in
       let behind = stands_back g.target place c (wide ++ writing) stands in
       let e : place + length c + length wide + 1 ≡ place + length (c ++ (wide ++ writing)) = omega
       (arith, length-append c (wide ++ writing), length-append wide writing) in
@@ -269,30 +241,9 @@ module _ (g : Setting) where
       (λ base2 n t based2 fit.
       width_writes width (Ordinal v r) default (n ∷ []) (effect.text_of r (value.Number n)) (place + length c) base2 held t (same_default r) (default_fits r)
       behind parts.1 based2 (omega arith) (λ there cells w output here in_frame. ordinal_writes r there cells n w output fit here in_frame)))
-  written_runs (String (Text number characters)) width place base held s stands good based high deep =
-      let s1 : effect.State = record s { visited = s.visited ++ record { number = number; environment = g.environment; store = s.store } ∷ [] } in
-      let v : Written = String (Text number characters) in
-      let n = length characters.items in
-      let row = map pos characters.items in
-      let c = map (λ x. instr.LoadConstant (pos x)) characters.items in
-      let wide = width_code g.scope width v in
-      let writing = instr.WriteString (row_length n) ∷ [] in
-      let parts = and_parts (are_characters characters.items) (is_well_formed_width variables sites width) good in
-      let few = leb-true n 65536 (and_parts _ _ parts.0).0 in
-      let same = same_length g characters.items parts.0 in
-      let codes = length-map characters.items (λ x. instr.LoadConstant (pos x)) in
-      let behind = subst (λ l. Stands g.target (place + l) (wide ++ writing)) codes (stands_back g.target place c (wide ++ writing) stands) in
-      let e : place + n + length wide + 1 ≡ place + length (c ++ (wide ++ writing)) = omega
-      (arith, length-append c (wide ++ writing), length-append wide writing) in
-      let full = based.full in
-      let pushed = characters_come g characters.items place (base ++ held) s.output (stands_front g.target place c (wide ++ writing) stands)
-      (omega (arith, length-append base held)) in
-      let next : Value → Action (Unit {0}) = λ w. effect.write (effect.row_text row w) in
-      let wrote = width_writes width v (pos n) row (effect.row_text row) (place + n) base held s1 (ap (λ m. instr.LoadConstant (pos m)) (sym same))
-      (fits_by_abs (pos n) (omega arith)) behind parts.1 (record { full = based.full; alike = based.alike }) (omega (arith, length-map characters.items pos))
-      (λ there cells w output here in_frame. string_writes (row_length n) characters.items there cells w output same here in_frame) in
-      subst (λ q. Executes g s.turns (on g (base ++ held) place s.output) held q (effect.and_then (width_of width (pos n) g.environment s1) next)) e
-      (executes_from g 0 s.turns _ _ held (place + n + length wide + 1) (effect.and_then (width_of width (pos n) g.environment s1) next) pushed wrote)
+  written_runs (String v indexes) width place base held s stands good based high deep =
+      let runs = subst (StringRuns v indexes width) (told_back g indexes.items) (string_runs v indexes width (told g indexes.items)) in
+      runs place base held s stands good based high deep
 
   parameter_runs : (p : WriteParameter) → ParameterRuns p
   parameter_runs p = written_runs p.value p.width
@@ -307,7 +258,7 @@ module _ (g : Setting) where
 
   -- pieces that are executed one after another
   all_run : {X : Type 0} (code_of : X → Placed) (depth_of : X → ℕ) (well_of : X → Bool) (meant_by : X → Execution) (xs : List X)
-      → Each (λ x. ExecutesAs (code_of x) (depth_of x) (well_of x) (meant_by x)) xs → (depth place : ℕ) (base held : List Cell) (s : effect.State)
+      → Each (λ x. ExecutesAs g (code_of x) (depth_of x) (well_of x) (meant_by x)) xs → (depth place : ℕ) (base held : List Cell) (s : effect.State)
       → Stands g.target place (placed (map (λ code. code g.scope) (map code_of xs)) place) → all_hold (map well_of xs) ≡ true → Based g s.store base
       → length held ≡ g.scope.height → g.below + length held + fold max depth (map depth_of xs) ≤ g.limit
       → Executes g s.turns (on g (base ++ held) place s.output) held (place + length (placed (map (λ code. code g.scope) (map code_of xs)) place))
@@ -338,8 +289,8 @@ module _ (g : Setting) where
   line_end_runs false place base held s stands based = nothing_runs place base held s based
 
   write_runs : (number : ℕ) (ps : List WriteParameter) (ends_line : Bool)
-      → ExecutesAs (λ scope _. write_code scope ps ends_line) (greatest (map parameter_depth ps))
-      (all_hold (map (is_well_formed_parameter variables sites) ps))
+      → ExecutesAs g (λ scope _. write_code scope ps ends_line) (greatest (map parameter_depth ps))
+      (all_hold (map (is_well_formed_parameter variables types (sites g)) ps))
       (λ e. effect.enter number e >>= λ _. all_of (map parameter_of ps) e >>= λ _. line_ended ends_line)
   write_runs number ps ends_line place base held s stands good based high deep =
       let s1 : effect.State = record s { visited = s.visited ++ record { number = number; environment = g.environment; store = s.store } ∷ [] } in
@@ -349,7 +300,7 @@ module _ (g : Setting) where
       let ending = line_end_code ends_line in
       let same : c' ≡ c = placed_flat parameter_code g.scope ps place in
       let e : place + length c + length ending ≡ place + length (c ++ ending) = omega (arith, length-append c ending) in
-      let values = all_run code_of parameter_depth (is_well_formed_parameter variables sites) parameter_of ps (each_parameter ps) 0 place base held s1
+      let values = all_run code_of parameter_depth (is_well_formed_parameter variables types (sites g)) parameter_of ps (each_parameter ps) 0 place base held s1
       (subst (Stands g.target place) (sym same) (stands_front g.target place c ending stands)) good based high deep in
       subst (λ p. Executes g s.turns (on g (base ++ held) place s.output) held p
       (effect.and_then (all_of (map parameter_of ps) g.environment s1) (λ _. line_ended ends_line))) e
@@ -363,7 +314,7 @@ module _ (g : Setting) where
   branch_code condition target = expr_code g.scope condition ++ instr.JumpIfFalse target ∷ []
 
   branch_runs : (condition : Expr) (target place end : ℕ) (base held : List Cell) (s : effect.State) (next : Bool → Action (Unit {0}))
-      → Stands g.target place (branch_code condition target) → is_well_formed_expr variables sites condition ≡ true → Based g s.store base
+      → Stands g.target place (branch_code condition target) → is_well_formed_expr variables types (sites g) condition ≡ true → Based g s.store base
       → g.below + length held + expr_depth condition ≤ g.limit
       → ((holds : Bool) (base2 : List Cell) (t : effect.State) → Based g t.store base2
       → Executes g t.turns (on g (base2 ++ held) (if holds then place + length (expr_code g.scope condition) + 1 else target) t.output) held end (next holds t))
@@ -386,7 +337,8 @@ alternative_repeats (Some repeats) = repeats.value
 
 abbrev repeats_step : Stmt-F ℕ → ℕ
 repeats_step (Empty number) = 0
-repeats_step (Assign number becomes target fits v) = 0
+repeats_step (Assign number becomes target indexes fits v) = 0
+repeats_step (Copy number becomes target indexes type_id v value_indexes) = 0
 repeats_step (Write number name parameters ends_line) = 0
 repeats_step (Compound number statements) = greatest statements.items
 repeats_step (If number condition consequence alternative) = max consequence.value (alternative_repeats alternative)
@@ -400,12 +352,12 @@ repeats = fold-Stmt ℕ repeats_step
 
 -- what is shown of a statement, in each setting
 abbrev pub StmtRuns : Stmt → Type 0
-StmtRuns s = (g : Setting) → repeats s ≤ g.slack → ExecutesAs g (stmt_code s) (stmt_depth s) (is_well_formed_stmt (length g.tree.variables.items) (length
+StmtRuns s = (g : Setting) → repeats s ≤ g.slack → ExecutesAs g (stmt_code s) (stmt_depth s) (is_well_formed_stmt g.tree.variables.items g.tree.types (length
     g.tree.sites.items) s)
     (effect_of s)
 
 each_statement : (g : Setting) (ss : List ((s : Stmt) × StmtRuns s)) (before : ℕ) → fold max before (map repeats (map (λ x. x.0) ss)) ≤ g.slack → Each
-    (λ s. ExecutesAs g (stmt_code s) (stmt_depth s) (is_well_formed_stmt (length g.tree.variables.items) (length g.tree.sites.items) s) (effect_of s))
+    (λ s. ExecutesAs g (stmt_code s) (stmt_depth s) (is_well_formed_stmt g.tree.variables.items g.tree.types (length g.tree.sites.items) s) (effect_of s))
     (map (λ x. x.0) ss)
 each_statement g [] before few = tt
 each_statement g (s ∷ ss) before few =
@@ -415,11 +367,11 @@ each_statement g (s ∷ ss) before few =
 compound_runs : (g : Setting) (number : ℕ) (ss : List ((s : Stmt) × StmtRuns s)) → greatest (map repeats (map (λ x. x.0) ss)) ≤ g.slack
     → ExecutesAs g (λ scope place. placed (map (λ code. code scope) (map stmt_code (map (λ x. x.0) ss))) place)
     (greatest (map stmt_depth (map (λ x. x.0) ss)))
-    (all_hold (map (is_well_formed_stmt (length g.tree.variables.items) (length g.tree.sites.items)) (map (λ x. x.0) ss)))
+    (all_hold (map (is_well_formed_stmt g.tree.variables.items g.tree.types (length g.tree.sites.items)) (map (λ x. x.0) ss)))
     (λ e. effect.enter number e >>= λ _. all_of (map effect_of (map (λ x. x.0) ss)) e)
 compound_runs g number ss few place base held s stands good based high deep =
     let s1 : effect.State = record s { visited = s.visited ++ record { number = number; environment = g.environment; store = s.store } ∷ [] } in
-    all_run g stmt_code stmt_depth (is_well_formed_stmt (length g.tree.variables.items) (length g.tree.sites.items)) effect_of (map (λ x. x.0) ss)
+    all_run g stmt_code stmt_depth (is_well_formed_stmt g.tree.variables.items g.tree.types (length g.tree.sites.items)) effect_of (map (λ x. x.0) ss)
     (each_statement g ss 0 few) 0 place base held s1 stands good (record { full = based.full; alike = based.alike }) high deep
 
 empty_runs : (g : Setting) (number : ℕ) → ExecutesAs g (λ _ _. []) 0 true (λ e. effect.enter number e)
@@ -431,7 +383,7 @@ empty_runs g number place base held s stands good based high deep =
 if_runs : (g : Setting) (number : ℕ) (condition : Expr) (consequence : (s : Stmt) × StmtRuns s) → max (repeats consequence.0) 0 ≤ g.slack
     → ExecutesAs g (λ scope. if_code (expr_code scope condition) (stmt_code consequence.0) scope)
     (max (expr_depth condition) (max (stmt_depth consequence.0) 0))
-    (is_well_formed_expr (variables g) (sites g) condition && (is_well_formed_stmt (variables g) (sites g) consequence.0 && true))
+    (is_well_formed_expr (variables g) (types g) (sites g) condition && (is_well_formed_stmt (variables g) (types g) (sites g) consequence.0 && true))
     (λ e. effect.enter number e >>= λ _. value_of condition e >>= λ v. if is_so v then effect_of consequence.0 e else alternative_of None e)
 if_runs g number condition consequence few place base held s stands good based high deep =
     let s1 : effect.State = record s { visited = s.visited ++ record { number = number; environment = g.environment; store = s.store } ∷ [] } in
@@ -461,7 +413,8 @@ if_else_runs : (g : Setting) (number : ℕ) (condition : Expr) (consequence alte
     → max (repeats consequence.0) (repeats alternative.0) ≤ g.slack
     → ExecutesAs g (λ scope. if_else_code (expr_code scope condition) (stmt_code consequence.0) (stmt_code alternative.0) scope)
     (max (expr_depth condition) (max (stmt_depth consequence.0) (stmt_depth alternative.0)))
-    (is_well_formed_expr (variables g) (sites g) condition && (is_well_formed_stmt (variables g) (sites g) consequence.0 && is_well_formed_stmt (variables g)
+    (is_well_formed_expr (variables g) (types g) (sites g) condition && (is_well_formed_stmt (variables g) (types g) (sites g) consequence.0
+    && is_well_formed_stmt (variables g) (types g)
     (sites g) alternative.0))
     (λ e. effect.enter number e >>= λ _. value_of condition e >>= λ v. if is_so v then effect_of consequence.0 e else effect_of alternative.0 e)
 if_else_runs g number condition consequence alternative few place base held s stands good based high deep =
@@ -498,7 +451,7 @@ if_else_runs g number condition consequence alternative few place base held s st
 -- a while statement
 while_runs : (g : Setting) (number : ℕ) (condition : Expr) (body : (s : Stmt) × StmtRuns s) → repeats body.0 ≤ g.slack
     → ExecutesAs g (λ scope. while_code (expr_code scope condition) (stmt_code body.0) scope) (max (expr_depth condition) (stmt_depth body.0))
-    (is_well_formed_expr (variables g) (sites g) condition && is_well_formed_stmt (variables g) (sites g) body.0)
+    (is_well_formed_expr (variables g) (types g) (sites g) condition && is_well_formed_stmt (variables g) (types g) (sites g) body.0)
     (λ e. effect.enter number e >>= λ _. effect.looped (while_round (value_of condition) (effect_of body.0) e) tt)
 while_runs g number condition body few place base held s stands good based high deep =
     let s1 : effect.State = record s { visited = s.visited ++ record { number = number; environment = g.environment; store = s.store } ∷ [] } in
@@ -513,7 +466,8 @@ while_runs g number condition body few place base held s stands good based high 
     let jump = stands_back g.target inside code back within in
     let e : end ≡ place + length (test ++ (instr.JumpIfFalse end ∷ (code ++ back))) =
     omega (arith, length-append test (instr.JumpIfFalse end ∷ (code ++ back)), length-append code back) in
-    let parts = and_parts (is_well_formed_expr (variables g) (sites g) condition) (is_well_formed_stmt (variables g) (sites g) body.0) good in
+    let parts = and_parts (is_well_formed_expr (variables g) (types g) (sites g) condition) (is_well_formed_stmt (variables g) (types g)
+    (sites g) body.0) good in
     let hold : Unit {0} → List Cell = λ _. held in
     let round : Round (Unit {0}) = while_round (value_of condition) (effect_of body.0) g.environment in
     let turns_on : (bound : ℕ) (holds : Bool) (base2 : List Cell) (t : effect.State) → Based g t.store base2 → t.turns ≤ bound → (m : State)
@@ -560,7 +514,8 @@ while_runs g number condition body few place base held s stands good based high 
 repeat_runs : (g : Setting) (number : ℕ) (condition : Expr) (ss : List ((s : Stmt) × StmtRuns s)) → greatest (map repeats (map (λ x. x.0) ss)) + 1 ≤ g.slack
     → ExecutesAs g (λ scope. repeat_code (placed (map (λ code. code scope) (map stmt_code (map (λ x. x.0) ss)))) (expr_code scope condition))
     (max (greatest (map stmt_depth (map (λ x. x.0) ss))) (expr_depth condition))
-    (all_hold (map (is_well_formed_stmt (variables g) (sites g)) (map (λ x. x.0) ss)) && is_well_formed_expr (variables g) (sites g) condition)
+    (all_hold (map (is_well_formed_stmt (variables g) (types g) (sites g)) (map (λ x. x.0) ss)) && is_well_formed_expr (variables g) (types g)
+    (sites g) condition)
     (λ e. effect.enter number e >>= λ _. effect.looped (repeat_round (all_of (map effect_of (map (λ x. x.0) ss))) (value_of condition) e) tt)
 repeat_runs g number condition ss few place base held s stands good based high deep =
     let s1 : effect.State = record s { visited = s.visited ++ record { number = number; environment = g.environment; store = s.store } ∷ [] } in
@@ -573,8 +528,8 @@ repeat_runs g number condition ss few place base held s stands good based high d
     let behind = stands_back g.target place code (test ++ back) stands in
     let jump = stands_back g.target last test back behind in
     let e : end ≡ place + length (code ++ (test ++ back)) = omega (arith, length-append code (test ++ back), length-append test back) in
-    let parts = and_parts (all_hold (map (is_well_formed_stmt (variables g) (sites g)) (map (λ x. x.0) ss)))
-    (is_well_formed_expr (variables g) (sites g) condition) good in
+    let parts = and_parts (all_hold (map (is_well_formed_stmt (variables g) (types g) (sites g)) (map (λ x. x.0) ss)))
+    (is_well_formed_expr (variables g) (types g) (sites g) condition) good in
     let hold : Unit {0} → List Cell = λ _. held in
     let statements = all_of (map effect_of (map (λ x. x.0) ss)) in
     let round : Round (Unit {0}) = repeat_round statements (value_of condition) g.environment in
@@ -596,7 +551,7 @@ repeat_runs g number condition ss few place base held s stands good based high d
     then_rounds h (λ _. Unit {0}) hold place end held 1 (suc left) left _ held last (statements g.environment t)
     (λ _. value_of condition g.environment >>= λ v. give (if is_so v then None else Some tt))
     (subst (λ n. Executes h n (on g (base2 ++ held) place t.output) held last (statements g.environment t)) is
-    (all_run h stmt_code stmt_depth (is_well_formed_stmt (variables g) (sites g)) effect_of (map (λ x. x.0) ss)
+    (all_run h stmt_code stmt_depth (is_well_formed_stmt (variables g) (types g) (sites g)) effect_of (map (λ x. x.0) ss)
     (each_statement h ss 0 (omega arith)) 0 place base2 held t (stands_front g.target place code (test ++ back) stands) parts.0 based2 high (omega arith)))
     (λ base3 u based3 fewer.
     value_rounds h (λ _. Unit {0}) hold place end held 1 (suc left) u.turns _ held (last + length test) (value_of condition g.environment u)
@@ -647,9 +602,9 @@ stepped g store base held n l output direction.DownTo place head based high room
     steps g store base held n l output based high room instr.Subtract (frames.of_two dyadic.Subtract) (n -ℤ pos 1) place head at1 at2 at3 at4 at5 (λ s. refl)
     (difference_is n (pos 1) fit one_fits fit')
 
-module _ (g : Setting) (control : ℕ) (within : control < length g.tree.variables.items) (way : Direction) (body : (s : Stmt) × StmtRuns s)
+module _ (g : Setting) (control : ℕ) (scalar : IsScalar g control) (way : Direction) (body : (s : Stmt) × StmtRuns s)
     (few : repeats body.0 ≤ g.slack)
-    (good : is_well_formed_stmt (length g.tree.variables.items) (length g.tree.sites.items) body.0 ≡ true) (head : ℕ) (held : List Cell)
+    (good : is_well_formed_stmt g.tree.variables.items g.tree.types (length g.tree.sites.items) body.0 ≡ true) (head : ℕ) (held : List Cell)
     (high : length held ≡ g.scope.height) (room : g.below + length held + max 4 (stmt_depth body.0 + 2) ≤ g.limit) (l : ℤ) (fit_last : Fits l) where
   abbrev inner : Setting
   inner = reset g g.slack (count (g.scope.height + 2))
@@ -705,10 +660,10 @@ module _ (g : Setting) (control : ℕ) (within : control < length g.tree.variabl
   for_round_runs : Stands g.target head (for_begin g.scope control) → Stands g.target (head + 2) body_code
       → Stands g.target behind (for_next g.scope way head out) → RoundRuns g fit hold head out (hold l) round
   for_round_runs beginning inside next n base s fits based =
-      let s1 : effect.State = record s { store = kept s.store (g.environment control) (value.Number n) } in
-      let base1 = slice_set base (slot g control within) (Number n) in
-      let based1 = variable_kept g control within s.store base n based fits.0 in
-      let came = begins g s.store base held n l s.output based high enough control head within fits.0 beginning.0 beginning.1.0 in
+      let s1 : effect.State = record s { store = kept s.store (g.environment.variables control) (value.Number n) } in
+      let base1 = slice_set base (slot g control scalar) (Number n) in
+      let based1 = variable_kept g control scalar s.store base n based fits.0 in
+      let came = begins g s.store base held n l s.output based high enough control head scalar fits.0 beginning.0 beginning.1.0 in
       let long : length (hold n) ≡ length held + 2 = length-append held (Number n ∷ Number l ∷ []) in
       let reach = g.far in
       turned g fit hold head out (hold l) s.turns s.turns s1 _ (λ _. effect_of body.0 g.environment >>= λ _. give (value_behind way l n)) refl (λ left is.
@@ -728,13 +683,13 @@ module _ (g : Setting) (control : ℕ) (within : control < length g.tree.variabl
   -- behind the loop
   module _ (ending : Stands g.target out (for_end g.scope control)) where
     leaves_it : (n : ℤ) (base : List Cell) (s : effect.State) → Fits n → Based g s.store base
-        → Executes g s.turns (on g (base ++ hold n) out s.output) held (out + 4) (effect.undefine (g.environment control) s)
+        → Executes g s.turns (on g (base ++ hold n) out s.output) held (out + 4) (effect.undefine (g.environment.variables control) s)
     leaves_it n base s fits based =
-        let c = slot g control within in
-        let based' = variable_forgotten g control within s.store base based in
-        done g 4 _ (slice_set base c Undefined) held (out + 4) (record s { store = forgotten s.store (g.environment control) })
+        let c = slot g control scalar in
+        let based' = variable_forgotten g control scalar s.store base based in
+        done g 4 _ (slice_set base c Undefined) held (out + 4) (record s { store = forgotten s.store (g.environment.variables control) })
         (record { full = based'.full; alike = based'.alike })
-        (leaves g s.store base held n l s.output based high enough control out within fits fit_last ending.0 ending.1.0 ending.1.1.0 ending.1.1.1.0)
+        (leaves g s.store base held n l s.output based high enough control out scalar fits fit_last ending.0 ending.1.0 ending.1.1.0 ending.1.1.1.0)
 
     module _ (first_fits last_fits : RangeTest) (site_first : first_fits.site < length g.tree.sites.items) (site_last : last_fits.site < length
         g.tree.sites.items) (place : ℕ) (at : place + 8 ≡ head) (entry : Stands g.target place (for_entry g.scope first_fits way last_fits out))
@@ -781,20 +736,20 @@ module _ (g : Setting) (control : ℕ) (within : control < length g.tree.variabl
           → Comes g.target 4 (on g (base ++ hold n) place s.output) (on g (base ++ hold n) (if has then place + 4 else out) s.output)
           → Executes g s.turns (on g (base ++ hold n) place s.output) held (out + 4)
           (((if has then for_rounds control first_fits way last_fits (effect_of body.0) g.environment n l else give tt) >>= λ _. effect.undefine
-          (g.environment control)) s)
+          (g.environment.variables control)) s)
       from_bounds n base s true has fits based came =
           executes_from g 4 s.turns _ _ held (out + 4)
-          ((for_rounds control first_fits way last_fits (effect_of body.0) g.environment n l >>= λ _. effect.undefine (g.environment control)) s) came
+          ((for_rounds control first_fits way last_fits (effect_of body.0) g.environment n l >>= λ _. effect.undefine (g.environment.variables control)) s) came
           (then_leaves g s.turns _ (hold l) held out (out + 4) (for_rounds control first_fits way last_fits (effect_of body.0) g.environment n l s)
-          (λ _. effect.undefine (g.environment control)) (tested n base s fits has based)
+          (λ _. effect.undefine (g.environment.variables control)) (tested n base s fits has based)
           (λ base2 t based2. leaves_it l base2 t fit_last based2))
       from_bounds n base s false has fits based came =
-          executes_from g 4 s.turns _ _ held (out + 4) (effect.undefine (g.environment control) s) came (leaves_it n base s fits based)
+          executes_from g 4 s.turns _ _ held (out + 4) (effect.undefine (g.environment.variables control) s) came (leaves_it n base s fits based)
 
       for_between_runs : (n : ℤ) (base : List Cell) (s : effect.State) → Fits n → Based g s.store base
           → Executes g s.turns (on g (base ++ hold n) place s.output) held (out + 4)
           ((for_between control first_fits way last_fits (effect_of body.0) g.environment (value.Number n) (value.Number l) >>= λ _. effect.undefine
-          (g.environment control)) s)
+          (g.environment.variables control)) s)
       for_between_runs n base s fits based =
           from_bounds n base s (has_values way n l) refl fits based
           (ordered g s.store base held n l s.output way place out based high enough entry.0 entry.1.0 entry.1.1.0 entry.1.1.1.0)
@@ -803,12 +758,14 @@ for_runs : (g : Setting) (number control : ℕ) (first : Expr) (first_fits : Ran
     (body : (s : Stmt) × StmtRuns s) → repeats body.0 ≤ g.slack
     → ExecutesAs g (λ scope. for_code control (expr_code scope first) first_fits way (expr_code scope last) last_fits (stmt_code body.0) scope)
     (max (max (expr_depth first) (expr_depth last + 1)) (max 4 (stmt_depth body.0 + 2)))
-    (nat_lt control (variables g) && (is_well_formed_expr (variables g) (sites g) first && (is_well_formed_test (variables g) (sites g) first_fits &&
-    (is_well_formed_expr (variables g) (sites g) last && (is_well_formed_test (variables g) (sites g) last_fits && is_well_formed_stmt (variables g) (sites g)
+    (leads_to_ordinal (variables g) (types g) (sites g) control [] 0 && (is_well_formed_expr (variables g) (types g) (sites g) first && (is_well_formed_test
+    (variables g) (types g) (sites g) first_fits &&
+    (is_well_formed_expr (variables g) (types g) (sites g) last && (is_well_formed_test (variables g) (types g) (sites g) last_fits && is_well_formed_stmt
+    (variables g) (types g) (sites g)
     body.0)))))
     (λ e. effect.enter number e >>= λ _. value_of first e >>= λ a. value_of last e >>= λ b. for_between control first_fits way last_fits (effect_of body.0) e
     a b
-    >>= λ _. effect.undefine (e control))
+    >>= λ _. effect.undefine (e.variables control))
 for_runs g number control first first_fits way last last_fits body few place base held s stands good based high deep =
     let s1 : effect.State = record s { visited = s.visited ++ record { number = number; environment = g.environment; store = s.store } ∷ [] } in
     let a = expr_code g.scope first in
@@ -835,16 +792,16 @@ for_runs g number control first first_fits way last last_fits body few place bas
     let at_end = stands_back g.target (head + 2 + length inside) next end from_next in
     let e : out' + 4 ≡ place + length (for_code control a first_fits way b last_fits (stmt_code body.0) g.scope place) =
     omega (arith, length-For control a first_fits way b last_fits (stmt_code body.0) g.scope place) in
-    let p1 = and_parts (nat_lt control (variables g)) _ good in
-    let p2 = and_parts (is_well_formed_expr (variables g) (sites g) first) _ p1.1 in
-    let p3 = and_parts (is_well_formed_test (variables g) (sites g) first_fits) _ p2.1 in
-    let p4 = and_parts (is_well_formed_expr (variables g) (sites g) last) _ p3.1 in
-    let p5 = and_parts (is_well_formed_test (variables g) (sites g) last_fits) (is_well_formed_stmt (variables g) (sites g) body.0) p4.1 in
+    let p1 = and_parts (leads_to_ordinal (variables g) (types g) (sites g) control [] 0) _ good in
+    let p2 = and_parts (is_well_formed_expr (variables g) (types g) (sites g) first) _ p1.1 in
+    let p3 = and_parts (is_well_formed_test (variables g) (types g) (sites g) first_fits) _ p2.1 in
+    let p4 = and_parts (is_well_formed_expr (variables g) (types g) (sites g) last) _ p3.1 in
+    let p5 = and_parts (is_well_formed_test (variables g) (types g) (sites g) last_fits) (is_well_formed_stmt (variables g) (types g) (sites g) body.0) p4.1 in
     let site_first = ltb-true first_fits.site (sites g) (and_parts (nat_lt first_fits.site (sites g)) _ p3.0).0 in
     let site_last = ltb-true last_fits.site (sites g) (and_parts (nat_lt last_fits.site (sites g)) _ p5.0).0 in
-    let within = ltb-true control (variables g) p1.0 in
+    let scalar = is_scalar g control p1.0 in
     let rest : Value → Value → Action (Unit {0}) = λ v w. for_between control first_fits way last_fits (effect_of body.0) g.environment v w >>= λ _.
-    effect.undefine (g.environment control) in
+    effect.undefine (g.environment.variables control) in
     subst (λ q. Executes g s.turns (on g (base ++ held) place s.output) held q
     (effect.and_then (value_of first g.environment s1) (λ v. value_of last g.environment >>= λ w. rest v w))) e
     (after_value g s.turns _ held held (place + length a) (out' + 4) (value_of first g.environment s1) (λ v. value_of last g.environment >>= λ w. rest v w)
@@ -859,7 +816,7 @@ for_runs g number control first first_fits way last last_fits body few place bas
     let two : (base3 ++ (held ++ Number n ∷ [])) ++ Number l ∷ [] ≡ base3 ++ (held ++ Number n ∷ Number l ∷ []) =
     append_assoc base3 (held ++ Number n ∷ []) (Number l ∷ []) ∙ ap (λ cs. base3 ++ cs) (append_assoc held (Number n ∷ []) (Number l ∷ [])) in
     subst (λ cells. Executes g u.turns (on g cells test u.output) held (out' + 4) (rest (value.Number n) (value.Number l) u)) (sym two)
-    (for_between_runs g control within way body few p5.1 head held high (omega arith) l fit' at_end first_fits last_fits site_first site_last test refl at_entry
+    (for_between_runs g control scalar way body few p5.1 head held high (omega arith) l fit' at_end first_fits last_fits site_first site_last test refl at_entry
     at_begin at_inside at_next n base3 u fit based3)))))
 
 -- ---- a case statement
@@ -912,7 +869,7 @@ module _ (g : Setting) (site : ℕ) (within : site < length g.tree.sites.items) 
 
   arms_run : (rows : List (Vec ℤ)) (arms : List ((s : Stmt) × StmtRuns s)) (before place : ℕ) (base : List Cell) (s : effect.State)
       → fold max before (map repeats (map (λ x. x.0) arms)) ≤ g.slack
-      → all_hold (map (is_well_formed_stmt (length g.tree.variables.items) (length g.tree.sites.items)) (map (λ x. x.0) arms)) ≡ true
+      → all_hold (map (is_well_formed_stmt g.tree.variables.items g.tree.types (length g.tree.sites.items)) (map (λ x. x.0) arms)) ≡ true
       → g.below + length held + max 3 (arms_depth rows (map stmt_depth (map (λ x. x.0) arms)) + 1) ≤ g.limit → Based g s.store base
       → Stands g.target place (arms_code g.scope out rows (map stmt_code (map (λ x. x.0) arms)) place ++ (instr.Fail site ∷ behind))
       → Executes g s.turns (on g (base ++ index) place s.output) index out (arm_of site rows (map effect_of (map (λ x. x.0) arms)) n g.environment s)
@@ -938,7 +895,7 @@ module _ (g : Setting) (site : ℕ) (within : site < length g.tree.sites.items) 
       let from_jump = stands_back g.target inside code (instr.Jump out ∷ (rest ++ tail)) from_arm in
       let came = compares_row g s.store base held n s.output based high (omega arith) row.items inside place
       (stands_front g.target place compared (instr.Jump next ∷ (code ++ (instr.Jump out ∷ (rest ++ tail)))) whole) in
-      let parts = and_parts (is_well_formed_stmt (length g.tree.variables.items) (length g.tree.sites.items) arm.0) _ good in
+      let parts = and_parts (is_well_formed_stmt g.tree.variables.items g.tree.types (length g.tree.sites.items) arm.0) _ good in
       let long : length index ≡ length held + 1 = length_one held (Number n) in
       let reach = g.far in
       let inner = reset g g.slack (count (g.scope.height + 1)) in
@@ -963,8 +920,8 @@ case_runs : (g : Setting) (number site : ℕ) (index : Expr) (rows : List (Vec �
     → greatest (map repeats (map (λ x. x.0) arms)) ≤ g.slack
     → ExecutesAs g (λ scope. case_code site (expr_code scope index) rows (map stmt_code (map (λ x. x.0) arms)) scope)
     (max (expr_depth index) (max 3 (arms_depth rows (map stmt_depth (map (λ x. x.0) arms)) + 1)))
-    (nat_lt site (sites g) && (is_well_formed_expr (variables g) (sites g) index && (well && all_hold (map
-    (is_well_formed_stmt (variables g) (sites g)) (map (λ x. x.0) arms)))))
+    (nat_lt site (sites g) && (is_well_formed_expr (variables g) (types g) (sites g) index && (well && all_hold (map
+    (is_well_formed_stmt (variables g) (types g) (sites g)) (map (λ x. x.0) arms)))))
     (λ e. effect.enter number e >>= λ _. value_of index e >>= λ v. arm_of site rows (map effect_of (map (λ x. x.0) arms)) (number_of v) e)
 case_runs g number site index rows arms well few place base held s stands good based high deep =
     let s1 : effect.State = record s { visited = s.visited ++ record { number = number; environment = g.environment; store = s.store } ∷ [] } in
@@ -982,8 +939,8 @@ case_runs g number site index rows arms well few place base held s stands good b
     let popping = subst (λ p. StandsAt g.target p (instr.JumpIfFalse (out + 1)) true) same at_end.1.0 in
     let e : out + 1 ≡ place + length (test ++ rest) = omega (arith, same, length-append test rest, length-append all (instr.Fail site ∷ pop)) in
     let p1 = and_parts (nat_lt site (sites g)) _ good in
-    let p2 = and_parts (is_well_formed_expr (variables g) (sites g) index) _ p1.1 in
-    let p3 = and_parts well (all_hold (map (is_well_formed_stmt (variables g) (sites g)) (map (λ x. x.0) arms))) p2.1 in
+    let p2 = and_parts (is_well_formed_expr (variables g) (types g) (sites g) index) _ p1.1 in
+    let p3 = and_parts well (all_hold (map (is_well_formed_stmt (variables g) (types g) (sites g)) (map (λ x. x.0) arms))) p2.1 in
     let within = ltb-true site (sites g) p1.0 in
     let next : Value → Action (Unit {0}) = λ v. arm_of site rows (map effect_of (map (λ x. x.0) arms)) (number_of v) g.environment in
     subst (λ q. Executes g s.turns (on g (base ++ held) place s.output) held q (effect.and_then (value_of index g.environment s1) next)) e
@@ -1006,7 +963,7 @@ same_executes g c c' d d' w w' v v' p q r t runs =
 
 module _ (x : Stmt-F Stmt) where
   abbrev is_step : Setting → Stmt-F Bool → Bool
-  is_step g = stmt_is_well_formed (length g.tree.variables.items) (length g.tree.sites.items)
+  is_step g = stmt_is_well_formed g.tree.variables.items g.tree.types (length g.tree.sites.items)
 
   rolled_stmt : ((g : Setting) → repeats_step (map-Stmt Stmt ℕ repeats x) ≤ g.slack → ExecutesAs g (stmt_step (map-Stmt Stmt Placed stmt_code x))
       (stmt_depth_step (map-Stmt Stmt ℕ stmt_depth x))
@@ -1017,7 +974,10 @@ module _ (x : Stmt-F Stmt) where
 
 stmt_layer : (y : Stmt-F ((s : Stmt) × StmtRuns s)) → StmtRuns (roll-Stmt (map-Stmt ((s : Stmt) × StmtRuns s) Stmt (λ s. s.0) y))
 stmt_layer (Empty number) = rolled_stmt (Empty number) (λ g few. empty_runs g number)
-stmt_layer (Assign number becomes target fits v) = rolled_stmt (Assign number becomes target fits v) (λ g few. assign_runs g number becomes target fits v)
+stmt_layer (Assign number becomes target indexes fits v) =
+    rolled_stmt (Assign number becomes target indexes fits v) (λ g few. assign_runs g number target fits v indexes.items)
+stmt_layer (Copy number becomes target indexes type_id v value_indexes) =
+    rolled_stmt (Copy number becomes target indexes type_id v value_indexes) (λ g few. copy_runs g number target type_id v indexes.items value_indexes.items)
 stmt_layer (Write number name parameters ends_line) =
     rolled_stmt (Write number name parameters ends_line) (λ g few. write_runs g number parameters.items ends_line)
 stmt_layer (Compound number statements) =

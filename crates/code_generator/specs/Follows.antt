@@ -16,7 +16,7 @@ use Rattle.stack_machine.specs.declared.stop.Stop.TheVariants as stop
 use Rattle.stack_machine.specs.declared.stop.InputFault.{InputFault}
 use Rattle.stack_machine.specs.declared.stop.InputFault.TheVariants as input_fault
 use Rattle.stack_machine.specs.Run.{Outcome, machine}
-use Rattle.code_emitter.specs.Need.{program_need}
+use Rattle.code_scheme.specs.Need.{program_need}
 use Rattle.code_generator.specs.Tables.{in_plain_numbers, point_in_plain_numbers}
 
 -- a text begins with another

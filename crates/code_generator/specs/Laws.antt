@@ -1,7 +1,7 @@
 -- What holds of the code of every program (ISO 7185:1990, 3.1): the checks of sites at which it never errs can be left
 -- out; and of all code that follows a program: its frame is no larger than the need, and each error of the program
 -- stops it. It does not say which sites never err.
-use Rattle.std.specs.Prelude.{◌≡◌, ℕ, ◌+◌, ◌≤◌, List, ◌∷◌, length, true, Some, slice_get}
+use Rattle.std.specs.Prelude.{◌≡◌, ℕ, ◌+◌, ◌≤◌, List, ◌∷◌, false, true, Some, slice_get}
 use Rattle.pcode_assembler.specs.declared.code.Code.{Code}
 use Rattle.pcode_assembler.specs.declared.code.Site.{Site}
 use Rattle.pcode_assembler.specs.declared.instr.Instr.{Instr}
@@ -12,9 +12,10 @@ use Rattle.typed_tree.specs.WellFormed.{IsWellFormed}
 use Rattle.meaning.specs.declared.outcome.Ending.TheVariants.{Error}
 use Rattle.meaning.specs.Meaning.{meaning}
 use Rattle.check_remover.specs.Strip.{is_among, KeepsInstructions}
-use Rattle.code_emitter.specs.Code.{program_code}
+use Rattle.code_scheme.specs.Code.{program_code}
 use Rattle.code_generator.specs.Follows.{Follows}
-use Rattle.code_emitter.specs.Need.{program_need}
+use Rattle.code_generator.specs.Large.{is_too_large}
+use Rattle.code_scheme.specs.Need.{program_need}
 use Rattle.code_generator.specs.Tables.{site_table, in_plain_numbers}
 use Rattle.stack_machine.specs.declared.stop.Stop.TheVariants as stop
 use Rattle.stack_machine.specs.Run.{machine}
@@ -23,7 +24,7 @@ use Rattle.stack_machine.specs.Run.{machine}
 -- errs at open sites alone
 abbrev pub StrippedFollows : Type 0
 StrippedFollows =
-    (tree : Tree) (open_sites : List Site) (code : Code) → IsWellFormed tree → length (program_code tree) ≤ 1000000
+    (tree : Tree) (open_sites : List Site) (code : Code) → IsWellFormed tree → is_too_large (program_code tree) ≡ false
     → code.sites.items ≡ site_table tree.sites.items
     → KeepsInstructions open_sites (program_code tree) code.instructions.items
     → ((input : List ℕ) (turns site : ℕ) → (meaning tree input turns).ending ≡ Error site

@@ -1,3 +1,4 @@
 pub mod Follows
+pub mod Large
 pub mod Laws
 pub mod Tables

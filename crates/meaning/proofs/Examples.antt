@@ -9,6 +9,8 @@ use Rattle.typed_tree.specs.declared.tree.Dyadic.TheVariants as dyadic
 use Rattle.typed_tree.specs.declared.tree.Monadic.TheVariants as monadic
 use Rattle.typed_tree.specs.declared.tree.Relation.TheVariants.{Equal, Less}
 use Rattle.typed_tree.specs.declared.tree.Tree.{Tree}
+use Rattle.typed_tree.specs.declared.tree.Selector.{Selector}
+use Rattle.typed_tree.specs.declared.tree.Selector.TheVariants.{Element as SelectElement, Field as SelectField}
 use Rattle.typed_tree.specs.declared.tree.Expr.{Expr}
 use Rattle.typed_tree.specs.declared.tree.Stmt.TheOpen.Stmt-F.{If}
 use Rattle.typed_tree.specs.declared.tree.Representation.{Representation}
@@ -20,12 +22,14 @@ use Rattle.meaning.specs.declared.outcome.Ending.{Ending}
 use Rattle.meaning.specs.declared.outcome.Ending.TheVariants.{Error, Finished, More}
 use Rattle.meaning.specs.declared.store.Value.{Value}
 use Rattle.meaning.specs.declared.store.Value.TheVariants.{Number}
-use Rattle.meaning.specs.Store.{Place, Step, Element, Environment, stored, written, undefined, overlap}
+use Rattle.types.specs.declared.form.Step.{Step}
+use Rattle.types.specs.declared.form.Step.TheVariants.{Element, Field}
+use Rattle.meaning.specs.Store.{Place, Environment, stored, written, undefined, overlap}
 use Rattle.meaning.specs.Integers.{is_integer_number}
 use Rattle.meaning.specs.Effect.{State, Reply, Gives, Stops, Action, Round, looped, ◌>>=◌, and_then, give, enter, fetch, store, undefine, require, use_turn}
-use Rattle.meaning.specs.Effect.{write, is_in, is_positive, places, boolean_text, char_text, row_text, text_of}
+use Rattle.meaning.specs.Effect.{fetch_all, store_all, write, is_in, is_positive, places, boolean_text, char_text, row_text, text_of}
 use Rattle.meaning.specs.Meaning.{Evaluation, Combination, Execution, effect_step, is_so, alternative_of, combined, while_round, repeat_round, for_between}
-use Rattle.meaning.specs.Meaning.{arm_of, Meaning, ended, link_step, in_turn, operated}
+use Rattle.meaning.specs.Meaning.{selected, arm_of, Meaning, ended, link_step, in_turn, operated}
 use Rattle.meaning.specs.Meaning.{value_of, compared, order_of, default_width, width_of, written_of, completed, first_state}
 use Rattle.meaning.specs.Meaning.{home_of, program_environment}
 use Rattle.meaning.specs.Laws.{Extends}
@@ -106,7 +110,7 @@ no_line = refl
 
 -- where no variable is visible
 nowhere : Environment
-nowhere root = None
+nowhere = record { variables = λ root. None; types = [] }
 
 -- a variable of the program's block lies in its activation; one that another block declares is not visible there
 of_its_block : (id : TypeId) → home_of 3 (Some (record { block = 0; type_id = id })) ≡ Some (place 3 [])
@@ -116,11 +120,11 @@ of_another_block : (id : TypeId) → home_of 3 (Some (record { block = 1; type_i
 of_another_block id = refl
 
 outside_the_program : (tree : Tree) (id : TypeId) → slice_get tree.variables.items 3 ≡ Some (record { block = 1; type_id = id }) →
-    program_environment tree 3 ≡ None
+    (program_environment tree).variables 3 ≡ None
 outside_the_program tree id is = ap (home_of 3) is
 
 -- a variable that isn't visible can't get a value
-not_kept : store (nowhere 0) (Number (pos 1)) (first_state [] 0) ≡ Gives tt (first_state [] 0)
+not_kept : store (nowhere.variables 0) (Number (pos 1)) (first_state [] 0) ≡ Gives tt (first_state [] 0)
 unfolding nowhere
 not_kept = refl
 
@@ -142,7 +146,7 @@ abbrev nothing_there : Evaluation
 nothing_there environment = fetch (Some (place 0 [])) 7
 
 -- the value of a variable that isn't visible is an error at its site
-not_found : told (fetch (nowhere 0) 7 (first_state [] 0)) ≡ End_of (Error 7)
+not_found : told (fetch (nowhere.variables 0) 7 (first_state [] 0)) ≡ End_of (Error 7)
 unfolding nowhere
 not_found = refl
 
@@ -377,7 +381,7 @@ repeat_wants_more = refl
 
 -- where each variable lies at the same place
 everywhere : Environment
-everywhere root = Some (place 0 [])
+everywhere = record { variables = λ root. Some (place 0 []); types = [] }
 
 abbrev number_out : Value → Action (Unit {0})
 number_out (Number n) = write (places n ∷ [])
@@ -385,7 +389,7 @@ number_out (Number n) = write (places n ∷ [])
 -- writes the control variable, as a number without its sign
 abbrev written_out : Execution
 written_out environment = do
-  v ← fetch (environment 0) 7
+  v ← fetch (environment.variables 0) 7
   w ← operated monadic.Abs v
   number_out w
 
@@ -396,7 +400,7 @@ integers = record { first = negsuc 2147483646; last = pos 2147483647 }
 abbrev counts_out : OrdinalRange → Direction → ℤ → ℤ → Action (Unit {0})
 counts_out range direction first last = do
   _ ← for_between 0 (record { site = 8; range = range }) direction (record { site = 9; range = range }) written_out everywhere (Number first) (Number last)
-  undefine (everywhere 0)
+  undefine (everywhere.variables 0)
 
 abbrev of_for : OrdinalRange → Direction → ℤ → ℤ → ℕ → Meaning
 of_for range direction first last turns = ended (counts_out range direction first last (first_state [] turns))
@@ -445,7 +449,8 @@ unfolding everywhere
 undefined_behind = refl
 
 undefined_all_the_same :
-    ended ((store (everywhere 0) (Number (pos 5)) >>= λ _. counts_out integers To (pos 1) (pos 0) >>= λ _. written_out everywhere) (first_state [] 1)) ≡
+    ended ((store (everywhere.variables 0) (Number (pos 5)) >>= λ _. counts_out integers To (pos 1) (pos 0) >>= λ _. written_out everywhere)
+    (first_state [] 1)) ≡
     record { output = []; ending = Error 7 }
 unfolding everywhere
 undefined_all_the_same = refl
@@ -468,3 +473,46 @@ module _ (one other : Vec ℤ Global) (first : one.items ≡ pos 1 ∷ pos 2 ∷
   -- no constants hold the value
   no_arm : of_case (pos 3) ≡ record { output = []; ending = Error 7 }
   no_arm = rw (first, second)
+
+-- an index within 0 to 1, tested at the site 8
+abbrev element : Selector
+element = SelectElement (record { site = 8; range = booleans }) 2
+
+-- x[1].g[0], where g is the field at place 3: each index leads further
+abbrev access_of : List Evaluation → Reply (Option Place)
+access_of indexes = selected (element ∷ SelectField 3 5 ∷ element ∷ []) indexes nowhere (Some (place 0 [])) (first_state [] 0)
+
+component : access_of (operand (Number (pos 1)) ∷ operand (Number (pos 0)) ∷ []) ≡
+    Gives (Some (place 0 (Element (pos 1) ∷ Field 3 ∷ Element (pos 0) ∷ []))) (first_state [] 0)
+unfolding nowhere
+component = refl
+
+-- an index is tested before the next one is evaluated
+first_index_tested : access_of (operand (Number (pos 2)) ∷ nothing_there ∷ []) ≡ Stops (Error 8) (first_state [] 0)
+unfolding nowhere
+first_index_tested = refl
+
+second_index_undefined : access_of (operand (Number (pos 1)) ∷ nothing_there ∷ []) ≡ Stops (Error 7) (first_state [] 0)
+unfolding nowhere
+second_index_undefined = refl
+
+-- two elements: their numbers are read back in their order
+abbrev two_elements : List (List Step)
+two_elements = (Element (pos 1) ∷ []) ∷ (Element (pos 2) ∷ []) ∷ []
+
+abbrev read_back : Action (Unit {0}) → Reply (List ℤ)
+read_back stored = (stored >>= λ _. fetch_all (Some (place 0 [])) two_elements 7) (first_state [] 0)
+
+abbrev numbers_told : Reply (List ℤ) → List ℤ
+numbers_told (Gives numbers s) = numbers
+numbers_told (Stops e s) = []
+
+both_read : numbers_told (read_back (store_all (Some (place 0 [])) two_elements (pos 5 ∷ pos 6 ∷ []))) ≡ pos 5 ∷ pos 6 ∷ []
+both_read = refl
+
+-- where one of them is undefined, the whole value is
+abbrev one_stored : State
+one_stored = record (first_state [] 0) { store = written [] (place 0 (Element (pos 1) ∷ [])) (Number (pos 5)) }
+
+one_undefined : read_back (store (Some (place 0 (Element (pos 1) ∷ []))) (Number (pos 5))) ≡ Stops (Error 7) one_stored
+one_undefined = refl

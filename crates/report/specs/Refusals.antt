@@ -1,7 +1,7 @@
 -- Why a source is refused: the fault of the first layer that refuses, for nothing else but memory. Of names and types
 -- it is the first rule that the program breaks, with its place, and so it is of a certificate. It does not say at which
 -- token P1 and P2 are told.
-use Rattle.std.specs.Prelude.{◌≡◌, ℕ, ◌<◌, List, [], Option, Some, None, Err, map, length, codes}
+use Rattle.std.specs.Prelude.{◌≡◌, ℕ, List, [], Option, Some, None, Err, true, map, codes}
 use denote.Ref.{Bor}
 use Rattle.lexer.specs.declared.token.Token.{Token}
 use Rattle.lexer.specs.Tokens.{IsTokenList, IsFirstFault, lexeme_of}
@@ -18,7 +18,8 @@ use Rattle.expression_checker.specs.declared.fault.CheckFault.TheVariants as che
 use Rattle.cert_checker.specs.Promise.{IsRefusedFor}
 use Rattle.cert_checker.specs.Walk.{program_walk}
 use Rattle.code_generator.specs.declared.fault.GenFault.TheVariants as generate
-use Rattle.code_emitter.specs.Code.{program_code}
+use Rattle.code_scheme.specs.Code.{program_code}
+use Rattle.code_generator.specs.Large.{is_too_large}
 use Rattle.report.specs.declared.fault.Fault.{Fault}
 use Rattle.report.specs.declared.fault.Fault.TheVariants.{Memory, Lex, Parse, Typing, Certificate, Check, Generate}
 use Rattle.report.specs.Headline.{IsWrittenAs, IsTypedTreeOf}
@@ -51,4 +52,4 @@ IsRefusal source text (Check fault) =
 IsRefusal source text (Generate generate.Memory) = ⊥
 IsRefusal source text (Generate generate.TooLarge) =
     (tree : Tree) × (certificate : CertificateRead) × AreOf source text tree certificate
-    × ((program_walk tree certificate).broken ≡ []) × (1000000 < length (program_code tree))
+    × ((program_walk tree certificate).broken ≡ []) × (is_too_large (program_code tree) ≡ true)

@@ -1,7 +1,7 @@
 use Rattle.std.proofs.Common.{◌∙◌, ap}
 use Rattle.std.proofs.lemmas.List.{take_all}
 use Rattle.code_generator.specs.Tables.{point_in_plain_numbers, point_table}
-use Rattle.code_emitter.proofs.Pieces.{map_one_more}
+use Rattle.code_scheme.proofs.Pieces.{map_one_more}
 use Rattle.code_generator.proofs.tables.points_of.Goals as goal
 
 pub loop-point-init : goal.loop-point-init

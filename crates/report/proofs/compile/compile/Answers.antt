@@ -1,10 +1,11 @@
-use Rattle.std.proofs.Common.{rules, ◌≤◌, ◌∙◌, ap, subst, length, ⊎_elim, Err}
-use Rattle.std.proofs.lemmas.Bool.{cases_lt}
+use Rattle.std.proofs.Common.{rules, ◌≡◌, ◌∙◌, ap, subst, false, Err}
+use Rattle.std.proofs.lemmas.Bool.{false_from_ne_true}
 use Rattle.std.proofs.lemmas.Result.{err_from_is_err_and}
 use Rattle.report.specs.Refusals.{text_of}
 use Rattle.report.proofs.RefusalLemmas.{refused_by, certificate-refusal, checking-refusal, generation-refusal}
 use Rattle.check_remover.specs.Strip.{strip, KeepsInstructions}
-use Rattle.code_emitter.specs.Code.{program_code}
+use Rattle.code_scheme.specs.Code.{program_code}
+use Rattle.code_generator.specs.Large.{is_too_large}
 use Rattle.code_generator.specs.Tables.{site_table}
 use Rattle.code_generator.proofs.Program.{stripped_follows}
 use Rattle.report.proofs.OpenSites.{errs_at_open}
@@ -19,8 +20,8 @@ returns-clause-headline c =
     let open_sites = c.in_ok-verdict.verdict.open_sites.items in
     let well = c.in_ok-tree.ensures.well_formed in
     let never = c.in_ok-verdict.ensures.closed_never_err well c.in_ok-tree.ensures.in_order in
-    let few : length (program_code tree) ≤ 1000000 =
-    ⊎_elim (λ more. absurd (cc (c.in_ok-full.was, c.generate.ensures.too_large.1 more))) (λ few. few) (cases_lt 1000000 (length (program_code tree))) in
+    let few : is_too_large (program_code tree) ≡ false =
+    false_from_ne_true (is_too_large (program_code tree)) (λ more. absurd (cc (c.in_ok-full.was, c.generate.ensures.too_large.1 more))) in
     let listed = c.deref.ensures.value ∙ c.in_ok-open_sites.ensures in
     let keeps = subst (λ sites. KeepsInstructions sites (program_code tree) stripped.instructions.items) listed
     (subst (λ code. KeepsInstructions c.deref.result.now code stripped.instructions.items) c.in_ok-full.ensures.instructions c.in_ok-stripped.ensures.kept) in

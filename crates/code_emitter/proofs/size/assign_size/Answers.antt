@@ -1,7 +1,0 @@
-use Rattle.std.proofs.Common.{arith}
-use Rattle.code_emitter.proofs.size.assign_size.Goals as goal
-
-pub returns : goal.returns
-returns c = λ scope.
-    let value = c.expr_size.ensures scope in
-    grind (arith, value)

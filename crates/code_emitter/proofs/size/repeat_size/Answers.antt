@@ -1,7 +1,0 @@
-use Rattle.std.proofs.Common.{arith}
-use Rattle.code_emitter.proofs.size.repeat_size.Goals as goal
-
-pub returns : goal.returns
-returns c = λ scope.
-    let condition = c.expr_size.ensures scope in
-    grind (arith, condition)

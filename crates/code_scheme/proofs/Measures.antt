@@ -1,0 +1,275 @@
+-- What is told of a statement is how many instructions it has.
+use Rattle.std.proofs.Common.{◌≡◌, ℕ, ◌+◌, ◌<◌, List, [], ◌∷◌, ◌++◌, length, map, take, get_or, Some, None, refl, ap, sym, subst, ◌∙◌, arith}
+use Rattle.std.proofs.Common.{length-append}
+use Rattle.std.specs.Prelude.{ℤ, ◌*◌, slice_set}
+use Rattle.std.specs.Global.{Vec, Box}
+use Rattle.std.proofs.lemmas.List.{map_more, flat_map_more}
+use Rattle.std.proofs.lemmas.Simd.{map-map}
+use Rattle.pcode_assembler.specs.declared.instr.Instr.{Instr}
+use Rattle.place.specs.declared.Place.{Place as SourcePlace}
+use Rattle.types.specs.declared.form.TypeId.{TypeId}
+use Rattle.typed_tree.specs.declared.tree.Access.{Access}
+use Rattle.typed_tree.specs.declared.tree.Direction.{Direction}
+use Rattle.typed_tree.specs.declared.tree.RangeTest.{RangeTest}
+use Rattle.typed_tree.specs.declared.tree.Whole.{Whole}
+use Rattle.typed_tree.specs.declared.tree.Expr.{Expr}
+use Rattle.typed_tree.specs.declared.tree.Stmt.TheVariants as stmt
+use Rattle.pcode_assembler.specs.declared.instr.Instr.TheVariants as instr
+use Rattle.std.proofs.lemmas.List.Sums.{sum_by-cons}
+use Rattle.typed_tree.specs.declared.tree.Stmt.{Stmt}
+use Rattle.typed_tree.specs.declared.tree.Stmt.TheOpen.{Stmt-F}
+use Rattle.typed_tree.specs.declared.tree.Stmt.TheOpen.Stmt-F.{Empty, Assign, Write, Compound, If, While, Repeat, For, Case, Copy}
+use Rattle.typed_tree.specs.declared.tree.Stmt.TheViews.{roll-Stmt}
+use Rattle.typed_tree.specs.declared.tree.Stmt.TheFolds.{map-Stmt, fold-roll-Stmt, ind-Stmt}
+use Rattle.code_scheme.specs.Scopes.{Scope, holding}
+use Rattle.code_scheme.specs.Code.{Placed, placed, row_code, arms_code, expr_code, stmt_code, stmt_step}
+use Rattle.code_scheme.specs.Code.{assign_code, copy_code}
+use Rattle.code_scheme.specs.Sizes.{Measured, measured, measured_step, table_of, all_sizes, all_tables, arms_size, arms_table}
+use Rattle.code_scheme.proofs.Pieces.{length-If, length-If-else, length-While, length-Repeat, length-For}
+
+abbrev pub IsMeasured : Stmt → Type 0
+IsMeasured s = (scope : Scope) (place : ℕ) → length (stmt_code s scope place) ≡ (measured s scope).size
+
+abbrev MeasuredStmt : Type 0
+MeasuredStmt = (s : Stmt) × IsMeasured s
+
+abbrev bare : Stmt-F MeasuredStmt → Stmt-F Stmt
+bare = map-Stmt MeasuredStmt Stmt (λ s. s.0)
+
+rolled : (x : Stmt-F Stmt) → ((scope : Scope) (place : ℕ) → length (stmt_step (map-Stmt Stmt Placed stmt_code x) scope place) ≡
+    (measured_step (map-Stmt Stmt (Scope → Measured) measured x) scope).size) → IsMeasured (roll-Stmt x)
+rolled x h scope place =
+    ap (λ code. length (code scope place)) (fold-roll-Stmt Placed stmt_step x) ∙ h scope place
+    ∙ sym (ap (λ m. (m scope).size) (fold-roll-Stmt (Scope → Measured) measured_step x))
+
+all_measured : (scope : Scope) (statements : List MeasuredStmt) (place : ℕ)
+    → length (placed (map (λ code. code scope) (map stmt_code (map (λ s. s.0) statements))) place) ≡ all_sizes
+    (map (λ (measure : Scope → Measured). measure scope) (map measured (map (λ s. s.0) statements)))
+all_measured scope [] place = refl
+all_measured scope (s ∷ statements) place =
+    let code = stmt_code s.0 scope place in
+    let next = place + length code in
+    let rest = map (λ (measure : Scope → Measured). measure scope) (map measured (map (λ s. s.0) statements)) in
+    length-append code (placed (map (λ c. c scope) (map stmt_code (map (λ s. s.0) statements))) next)
+    ∙ ap (λ n. n + length (placed (map (λ c. c scope) (map stmt_code (map (λ s. s.0) statements))) next)) (s.1 scope place)
+    ∙ ap (λ n. (measured s.0 scope).size + n) (all_measured scope statements next)
+    ∙ sym (sum_by-cons (λ (m : Measured). m.size) (measured s.0 scope) rest)
+
+-- a row of constants, and the arms behind their rows
+pub row_measured : (scope : Scope) (arm : ℕ) (row : List ℤ) → length (row_code scope arm row) ≡ 4 * length row
+row_measured scope arm [] = refl
+row_measured scope arm (constant ∷ row) = let e = row_measured scope arm row in omega arith
+
+arms_measured : (scope : Scope) (out : ℕ) (rows : List (Vec ℤ)) (arms : List MeasuredStmt) (place : ℕ)
+    → length (arms_code scope out rows (map stmt_code (map (λ s. s.0) arms)) place) ≡ arms_size rows
+    (map (λ (measure : Scope → Measured). measure (holding 1 scope)) (map measured (map (λ s. s.0) arms)))
+arms_measured scope out [] arms place = refl
+arms_measured scope out (row ∷ rows) [] place = refl
+arms_measured scope out (row ∷ rows) (arm ∷ arms) place =
+    let inside = place + length (row_code scope 0 row.items) + 1 in
+    let code = stmt_code arm.0 (holding 1 scope) inside in
+    let next = inside + length code + 1 in
+    let rest = arms_code scope out rows (map stmt_code (map (λ (s : MeasuredStmt). s.0) arms)) next in
+    let one = arm.1 (holding 1 scope) inside in
+    let others = arms_measured scope out rows arms next in
+    let row_is = row_measured scope inside row.items in
+    omega (
+      arith,
+      one,
+      others,
+      row_is,
+      length-append (row_code scope inside row.items) (instr.Jump next ∷ (code ++ (instr.Jump out ∷ rest))),
+      length-append code (instr.Jump out ∷ rest),
+    )
+
+layer : (y : Stmt-F MeasuredStmt) → IsMeasured (roll-Stmt (bare y))
+layer (Empty number) = rolled (Empty number) (λ scope place. refl)
+layer (Assign number becomes target indexes fits value) = rolled (Assign number becomes target indexes fits value) (λ scope place. refl)
+layer (Copy number becomes target indexes type_id value value_indexes) =
+    rolled (Copy number becomes target indexes type_id value value_indexes) (λ scope place. refl)
+layer (Write number name parameters ends_line) = rolled (Write number name parameters ends_line) (λ scope place. refl)
+layer (Compound number statements) =
+    rolled (bare (Compound number statements)) (λ scope place. all_measured scope statements.items place)
+layer (If number condition consequence None) =
+    rolled (bare (If number condition consequence None)) (λ scope place.
+    let test = expr_code scope condition in
+    length-If test (stmt_code consequence.value.0) scope place ∙ ap (λ n. length test + 1 + n) (consequence.value.1 scope (place + length test + 1)))
+layer (If number condition consequence (Some alternative)) =
+    rolled (bare (If number condition consequence (Some alternative))) (λ scope place.
+    let test = expr_code scope condition in
+    let yes = place + length test + 1 in
+    let no = yes + length (stmt_code consequence.value.0 scope yes) + 1 in
+    length-If-else test (stmt_code consequence.value.0) (stmt_code alternative.value.0) scope place
+    ∙ ap (λ n. length test + 1 + n + 1 + length (stmt_code alternative.value.0 scope no)) (consequence.value.1 scope yes)
+    ∙ ap (λ n. length test + 1 + (measured consequence.value.0 scope).size + 1 + n) (alternative.value.1 scope no))
+layer (While number loop_number word condition body) =
+    rolled (bare (While number loop_number word condition body)) (λ scope place.
+    let test = expr_code scope condition in
+    length-While test (stmt_code body.value.0) scope place ∙ ap (λ n. length test + 1 + n + 1) (body.value.1 scope (place + length test + 1)))
+layer (Repeat number loop_number word statements condition) =
+    rolled (bare (Repeat number loop_number word statements condition)) (λ scope place.
+    let test = expr_code scope condition in
+    length-Repeat (placed (map (λ code. code scope) (map stmt_code (map (λ s. s.0) statements.items)))) test place
+    ∙ ap (λ n. n + (length test + 1)) (all_measured scope statements.items place))
+layer (For number loop_number word control first first_fits way last last_fits body) =
+    rolled (bare (For number loop_number word control first first_fits way last last_fits body)) (λ scope place.
+    let a = expr_code scope first in
+    let b = expr_code scope last in
+    length-For control a first_fits way b last_fits (stmt_code body.value.0) scope place
+    ∙ ap (λ n. length a + length b + 10 + n + 13) (body.value.1 (holding 2 scope) (place + length a + length b + 8 + 2)))
+layer (Case number site index constants arms) =
+    rolled (bare (Case number site index constants arms)) (λ scope place.
+    let test = expr_code scope index in
+    let codes = map stmt_code (map (λ (s : MeasuredStmt). s.0) arms.items) in
+    let first = place + length test in
+    let out = first + length (arms_code scope 0 constants.items codes first) + 1 in
+    let all = arms_code scope out constants.items codes first in
+    let last = instr.Fail site ∷ instr.JumpIfFalse (out + 1) ∷ [] in
+    let e = arms_measured scope out constants.items arms.items first in
+    omega (arith, e, length-append test (all ++ last), length-append all last))
+
+-- the size of a statement is the length of its code, wherever that stands
+pub is_measured : (s : Stmt) → IsMeasured s
+is_measured = ind-Stmt IsMeasured (λ x y is. subst (λ z. IsMeasured (roll-Stmt z)) is (layer y))
+
+-- the same of the arms of a case statement behind their rows
+pub arms_are_measured : (scope : Scope) (out : ℕ) (rows : List (Vec ℤ)) (arms : List Stmt) (place : ℕ)
+    → length (arms_code scope out rows (map stmt_code arms) place) ≡ arms_size rows (map (λ s. measured s (holding 1 scope)) arms)
+arms_are_measured scope out [] arms place = refl
+arms_are_measured scope out (row ∷ rows) [] place = refl
+arms_are_measured scope out (row ∷ rows) (arm ∷ arms) place =
+    let inside = place + length (row_code scope 0 row.items) + 1 in
+    let code = stmt_code arm (holding 1 scope) inside in
+    let next = inside + length code + 1 in
+    let rest = arms_code scope out rows (map stmt_code arms) next in
+    omega (
+      arith,
+      is_measured arm (holding 1 scope) inside,
+      arms_are_measured scope out rows arms next,
+      row_measured scope inside row.items,
+      length-append (row_code scope inside row.items) (instr.Jump next ∷ (code ++ (instr.Jump out ∷ rest))),
+      length-append code (instr.Jump out ∷ rest),
+    )
+
+-- what is told of a compound statement, and of an if statement
+pub measured-Compound : (scope : Scope) (number : ℕ) (statements : Vec Stmt)
+    → measured (stmt.Compound number statements) scope ≡ record {
+      size = all_sizes (map (λ s. measured s scope) statements.items);
+      inner = all_tables (map (λ s. measured s scope) statements.items);
+    }
+measured-Compound scope number statements =
+    ap (λ s. measured s scope) (sym (stmt.rolls-Compound number statements))
+    ∙ ap (λ m. m scope) (fold-roll-Stmt (Scope → Measured) measured_step (Compound number statements))
+    ∙ ap (λ ms. record { size = all_sizes ms; inner = all_tables ms }) (map-map (λ (measure : Scope → Measured). measure scope) measured statements.items)
+
+abbrev pub if_measured : List Instr → Measured → Measured
+if_measured test one = record { size = length test + 1 + one.size; inner = table_of one }
+
+abbrev pub if_else_measured : List Instr → Measured → Measured → Measured
+if_else_measured test one other = record { size = length test + 1 + one.size + 1 + other.size; inner = table_of one ++ table_of other }
+
+pub measured-If : (scope : Scope) (number : ℕ) (condition : Expr) (consequence : Box Stmt)
+    → measured (stmt.If number condition consequence None) scope ≡ if_measured (expr_code scope condition) (measured consequence.value scope)
+measured-If scope number condition consequence =
+    ap (λ s. measured s scope) (sym (stmt.rolls-If number condition consequence None))
+    ∙ ap (λ m. m scope) (fold-roll-Stmt (Scope → Measured) measured_step (If number condition consequence None))
+
+pub measured-If-else : (scope : Scope) (number : ℕ) (condition : Expr) (consequence alternative : Box Stmt)
+    → measured (stmt.If number condition consequence (Some alternative)) scope ≡ if_else_measured (expr_code scope condition)
+    (measured consequence.value scope) (measured alternative.value scope)
+measured-If-else scope number condition consequence alternative =
+    ap (λ s. measured s scope) (sym (stmt.rolls-If number condition consequence (Some alternative)))
+    ∙ ap (λ m. m scope) (fold-roll-Stmt (Scope → Measured) measured_step (If number condition consequence (Some alternative)))
+
+abbrev pub while_measured : List Instr → Measured → Measured
+while_measured test inside = record { size = length test + 1 + inside.size + 1; inner = table_of inside }
+
+pub measured-While : (scope : Scope) (number loop_number : ℕ) (word : SourcePlace) (condition : Expr) (body : Box Stmt)
+    → measured (stmt.While number loop_number word condition body) scope ≡ while_measured (expr_code scope condition) (measured body.value scope)
+measured-While scope number loop_number word condition body =
+    ap (λ s. measured s scope) (sym (stmt.rolls-While number loop_number word condition body))
+    ∙ ap (λ m. m scope) (fold-roll-Stmt (Scope → Measured) measured_step (While number loop_number word condition body))
+
+abbrev pub repeat_measured : List Measured → List Instr → Measured
+repeat_measured ms test = record { size = all_sizes ms + (length test + 1); inner = all_tables ms }
+
+pub measured-Repeat : (scope : Scope) (number loop_number : ℕ) (word : SourcePlace) (statements : Vec Stmt) (condition : Expr)
+    → measured (stmt.Repeat number loop_number word statements condition) scope ≡ repeat_measured (map (λ s. measured s scope) statements.items)
+    (expr_code scope condition)
+measured-Repeat scope number loop_number word statements condition =
+    ap (λ s. measured s scope) (sym (stmt.rolls-Repeat number loop_number word statements condition))
+    ∙ ap (λ m. m scope) (fold-roll-Stmt (Scope → Measured) measured_step (Repeat number loop_number word statements condition))
+    ∙ ap (λ ms. repeat_measured ms (expr_code scope condition)) (map-map (λ (measure : Scope → Measured). measure scope) measured statements.items)
+
+abbrev pub for_measured : List Instr → List Instr → Measured → Measured
+for_measured first last inside = record { size = length first + length last + 10 + inside.size + 13; inner = table_of inside }
+
+pub measured-For : (scope : Scope) (number loop_number : ℕ) (word : SourcePlace) (control : ℕ) (first : Expr) (first_fits : RangeTest) (way : Direction)
+    (last : Expr) (last_fits : RangeTest) (body : Box Stmt)
+    → measured (stmt.For number loop_number word control first first_fits way last last_fits body) scope ≡ for_measured (expr_code scope first)
+    (expr_code scope last) (measured body.value (holding 2 scope))
+measured-For scope number loop_number word control first first_fits way last last_fits body =
+    ap (λ s. measured s scope) (sym (stmt.rolls-For number loop_number word control first first_fits way last last_fits body))
+    ∙ ap (λ m. m scope) (fold-roll-Stmt (Scope → Measured) measured_step (For number loop_number word control first first_fits way last last_fits body))
+
+abbrev pub case_measured : List Instr → List (Vec ℤ) → List Measured → Measured
+case_measured test rows ms = record { size = length test + arms_size rows ms + 2; inner = arms_table rows ms }
+
+pub measured-Case : (scope : Scope) (number site : ℕ) (index : Expr) (constants : Vec (Vec ℤ)) (arms : Vec Stmt)
+    → measured (stmt.Case number site index constants arms) scope ≡ case_measured (expr_code scope index) constants.items
+    (map (λ s. measured s (holding 1 scope)) arms.items)
+measured-Case scope number site index constants arms =
+    ap (λ s. measured s scope) (sym (stmt.rolls-Case number site index constants arms))
+    ∙ ap (λ m. m scope) (fold-roll-Stmt (Scope → Measured) measured_step (Case number site index constants arms))
+    ∙ ap (λ ms. case_measured (expr_code scope index) constants.items ms)
+    (map-map (λ (measure : Scope → Measured). measure (holding 1 scope)) measured arms.items)
+
+pub measured-Assign : (scope : Scope) (number : ℕ) (becomes : SourcePlace) (target : Access) (indexes : Vec Expr) (fits : RangeTest) (value : Expr)
+    → measured (stmt.Assign number becomes target indexes fits value) scope ≡ record
+    { size = length (assign_code scope target indexes.items fits value); inner = [] }
+measured-Assign scope number becomes target indexes fits value =
+    ap (λ s. measured s scope) (sym (stmt.rolls-Assign number becomes target indexes fits value))
+    ∙ ap (λ m. m scope) (fold-roll-Stmt (Scope → Measured) measured_step (Assign number becomes target indexes fits value))
+
+pub measured-Copy : (scope : Scope) (number : ℕ) (becomes : SourcePlace) (target : Access) (indexes : Vec Expr) (type_id : TypeId) (value : Whole)
+    (value_indexes : Vec Expr) → measured (stmt.Copy number becomes target indexes type_id value value_indexes) scope ≡ record
+    { size = length (copy_code scope target indexes.items value value_indexes.items); inner = [] }
+measured-Copy scope number becomes target indexes type_id value value_indexes =
+    ap (λ s. measured s scope) (sym (stmt.rolls-Copy number becomes target indexes type_id value value_indexes))
+    ∙ ap (λ m. m scope) (fold-roll-Stmt (Scope → Measured) measured_step (Copy number becomes target indexes type_id value value_indexes))
+
+-- what is told of the first statements, and of one more
+all_sizes-push : (ms : List Measured) (m : Measured) → all_sizes (ms ++ m ∷ []) ≡ all_sizes ms + m.size
+all_sizes-push [] m = sum_by-cons (λ (x : Measured). x.size) m [] ∙ omega arith
+all_sizes-push (first ∷ ms) m =
+    let rest = all_sizes-push ms m in
+    omega (arith, rest, sum_by-cons (λ (x : Measured). x.size) first ms, sum_by-cons (λ (x : Measured). x.size) first (ms ++ m ∷ []))
+
+pub sizes_one_more : (scope : Scope) (ss : List Stmt) (i : ℕ) (s : Stmt) → i < length ss → s ≡ get_or ss i s
+    → all_sizes (map (λ x. measured x scope) (take (i + 1) ss)) ≡ all_sizes (map (λ x. measured x scope) (take i ss)) + (measured s scope).size
+sizes_one_more scope ss i s h here =
+    ap all_sizes (map_more (λ x. measured x scope) ss i s h)
+    ∙ all_sizes-push (map (λ x. measured x scope) (take i ss)) (measured (get_or ss i s) scope)
+    ∙ ap (λ x. all_sizes (map (λ y. measured y scope) (take i ss)) + (measured x scope).size) (sym here)
+
+pub tables_one_more : (scope : Scope) (before : List ℕ) (ss : List Stmt) (i : ℕ) (s : Stmt) → i < length ss → s ≡ get_or ss i s
+    → (before ++ all_tables (map (λ x. measured x scope) (take i ss))) ++ table_of (measured s scope) ≡ before ++ all_tables
+    (map (λ x. measured x scope) (take (i + 1) ss))
+tables_one_more scope before ss i s h here =
+    ap (λ x. (before ++ all_tables (map (λ y. measured y scope) (take i ss))) ++ table_of (measured x scope)) here
+    ∙ flat_map_more table_of before (map (λ x. measured x scope) (take i ss)) (measured (get_or ss i s) scope)
+    ∙ ap (λ ms. before ++ all_tables ms) (sym (map_more (λ x. measured x scope) ss i s h))
+
+-- no arm behind the last one has an instruction, nor has one without a row
+pub arms_size-none : (rows : List (Vec ℤ)) → arms_size rows [] ≡ 0
+arms_size-none [] = refl
+arms_size-none (row ∷ rows) = refl
+
+pub arms_table-none : (rows : List (Vec ℤ)) → arms_table rows [] ≡ []
+arms_table-none [] = refl
+arms_table-none (row ∷ rows) = refl
+
+-- the size of a statement comes where room was left for it
+pub set_at_seam : (before inner : List ℕ) (a b : ℕ) → slice_set (before ++ a ∷ inner) (length before) b ≡ before ++ b ∷ inner
+set_at_seam [] inner a b = refl
+set_at_seam (x ∷ before) inner a b = ap (λ l. x ∷ l) (set_at_seam before inner a b)

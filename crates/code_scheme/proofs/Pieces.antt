@@ -1,0 +1,383 @@
+-- Pieces of code, one after another.
+use Rattle.std.proofs.Common.{◌≡◌, ℕ, Bool, ◌+◌, ◌<◌, ◌≤◌, max, length, length-append, take, get_or, List, [], ◌∷◌, ◌++◌, map, refl, ap, sym, ◌∙◌, append-nil}
+use Rattle.std.proofs.Common.{append_assoc, arith, Some, None}
+use Rattle.std.specs.List.{flat_map}
+use Rattle.std.specs.Prelude.{ℤ, fold}
+use Rattle.std.proofs.lemmas.List.Sums.{fold_push}
+use Rattle.std.proofs.Math.Nat.{add-zero, add_assoc}
+use Rattle.std.proofs.lemmas.Simd.{map-map}
+use Rattle.std.proofs.lemmas.List.{take_all, take_more, flat_map_more, map_push, map_more}
+use Rattle.std.specs.Global.{Vec, Box}
+use Rattle.pcode_assembler.specs.declared.instr.Instr.{Instr}
+use Rattle.pcode_assembler.specs.declared.instr.Instr.TheVariants as instr
+use Rattle.place.specs.declared.Place.{Place as SourcePlace}
+use Rattle.typed_tree.specs.declared.tree.Access.{Access}
+use Rattle.typed_tree.specs.declared.tree.Direction.{Direction}
+use Rattle.typed_tree.specs.declared.tree.RangeTest.{RangeTest}
+use Rattle.typed_tree.specs.declared.tree.WriteParameter.{WriteParameter}
+use Rattle.typed_tree.specs.declared.tree.Whole.{Whole}
+use Rattle.types.specs.declared.form.TypeId.{TypeId}
+use Rattle.typed_tree.specs.declared.tree.Expr.{Expr}
+use Rattle.typed_tree.specs.declared.tree.Link.{Link}
+use Rattle.typed_tree.specs.declared.tree.Expr.TheVariants.{Variable, rolls-Variable, Chain, rolls-Chain, Monadic as MonadicOf, rolls-Monadic}
+use Rattle.typed_tree.specs.declared.tree.Expr.TheVariants.{Compare, rolls-Compare}
+use Rattle.typed_tree.specs.declared.tree.Monadic.{Monadic}
+use Rattle.typed_tree.specs.declared.tree.Relation.{Relation}
+use Rattle.typed_tree.specs.declared.tree.Expr.TheOpen.Expr-F.{Variable as Variable-layer, Chain as Chain-layer, Monadic as Monadic-layer}
+use Rattle.typed_tree.specs.declared.tree.Expr.TheOpen.Expr-F.{Compare as Compare-layer}
+use Rattle.typed_tree.specs.declared.tree.Expr.TheFolds.{fold-roll-Expr, fold_out-Link}
+use Rattle.typed_tree.specs.declared.tree.Stmt.{Stmt}
+use Rattle.typed_tree.specs.declared.tree.Stmt.TheVariants.{Empty, rolls-Empty, Assign, rolls-Assign, Write, rolls-Write, Compound, rolls-Compound, If}
+use Rattle.typed_tree.specs.declared.tree.Stmt.TheVariants.{rolls-If, While, rolls-While, Repeat, rolls-Repeat, For, rolls-For, Case, rolls-Case}
+use Rattle.typed_tree.specs.declared.tree.Stmt.TheVariants.{Copy, rolls-Copy}
+use Rattle.typed_tree.specs.declared.tree.Stmt.TheOpen.Stmt-F.{Empty as Empty-layer, Assign as Assign-layer, Write as Write-layer, Compound as Compound-layer}
+use Rattle.typed_tree.specs.declared.tree.Stmt.TheOpen.Stmt-F.{If as If-layer, While as While-layer, Repeat as Repeat-layer, For as For-layer}
+use Rattle.typed_tree.specs.declared.tree.Stmt.TheOpen.Stmt-F.{Case as Case-layer, Copy as Copy-layer}
+use Rattle.typed_tree.specs.declared.tree.Stmt.TheFolds.{fold-roll-Stmt}
+use Rattle.typed_tree.specs.WellFormed.{length_of}
+use Rattle.code_scheme.specs.Scopes.{Scope, behind_fields, holding}
+use Rattle.code_scheme.specs.Code.{joined, placed, Placed, if_code, if_else_code, while_code, repeat_code, for_code, for_entry, for_begin, for_next}
+use Rattle.code_scheme.specs.Code.{for_end, case_code, dyadic_code, monadic_code, expr_step, link_step, expr_code, link_code, variable_code, assign_code}
+use Rattle.code_scheme.specs.Code.{write_code, parameter_code, line_end_code, stmt_step, stmt_code, compare_code, whole_code}
+use Rattle.code_scheme.specs.Code.{copy_code, index_codes, statements_code}
+use Rattle.code_scheme.specs.Depth.{greatest, arms_depth, expr_depth, parameter_depth, stmt_depth, stmt_depth_step}
+use Rattle.code_scheme.specs.Depth.{access_depth, expr_depth_step, index_depths, link_depth_step, store_depth, whole_depth}
+
+-- the pieces of a list, one for each element
+pub joined-map : {X : Type 0} (piece_of : X → List Instr) (xs : List X) → joined (map piece_of xs) ≡ flat_map piece_of xs
+joined-map piece_of [] = refl
+joined-map piece_of (x ∷ xs) = ap (λ rest. piece_of x ++ rest) (joined-map piece_of xs)
+
+-- a chain: its first operand, and each of its links
+pub expr_code-Chain : (scope : Scope) (first : Box Expr) (rest : Vec Link)
+    → expr_code scope (Chain first rest) ≡ expr_code scope first.value ++ flat_map (link_code scope) rest.items
+expr_code-Chain scope first rest =
+    ap (expr_code scope) (sym (rolls-Chain first rest)) ∙ fold-roll-Expr (List Instr) (List Instr) (expr_step scope) link_step (Chain-layer first rest)
+    ∙ ap (λ p. expr_code scope first.value ++ p) (joined-map (link_code scope) rest.items)
+
+-- the value of a variable or of a component
+pub expr_code-Variable : (scope : Scope) (access : Access) (indexes : Vec Expr) (defined : ℕ)
+    → expr_code scope (Variable access indexes defined) ≡ variable_code scope access (index_codes scope indexes.items) defined
+expr_code-Variable scope access indexes defined =
+    ap (expr_code scope) (sym (rolls-Variable access indexes defined))
+    ∙ fold-roll-Expr (List Instr) (List Instr) (expr_step scope) link_step (Variable-layer access indexes defined)
+
+-- a relation of two whole values
+pub expr_code-Compare : (scope : Scope) (number : ℕ) (r : Relation) (left : Whole) (left_indexes : Vec Expr) (right : Whole) (right_indexes : Vec Expr)
+    → expr_code scope (Compare number r left left_indexes right right_indexes) ≡ compare_code r (length_of left)
+    (whole_code scope left (index_codes scope left_indexes.items)) (whole_code scope right (index_codes scope right_indexes.items))
+expr_code-Compare scope number r left left_indexes right right_indexes =
+    ap (expr_code scope) (sym (rolls-Compare number r left left_indexes right right_indexes))
+    ∙ fold-roll-Expr (List Instr) (List Instr) (expr_step scope) link_step (Compare-layer number r left left_indexes right right_indexes)
+
+-- the greatest of some numbers is no less than the one that they begin with
+pub start_within : (d : ℕ) (ds : List ℕ) → d ≤ fold max d ds
+start_within d [] = omega arith
+start_within d (e ∷ ds) = let r = start_within (max d e) ds in omega arith
+
+-- a compound statement: each of its statements
+pub stmt_code-Compound : (scope : Scope) (place number : ℕ) (statements : Vec Stmt)
+    → stmt_code (Compound number statements) scope place ≡ statements_code scope statements.items place
+stmt_code-Compound scope place number statements =
+    ap (λ s. stmt_code s scope place) (sym (rolls-Compound number statements))
+    ∙ ap (λ code. code scope place) (fold-roll-Stmt Placed stmt_step (Compound-layer number statements))
+    ∙ ap (λ pieces. placed pieces place) (map-map (λ code. code scope) stmt_code statements.items)
+
+pub stmt_code-Empty : (scope : Scope) (place number : ℕ) → stmt_code (Empty number) scope place ≡ []
+stmt_code-Empty scope place number =
+    ap (λ s. stmt_code s scope place) (sym (rolls-Empty number)) ∙ ap (λ code. code scope place) (fold-roll-Stmt Placed stmt_step (Empty-layer number))
+
+pub stmt_code-Assign : (scope : Scope) (place number : ℕ) (becomes : SourcePlace) (target : Access) (indexes : Vec Expr) (fits : RangeTest) (value : Expr)
+    → stmt_code (Assign number becomes target indexes fits value) scope place ≡ assign_code scope target indexes.items fits value
+stmt_code-Assign scope place number becomes target indexes fits value =
+    ap (λ s. stmt_code s scope place) (sym (rolls-Assign number becomes target indexes fits value))
+    ∙ ap (λ code. code scope place) (fold-roll-Stmt Placed stmt_step (Assign-layer number becomes target indexes fits value))
+
+pub stmt_code-Copy : (scope : Scope) (place number : ℕ) (becomes : SourcePlace) (target : Access) (indexes : Vec Expr) (type_id : TypeId) (value : Whole)
+    (value_indexes : Vec Expr) → stmt_code (Copy number becomes target indexes type_id value value_indexes) scope place ≡ copy_code scope target indexes.items
+    value value_indexes.items
+stmt_code-Copy scope place number becomes target indexes type_id value value_indexes =
+    ap (λ s. stmt_code s scope place) (sym (rolls-Copy number becomes target indexes type_id value value_indexes))
+    ∙ ap (λ code. code scope place) (fold-roll-Stmt Placed stmt_step (Copy-layer number becomes target indexes type_id value value_indexes))
+
+pub stmt_code-Write : (scope : Scope) (place number : ℕ) (name : SourcePlace) (parameters : Vec WriteParameter) (ends_line : Bool)
+    → stmt_code (Write number name parameters ends_line) scope place ≡ write_code scope parameters.items ends_line
+stmt_code-Write scope place number name parameters ends_line =
+    ap (λ s. stmt_code s scope place) (sym (rolls-Write number name parameters ends_line))
+    ∙ ap (λ code. code scope place) (fold-roll-Stmt Placed stmt_step (Write-layer number name parameters ends_line))
+
+-- an if statement without `else`, and one with it
+pub stmt_code-If : (scope : Scope) (place number : ℕ) (condition : Expr) (consequence : Box Stmt)
+    → stmt_code (If number condition consequence None) scope place ≡ if_code (expr_code scope condition) (stmt_code consequence.value) scope place
+stmt_code-If scope place number condition consequence =
+    ap (λ s. stmt_code s scope place) (sym (rolls-If number condition consequence None))
+    ∙ ap (λ code. code scope place) (fold-roll-Stmt Placed stmt_step (If-layer number condition consequence None))
+
+pub stmt_code-If-else : (scope : Scope) (place number : ℕ) (condition : Expr) (consequence alternative : Box Stmt)
+    → stmt_code (If number condition consequence (Some alternative)) scope place ≡ if_else_code (expr_code scope condition) (stmt_code consequence.value)
+    (stmt_code alternative.value) scope place
+stmt_code-If-else scope place number condition consequence alternative =
+    ap (λ s. stmt_code s scope place) (sym (rolls-If number condition consequence (Some alternative)))
+    ∙ ap (λ code. code scope place) (fold-roll-Stmt Placed stmt_step (If-layer number condition consequence (Some alternative)))
+
+-- a while statement, and a repeat statement
+pub stmt_code-While : (scope : Scope) (place number loop_number : ℕ) (word : SourcePlace) (condition : Expr) (body : Box Stmt)
+    → stmt_code (While number loop_number word condition body) scope place ≡ while_code (expr_code scope condition) (stmt_code body.value) scope place
+stmt_code-While scope place number loop_number word condition body =
+    ap (λ s. stmt_code s scope place) (sym (rolls-While number loop_number word condition body))
+    ∙ ap (λ code. code scope place) (fold-roll-Stmt Placed stmt_step (While-layer number loop_number word condition body))
+
+pub stmt_code-Repeat : (scope : Scope) (place number loop_number : ℕ) (word : SourcePlace) (statements : Vec Stmt) (condition : Expr)
+    → stmt_code (Repeat number loop_number word statements condition) scope place ≡ repeat_code (statements_code scope statements.items)
+    (expr_code scope condition) place
+stmt_code-Repeat scope place number loop_number word statements condition =
+    ap (λ s. stmt_code s scope place) (sym (rolls-Repeat number loop_number word statements condition))
+    ∙ ap (λ code. code scope place) (fold-roll-Stmt Placed stmt_step (Repeat-layer number loop_number word statements condition))
+    ∙ ap (λ pieces. repeat_code (placed pieces) (expr_code scope condition) place) (map-map (λ code. code scope) stmt_code statements.items)
+
+pub length-While : (test : List Instr) (body : Placed) (scope : Scope) (place : ℕ)
+    → length (while_code test body scope place) ≡ length test + 1 + length (body scope (place + length test + 1)) + 1
+length-While test body scope place =
+    let inside = place + length test + 1 in
+    let code = body scope inside in
+    omega (
+      arith,
+      length-append test (instr.JumpIfFalse (inside + length code + 1) ∷ (code ++ (instr.Jump place ∷ []))),
+      length-append code (instr.Jump place ∷ []),
+    )
+
+pub length-Repeat : (statements : ℕ → List Instr) (test : List Instr) (place : ℕ)
+    → length (repeat_code statements test place) ≡ length (statements place) + (length test + 1)
+length-Repeat statements test place =
+    omega (
+      arith,
+      length-append (statements place) (test ++ (instr.JumpIfFalse place ∷ [])),
+      length-append test (instr.JumpIfFalse place ∷ []),
+    )
+
+-- a for statement
+pub stmt_code-For : (scope : Scope) (place number loop_number : ℕ) (word : SourcePlace) (control : ℕ) (first : Expr) (first_fits : RangeTest) (way : Direction)
+    (last : Expr) (last_fits : RangeTest) (body : Box Stmt)
+    → stmt_code (For number loop_number word control first first_fits way last last_fits body) scope place ≡ for_code control (expr_code scope first)
+    first_fits way (expr_code scope last) last_fits (stmt_code body.value) scope place
+stmt_code-For scope place number loop_number word control first first_fits way last last_fits body =
+    ap (λ s. stmt_code s scope place) (sym (rolls-For number loop_number word control first first_fits way last last_fits body))
+    ∙ ap (λ code. code scope place)
+    (fold-roll-Stmt Placed stmt_step (For-layer number loop_number word control first first_fits way last last_fits body))
+
+pub length-For : (control : ℕ) (first : List Instr) (first_fits : RangeTest) (way : Direction) (last : List Instr) (last_fits : RangeTest) (body : Placed)
+    (scope : Scope) (place : ℕ) → length (for_code control first first_fits way last last_fits body scope place) ≡ length first + length last + 10 + length
+    (body (holding 2 scope) (place + length first + length last + 8 + 2)) + 13
+length-For control first first_fits way last last_fits body scope place =
+    let head = place + length first + length last + 8 in
+    let inside = body (holding 2 scope) (head + 2) in
+    let out = head + 2 + length inside + 9 in
+    let entry = for_entry scope first_fits way last_fits out in
+    let begin = for_begin scope control in
+    let next = for_next scope way head out in
+    let done = for_end scope control in
+    omega (
+      arith,
+      length-append first (last ++ (entry ++ (begin ++ (inside ++ (next ++ done))))),
+      length-append last (entry ++ (begin ++ (inside ++ (next ++ done)))),
+      length-append entry (begin ++ (inside ++ (next ++ done))),
+      length-append begin (inside ++ (next ++ done)),
+      length-append inside (next ++ done),
+      length-append next done,
+    )
+
+-- a case statement
+pub stmt_code-Case : (scope : Scope) (place number site : ℕ) (index : Expr) (constants : Vec (Vec ℤ)) (arms : Vec Stmt)
+    → stmt_code (Case number site index constants arms) scope place ≡ case_code site (expr_code scope index) constants.items (map stmt_code arms.items) scope
+    place
+stmt_code-Case scope place number site index constants arms =
+    ap (λ s. stmt_code s scope place) (sym (rolls-Case number site index constants arms))
+    ∙ ap (λ code. code scope place) (fold-roll-Stmt Placed stmt_step (Case-layer number site index constants arms))
+
+-- how many instructions they have
+pub length-If : (test : List Instr) (consequence : Placed) (scope : Scope) (place : ℕ)
+    → length (if_code test consequence scope place) ≡ length test + 1 + length (consequence scope (place + length test + 1))
+length-If test consequence scope place =
+    let yes = place + length test + 1 in
+    omega (arith, length-append test (instr.JumpIfFalse (yes + length (consequence scope yes)) ∷ consequence scope yes))
+
+pub length-If-else : (test : List Instr) (consequence alternative : Placed) (scope : Scope) (place : ℕ)
+    → length (if_else_code test consequence alternative scope place) ≡ length test + 1 + length (consequence scope (place + length test + 1)) + 1 + length
+    (alternative scope (place + length test + 1 + length (consequence scope (place + length test + 1)) + 1))
+length-If-else test consequence alternative scope place =
+    let yes = place + length test + 1 in
+    let code = consequence scope yes in
+    let no = yes + length code + 1 in
+    let behind = instr.Jump (no + length (alternative scope no)) ∷ alternative scope no in
+    omega (arith, length-append test (instr.JumpIfFalse no ∷ (code ++ behind)), length-append code behind)
+
+-- how many instructions a write has
+pub length-Write : (scope : Scope) (place number : ℕ) (name : SourcePlace) (parameters : Vec WriteParameter) (ends_line : Bool)
+    → length (stmt_code (Write number name parameters ends_line) scope place) ≡ length (flat_map (parameter_code scope) parameters.items) + length
+    (line_end_code ends_line)
+length-Write scope place number name parameters ends_line =
+    ap length (stmt_code-Write scope place number name parameters ends_line)
+    ∙ length-append (flat_map (parameter_code scope) parameters.items) (line_end_code ends_line)
+
+-- how many cells an expression needs that accesses a variable, or compares two whole values
+pub expr_depth-Variable : (access : Access) (indexes : Vec Expr) (defined : ℕ)
+    → expr_depth (Variable access indexes defined) ≡ access_depth (index_depths indexes.items)
+expr_depth-Variable access indexes defined =
+    ap expr_depth (sym (rolls-Variable access indexes defined)) ∙ fold-roll-Expr ℕ ℕ expr_depth_step link_depth_step (Variable-layer access indexes defined)
+
+pub expr_depth-Compare : (number : ℕ) (r : Relation) (left : Whole) (left_indexes : Vec Expr) (right : Whole) (right_indexes : Vec Expr)
+    → expr_depth (Compare number r left left_indexes right right_indexes) ≡ max (whole_depth left (index_depths left_indexes.items))
+    (max (whole_depth right (index_depths right_indexes.items) + length_of left) 2)
+expr_depth-Compare number r left left_indexes right right_indexes =
+    ap expr_depth (sym (rolls-Compare number r left left_indexes right right_indexes))
+    ∙ fold-roll-Expr ℕ ℕ expr_depth_step link_depth_step (Compare-layer number r left left_indexes right right_indexes)
+
+-- how many cells an assignment needs, a write, and a compound statement
+pub stmt_depth-Assign : (number : ℕ) (becomes : SourcePlace) (target : Access) (indexes : Vec Expr) (fits : RangeTest) (value : Expr)
+    → stmt_depth (Assign number becomes target indexes fits value) ≡ store_depth (behind_fields target.selectors.items) (index_depths indexes.items)
+    (expr_depth value)
+stmt_depth-Assign number becomes target indexes fits value =
+    ap stmt_depth (sym (rolls-Assign number becomes target indexes fits value))
+    ∙ fold-roll-Stmt ℕ stmt_depth_step (Assign-layer number becomes target indexes fits value)
+
+pub stmt_depth-Copy : (number : ℕ) (becomes : SourcePlace) (target : Access) (indexes : Vec Expr) (type_id : TypeId) (value : Whole)
+    (value_indexes : Vec Expr) → stmt_depth (Copy number becomes target indexes type_id value value_indexes) ≡ max (access_depth (index_depths indexes.items))
+    (whole_depth value (index_depths value_indexes.items) + 1)
+stmt_depth-Copy number becomes target indexes type_id value value_indexes =
+    ap stmt_depth (sym (rolls-Copy number becomes target indexes type_id value value_indexes))
+    ∙ fold-roll-Stmt ℕ stmt_depth_step (Copy-layer number becomes target indexes type_id value value_indexes)
+
+pub stmt_depth-Write : (number : ℕ) (name : SourcePlace) (parameters : Vec WriteParameter) (ends_line : Bool)
+    → stmt_depth (Write number name parameters ends_line) ≡ greatest (map parameter_depth parameters.items)
+stmt_depth-Write number name parameters ends_line =
+    ap stmt_depth (sym (rolls-Write number name parameters ends_line)) ∙ fold-roll-Stmt ℕ stmt_depth_step (Write-layer number name parameters ends_line)
+
+pub stmt_depth-Compound : (number : ℕ) (statements : Vec Stmt) → stmt_depth (Compound number statements) ≡ greatest (map stmt_depth statements.items)
+stmt_depth-Compound number statements =
+    ap stmt_depth (sym (rolls-Compound number statements)) ∙ fold-roll-Stmt ℕ stmt_depth_step (Compound-layer number statements)
+
+pub stmt_depth-If : (number : ℕ) (condition : Expr) (consequence : Box Stmt)
+    → stmt_depth (If number condition consequence None) ≡ max (expr_depth condition) (max (stmt_depth consequence.value) 0)
+stmt_depth-If number condition consequence =
+    ap stmt_depth (sym (rolls-If number condition consequence None)) ∙ fold-roll-Stmt ℕ stmt_depth_step (If-layer number condition consequence None)
+
+pub stmt_depth-If-else : (number : ℕ) (condition : Expr) (consequence alternative : Box Stmt)
+    → stmt_depth (If number condition consequence (Some alternative)) ≡ max (expr_depth condition) (max (stmt_depth consequence.value)
+    (stmt_depth alternative.value))
+stmt_depth-If-else number condition consequence alternative =
+    ap stmt_depth (sym (rolls-If number condition consequence (Some alternative)))
+    ∙ fold-roll-Stmt ℕ stmt_depth_step (If-layer number condition consequence (Some alternative))
+
+pub stmt_depth-While : (number loop_number : ℕ) (word : SourcePlace) (condition : Expr) (body : Box Stmt)
+    → stmt_depth (While number loop_number word condition body) ≡ max (expr_depth condition) (stmt_depth body.value)
+stmt_depth-While number loop_number word condition body =
+    ap stmt_depth (sym (rolls-While number loop_number word condition body))
+    ∙ fold-roll-Stmt ℕ stmt_depth_step (While-layer number loop_number word condition body)
+
+pub stmt_depth-Repeat : (number loop_number : ℕ) (word : SourcePlace) (statements : Vec Stmt) (condition : Expr)
+    → stmt_depth (Repeat number loop_number word statements condition) ≡ max (greatest (map stmt_depth statements.items)) (expr_depth condition)
+stmt_depth-Repeat number loop_number word statements condition =
+    ap stmt_depth (sym (rolls-Repeat number loop_number word statements condition))
+    ∙ fold-roll-Stmt ℕ stmt_depth_step (Repeat-layer number loop_number word statements condition)
+
+pub stmt_depth-For : (number loop_number : ℕ) (word : SourcePlace) (control : ℕ) (first : Expr) (first_fits : RangeTest) (way : Direction) (last : Expr)
+    (last_fits : RangeTest) (body : Box Stmt) → stmt_depth (For number loop_number word control first first_fits way last last_fits body) ≡ max
+    (max (expr_depth first) (expr_depth last + 1)) (max 4 (stmt_depth body.value + 2))
+stmt_depth-For number loop_number word control first first_fits way last last_fits body =
+    ap stmt_depth (sym (rolls-For number loop_number word control first first_fits way last last_fits body))
+    ∙ fold-roll-Stmt ℕ stmt_depth_step (For-layer number loop_number word control first first_fits way last last_fits body)
+
+-- no arm behind the last one needs a cell
+pub arms_depth-none : (rows : List (Vec ℤ)) → arms_depth rows [] ≡ 0
+arms_depth-none [] = refl
+arms_depth-none (row ∷ rows) = refl
+
+-- a loop over pieces, at its end
+pub joined_at_end : {X : Type 0} (piece_of : X → List Instr) (code start : List Instr) (xs ys : List X) (i : ℕ)
+    → code ≡ start ++ flat_map piece_of (take i xs) → length xs ≤ i → xs ≡ ys → code ≡ start ++ flat_map piece_of ys
+joined_at_end piece_of code start xs ys i e h same =
+    e ∙ ap (λ zs. start ++ flat_map piece_of zs) (take_all i xs h ∙ same)
+
+-- and one piece further
+pub joined_one_more : {X : Type 0} (piece_of : X → List Instr) (code more start : List Instr) (xs : List X) (i : ℕ) (x : X)
+    → code ≡ start ++ flat_map piece_of (take i xs) → i < length xs → x ≡ get_or xs i x → more ≡ code ++ piece_of x
+    → more ≡ start ++ flat_map piece_of (take (i + 1) xs)
+joined_one_more piece_of code more start xs i x e h here grown =
+    grown ∙ ap (λ p. p ++ piece_of x) e ∙ ap (λ y. (start ++ flat_map piece_of (take i xs)) ++ piece_of y) here
+    ∙ flat_map_more piece_of start (take i xs) (get_or xs i x) ∙ ap (λ ys. start ++ flat_map piece_of ys) (sym (take_more xs i x h))
+
+-- a loop that writes a list, one element further
+pub map_one_more : {X Y : Type 0} (f : X → Y) (xs : List X) (i : ℕ) (d : X) (before after : List Y) (y : Y) → before ≡ map f (take i xs) → i < length xs
+    → y ≡ f (get_or xs i d) → after ≡ before ++ (y ∷ []) → after ≡ map f (take (i + 1) xs)
+map_one_more f xs i d before after y so_far inside is grown =
+    grown ∙ ap (λ ys. ys ++ (y ∷ [])) so_far ∙ ap (λ v. map f (take i xs) ++ (v ∷ [])) is ∙ sym (map_more f xs i d inside)
+
+-- how many instructions the pieces have then
+pub length_one_more : {X : Type 0} (piece_of : X → List Instr) (xs : List X) (i : ℕ) (x : X) → i < length xs → x ≡ get_or xs i x
+    → length (flat_map piece_of (take (i + 1) xs)) ≡ length (flat_map piece_of (take i xs)) + length (piece_of x)
+length_one_more piece_of xs i x h here =
+    ap (λ ys. length (flat_map piece_of ys)) (take_more xs i x h) ∙ ap length (sym (flat_map_more piece_of [] (take i xs) (get_or xs i x)))
+    ∙ length-append (flat_map piece_of (take i xs)) (piece_of (get_or xs i x))
+    ∙ ap (λ y. length (flat_map piece_of (take i xs)) + length (piece_of y)) (sym here)
+
+-- the greatest depth so far, and one more
+pub greatest_one_more : {X : Type 0} (depth_of : X → ℕ) (first : ℕ) (xs : List X) (i : ℕ) (x : X) → i < length xs → x ≡ get_or xs i x
+    → fold max first (map depth_of (take (i + 1) xs)) ≡ max (fold max first (map depth_of (take i xs))) (depth_of x)
+greatest_one_more depth_of first xs i x h here =
+    ap (λ ys. fold max first (map depth_of ys)) (take_more xs i x h) ∙ ap (fold max first) (map_push depth_of (take i xs) (get_or xs i x))
+    ∙ fold_push max first (map depth_of (take i xs)) (depth_of (get_or xs i x))
+    ∙ ap (λ y. max (fold max first (map depth_of (take i xs))) (depth_of y)) (sym here)
+
+-- pieces at their places, and one more
+pub placed-push : (pieces : List (ℕ → List Instr)) (piece : ℕ → List Instr) (place : ℕ)
+    → placed (pieces ++ (piece ∷ [])) place ≡ placed pieces place ++ piece (place + length (placed pieces place))
+placed-push [] piece place = append-nil (piece place) ∙ ap piece (sym (add-zero place))
+placed-push (first ∷ pieces) piece place =
+    let rest = placed pieces (place + length (first place)) in
+    let behind = add_assoc place (length (first place)) (length rest) ∙ ap (λ n. place + n) (sym (length-append (first place) rest)) in
+    ap (λ p. first place ++ p) (placed-push pieces piece (place + length (first place)))
+    ∙ ap (λ n. first place ++ (rest ++ piece n)) behind
+    ∙ sym (append_assoc (first place) rest (piece (place + length (first place ++ rest))))
+
+-- a loop over statements: one further
+pub stmts_one_more : (scope : Scope) (place : ℕ) (statements : List Stmt) (i : ℕ) (s : Stmt) → i < length statements → s ≡ get_or statements i s
+    → statements_code scope (take (i + 1) statements) place ≡ statements_code scope (take i statements) place ++ stmt_code s scope
+    (place + length (statements_code scope (take i statements) place))
+stmts_one_more scope place statements i s h here =
+    let so_far = statements_code scope (take i statements) place in
+    ap (λ pieces. placed pieces place) (map_more (λ x. stmt_code x scope) statements i s h)
+    ∙ placed-push (map (λ x. stmt_code x scope) (take i statements)) (stmt_code (get_or statements i s) scope) place
+    ∙ ap (λ x. so_far ++ stmt_code x scope (place + length so_far)) (sym here)
+
+-- and all of them
+pub all_stmts : (scope : Scope) (place : ℕ) (statements others : List Stmt) (i : ℕ) → length statements ≤ i → statements ≡ others
+    → statements_code scope (take i statements) place ≡ statements_code scope others place
+all_stmts scope place statements others i h same = ap (λ ss. statements_code scope ss place) (take_all i statements h ∙ same)
+
+-- a link: its operand, and its operation
+pub link_code-is : (scope : Scope) (link : Link) → link_code scope link ≡ expr_code scope link.operand ++ dyadic_code link.operation
+link_code-is scope link = fold_out-Link (List Instr) (List Instr) (expr_step scope) link_step link
+
+-- an operation on one operand
+pub expr_code-Monadic : (scope : Scope) (number : ℕ) (operation : Monadic) (operand : Box Expr)
+    → expr_code scope (MonadicOf number operation operand) ≡ expr_code scope operand.value ++ monadic_code operation
+expr_code-Monadic scope number operation operand =
+    ap (expr_code scope) (sym (rolls-Monadic number operation operand))
+    ∙ fold-roll-Expr (List Instr) (List Instr) (expr_step scope) link_step (Monadic-layer number operation operand)
+
+pub length-link_code : (scope : Scope) (link : Link) → length (link_code scope link) ≡ length (expr_code scope link.operand) + length
+    (dyadic_code link.operation)
+length-link_code scope link =
+    ap length (link_code-is scope link) ∙ length-append (expr_code scope link.operand) (dyadic_code link.operation)
+
+-- how many instructions the first links have, and one more
+pub length-links_more : (scope : Scope) (links : List Link) (i : ℕ) (link : Link) → i < length links → link ≡ get_or links i link
+    → length (flat_map (link_code scope) (take (i + 1) links)) ≡ length (flat_map (link_code scope) (take i links)) +
+    (length (expr_code scope link.operand) + length (dyadic_code link.operation))
+length-links_more scope links i link h here =
+    length_one_more (link_code scope) links i link h here ∙ ap (λ n. length (flat_map (link_code scope) (take i links)) + n) (length-link_code scope link)
+
+-- the pieces of a loop at its end
+pub all_pieces : {X : Type 0} (piece_of : X → List Instr) (xs ys : List X) (i : ℕ) → length xs ≤ i → xs ≡ ys
+    → flat_map piece_of (take i xs) ≡ flat_map piece_of ys
+all_pieces piece_of xs ys i h same = ap (flat_map piece_of) (take_all i xs h ∙ same)

@@ -1,0 +1,62 @@
+use Rattle.std.proofs.Common.{◌≡◌, max, ap, sym, ◌∙◌, map, arith}
+use Rattle.std.proofs.lemmas.List.{drop_all, take_all}
+use Rattle.code_scheme.specs.Scopes.{behind_fields}
+use Rattle.code_scheme.specs.Depth.{access_depth, arms_depth, expr_depth, greatest, index_depths, parameter_depth, stmt_depth, store_depth, whole_depth}
+use Rattle.code_scheme.specs.Sizes.{capped}
+use Rattle.code_scheme.proofs.Pieces.{stmt_depth-Assign, stmt_depth-Copy, stmt_depth-Write, greatest_one_more, arms_depth-none}
+use Rattle.code_scheme.proofs.depth.+needed_by.Goals as goal
+
+pub needed_by-returns-in-Assign : goal.needed_by-returns-in-Assign
+needed_by-returns-in-Assign t c =
+    let target = c.in-Assign.target in
+    let value = c.in-Assign.value in
+    let whole = ap stmt_depth c.in-Assign.is
+    ∙ stmt_depth-Assign c.in-Assign.number c.in-Assign.becomes target c.in-Assign.indexes c.in-Assign.fits value in
+    c.needed_by_assign.ensures
+    ∙ ap (λ indexes. capped (store_depth (behind_fields target.selectors.items) (index_depths indexes) (expr_depth value))) c.as_slice.ensures.value
+    ∙ ap capped (sym whole)
+
+pub needed_by-returns-in-Copy : goal.needed_by-returns-in-Copy
+needed_by-returns-in-Copy t c =
+    let whole = ap stmt_depth c.in-Copy.is
+    ∙ stmt_depth-Copy c.in-Copy.number c.in-Copy.becomes c.in-Copy.target c.in-Copy.indexes c.in-Copy.type_id c.in-Copy.value c.in-Copy.value_indexes in
+    let address = ap (λ indexes. access_depth (index_depths indexes)) c.as_slice-in-Copy.ensures.value in
+    let value = ap (λ indexes. whole_depth c.in-Copy.value (index_depths indexes)) c.as_slice-in-Copy-2.ensures.value in
+    omega (
+      arith,
+      whole,
+      address,
+      value,
+      c.needed_by_access.ensures,
+      c.needed_by_whole.ensures,
+      c.saturating_add.ensures,
+      c.max.ensures,
+    )
+
+pub needed_by-returns-in-Write : goal.needed_by-returns-in-Write
+needed_by-returns-in-Write t c =
+    let whole = ap stmt_depth c.in-Write.is ∙ stmt_depth-Write c.in-Write.number c.in-Write.name c.in-Write.parameters c.in-Write.ends_line in
+    c.needed_by_parameters.ensures ∙ ap (λ ps. capped (greatest (map parameter_depth ps))) c.as_slice-in-Write.ensures.value ∙ ap capped (sym whole)
+
+pub needed_by_statements-loop-statement-preserved : goal.needed_by_statements-loop-statement-preserved
+needed_by_statements-loop-statement-preserved t c =
+    let more = greatest_one_more stmt_depth 0 c.deref-statement-items.result.now c.loop-statement.statement-index c.statement-item.result
+    c.loop-statement-test.true c.statement-item.is in
+    grind (arith, more)
+
+pub needed_by_statements-returns : goal.needed_by_statements-returns
+needed_by_statements-returns t c =
+    let items = take_all c.loop-statement.statement-index c.deref-statement-items.result.now c.loop-statement-test.false
+    ∙ c.deref-statement-items.ensures.value in
+    c.loop-statement.invariant ∙ ap (λ ss. capped (greatest (map stmt_depth ss))) items
+
+pub needed_by_arms-returns : goal.needed_by_arms-returns
+needed_by_arms-returns t c =
+    let rows = c.loop-arm.rows.now in
+    let items = c.deref-arm-items.result.now in
+    let none = ap (λ ss. arms_depth rows (map stmt_depth ss)) (drop_all c.loop-arm.arm-index items c.loop-arm-test.false) ∙ arms_depth-none rows in
+    let same : arms_depth c.as_slice-rows.result.now (map stmt_depth items) ≡ arms_depth c.args.constants.now.items (map stmt_depth c.args.arms.now.items) =
+    ap (λ rs. arms_depth rs (map stmt_depth items)) c.as_slice-rows.ensures.value
+    ∙ ap (λ ss. arms_depth c.args.constants.now.items (map stmt_depth ss)) c.deref-arm-items.ensures.value in
+    let all = ap (λ n. capped (max c.loop-arm.depth n)) (sym none) ∙ c.loop-arm.invariant.1 ∙ ap capped same in
+    omega (arith, all, c.loop-arm.invariant.0)

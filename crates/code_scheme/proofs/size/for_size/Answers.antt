@@ -1,0 +1,8 @@
+use Rattle.std.proofs.Common.{arith}
+use Rattle.code_scheme.proofs.size.for_size.Goals as goal
+
+pub returns : goal.returns
+returns c = λ scope.
+    let first = c.expr_size.ensures scope in
+    let last = c.expr_size-2.ensures scope in
+    grind (arith, first, last)

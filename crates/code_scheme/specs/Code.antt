@@ -1,0 +1,386 @@
+-- The code of a typed tree: of an expression (ISO 7185:1990, 6.7), of a statement (6.8) and of a program (6.10), as
+-- functions of the tree, of where in a frame its variables lie and, for a statement, of its place in the code. It does
+-- not say what the code does: that is for the machine to say.
+use Rattle.std.specs.Prelude.{ℕ, zero, suc, ℤ, pos, neg_ℤ, ◌+◌, Bool, true, false, List, [], ◌∷◌, ◌++◌, Option, Some}
+use Rattle.std.specs.Prelude.{None, length, map, slice_get, sum}
+use Rattle.std.specs.Global.{Vec}
+use Rattle.std.specs.List.{flat_map}
+use Rattle.pcode_assembler.specs.declared.instr.Instr.{Instr}
+use Rattle.pcode_assembler.specs.declared.instr.Instr.TheVariants as instr
+use Rattle.typed_tree.specs.declared.tree.Tree.{Tree}
+use Rattle.typed_tree.specs.declared.tree.Block.{Block}
+use Rattle.typed_tree.specs.declared.tree.Access.{Access}
+use Rattle.typed_tree.specs.declared.tree.Selector.{Selector}
+use Rattle.typed_tree.specs.declared.tree.Selector.TheVariants.{Element, Field}
+use Rattle.typed_tree.specs.declared.tree.Monadic.{Monadic}
+use Rattle.typed_tree.specs.declared.tree.Monadic.TheVariants as monadic
+use Rattle.typed_tree.specs.declared.tree.Dyadic.{Dyadic}
+use Rattle.typed_tree.specs.declared.tree.Dyadic.TheVariants as dyadic
+use Rattle.typed_tree.specs.declared.tree.Relation.{Relation}
+use Rattle.typed_tree.specs.declared.tree.Relation.TheVariants as relation
+use Rattle.typed_tree.specs.declared.tree.RangeTest.{RangeTest}
+use Rattle.typed_tree.specs.declared.tree.Direction.{Direction}
+use Rattle.typed_tree.specs.declared.tree.Direction.TheVariants as direction
+use Rattle.typed_tree.specs.declared.tree.Representation.{Representation}
+use Rattle.typed_tree.specs.declared.tree.Representation.TheVariants as representation
+use Rattle.typed_tree.specs.declared.tree.Width.{Width}
+use Rattle.typed_tree.specs.declared.tree.WriteParameter.{WriteParameter}
+use Rattle.typed_tree.specs.declared.tree.Written.{Written}
+use Rattle.typed_tree.specs.declared.tree.Written.TheVariants.{Ordinal, String}
+use Rattle.typed_tree.specs.declared.tree.Whole.{Whole}
+use Rattle.typed_tree.specs.declared.tree.Whole.TheVariants.{Text, Variable as VariableOf}
+use Rattle.typed_tree.specs.declared.tree.Expr.{Expr}
+use Rattle.typed_tree.specs.declared.tree.Link.{Link}
+use Rattle.typed_tree.specs.declared.tree.Expr.TheOpen.{Expr-F, Link-F}
+use Rattle.typed_tree.specs.declared.tree.Expr.TheOpen.Expr-F.{Constant, Variable, Monadic as MonadicOf, Chain}
+use Rattle.typed_tree.specs.declared.tree.Expr.TheOpen.Expr-F.{Compare}
+use Rattle.typed_tree.specs.declared.tree.Expr.TheFolds.{fold-Expr, fold-Link}
+use Rattle.typed_tree.specs.declared.tree.Stmt.{Stmt}
+use Rattle.typed_tree.specs.declared.tree.Stmt.TheOpen.{Stmt-F}
+use Rattle.typed_tree.specs.declared.tree.Stmt.TheOpen.Stmt-F.{Empty, Assign, Write, Compound, If, While, Repeat, For}
+use Rattle.typed_tree.specs.declared.tree.Stmt.TheOpen.Stmt-F.{Case, Copy}
+use Rattle.typed_tree.specs.declared.tree.Stmt.TheFolds.{fold-Stmt}
+use Rattle.typed_tree.specs.WellFormed.{length_of}
+use Rattle.code_scheme.specs.Scopes.{Scope, offset, count, row_length, variable_offset, held_offset, holding}
+use Rattle.code_scheme.specs.Scopes.{access_offset, behind_fields, program_scope, variable_cells}
+use Rattle.code_scheme.specs.Depth.{stmt_depth}
+
+-- the pieces one after another
+abbrev pub joined : List (List Instr) → List Instr
+joined pieces = flat_map (λ piece. piece) pieces
+
+-- pieces that are made for their places, one after another from this place on
+abbrev pub placed : List (ℕ → List Instr) → ℕ → List Instr
+placed [] place = []
+placed (piece ∷ pieces) place = piece place ++ placed pieces (place + length (piece place))
+
+-- what an operation does to the value before it, checked; succ and pred check the number beside it, which is out of
+-- range too where it wraps at 32 bits
+abbrev pub monadic_code : Monadic → List Instr
+monadic_code monadic.Plus = []
+monadic_code monadic.Minus = instr.Negate ∷ []
+monadic_code monadic.Not = instr.Not ∷ []
+monadic_code monadic.Abs = instr.Absolute ∷ []
+monadic_code (monadic.Sqr overflow) = instr.CheckSquare overflow ∷ instr.Square ∷ []
+monadic_code monadic.Odd = instr.Odd ∷ []
+monadic_code monadic.Ord = []
+monadic_code (monadic.Chr no_char) = instr.CheckRange no_char (pos 0) (pos 127) ∷ []
+monadic_code (monadic.Succ no_successor last) =
+    instr.LoadConstant (pos 1) ∷ instr.Add ∷ instr.CheckRange no_successor (neg_ℤ (pos 2147483647)) last ∷ []
+monadic_code (monadic.Pred no_predecessor first) =
+    instr.LoadConstant (pos 1) ∷ instr.Subtract ∷ instr.CheckRange no_predecessor first (pos 2147483647) ∷ []
+
+-- the instruction of a relation
+abbrev pub relation_instr : Relation → Instr
+relation_instr relation.Equal = instr.Equal
+relation_instr relation.NotEqual = instr.NotEqual
+relation_instr relation.Less = instr.Less
+relation_instr relation.Greater = instr.Greater
+relation_instr relation.LessOrEqual = instr.LessOrEqual
+relation_instr relation.GreaterOrEqual = instr.GreaterOrEqual
+
+-- a check that a number is at least 1
+abbrev pub check_positive : ℕ → Instr
+check_positive site = instr.CheckRange site (pos 1) (pos 2147483647)
+
+-- what an operation does to the two values before it, checked
+abbrev pub dyadic_code : Dyadic → List Instr
+dyadic_code (dyadic.Plus overflow) = instr.CheckSum overflow ∷ instr.Add ∷ []
+dyadic_code (dyadic.Minus overflow) = instr.CheckDifference overflow ∷ instr.Subtract ∷ []
+dyadic_code (dyadic.Times overflow) = instr.CheckProduct overflow ∷ instr.Multiply ∷ []
+dyadic_code (dyadic.Div by_zero) = instr.CheckZero by_zero ∷ instr.Divide ∷ []
+dyadic_code (dyadic.Mod by_zero_or_less) = check_positive by_zero_or_less ∷ instr.Modulo ∷ []
+dyadic_code dyadic.And = instr.And ∷ []
+dyadic_code dyadic.Or = instr.Or ∷ []
+dyadic_code (dyadic.Relation r) = relation_instr r ∷ []
+
+-- the test of a value
+abbrev pub range_check : RangeTest → Instr
+range_check fits = instr.CheckRange fits.site fits.range.first fits.range.last
+
+-- a field behind so many cells of its record, whose address is on top
+abbrev pub field_code : ℕ → List Instr
+field_code zero = []
+field_code (suc n) = instr.Increase (offset (suc n)) ∷ []
+
+-- The code of selectors, over the address of what they select from: of an index its code, its test, and the address of
+-- its element (6.5.3.2); of a field its address (6.5.3.3). An index that isn't there has no code.
+abbrev pub selectors_code : List Selector → List (List Instr) → List Instr
+selectors_code [] indexes = []
+selectors_code (Field position before ∷ selectors) indexes = field_code before ++ selectors_code selectors indexes
+selectors_code (Element fits cells ∷ selectors) [] = selectors_code selectors []
+selectors_code (Element fits cells ∷ selectors) (index ∷ indexes) =
+    index
+    ++ (range_check fits ∷ instr.IndexAddress fits.range.first (row_length cells) ∷ selectors_code selectors indexes)
+
+-- the code of an address: that of the component at an offset, and what is selected from it
+abbrev pub address_at : ℕ → List Selector → List (List Instr) → List Instr
+address_at start selectors indexes = instr.LoadAddress 0 start ∷ selectors_code selectors indexes
+
+-- the code of the address of what is accessed (6.5.1)
+abbrev pub address_code : Scope → Access → List (List Instr) → List Instr
+address_code scope access indexes =
+    address_at (access_offset scope access) (behind_fields access.selectors.items) indexes
+
+-- the code that pushes the ordinal that is selected from the component at an offset: that itself, or behind an index
+-- what stands at its address
+abbrev pub fetch_at : ℕ → List Selector → List (List Instr) → List Instr
+fetch_at start [] indexes = instr.Load 0 start ∷ []
+fetch_at start (selector ∷ selectors) indexes =
+    address_at start (selector ∷ selectors) indexes ++ (instr.LoadIndirect 0 ∷ [])
+
+-- the value of what is accessed, an ordinal, checked
+abbrev pub variable_code : Scope → Access → List (List Instr) → ℕ → List Instr
+variable_code scope access indexes defined =
+    fetch_at (access_offset scope access) (behind_fields access.selectors.items) indexes
+    ++ (instr.CheckDefined defined 1 ∷ [])
+
+-- the code of a whole value, which pushes its components, the first one first: those of a variable stand from its
+-- address on, and all are checked
+abbrev pub whole_code : Scope → Whole → List (List Instr) → List Instr
+whole_code scope (Text number characters) indexes = map (λ c. instr.LoadConstant (pos c)) characters.items
+whole_code scope (VariableOf access type_id cells defined) indexes =
+    address_code scope access indexes
+    ++ (instr.LoadMany (row_length cells) ∷ instr.CheckDefined defined (row_length cells) ∷ [])
+
+-- the code of a relation of two whole values, which are pushed first: their order, and what that is to 0
+abbrev pub compare_code : Relation → ℕ → List Instr → List Instr → List Instr
+compare_code r components left right =
+    left
+    ++ (right ++ (instr.Compare (row_length components) ∷ instr.LoadConstant (pos 0) ∷ relation_instr r ∷ []))
+
+abbrev pub expr_step : Scope → Expr-F (List Instr) (List Instr) → List Instr
+expr_step scope (Constant number value) = instr.LoadConstant value ∷ []
+expr_step scope (Variable access indexes defined) = variable_code scope access indexes.items defined
+expr_step scope (MonadicOf number operation operand) = operand.value ++ monadic_code operation
+expr_step scope (Chain first rest) = first.value ++ joined rest.items
+expr_step scope (Compare number relation left left_indexes right right_indexes) =
+    compare_code relation (length_of left) (whole_code scope left left_indexes.items)
+    (whole_code scope right right_indexes.items)
+
+abbrev pub link_step : Link-F (List Instr) (List Instr) → List Instr
+link_step link = link.operand ++ dyadic_code link.operation
+
+-- the code of an expression, which pushes its value
+abbrev pub expr_code : Scope → Expr → List Instr
+expr_code scope = fold-Expr (List Instr) (List Instr) (expr_step scope) link_step
+
+-- the code of an operator and its right operand
+abbrev pub link_code : Scope → Link → List Instr
+link_code scope = fold-Link (List Instr) (List Instr) (expr_step scope) link_step
+
+-- the code of each index expression of an access
+abbrev pub index_codes : Scope → List Expr → List (List Instr)
+index_codes scope = map (expr_code scope)
+
+-- the code that stores into an ordinal that is selected from the component at an offset: behind an index its address
+-- comes before the value
+abbrev pub store_at : ℕ → List Selector → List (List Instr) → List Instr → List Instr
+store_at start [] indexes value = value ++ (instr.Store 0 start ∷ [])
+store_at start (selector ∷ selectors) indexes value =
+    address_at start (selector ∷ selectors) indexes ++ (value ++ (instr.StoreIndirect ∷ []))
+
+-- the code of an assignment (6.8.2.2): the target's address, if an index leads to it; the value, its check, its store
+abbrev pub assign_code : Scope → Access → List Expr → RangeTest → Expr → List Instr
+assign_code scope target indexes fits value =
+    store_at (access_offset scope target) (behind_fields target.selectors.items) (index_codes scope indexes)
+    (expr_code scope value ++ (range_check fits ∷ []))
+
+-- the code of an assignment of a whole value: the target's address, the components of the value, and their store
+abbrev pub copy_code : Scope → Access → List Expr → Whole → List Expr → List Instr
+copy_code scope target indexes value value_indexes =
+    address_code scope target (index_codes scope indexes)
+    ++ (whole_code scope value (index_codes scope value_indexes)
+    ++ (instr.StoreMany (row_length (length_of value)) ∷ []))
+
+-- the width of an ordinal that has none
+abbrev pub ordinal_width : Representation → ℤ
+ordinal_width representation.Char = pos 1
+ordinal_width representation.Integer = pos 10
+ordinal_width representation.Boolean = pos 5
+
+-- the width of a value that has none: of a string it is its length
+abbrev pub default_width : Written → Instr
+default_width (Ordinal value representation) = instr.LoadConstant (ordinal_width representation)
+default_width (String value indexes) = instr.LoadConstant (pos (row_length (length_of value)))
+
+-- the code of a width, checked
+abbrev pub width_code : Scope → Option Width → Written → List Instr
+width_code scope None value = default_width value ∷ []
+width_code scope (Some width) value = expr_code scope width.value ++ (check_positive width.site ∷ [])
+
+-- what writes an ordinal, its width on top
+abbrev pub ordinal_instr : Representation → Instr
+ordinal_instr representation.Char = instr.WriteChar
+ordinal_instr representation.Integer = instr.WriteInteger
+ordinal_instr representation.Boolean = instr.WriteBoolean
+
+-- the same of any value
+abbrev pub write_instr : Written → Instr
+write_instr (Ordinal value representation) = ordinal_instr representation
+write_instr (String value indexes) = instr.WriteString (row_length (length_of value))
+
+-- the code of a value that is written
+abbrev pub written_code : Scope → Written → List Instr
+written_code scope (Ordinal value representation) = expr_code scope value
+written_code scope (String value indexes) = whole_code scope value (index_codes scope indexes.items)
+
+-- the code that writes a value
+abbrev pub parameter_code : Scope → WriteParameter → List Instr
+parameter_code scope parameter =
+    written_code scope parameter.value
+    ++ (width_code scope parameter.width parameter.value ++ (write_instr parameter.value ∷ []))
+
+-- a line end behind a writeln
+abbrev pub line_end_code : Bool → List Instr
+line_end_code true = instr.WriteLine ∷ []
+line_end_code false = []
+
+-- the code of a write or writeln: each value in turn
+abbrev pub write_code : Scope → List WriteParameter → Bool → List Instr
+write_code scope parameters ends_line = flat_map (parameter_code scope) parameters ++ line_end_code ends_line
+
+-- what is known where the code of a statement is made: its block's scope, and its place
+abbrev pub Placed : Type 0
+Placed = Scope → ℕ → List Instr
+
+-- the code of an if statement without `else` (6.8.3.4): where the condition is false, a jump behind the consequence
+abbrev pub if_code : List Instr → Placed → Placed
+if_code test consequence scope place =
+    let yes = place + length test + 1 in
+    test ++ (instr.JumpIfFalse (yes + length (consequence scope yes)) ∷ consequence scope yes)
+
+-- the same with `else`: where the condition is false, a jump to the alternative, and behind the consequence one over it
+abbrev pub if_else_code : List Instr → Placed → Placed → Placed
+if_else_code test consequence alternative scope place =
+    let yes = place + length test + 1 in
+    let no = yes + length (consequence scope yes) + 1 in
+    test ++ (instr.JumpIfFalse no ∷ (consequence scope yes
+    ++ (instr.Jump (no + length (alternative scope no)) ∷ alternative scope no)))
+
+-- the code of a while statement (6.8.3.8): where the condition is false, a jump behind the loop; behind the body one
+-- back to the condition
+abbrev pub while_code : List Instr → Placed → Placed
+while_code test body scope place =
+    let inside = place + length test + 1 in
+    test ++ (instr.JumpIfFalse (inside + length (body scope inside) + 1)
+    ∷ (body scope inside ++ (instr.Jump place ∷ [])))
+
+-- the code of a repeat statement (6.8.3.7): where the condition is false, a jump back to the first statement
+abbrev pub repeat_code : (ℕ → List Instr) → List Instr → ℕ → List Instr
+repeat_code statements test place = statements place ++ (test ++ (instr.JumpIfFalse place ∷ []))
+
+-- whether there is a value from the first bound of a for statement to the last, and the next value
+abbrev pub order_instr : Direction → Instr
+order_instr direction.To = instr.LessOrEqual
+order_instr direction.DownTo = instr.GreaterOrEqual
+
+abbrev pub next_instr : Direction → Instr
+next_instr direction.To = instr.Add
+next_instr direction.DownTo = instr.Subtract
+
+-- The code behind both bounds, whose values are held from then on: a jump out of the loop where they leave no value,
+-- and the tests of the first and of the last.
+abbrev pub for_entry : Scope → RangeTest → Direction → RangeTest → ℕ → List Instr
+for_entry scope first_fits way last_fits out =
+    instr.Load 0 (held_offset scope 0) ∷ instr.Load 0 (held_offset scope 1) ∷ order_instr way ∷ instr.JumpIfFalse out
+    ∷ instr.Load 0 (held_offset scope 0) ∷ range_check first_fits ∷ instr.Store 0 (held_offset scope 0)
+    ∷ range_check last_fits ∷ []
+
+-- at the head of a round the control variable gets the value that is held
+abbrev pub for_begin : Scope → ℕ → List Instr
+for_begin scope control =
+    instr.Load 0 (held_offset scope 0) ∷ instr.Store 0 (variable_offset scope control) ∷ []
+
+-- behind the body: out of the loop with the last value, or else to the head with the next one
+abbrev pub for_next : Scope → Direction → ℕ → ℕ → List Instr
+for_next scope way head out =
+    instr.Load 0 (held_offset scope 0) ∷ instr.Load 0 (held_offset scope 1) ∷ instr.NotEqual ∷ instr.JumpIfFalse out
+    ∷ instr.Load 0 (held_offset scope 0) ∷ instr.LoadConstant (pos 1) ∷ next_instr way
+    ∷ instr.Store 0 (held_offset scope 0) ∷ instr.Jump head ∷ []
+
+-- Behind the loop nothing more is held, and the control variable is undefined. The program's frame has no return, so
+-- its third cell never gets a value.
+abbrev pub for_end : Scope → ℕ → List Instr
+for_end scope control =
+    instr.Store 0 (variable_offset scope control) ∷ instr.Store 0 (variable_offset scope control)
+    ∷ instr.Load 0 2 ∷ instr.Store 0 (variable_offset scope control) ∷ []
+
+-- the code of a for statement (6.8.3.9)
+abbrev pub for_code : ℕ → List Instr → RangeTest → Direction → List Instr → RangeTest → Placed → Placed
+for_code control first first_fits way last last_fits body scope place =
+    let head = place + length first + length last + 8 in
+    let inside = body (holding 2 scope) (head + 2) in
+    let out = head + 2 + length inside + 9 in
+    first ++ (last ++ (for_entry scope first_fits way last_fits out
+    ++ (for_begin scope control ++ (inside ++ (for_next scope way head out ++ for_end scope control)))))
+
+-- the index is compared with a constant, and a jump to the arm is taken where it is the same
+abbrev pub comparison : Scope → ℕ → ℤ → List Instr
+comparison scope arm constant =
+    instr.LoadConstant constant ∷ instr.Load 0 (held_offset scope 0) ∷ instr.NotEqual ∷ instr.JumpIfFalse arm ∷ []
+
+-- it is compared with each constant of a row
+abbrev pub row_code : Scope → ℕ → List ℤ → List Instr
+row_code scope arm row = flat_map (comparison scope arm) row
+
+-- one arm behind another: its constants, a jump over it, the arm, and a jump out of the statement
+abbrev pub arms_code : Scope → ℕ → List (Vec ℤ) → List Placed → ℕ → List Instr
+arms_code scope out [] arms place = []
+arms_code scope out (row ∷ rows) [] place = []
+arms_code scope out (row ∷ rows) (arm ∷ arms) place =
+    let inside = place + length (row_code scope 0 row.items) + 1 in
+    let next = inside + length (arm (holding 1 scope) inside) + 1 in
+    row_code scope inside row.items ++ (instr.Jump next
+    ∷ (arm (holding 1 scope) inside ++ (instr.Jump out ∷ arms_code scope out rows arms next)))
+
+-- the code of a case statement (6.8.3.5): the index, which is held; the arms; an error where it equals no constant; and
+-- what takes the index away, a conditional jump to the next instruction
+abbrev pub case_code : ℕ → List Instr → List (Vec ℤ) → List Placed → Placed
+case_code site index rows arms scope place =
+    let first = place + length index in
+    let out = first + length (arms_code scope 0 rows arms first) + 1 in
+    index ++ (arms_code scope out rows arms first ++ (instr.Fail site ∷ instr.JumpIfFalse (out + 1) ∷ []))
+
+abbrev pub stmt_step : Stmt-F Placed → Placed
+stmt_step (Empty number) scope place = []
+stmt_step (Assign number becomes target indexes fits value) scope place =
+    assign_code scope target indexes.items fits value
+stmt_step (Copy number becomes target indexes type_id value value_indexes) scope place =
+    copy_code scope target indexes.items value value_indexes.items
+stmt_step (Write number name parameters ends_line) scope place = write_code scope parameters.items ends_line
+stmt_step (Compound number statements) scope place = placed (map (λ code. code scope) statements.items) place
+stmt_step (If number condition consequence None) scope place =
+    if_code (expr_code scope condition) consequence.value scope place
+stmt_step (If number condition consequence (Some alternative)) scope place =
+    if_else_code (expr_code scope condition) consequence.value alternative.value scope place
+stmt_step (While number loop_number word condition body) scope place =
+    while_code (expr_code scope condition) body.value scope place
+stmt_step (Repeat number loop_number word statements condition) scope place =
+    repeat_code (placed (map (λ code. code scope) statements.items)) (expr_code scope condition) place
+stmt_step (For number loop_number word control first first_fits way last last_fits body) scope place =
+    for_code control (expr_code scope first) first_fits way (expr_code scope last) last_fits body.value scope place
+stmt_step (Case number site index constants arms) scope place =
+    case_code site (expr_code scope index) constants.items arms.items scope place
+
+-- the code of a statement at a place
+abbrev pub stmt_code : Stmt → Placed
+stmt_code = fold-Stmt Placed stmt_step
+
+-- the code of some statements one after another, from this place on
+abbrev pub statements_code : Scope → List Stmt → ℕ → List Instr
+statements_code scope statements place = placed (map (λ s. stmt_code s scope) statements) place
+
+-- the code of a block with so many cells of variables, at a place
+abbrev pub block_code : ℕ → Stmt → Placed
+block_code variables body scope place =
+    instr.Enter variables (count (stmt_depth body)) ∷ stmt_code body scope (place + 1)
+
+-- the code of the program's block, whose variables take so many cells; a tree that has none does nothing
+abbrev pub body_code : List ℕ → Option Block → List Instr
+body_code cells None = instr.Enter (count (sum cells)) 0 ∷ []
+body_code cells (Some block) = block_code (count (sum cells)) block.body (program_scope cells) 0
+
+-- the code of a program: its block, and the end of the run
+abbrev pub program_code : Tree → List Instr
+program_code tree = body_code (variable_cells tree) (slice_get tree.blocks.items 0) ++ (instr.Stop ∷ [])

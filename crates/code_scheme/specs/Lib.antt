@@ -1,0 +1,5 @@
+pub mod Code
+pub mod Depth
+pub mod Need
+pub mod Scopes
+pub mod Sizes

@@ -1,0 +1,102 @@
+-- How many cells a block may need at most; a store with as many is never full: 8 for an activation, the cells of its
+-- variables, and 8 and the cells of its value for each statement and each expression of the block. It does not say how
+-- many a frame takes, which is no more.
+use Rattle.std.specs.Prelude.{ℕ, ◌+◌, List, Option, Some, None, map, sum, sum_by, slice_get}
+use Rattle.std.specs.declared.alloc.Global.{Global}
+use Rattle.std.specs.declared.boxed.Box.{Box}
+use Rattle.typed_tree.specs.declared.tree.Tree.{Tree}
+use Rattle.typed_tree.specs.declared.tree.Block.{Block}
+use Rattle.typed_tree.specs.declared.tree.Width.{Width}
+use Rattle.typed_tree.specs.declared.tree.WriteParameter.{WriteParameter}
+use Rattle.typed_tree.specs.declared.tree.Written.{Written}
+use Rattle.typed_tree.specs.declared.tree.Written.TheVariants.{Ordinal, String}
+use Rattle.typed_tree.specs.declared.tree.Whole.{Whole}
+use Rattle.typed_tree.specs.declared.tree.Expr.{Expr}
+use Rattle.typed_tree.specs.declared.tree.Expr.TheOpen.{Expr-F, Link-F}
+use Rattle.typed_tree.specs.declared.tree.Expr.TheOpen.Expr-F.{Constant, Variable, Monadic as MonadicOf, Chain}
+use Rattle.typed_tree.specs.declared.tree.Expr.TheOpen.Expr-F.{Compare}
+use Rattle.typed_tree.specs.declared.tree.Expr.TheFolds.{fold-Expr}
+use Rattle.typed_tree.specs.declared.tree.Stmt.{Stmt}
+use Rattle.typed_tree.specs.declared.tree.Stmt.TheOpen.{Stmt-F}
+use Rattle.typed_tree.specs.declared.tree.Stmt.TheOpen.Stmt-F.{Empty, Assign, Write, Compound, If, While, Repeat, For}
+use Rattle.typed_tree.specs.declared.tree.Stmt.TheOpen.Stmt-F.{Case, Copy}
+use Rattle.typed_tree.specs.declared.tree.Stmt.TheFolds.{fold-Stmt}
+use Rattle.typed_tree.specs.WellFormed.{length_of, whole_indexes}
+use Rattle.code_scheme.specs.Scopes.{variable_cells}
+
+-- an expression whose value is an ordinal, which has one cell
+abbrev pub one_value : ℕ
+one_value = 8 + 1
+
+-- a variable or a component that is accessed, and the index expressions in it
+abbrev pub access_need : List ℕ → ℕ
+access_need indexes = one_value + sum indexes
+
+-- an expression whose value has several components, each of which has a cell, and the index expressions in it
+abbrev pub whole_need : Whole → List ℕ → ℕ
+whole_need value indexes = 8 + length_of value + sum (whole_indexes value indexes)
+
+-- a factor, a sign, or an operator, and what is in it
+abbrev pub expr_need_step : Expr-F ℕ ℕ → ℕ
+expr_need_step (Constant number value) = one_value
+expr_need_step (Variable access indexes defined) = access_need indexes.items
+expr_need_step (MonadicOf number operation operand) = one_value + operand.value
+expr_need_step (Chain first rest) = first.value + sum rest.items
+expr_need_step (Compare number relation left left_indexes right right_indexes) =
+    whole_need left left_indexes.items + one_value + whole_need right right_indexes.items
+
+abbrev pub link_need_step : Link-F ℕ ℕ → ℕ
+link_need_step link = one_value + link.operand
+
+-- the cells that an expression may need
+abbrev pub expr_need : Expr → ℕ
+expr_need = fold-Expr ℕ ℕ expr_need_step link_need_step
+
+-- the same of the index expressions of an access
+abbrev pub index_needs : List Expr → List ℕ
+index_needs = map expr_need
+
+abbrev pub width_need : Option Width → ℕ
+width_need None = 0
+width_need (Some width) = expr_need width.value
+
+-- a value that is written
+abbrev pub written_need : Written → ℕ
+written_need (Ordinal value representation) = expr_need value
+written_need (String value indexes) = whole_need value (index_needs indexes.items)
+
+abbrev pub parameter_need : WriteParameter → ℕ
+parameter_need parameter = written_need parameter.value + width_need parameter.width
+
+-- what may be there
+abbrev pub alternative_need : Option (Box ℕ Global) → ℕ
+alternative_need None = 0
+alternative_need (Some need) = need.value
+
+-- a statement, which has no value, and what is in it; the target of an assignment is an expression of one cell
+abbrev pub stmt_need_step : Stmt-F ℕ → ℕ
+stmt_need_step (Empty number) = 8
+stmt_need_step (Assign number becomes target indexes fits value) =
+    8 + access_need (index_needs indexes.items) + expr_need value
+stmt_need_step (Copy number becomes target indexes type_id value value_indexes) =
+    8 + access_need (index_needs indexes.items) + whole_need value (index_needs value_indexes.items)
+stmt_need_step (Write number name parameters ends_line) = 8 + sum_by parameter_need parameters.items
+stmt_need_step (Compound number statements) = 8 + sum statements.items
+stmt_need_step (If number condition consequence alternative) =
+    8 + expr_need condition + consequence.value + alternative_need alternative
+stmt_need_step (While number loop_number word condition body) = 8 + expr_need condition + body.value
+stmt_need_step (Repeat number loop_number word statements condition) = 8 + sum statements.items + expr_need condition
+stmt_need_step (For number loop_number word control first first_fits way last last_fits body) =
+    8 + expr_need first + expr_need last + body.value
+stmt_need_step (Case number site index constants arms) = 8 + expr_need index + sum arms.items
+
+abbrev pub stmt_need : Stmt → ℕ
+stmt_need = fold-Stmt ℕ stmt_need_step
+
+abbrev pub body_need : Option Block → ℕ
+body_need None = 0
+body_need (Some block) = stmt_need block.body
+
+-- the program's block, and the cells of its variables
+abbrev pub program_need : Tree → ℕ
+program_need tree = 8 + sum (variable_cells tree) + body_need (slice_get tree.blocks.items 0)

@@ -1,0 +1,241 @@
+ghost use Rattle.std.specs.Prelude.{◌≡◌, map};
+ghost use Rattle.code_scheme.specs.Depth.{access_depth, arms_depth, expr_depth, greatest, index_depths, monadic_depth};
+ghost use Rattle.code_scheme.specs.Depth.{parameter_depth, stmt_depth, store_depth, whole_depth, width_depth};
+ghost use Rattle.code_scheme.specs.Depth.{written_cells, written_depth};
+ghost use Rattle.code_scheme.specs.Scopes.{behind_fields as behind};
+ghost use Rattle.code_scheme.specs.Sizes.{capped};
+ghost use Rattle.typed_tree.specs.WellFormed.{length_of};
+
+use crate::scope::behind_fields;
+use typed_tree::tree::{Access, Expr, Monadic, Stmt, Whole, WriteParameter, Written};
+
+/// How many cells the evaluation of the statement needs at once, or the greatest number of 32 bits.
+#[cycle(needed_by)]
+pub fn needed_by(stmt: &Stmt) -> u32
+    ensures { result ≡ capped (stmt_depth stmt.now) }
+{
+    match stmt {
+        Stmt::Empty { .. } => 0,
+        Stmt::Assign {
+            target,
+            indexes,
+            value,
+            ..
+        } => needed_by_assign(target, indexes.as_slice(), value),
+        Stmt::Copy {
+            indexes,
+            value,
+            value_indexes,
+            ..
+        } => needed_by_access(indexes.as_slice()).max(needed_by_whole(
+            value,
+            value_indexes.as_slice(),
+        ).saturating_add(1)),
+        Stmt::Write { parameters, .. } => needed_by_parameters(parameters.as_slice()),
+        Stmt::Compound { statements, .. } => needed_by_statements(statements),
+        Stmt::If {
+            condition,
+            consequence,
+            alternative,
+            ..
+        } => {
+            let depth = needed_by_expr(condition).max(needed_by(consequence));
+            match alternative {
+                None => depth,
+                Some(alternative) => depth.max(needed_by(alternative)),
+            }
+        }
+        Stmt::While {
+            condition,
+            body,
+            ..
+        } => needed_by_expr(condition).max(needed_by(body)),
+        Stmt::Repeat {
+            statements,
+            condition,
+            ..
+        } => needed_by_statements(statements).max(needed_by_expr(condition)),
+        Stmt::For {
+            first,
+            last,
+            body,
+            ..
+        } => {
+            let bounds = needed_by_expr(first).max(needed_by_expr(last).saturating_add(1));
+            bounds.max(needed_by(body).saturating_add(2).max(4))
+        }
+        Stmt::Case {
+            index,
+            constants,
+            arms,
+            ..
+        } => needed_by_expr(index).max(needed_by_arms(constants, arms).saturating_add(1).max(3)),
+    }
+}
+
+/// The same of some statements.
+#[cycle(needed_by)]
+fn needed_by_statements(statements: &Vec<Stmt>) -> u32
+    ensures { result ≡ capped (greatest (map stmt_depth statements.now.items)) }
+{
+    let mut depth = 0;
+    for statement in statements {
+        depth = depth.max(needed_by(statement));
+    }
+    depth
+}
+
+/// The same of the arms of a case statement, each of which stands behind a row of constants.
+#[cycle(needed_by)]
+fn needed_by_arms(constants: &Vec<Vec<i32>>, arms: &Vec<Stmt>) -> u32
+    ensures { result ≡ capped (arms_depth constants.now.items (map stmt_depth arms.now.items)) }
+{
+    let mut rows = constants.as_slice();
+    let mut depth = 0;
+    for arm in arms {
+        if let Some((_row, others)) = rows.split_first() {
+            depth = depth.max(needed_by(arm));
+            rows = others;
+        }
+    }
+    depth
+}
+
+/// The same of an assignment: behind an index the target's address lies below the value.
+fn needed_by_assign(target: &Access, indexes: &[Expr], value: &Expr) -> u32
+    ensures { result ≡ capped (store_depth (behind target.now.selectors.items) (index_depths indexes.now)
+        (expr_depth value.now)) }
+{
+    let depth = needed_by_expr(value);
+    if behind_fields(target.selectors.as_slice()).is_empty() {
+        return depth;
+    }
+    needed_by_access(indexes).max(depth.saturating_add(1))
+}
+
+/// The same of the values of a write or writeln.
+fn needed_by_parameters(parameters: &[WriteParameter]) -> u32
+    ensures { result ≡ capped (greatest (map parameter_depth parameters.now)) }
+{
+    let mut depth = 0;
+    for parameter in parameters {
+        depth = depth.max(needed_by_parameter(parameter));
+    }
+    depth
+}
+
+/// The same to write a value: its width is evaluated beside it.
+fn needed_by_parameter(parameter: &WriteParameter) -> u32
+    ensures { result ≡ capped (parameter_depth parameter.now) }
+{
+    let width = needed_by_width(parameter).saturating_add(cells_of(&parameter.value));
+    needed_by_written(&parameter.value).max(width)
+}
+
+/// The same of the value alone.
+fn needed_by_written(value: &Written) -> u32
+    ensures { result ≡ capped (written_depth value.now) }
+{
+    match value {
+        Written::Ordinal { value, .. } => needed_by_expr(value),
+        Written::String { value, indexes } => needed_by_whole(value, indexes.as_slice()),
+    }
+}
+
+/// How many cells the value has.
+fn cells_of(value: &Written) -> u32
+    ensures { result ≡ capped (written_cells value.now) }
+{
+    match value {
+        Written::Ordinal { .. } => 1,
+        Written::String { value, .. } => cells_of_whole(value),
+    }
+}
+
+/// The same of a whole value: a cell for each of its components.
+pub fn cells_of_whole(value: &Whole) -> u32
+    ensures { result ≡ capped (length_of value.now) }
+{
+    match value {
+        Whole::Text { characters, .. } => u32::try_from(characters.len()).unwrap_or(u32::MAX),
+        Whole::Variable { cells, .. } => *cells,
+    }
+}
+
+/// How many cells the width alone needs at once.
+fn needed_by_width(parameter: &WriteParameter) -> u32
+    ensures { result ≡ capped (width_depth parameter.now.width) }
+{
+    match &parameter.width {
+        None => 1,
+        Some(width) => needed_by_expr(&width.value),
+    }
+}
+
+/// How many cells the evaluation of the expression needs at once, that of its value among them.
+#[cycle(needed_by_expr)]
+fn needed_by_expr(expr: &Expr) -> u32
+    ensures { result ≡ capped (expr_depth expr.now) }
+{
+    match expr {
+        Expr::Constant { .. } => 1,
+        Expr::Variable { indexes, .. } => needed_by_access(indexes.as_slice()),
+        Expr::Monadic {
+            operation,
+            operand,
+            ..
+        } => needed_by_expr(operand).max(needed_by_monadic(*operation)),
+        Expr::Chain { first, rest } => {
+            let mut depth = needed_by_expr(first);
+            for link in rest {
+                depth = depth.max(needed_by_expr(&link.operand).saturating_add(1));
+            }
+            depth
+        }
+        Expr::Compare {
+            left,
+            left_indexes,
+            right,
+            right_indexes,
+            ..
+        } => {
+            let beside = needed_by_whole(right, right_indexes.as_slice()).saturating_add(
+                cells_of_whole(left),
+            );
+            needed_by_whole(left, left_indexes.as_slice()).max(beside.max(2))
+        }
+    }
+}
+
+/// The same of a whole value: its address is taken away before its components come.
+#[cycle(needed_by_expr)]
+fn needed_by_whole(value: &Whole, indexes: &[Expr]) -> u32
+    ensures { result ≡ capped (whole_depth value.now (index_depths indexes.now)) }
+{
+    match value {
+        Whole::Text { .. } => cells_of_whole(value),
+        Whole::Variable { cells, .. } => needed_by_access(indexes).max(*cells),
+    }
+}
+
+/// The same of an address: each index is evaluated beside it.
+#[cycle(needed_by_expr)]
+fn needed_by_access(indexes: &[Expr]) -> u32
+    ensures { result ≡ capped (access_depth (index_depths indexes.now)) }
+{
+    let mut depth = 1;
+    for index in indexes {
+        depth = depth.max(needed_by_expr(index).saturating_add(1));
+    }
+    depth
+}
+
+/// The same of an operation on one operand.
+fn needed_by_monadic(operation: Monadic) -> u32
+    ensures { result ≡ monadic_depth operation }
+{
+    match operation {
+        Monadic::Succ { .. } | Monadic::Pred { .. } => 2,
+        _ => 1,
+    }
+}

@@ -1,0 +1,500 @@
+ghost use Rattle.std.specs.Prelude.{◌≡◌, ◌+◌, ◌*◌, ℕ, length, map};
+ghost use Rattle.std.specs.List.{flat_map};
+ghost use Rattle.code_scheme.specs.Scopes.{Scope};
+ghost use Rattle.code_scheme.specs.Code.{assign_code, address_code, copy_code, dyadic_code, expr_code, field_code};
+ghost use Rattle.code_scheme.specs.Code.{index_codes, line_end_code, monadic_code, parameter_code, program_code};
+ghost use Rattle.code_scheme.specs.Code.{selectors_code, statements_code, stmt_code, width_code, write_code};
+ghost use Rattle.code_scheme.specs.Code.{variable_code, whole_code, written_code};
+ghost use Rattle.code_scheme.specs.Sizes.{arms_size as size_of_arms, capped, measured, table_of, AreTold};
+ghost use Rattle.code_scheme.specs.Sizes.{ArmsAreTold, IsTold};
+ghost use Rattle.typed_tree.specs.declared.tree.RangeTest.{RangeTest};
+
+use crate::scope::behind_fields;
+use std::alloc::AllocError;
+use typed_tree::tree::{
+    Access, Dyadic, Expr, Monadic, Selector, Stmt, Tree, Whole, WriteParameter, Written,
+};
+
+/// How many instructions the program has, or the greatest number of 32 bits.
+pub fn program_size(tree: &Tree) -> u32
+    ensures { result ≡ capped (length (program_code tree.now)) }
+{
+    match tree.blocks.first() {
+        Some(program) => stmt_size(&program.body).saturating_add(2),
+        None => 2,
+    }
+}
+
+/// How many instructions the statement has, or the greatest number of 32 bits.
+#[cycle(stmt_size)]
+fn stmt_size(stmt: &Stmt) -> u32
+    ensures { (scope : Scope) (place : ℕ) → result ≡ capped (length (stmt_code stmt.now scope place)) }
+{
+    match stmt {
+        Stmt::Empty { .. } => 0,
+        Stmt::Assign {
+            target,
+            indexes,
+            value,
+            ..
+        } => assign_size(target, indexes.as_slice(), value),
+        Stmt::Copy {
+            target,
+            indexes,
+            value,
+            value_indexes,
+            ..
+        } => copy_size(target, indexes.as_slice(), value, value_indexes.as_slice()),
+        Stmt::Write {
+            parameters,
+            ends_line,
+            ..
+        } => write_size(parameters.as_slice(), *ends_line),
+        Stmt::Compound { statements, .. } => statements_size(statements),
+        Stmt::If {
+            condition,
+            consequence,
+            alternative,
+            ..
+        } => {
+            let size = if_size(condition, stmt_size(consequence));
+            match alternative {
+                None => size,
+                Some(alternative) => with_else(size, stmt_size(alternative)),
+            }
+        }
+        Stmt::While {
+            condition,
+            body,
+            ..
+        } => while_size(condition, stmt_size(body)),
+        Stmt::Repeat {
+            statements,
+            condition,
+            ..
+        } => repeat_size(statements_size(statements), condition),
+        Stmt::For {
+            first,
+            last,
+            body,
+            ..
+        } => for_size(first, last, stmt_size(body)),
+        Stmt::Case {
+            index,
+            constants,
+            arms,
+            ..
+        } => case_size(index, arms_size(constants, arms)),
+    }
+}
+
+/// The same of some statements together.
+#[cycle(stmt_size)]
+fn statements_size(statements: &Vec<Stmt>) -> u32
+    ensures { (scope : Scope) (place : ℕ) →
+        result ≡ capped (length (statements_code scope statements.now.items place)) }
+{
+    let mut size = 0u32;
+    for statement in statements {
+        size = size.saturating_add(stmt_size(statement));
+    }
+    size
+}
+
+/// The same of the arms of a case statement behind their rows of constants.
+#[cycle(stmt_size)]
+fn arms_size(constants: &Vec<Vec<i32>>, arms: &Vec<Stmt>) -> u32
+    ensures { (scope : Scope) → result ≡ capped
+        (size_of_arms constants.now.items (map (λ s. measured s scope) arms.now.items)) }
+{
+    let mut rows = constants.as_slice();
+    let mut size = 0u32;
+    for arm in arms {
+        if let Some((row, others)) = rows.split_first() {
+            size = size.saturating_add(arm_size(row.as_slice(), stmt_size(arm)));
+            rows = others;
+        }
+    }
+    size
+}
+
+/// Puts the sizes of the statement and of those in it behind the sizes of what begins before it, and answers its own.
+#[cycle(measure)]
+pub fn measure(sizes: &mut Vec<u32>, stmt: &Stmt) -> Result<u32, AllocError>
+    ensures { (scope : Scope) →
+        IsTold result sizes.old.items sizes.new.items (measured stmt.now scope) (table_of (measured stmt.now scope)) }
+{
+    let place = sizes.len();
+    sizes.push(0)?;
+    let size = measure_parts(sizes, stmt)?;
+    sizes[place] = size;
+    Ok(size)
+}
+
+/// The same of the statements in it alone.
+#[cycle(measure)]
+fn measure_parts(sizes: &mut Vec<u32>, stmt: &Stmt) -> Result<u32, AllocError>
+    ensures { (scope : Scope) →
+        IsTold result sizes.old.items sizes.new.items (measured stmt.now scope) (measured stmt.now scope).inner }
+{
+    match stmt {
+        Stmt::Empty { .. } => Ok(0),
+        Stmt::Assign {
+            target,
+            indexes,
+            value,
+            ..
+        } => Ok(assign_size(target, indexes.as_slice(), value)),
+        Stmt::Copy {
+            target,
+            indexes,
+            value,
+            value_indexes,
+            ..
+        } => Ok(copy_size(target, indexes.as_slice(), value, value_indexes.as_slice())),
+        Stmt::Write {
+            parameters,
+            ends_line,
+            ..
+        } => Ok(write_size(parameters.as_slice(), *ends_line)),
+        Stmt::Compound { statements, .. } => measure_statements(sizes, statements),
+        Stmt::If {
+            condition,
+            consequence,
+            alternative,
+            ..
+        } => {
+            let size = if_size(condition, measure(sizes, consequence)?);
+            match alternative {
+                None => Ok(size),
+                Some(alternative) => Ok(with_else(size, measure(sizes, alternative)?)),
+            }
+        }
+        Stmt::While {
+            condition,
+            body,
+            ..
+        } => Ok(while_size(condition, measure(sizes, body)?)),
+        Stmt::Repeat {
+            statements,
+            condition,
+            ..
+        } => Ok(repeat_size(measure_statements(sizes, statements)?, condition)),
+        Stmt::For {
+            first,
+            last,
+            body,
+            ..
+        } => Ok(for_size(first, last, measure(sizes, body)?)),
+        Stmt::Case {
+            index,
+            constants,
+            arms,
+            ..
+        } => Ok(case_size(index, measure_arms(sizes, constants, arms)?)),
+    }
+}
+
+/// The same of some statements, and answers their sizes together.
+#[cycle(measure)]
+fn measure_statements(sizes: &mut Vec<u32>, statements: &Vec<Stmt>) -> Result<u32, AllocError>
+    ensures { (scope : Scope) → AreTold result sizes.old.items sizes.new.items
+        (map (λ s. measured s scope) statements.now.items) }
+{
+    let mut size = 0u32;
+    for statement in statements {
+        size = size.saturating_add(measure(sizes, statement)?);
+    }
+    Ok(size)
+}
+
+/// The same of the arms of a case statement behind their rows of constants.
+#[cycle(measure)]
+fn measure_arms(
+    sizes: &mut Vec<u32>,
+    constants: &Vec<Vec<i32>>,
+    arms: &Vec<Stmt>,
+) -> Result<u32, AllocError>
+    ensures { (scope : Scope) → ArmsAreTold result sizes.old.items sizes.new.items constants.now.items
+        (map (λ s. measured s scope) arms.now.items) }
+{
+    let mut rows = constants.as_slice();
+    let mut size = 0u32;
+    for arm in arms {
+        if let Some((row, others)) = rows.split_first() {
+            size = size.saturating_add(arm_size(row.as_slice(), measure(sizes, arm)?));
+            rows = others;
+        }
+    }
+    Ok(size)
+}
+
+/// How many instructions an assignment has, or the greatest number of 32 bits.
+fn assign_size(target: &Access, indexes: &[Expr], value: &Expr) -> u32
+    ensures { (scope : Scope) (fits : RangeTest) →
+        result ≡ capped (length (assign_code scope target.now indexes.now fits value.now)) }
+{
+    let size = expr_size(value).saturating_add(2);
+    let selectors = behind_fields(target.selectors.as_slice());
+    if selectors.is_empty() {
+        return size;
+    }
+    selectors_size(selectors, indexes)
+        .saturating_add(1)
+        .saturating_add(size)
+}
+
+/// The same of an assignment of a whole value.
+fn copy_size(target: &Access, indexes: &[Expr], value: &Whole, value_indexes: &[Expr]) -> u32
+    ensures { (scope : Scope) →
+        result ≡ capped (length (copy_code scope target.now indexes.now value.now value_indexes.now)) }
+{
+    address_size(target, indexes)
+        .saturating_add(whole_size(value, value_indexes))
+        .saturating_add(1)
+}
+
+/// The same of a write or writeln.
+fn write_size(parameters: &[WriteParameter], ends_line: bool) -> u32
+    ensures { (scope : Scope) → result ≡ capped (length (write_code scope parameters.now ends_line)) }
+{
+    parameters_size(parameters).saturating_add(line_end_size(ends_line))
+}
+
+/// The same of an if statement without `else`, whose consequence has so many.
+fn if_size(condition: &Expr, consequence: u32) -> u32
+    ensures { (scope : Scope) → result ≡ capped (length (expr_code scope condition.now) + 1 + consequence) }
+{
+    expr_size(condition)
+        .saturating_add(1)
+        .saturating_add(consequence)
+}
+
+/// The same of one with it, which has so many without, and whose alternative has so many.
+fn with_else(size: u32, alternative: u32) -> u32
+    ensures { result ≡ capped (size + 1 + alternative) }
+{
+    size.saturating_add(1).saturating_add(alternative)
+}
+
+/// The same of a while statement, whose body has so many.
+fn while_size(condition: &Expr, body: u32) -> u32
+    ensures { (scope : Scope) → result ≡ capped (length (expr_code scope condition.now) + 1 + body + 1) }
+{
+    if_size(condition, body).saturating_add(1)
+}
+
+/// The same of a repeat statement, whose statements have so many.
+fn repeat_size(statements: u32, condition: &Expr) -> u32
+    ensures { (scope : Scope) → result ≡ capped (statements + (length (expr_code scope condition.now) + 1)) }
+{
+    statements.saturating_add(expr_size(condition).saturating_add(1))
+}
+
+/// The same of a for statement, whose body has so many.
+fn for_size(first: &Expr, last: &Expr, body: u32) -> u32
+    ensures { (scope : Scope) →
+        result ≡ capped (length (expr_code scope first.now) + length (expr_code scope last.now) + 10 + body + 13) }
+{
+    expr_size(first)
+        .saturating_add(expr_size(last))
+        .saturating_add(10)
+        .saturating_add(body)
+        .saturating_add(13)
+}
+
+/// The same of a case statement, whose arms have so many with their rows of constants.
+fn case_size(index: &Expr, arms: u32) -> u32
+    ensures { (scope : Scope) → result ≡ capped (length (expr_code scope index.now) + arms + 2) }
+{
+    expr_size(index).saturating_add(arms).saturating_add(2)
+}
+
+/// The same of an arm of one behind its row of constants, which has so many by itself.
+fn arm_size(row: &[i32], arm: u32) -> u32
+    ensures { result ≡ capped (4 * length row.now + 1 + arm + 1) }
+{
+    row_size(row)
+        .saturating_add(1)
+        .saturating_add(arm)
+        .saturating_add(1)
+}
+
+/// The same of a row of constants.
+pub fn row_size(row: &[i32]) -> u32
+    ensures { result ≡ capped (4 * length row.now) }
+{
+    let constants = u32::try_from(row.len()).unwrap_or(u32::MAX);
+    constants.saturating_mul(4)
+}
+
+/// The same of the values of a write or writeln.
+fn parameters_size(parameters: &[WriteParameter]) -> u32
+    ensures { (scope : Scope) → result ≡ capped (length (flat_map (parameter_code scope) parameters.now)) }
+{
+    let mut size = 0u32;
+    for parameter in parameters {
+        size = size.saturating_add(parameter_size(parameter));
+    }
+    size
+}
+
+/// The same of a value that is written, and its width.
+fn parameter_size(parameter: &WriteParameter) -> u32
+    ensures { (scope : Scope) → result ≡ capped (length (parameter_code scope parameter.now)) }
+{
+    written_size(&parameter.value)
+        .saturating_add(width_size(parameter))
+        .saturating_add(1)
+}
+
+/// The same of the value alone.
+fn written_size(value: &Written) -> u32
+    ensures { (scope : Scope) → result ≡ capped (length (written_code scope value.now)) }
+{
+    match value {
+        Written::Ordinal { value, .. } => expr_size(value),
+        Written::String { value, indexes } => whole_size(value, indexes.as_slice()),
+    }
+}
+
+/// The same of the width alone.
+fn width_size(parameter: &WriteParameter) -> u32
+    ensures { (scope : Scope) →
+        result ≡ capped (length (width_code scope parameter.now.width parameter.now.value)) }
+{
+    match &parameter.width {
+        None => 1,
+        Some(width) => expr_size(&width.value).saturating_add(1),
+    }
+}
+
+/// How many instructions end the line behind a writeln.
+fn line_end_size(ends_line: bool) -> u32
+    ensures { result ≡ length (line_end_code ends_line) }
+{
+    u32::from(ends_line)
+}
+
+/// How many instructions the expression has, or the greatest number of 32 bits.
+#[cycle(expr_size)]
+fn expr_size(expr: &Expr) -> u32
+    ensures { (scope : Scope) → result ≡ capped (length (expr_code scope expr.now)) }
+{
+    match expr {
+        Expr::Constant { .. } => 1,
+        Expr::Variable {
+            access,
+            indexes,
+            ..
+        } => variable_size(access, indexes.as_slice()),
+        Expr::Monadic {
+            operation,
+            operand,
+            ..
+        } => expr_size(operand).saturating_add(monadic_size(*operation)),
+        Expr::Chain { first, rest } => {
+            let mut size = expr_size(first);
+            for link in rest {
+                let operand = expr_size(&link.operand);
+                size = size.saturating_add(operand.saturating_add(dyadic_size(link.operation)));
+            }
+            size
+        }
+        Expr::Compare {
+            left,
+            left_indexes,
+            right,
+            right_indexes,
+            ..
+        } => whole_size(left, left_indexes.as_slice())
+            .saturating_add(whole_size(right, right_indexes.as_slice()))
+            .saturating_add(3),
+    }
+}
+
+/// The same of the value of a variable or a component, an ordinal.
+#[cycle(expr_size)]
+fn variable_size(access: &Access, indexes: &[Expr]) -> u32
+    ensures { (scope : Scope) (defined : ℕ) →
+        result ≡ capped (length (variable_code scope access.now (index_codes scope indexes.now) defined)) }
+{
+    let selectors = behind_fields(access.selectors.as_slice());
+    if selectors.is_empty() {
+        return 2;
+    }
+    selectors_size(selectors, indexes).saturating_add(3)
+}
+
+/// The same of a whole value.
+#[cycle(expr_size)]
+fn whole_size(value: &Whole, indexes: &[Expr]) -> u32
+    ensures { (scope : Scope) →
+        result ≡ capped (length (whole_code scope value.now (index_codes scope indexes.now))) }
+{
+    match value {
+        Whole::Text { characters, .. } => u32::try_from(characters.len()).unwrap_or(u32::MAX),
+        Whole::Variable { access, .. } => address_size(access, indexes).saturating_add(2),
+    }
+}
+
+/// The same of the address of what is accessed.
+#[cycle(expr_size)]
+fn address_size(access: &Access, indexes: &[Expr]) -> u32
+    ensures { (scope : Scope) →
+        result ≡ capped (length (address_code scope access.now (index_codes scope indexes.now))) }
+{
+    let selectors = behind_fields(access.selectors.as_slice());
+    selectors_size(selectors, indexes).saturating_add(1)
+}
+
+/// The same of selectors.
+#[cycle(expr_size)]
+fn selectors_size(selectors: &[Selector], indexes: &[Expr]) -> u32
+    ensures { (scope : Scope) →
+        result ≡ capped (length (selectors_code selectors.now (index_codes scope indexes.now))) }
+{
+    let mut next = 0;
+    let mut size = 0u32;
+    for selector in selectors {
+        match selector {
+            Selector::Field { offset, .. } => size = size.saturating_add(field_size(*offset)),
+            Selector::Element { .. } => {
+                if let Some(index) = indexes.get(next) {
+                    size = size.saturating_add(expr_size(index).saturating_add(2));
+                    next += 1;
+                }
+            }
+        }
+    }
+    size
+}
+
+/// How many instructions a field has behind so many cells of its record.
+fn field_size(offset: u32) -> u32
+    ensures { result ≡ length (field_code offset) }
+{
+    u32::from(offset != 0)
+}
+
+/// How many instructions an operation on one operand has.
+fn monadic_size(operation: Monadic) -> u32
+    ensures { result ≡ length (monadic_code operation) }
+{
+    match operation {
+        Monadic::Plus | Monadic::Ord => 0,
+        Monadic::Minus | Monadic::Not | Monadic::Abs | Monadic::Odd | Monadic::Chr { .. } => 1,
+        Monadic::Sqr { .. } => 2,
+        Monadic::Succ { .. } | Monadic::Pred { .. } => 3,
+    }
+}
+
+/// How many instructions an operation on two operands has.
+fn dyadic_size(operation: Dyadic) -> u32
+    ensures { result ≡ length (dyadic_code operation) }
+{
+    match operation {
+        Dyadic::And | Dyadic::Or | Dyadic::Relation(_) => 1,
+        _ => 2,
+    }
+}
