@@ -7,7 +7,7 @@ use Rattle.std.proofs.lemmas.Bool.{and_parts, eqb-true, ltb-true}
 use Rattle.std.proofs.lemmas.Option.{same_Some}
 use Rattle.pcode_assembler.specs.declared.instr.Instr.{Instr}
 use Rattle.pcode_assembler.specs.declared.instr.Instr.TheVariants as instr
-use Rattle.types.specs.declared.form.TypeForm.{TypeForm}
+use Rattle.types.specs.Forms.{Form}
 use Rattle.types.specs.declared.form.TypeId.{TypeId}
 use Rattle.types.specs.Components.{components_of}
 use Rattle.types.specs.Types.{cells_of, have_one_length, is_assignable, is_ordinal, is_same, string_length}
@@ -300,7 +300,7 @@ module _ (g : Setting) where
         let e : there + 1 ≡ place + length (c ++ (d ++ store)) = omega (arith, length-append c (d ++ store), length-append d store) in
         let s2 = entered g target.number (entered g number s) in
         let meant = selected rest (map value_of (expressions g indexes)) g.environment (Some start.there) s2 in
-        let next : List TypeForm → Option Place → Action (Unit {0}) = λ types q.
+        let next : List Form → Option Place → Action (Unit {0}) = λ types q.
         whole_of v (map value_of (expressions g value_indexes)) g.environment >>= λ ns. store_all q (components_of types type_id) ns in
         subst (λ r. Executes g s.turns (on g (base ++ held) place s.output) held (place + length (c ++ (d ++ store)))
         (effect.and_then r (next g.environment.types))) (sym (start.meant (map value_of (expressions g indexes)) (entered g number s)))

@@ -13,7 +13,7 @@ use Rattle.types.specs.declared.form.OrdinalRange.{OrdinalRange}
 use Rattle.types.specs.declared.form.RecordField.{RecordField}
 use Rattle.types.specs.declared.form.Step.{Step}
 use Rattle.types.specs.declared.form.Step.TheVariants.{Element, Field}
-use Rattle.types.specs.declared.form.TypeForm.{TypeForm}
+use Rattle.types.specs.Forms.{Form}
 use Rattle.types.specs.declared.form.TypeId.{TypeId}
 use Rattle.types.specs.Components.{Steps, components_of}
 use Rattle.types.specs.Types.{cells_of, element_of, field_at, is_ordinal}
@@ -68,7 +68,7 @@ direct_lies env world a root level extent s =
     (b, s.1, whole, s.3, record { each = λ k steps at. record { owner = b; lives = leads_to world level a b s.1; lies = lies k steps at } })
 
 -- what a selector of an element says of its types
-pub record IsElement (types : List TypeForm) (range : OrdinalRange) (cells : ℕ) (t part : TypeId) : Type 0 where
+pub record IsElement (types : List Form) (range : OrdinalRange) (cells : ℕ) (t part : TypeId) : Type 0 where
   pub element : ArrayElement
   pub found : element_of types t ≡ Some element
   pub first : range.first ≡ element.range.first
@@ -77,13 +77,13 @@ pub record IsElement (types : List TypeForm) (range : OrdinalRange) (cells : ℕ
   pub type_is : element.type_id ≡ part
 
 -- the same of a field
-pub record IsFieldOf (types : List TypeForm) (position offset : ℕ) (t part : TypeId) : Type 0 where
+pub record IsFieldOf (types : List Form) (position offset : ℕ) (t part : TypeId) : Type 0 where
   pub field : RecordField
   pub found : field_at types t position ≡ Some field
   pub offset_is : offset ≡ field.offset
   pub type_is : field.type_id ≡ part
 
-module _ (types : List TypeForm) (t part : TypeId) where
+module _ (types : List Form) (t part : TypeId) where
   selected_element : (range : OrdinalRange) (cells : ℕ) (o : Option ArrayElement) → element_of types t ≡ o → element_type range cells o ≡ Some part
       → IsElement types range cells t part
   selected_element range cells None found e = absurd (none-some part e)
@@ -114,7 +114,7 @@ module _ (types : List TypeForm) (t part : TypeId) where
   is_field_of position offset e = selected_field position offset (field_at types t position) refl e
 
 -- where the first of several selectors leads
-pub led_on : (types : List TypeForm) (s : Selector) (selectors : List Selector) (t last : TypeId) → led types (s ∷ selectors) t ≡ Some last
+pub led_on : (types : List Form) (s : Selector) (selectors : List Selector) (t last : TypeId) → led types (s ∷ selectors) t ≡ Some last
     → (part : TypeId) × (selected types s t ≡ Some part) × (led types selectors part ≡ Some last)
 led_on types s selectors t last e = by (selected types s t) refl e
   where
@@ -123,7 +123,7 @@ led_on types s selectors t last e = by (selected types s t) refl e
     by None is e = absurd (none-some last e)
     by (Some part) is e = (part, is, e)
 
-module _ (types : List TypeForm) (world : World) (end : ℕ) where
+module _ (types : List Form) (world : World) (end : ℕ) where
   -- the part of a place that is of a type lies from a cell on, and ends before another; it has no more cells than a type
   pub record IsPart (p : Place) (t : TypeId) (cell : ℕ) : Type 0 where
     pub from : LiesFrom world p (components_of types t) cell

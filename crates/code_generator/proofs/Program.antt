@@ -13,7 +13,7 @@ use Rattle.pcode_assembler.specs.declared.code.Site.{Site as Plain}
 use Rattle.pcode_assembler.specs.declared.instr.Instr.{Instr}
 use Rattle.pcode_assembler.specs.declared.instr.Instr.TheVariants as instr
 use Rattle.types.specs.Components.{Steps}
-use Rattle.types.specs.declared.form.TypeForm.{TypeForm}
+use Rattle.types.specs.Forms.{Form}
 use Rattle.typed_tree.specs.declared.tree.Tree.{Tree}
 use Rattle.typed_tree.specs.declared.tree.Block.{Block}
 use Rattle.typed_tree.specs.declared.tree.Variable.{Variable}
@@ -71,7 +71,7 @@ body_code_is : (each : List ℕ) (o : Option Block) → body_code each o ≡ ins
 body_code_is each None = refl
 body_code_is each (Some block) = refl
 
-module _ (variables : List Variable) (types : List TypeForm) (sites : ℕ) where
+module _ (variables : List Variable) (types : List Form) (sites : ℕ) where
   -- the body of a block that may be there is well formed
   abbrev is_well_formed_body : Option Block → Bool
   is_well_formed_body None = true

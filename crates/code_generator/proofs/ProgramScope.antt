@@ -6,7 +6,7 @@ use Rattle.std.specs.List.{list_all}
 use Rattle.std.proofs.lemmas.Bool.{and_parts}
 use Rattle.std.proofs.lemmas.List.Sums.{sum_by-cons}
 use Rattle.std.proofs.lemmas.Option.{none-some, same_Some, slice_get_within}
-use Rattle.types.specs.declared.form.TypeForm.{TypeForm}
+use Rattle.types.specs.Forms.{Form}
 use Rattle.types.specs.Components.{Steps, components_of}
 use Rattle.types.specs.Types.{cells_of}
 use Rattle.types.proofs.Laid.{length_components}
@@ -19,7 +19,7 @@ use Rattle.code_scheme.specs.Scopes.{Scope, count, offset, program_scope, start_
 use Rattle.code_generator.proofs.Alike.{Extent, Shown, Direct}
 use Rattle.code_generator.proofs.ProgramWorld.{cells_in, extents_from, extent_there, extent_within, program_activation, program_world, program_shows}
 
-module _ (types : List TypeForm) where
+module _ (types : List Form) where
   -- the components of each variable
   abbrev pub rows_of : List Variable → List (List Steps)
   rows_of variables = map (λ (v : Variable). components_of types v.type_id) variables

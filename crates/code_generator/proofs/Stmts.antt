@@ -12,7 +12,7 @@ use Rattle.pcode_assembler.specs.declared.instr.Instr.{Instr}
 use Rattle.pcode_assembler.specs.declared.instr.Instr.TheVariants as instr
 use Rattle.std.specs.declared.alloc.Global.{Global}
 use Rattle.std.specs.declared.boxed.Box.{Box}
-use Rattle.types.specs.declared.form.TypeForm.{TypeForm}
+use Rattle.types.specs.Forms.{Form}
 use Rattle.typed_tree.specs.declared.tree.Variable.{Variable as DeclaredVariable}
 use Rattle.typed_tree.specs.declared.tree.RangeTest.{RangeTest}
 use Rattle.typed_tree.specs.declared.tree.Direction.{Direction}
@@ -115,7 +115,7 @@ module _ (g : Setting) where
   abbrev variables : List DeclaredVariable
   variables = g.tree.variables.items
 
-  abbrev types : List TypeForm
+  abbrev types : List Form
   types = g.tree.types
 
   -- a value and its width give way to a text
