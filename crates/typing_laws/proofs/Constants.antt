@@ -118,7 +118,8 @@ module _ (variables : List Variable) where
   unfolding ordinal_constant
   ordinal_does c = checks (constant_does c) λ types d one now _ is sound. by now.types d one is sound
     where
-      by : (types : List Form) (d : Denotation) (one : Option (ℤ × TypeId)) → ◌≡◌ {A = Checked (Option (ℤ × TypeId))} (Ok (as_ordinal d)) (Ok one) → IsSound variables types d
+      by : (types : List Form) (d : Denotation) (one : Option (ℤ × TypeId)) → ◌≡◌ {A = Checked (Option (ℤ × TypeId))} (Ok (as_ordinal d)) (Ok one)
+          → IsSound variables types d
           → IsWholeOrdinal one
       by types d one is sound = let same : as_ordinal d ≡ one = cc in subst IsWholeOrdinal same (ordinal_whole types d sound)
 

@@ -95,7 +95,8 @@ ready_as {now = now} {s = s} {new = new} sound r types texts sites entries loops
 }
 
 -- the same with a longer table of types
-ready_later : {bound : List Variable} {s : Passed} {new : List Form} → IsLonger s.types new → AreLawful new → Ready bound s → Ready bound (record s { types = new })
+ready_later : {bound : List Variable} {s : Passed} {new : List Form} → IsLonger s.types new → AreLawful new → Ready bound s
+    → Ready bound (record s { types = new })
 ready_later {bound} {s} {new} longer lawful r = record {
   sound = regions_longer bound longer s.regions r.sound;
   lawful = lawful;
@@ -329,7 +330,8 @@ ordinal_keeps : (c : Constant) → Keeps IsReady (ordinal_constant c) Whole
 unfolding ordinal_constant
 ordinal_keeps c = keeps_checks (constant_keeps c) λ types d one s is k. (k.0, by s.variables s.types d one is k.1)
   where
-    by : (variables : List Variable) (types : List Form) (d : Denotation) (one : Option (ℤ × TypeId)) → ◌≡◌ {A = Checked (Option (ℤ × TypeId))} (Ok (as_ordinal d)) (Ok one)
+    by : (variables : List Variable) (types : List Form) (d : Denotation) (one : Option (ℤ × TypeId))
+        → ◌≡◌ {A = Checked (Option (ℤ × TypeId))} (Ok (as_ordinal d)) (Ok one)
         → IsSound variables types d → IsWholeOrdinal one
     by variables types d one is sound = let same : as_ordinal d ≡ one = cc in subst IsWholeOrdinal same (ordinal_whole variables types d sound)
 
@@ -418,7 +420,8 @@ variable_keeps type_id name = keeps_then (next_root_keeps name.place type_id) λ
       keeps = λ s a is from.
           let all = s.variables ++ declared_of type_id ∷ [] in
           let r = from.0 in
-          let next : Ready all s = ready_as (regions_more s.variables (declared_of type_id ∷ []) as_long s.regions r.sound) r refl refl refl refl refl refl refl in
+          let sound = regions_more s.variables (declared_of type_id ∷ []) as_long s.regions r.sound in
+          let next : Ready all s = ready_as sound r refl refl refl refl refl refl refl in
           let is_last : type_of all root ≡ Some type_id = ap (type_of all) from.2 ∙ type_of_last s.variables (declared_of type_id) in
           let kept = declare_keeps name (denotes.Variable root type_id) (λ s. s.variables ++ declared_of type_id ∷ []) (λ s regions. refl) in
           let done = kept.keeps s a is (next, (is_last, from.1.0)) in

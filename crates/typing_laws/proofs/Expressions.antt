@@ -53,7 +53,10 @@ module _ (variables : List Variable) where
 
   pub number_does : (value : ℕ) (place : Place) → LawfulWritten variables (place ∷ []) (record { first = place; typing = number value place })
   unfolding number
-  number_does value place = record { begins = ([], refl); types = λ least lead is. led_covers variables 2 place [] (led lead) (led_alone lead is) (by least lead) }
+  number_does value place = record {
+    begins = ([], refl);
+    types = λ least lead is. led_covers variables 2 place [] (led lead) (led_alone lead is) (by least lead);
+  }
     where
       by : (least : Reached) (lead : Option SiteKind) → Does variables least (Leads place (led lead) []) (number value place lead) Types
       by least lead =
@@ -84,7 +87,10 @@ module _ (variables : List Variable) where
 
   pub string_does : (text : List ℕ) (place : Place) → LawfulWritten variables (place ∷ []) (record { first = place; typing = string text place })
   unfolding string
-  string_does text place = record { begins = ([], refl); types = λ least lead is. led_covers variables 2 place [] (led lead) (led_alone lead is) (by least lead) }
+  string_does text place = record {
+    begins = ([], refl);
+    types = λ least lead is. led_covers variables 2 place [] (led lead) (led_alone lead is) (by least lead);
+  }
     where
       by : (least : Reached) (lead : Option SiteKind) → Does variables least (Leads place (led lead) []) (string text place lead) Types
       by least lead =

@@ -71,7 +71,8 @@ range_joins a (suc m) n =
 pub both_true : (a b : Bool) → a ≡ true → b ≡ true → (a && b) ≡ true
 both_true a b x y = ap (λ c. c && b) x ∙ y
 
-pub fine_later : {variables : List Variable} {Has : List Stands → Type 0} {look : Look} {old new : Passed} → Grown variables Has look old new → Fine variables old
+pub fine_later : {variables : List Variable} {Has : List Stands → Type 0} {look : Look} {old new : Passed} → Grown variables Has look old new
+    → Fine variables old
     → Fine variables new
 fine_later {variables} {old = old} {new = new} g f = record {
   sound = subst (AreSound variables new.types) (sym g.regions) (regions_longer variables g.longer old.regions f.sound);

@@ -71,7 +71,8 @@ module _ (variables : List Variable) where
   abbrev IsFormed : Dyadic → Reached → Type 0
   IsFormed o now = (n : Reached) → IsFurther now n → dyadic_is_well_formed variables n.types n.sites o ≡ true
 
-  tested_does : {least : Reached} (made : ℕ → Dyadic) (kind : SiteKind) (place : Place) → ((types : List Form) (id n : ℕ) → id < n → dyadic_is_well_formed variables types n (made id) ≡ true)
+  tested_does : {least : Reached} (made : ℕ → Dyadic) (kind : SiteKind) (place : Place)
+      → ((types : List Form) (id n : ℕ) → id < n → dyadic_is_well_formed variables types n (made id) ≡ true)
       → Does variables least (λ added. added ≡ (kind, place) ∷ []) (tested made kind place) IsFormed
   unfolding tested
   tested_does made kind place formed =
@@ -228,7 +229,8 @@ module _ (variables : List Variable) where
       pure_does (monadic.Pred id (neg_ℤ (pos 2147483647))) (λ m h n more. both_true _ _ (lt_true id n.sites (omega (arith, known, h.sites, more.sites))) refl)
 
   -- on the values of a range it is formed as well
-  on_range_formed : (values : Option OrdinalRange) (o : Monadic) (types : List Form) (n : ℕ) → IfWhole values → monadic_is_well_formed variables types n o ≡ true
+  on_range_formed : (values : Option OrdinalRange) (o : Monadic) (types : List Form) (n : ℕ) → IfWhole values
+      → monadic_is_well_formed variables types n o ≡ true
       → monadic_is_well_formed variables types n (on_range values o) ≡ true
   on_range_formed None o types n whole formed = formed
   on_range_formed (Some values) (monadic.Succ id last) types n whole formed =

@@ -1,5 +1,6 @@
 -- What statements do, form by form, and the law of every statement, by induction over its form.
-use Rattle.std.proofs.Common.{◌≡◌, ℕ, ℤ, Vec, ◌<◌, ap, ◌∙◌, length, nat_eq, Bool, true, false, if◌then◌else◌, List, [], ◌∷◌, ◌++◌, map, Option, Some, None, Ok, refl, sym}
+use Rattle.std.proofs.Common.{◌≡◌, ℕ, ℤ, Vec, ◌<◌, ap, ◌∙◌, length, nat_eq, Bool, true, false, if◌then◌else◌, List, [], ◌∷◌, ◌++◌, map, Option, Some}
+use Rattle.std.proofs.Common.{None, Ok, refl, sym}
 use Rattle.std.proofs.Common.{subst, append_assoc, arith, is_none, option_map, ◌&&◌}
 use Rattle.std.specs.List.{flat_map}
 use Rattle.std.specs.declared.alloc.Global.{Global}
@@ -31,13 +32,15 @@ use Rattle.typed_tree.specs.Ids.{Stands}
 use Rattle.typed_tree.specs.declared.tree.Selector.{Selector as TreeSelector}
 use Rattle.typed_tree.specs.declared.tree.Variable.{Variable}
 use Rattle.typed_tree.specs.Accesses.{index_count}
-use Rattle.typed_tree.specs.Look.{Access, Assign, Target, WholeTarget, Copied, Fits, Write, Written as WrittenMark, Width, Empty, Compound, If, Then, Else, While, Do, Repeat, Until, For}
+use Rattle.typed_tree.specs.Look.{Access, Assign, Target, WholeTarget, Copied, Fits, Write, Written as WrittenMark, Width, Empty, Compound, If, Then}
+use Rattle.typed_tree.specs.Look.{Else, While, Do, Repeat, Until, For}
 use Rattle.typed_tree.specs.Look.{Case, Arm, Ends, Mark, WrittenString, mark_entries, mark_loops, is_formed_mark}
 use Rattle.typing.specs.Passing.{Passing, and_then, each, mark}
 use Rattle.typing.specs.Steps.{fits, or_mismatch}
 use Rattle.typing.specs.declared.typed.Typed.{Typed}
 use Rattle.typing.specs.Expressions.{Written, WrittenActual, is_of, as_variable, expression, written_actual}
-use Rattle.typing.specs.Statements.{fitting, copied_cells, copying, target_mark, target, assigned, copied, assignment, as_procedure, ends_line, is_output, names_file, unless_wide, is_file, written_values}
+use Rattle.typing.specs.Statements.{fitting, copied_cells, copying, target_mark, target, assigned, copied, assignment, as_procedure, ends_line}
+use Rattle.typing.specs.Statements.{is_output, names_file, unless_wide, is_file, written_values}
 use Rattle.typing.specs.Statements.{has_values, representation_of, written_as, measured, width, parameter, write, procedure_call, compound, condition}
 use Rattle.typing.specs.Statements.{alternative, tested, choice, while_loop}
 use Rattle.typing.specs.Statements.{repeat_loop, way, bound, for_head, for_body, for_loop, case_arms, case_head, case_body, case_statement, statement_step}
@@ -46,7 +49,8 @@ use Rattle.typing_laws.proofs.Tables.{stands_longer, cells_of_longer}
 use Rattle.typing_laws.proofs.WholeRanges.{HaveWholeRanges, IsWholeRange}
 use Rattle.typing_laws.proofs.Covers.{Covers, covers_both, covers_none, covers_behind, covers_skip, covers_lower, covers_ahead, leads_first}
 use Rattle.typing_laws.proofs.Grown.{Reached, further_still, both_true}
-use Rattle.typing_laws.proofs.Steps.{Does, Anything, Nothing, joins, quietly, last, checks, checks_types, sited, pure_does, given_does, by_types_does, find_does, pass_does}
+use Rattle.typing_laws.proofs.Steps.{Does, Anything, Nothing, joins, quietly, last, checks, checks_types, sited, pure_does, given_does, by_types_does}
+use Rattle.typing_laws.proofs.Steps.{find_does, pass_does}
 use Rattle.typing_laws.proofs.Steps.{wants_output_does}
 use Rattle.typing_laws.proofs.Steps.{mark_does, enter_does, enter_loop_does, may_change_does, begin_control_does, end_control_does, site_does, IsKnown}
 use Rattle.typing_laws.proofs.Leading.{IsLed, Types, lt_true, LawfulWritten, led_covers}
@@ -93,7 +97,9 @@ measured_is place t id is = by (is_of integer t) t.site is
 
 -- a mark that says how a value is written is no entry
 abbrev IsForm : Mark → Type 0
-IsForm one = (mark_entries one ≡ []) × (mark_loops one ≡ []) × ((variables : List Variable) (types : List Form) (sites : ℕ) → is_formed_mark variables types sites one ≡ true)
+IsForm one =
+    (mark_entries one ≡ []) × (mark_loops one ≡ [])
+    × ((variables : List Variable) (types : List Form) (sites : ℕ) → is_formed_mark variables types sites one ≡ true)
 
 form_is : (place : Place) (types : List Form) (t : Typed) (form : Mark) → or_mismatch place (written_as types t) ≡ Ok form → IsForm form
 form_is place types t form is = by (is_none t.length) (representation_of types t.type_id) (is_string types t.type_id) (there place (written_as types t) form is)
@@ -513,7 +519,8 @@ module _ (variables : List Variable) where
   pub statement_lawful : (w : Stmt) → LawfulStmt w
   statement_lawful = ind-Stmt LawfulStmt (λ x y is. subst (λ z. LawfulStmt (roll-Stmt z)) is (statement_layer y))
 
-  pub statements_lawful : (ws : List Stmt) (least : Reached) → Does variables least (Covers 0 (flat_map stmt_places ws)) (each (λ s. s) (map statement ws)) Anything
+  pub statements_lawful : (ws : List Stmt) (least : Reached)
+      → Does variables least (Covers 0 (flat_map stmt_places ws)) (each (λ s. s) (map statement ws)) Anything
   statements_lawful [] least = pure_does tt (λ n h. tt)
   statements_lawful (w ∷ ws) least =
       joins (covers_both 0 (stmt_places w) (flat_map stmt_places ws)) ((statement_lawful w).passes least) λ _ now _ _.

@@ -34,10 +34,9 @@ abbrev pub Leaves : {A : Type 0} → List Variable → (List Stands → Type 0) 
 Leaves variables Has s Answers a = Grown variables Has a.look s a.passed × Answers a.answer (reached a.passed)
 
 -- from at least so far on, its answer has this with as many sites and types as there are then
-pub record Does (variables : List Variable) (least : Reached) {A : Type 0} (Has : List Stands → Type 0) (p : Passing A) (Answers : A → Reached → Type 0) : Type 0
-  where
-    pub does : (s : Passed) (a : After A) → p s ≡ Ok a → Fine variables s → IsFurther least (reached s)
-        → Leaves variables Has s Answers a
+pub record Does (variables : List Variable) (least : Reached) {A : Type 0} (Has : List Stands → Type 0) (p : Passing A)
+    (Answers : A → Reached → Type 0) : Type 0 where
+  pub does : (s : Passed) (a : After A) → p s ≡ Ok a → Fine variables s → IsFurther least (reached s) → Leaves variables Has s Answers a
 
 abbrev pub Anything : {A : Type 0} → A → Reached → Type 0
 Anything answer now = Unit {0}
@@ -70,8 +69,8 @@ below a b h = grind (arith, nat_tests)
 
 -- ---- one after another
 
-pub joins : {variables : List Variable} {least : Reached} {A B : Type 0} {First Second Both : List Stands → Type 0} {p : Passing A} {f : A → Passing B} {K : A → Reached → Type 0}
-    {L : B → Reached → Type 0}
+pub joins : {variables : List Variable} {least : Reached} {A B : Type 0} {First Second Both : List Stands → Type 0} {p : Passing A} {f : A → Passing B}
+    {K : A → Reached → Type 0} {L : B → Reached → Type 0}
     → ((a b : List Stands) → First a → Second b → Both (a ++ b)) → Does variables least First p K
     → ((x : A) (now : Reached) → IsFurther least now → K x now → Does variables now Second (f x) L) → Does variables least Both (p >>= f) L
 joins {variables} {least} {A} {B} {First} {Second} {Both} {p} {f} {K} {L} joined first rest = record {
@@ -85,13 +84,15 @@ joins {variables} {least} {A} {B} {First} {Second} {Both} {p} {f} {K} {L} joined
 }
 
 -- a step that adds no site, and then others
-pub quietly : {variables : List Variable} {least : Reached} {A B : Type 0} {Has : List Stands → Type 0} {p : Passing A} {f : A → Passing B} {K : A → Reached → Type 0} {L : B → Reached → Type 0}
+pub quietly : {variables : List Variable} {least : Reached} {A B : Type 0} {Has : List Stands → Type 0} {p : Passing A} {f : A → Passing B}
+    {K : A → Reached → Type 0} {L : B → Reached → Type 0}
     → Does variables least Nothing p K
     → ((x : A) (now : Reached) → IsFurther least now → K x now → Does variables now Has (f x) L) → Does variables least Has (p >>= f) L
 quietly {Has = Has} first rest = joins (λ a b none has. subst (λ l. Has (l ++ b)) (sym none) has) first rest
 
 -- a step, and then others that add no site
-pub last : {variables : List Variable} {least : Reached} {A B : Type 0} {Has : List Stands → Type 0} {p : Passing A} {f : A → Passing B} {K : A → Reached → Type 0} {L : B → Reached → Type 0}
+pub last : {variables : List Variable} {least : Reached} {A B : Type 0} {Has : List Stands → Type 0} {p : Passing A} {f : A → Passing B}
+    {K : A → Reached → Type 0} {L : B → Reached → Type 0}
     → Does variables least Has p K
     → ((x : A) (now : Reached) → IsFurther least now → K x now → Does variables now Nothing (f x) L) → Does variables least Has (p >>= f) L
 last {Has = Has} first rest = joins (λ a b has none. subst Has (sym (append-nil a) ∙ ap (λ l. a ++ l) (sym none)) has) first rest
@@ -122,7 +123,8 @@ pub checks : {variables : List Variable} {least : Reached} {A B : Type 0} {Has :
 checks first fits = checks_types first (λ types x b sites later lawful. fits types x b (record { sites = sites; types = types }) later)
 
 -- the same, with something else that holds of its sites
-pub sited : {variables : List Variable} {least : Reached} {A : Type 0} {Has Had : List Stands → Type 0} {p : Passing A} {K : A → Reached → Type 0} → ((a : List Stands) → Has a → Had a)
+pub sited : {variables : List Variable} {least : Reached} {A : Type 0} {Has Had : List Stands → Type 0} {p : Passing A} {K : A → Reached → Type 0}
+    → ((a : List Stands) → Has a → Had a)
     → Does variables least Has p K → Does variables least Had p K
 sited {variables} {Has = Has} {Had = Had} has d = record {
   does = λ s a is fine h.
@@ -182,14 +184,16 @@ pass_does {variables} place = record {
       subst (Leaves variables Nothing s Anything) same (grown_silent variables s (record s { latest = place }) refl refl refl refl refl refl refl fine, tt);
 }
 
-pub pure_does : {variables : List Variable} {least : Reached} {A : Type 0} {K : A → Reached → Type 0} (x : A) → ((now : Reached) → IsFurther least now → K x now) → Does variables least Nothing (pure x) K
+pub pure_does : {variables : List Variable} {least : Reached} {A : Type 0} {K : A → Reached → Type 0} (x : A)
+    → ((now : Reached) → IsFurther least now → K x now) → Does variables least Nothing (pure x) K
 pure_does {variables} {least} {A} {K} x known = record {
   does = λ s a is fine h.
       let same : after x [] s ≡ a = cc in
       subst (Leaves variables Nothing s K) same (grown_silent variables s s refl refl refl refl refl refl refl fine, known (reached s) h);
 }
 
-pub given_does : {variables : List Variable} {least : Reached} {A : Type 0} (checked : Checked A) → Does variables least Nothing (given checked) (λ x now. checked ≡ Ok x)
+pub given_does : {variables : List Variable} {least : Reached} {A : Type 0} (checked : Checked A)
+    → Does variables least Nothing (given checked) (λ x now. checked ≡ Ok x)
 given_does {variables} {least} {A} checked = record {
   does = λ s a is fine h.
       let x = split checked (λ b. Ok (after b [] s)) a is in
@@ -212,7 +216,8 @@ pub fail_does : {variables : List Variable} {least : Reached} {A : Type 0} {Has 
 fail_does why = record { does = λ s a is fine h. absurd cc }
 
 -- a name denotes what is sound
-pub find_does : {variables : List Variable} {least : Reached} (name : Name) → Does variables least Nothing (find name) (λ denotation now. IsSound variables now.types denotation)
+pub find_does : {variables : List Variable} {least : Reached} (name : Name)
+    → Does variables least Nothing (find name) (λ denotation now. IsSound variables now.types denotation)
 unfolding find
 find_does {variables} name = record {
   does = λ s a is fine h.
@@ -239,7 +244,8 @@ wants_output_does {variables} place = record {
 -- ---- marks
 
 -- no entry, but well formed
-pub mark_does : {variables : List Variable} {least : Reached} (one : Mark) → mark_entries one ≡ [] → mark_loops one ≡ [] → ((n : Reached) → IsFurther least n → is_formed_mark variables n.types n.sites one ≡ true)
+pub mark_does : {variables : List Variable} {least : Reached} (one : Mark) → mark_entries one ≡ [] → mark_loops one ≡ []
+    → ((n : Reached) → IsFurther least n → is_formed_mark variables n.types n.sites one ≡ true)
     → Does variables least Nothing (mark one) Anything
 mark_does {variables} {least} one none no_loop formed = record {
   does = λ s a is fine h.
@@ -267,8 +273,10 @@ mark_does {variables} {least} one none no_loop formed = record {
 }
 
 -- an entry, with the next number
-pub enter_does : {variables : List Variable} {least : Reached} (marked : ℕ → Mark) → ((k : ℕ) → mark_entries (marked k) ≡ k ∷ []) → ((k : ℕ) → mark_loops (marked k) ≡ [])
-    → ((k : ℕ) (n : Reached) → IsFurther least n → is_formed_mark variables n.types n.sites (marked k) ≡ true) → Does variables least Nothing (enter_as marked) Anything
+pub enter_does : {variables : List Variable} {least : Reached} (marked : ℕ → Mark) → ((k : ℕ) → mark_entries (marked k) ≡ k ∷ [])
+    → ((k : ℕ) → mark_loops (marked k) ≡ [])
+    → ((k : ℕ) (n : Reached) → IsFurther least n → is_formed_mark variables n.types n.sites (marked k) ≡ true)
+    → Does variables least Nothing (enter_as marked) Anything
 unfolding enter
 enter_does {variables} {least} marked one no_loop formed = record {
   does = λ s a is fine h.
@@ -309,7 +317,8 @@ enter_does {variables} {least} marked one no_loop formed = record {
 
 -- a loop, with the next two numbers
 pub enter_loop_does : {variables : List Variable} {least : Reached} (marked : ℕ → ℕ → Mark) → ((k l : ℕ) → mark_entries (marked k l) ≡ k ∷ [])
-    → ((k l : ℕ) → mark_loops (marked k l) ≡ l ∷ []) → ((k l : ℕ) (n : Reached) → IsFurther least n → is_formed_mark variables n.types n.sites (marked k l) ≡ true)
+    → ((k l : ℕ) → mark_loops (marked k l) ≡ l ∷ [])
+    → ((k l : ℕ) (n : Reached) → IsFurther least n → is_formed_mark variables n.types n.sites (marked k l) ≡ true)
     → Does variables least Nothing (enter_loop marked) Anything
 unfolding begin_loop enter
 enter_loop_does {variables} {least} marked one loop formed = record {
@@ -385,7 +394,8 @@ host_type_does {variables} {least} id = record {
 
 -- ---- texts
 
-pub text_at_does : {variables : List Variable} {least : Reached} (number : ℕ) → Does variables least Nothing (text_at number) (λ text now. are_characters text ≡ true)
+pub text_at_does : {variables : List Variable} {least : Reached} (number : ℕ)
+    → Does variables least Nothing (text_at number) (λ text now. are_characters text ≡ true)
 unfolding text_at
 text_at_does {variables} {least} number = record {
   does = λ s a is fine h.
@@ -394,7 +404,8 @@ text_at_does {variables} {least} number = record {
       (grown_silent variables s s refl refl refl refl refl refl refl fine, fine.texts number);
 }
 
-pub keep_text_does : {variables : List Variable} {least : Reached} (text : List ℕ) → are_characters text ≡ true → Does variables least Nothing (keep_text text) Anything
+pub keep_text_does : {variables : List Variable} {least : Reached} (text : List ℕ) → are_characters text ≡ true
+    → Does variables least Nothing (keep_text text) Anything
 unfolding keep_text
 keep_text_does {variables} {least} text is_text = record {
   does = λ s a is fine h.
