@@ -2,3 +2,4 @@ pub mod Forms
 pub mod Types
 pub mod Components
 pub mod Kept
+pub mod Parts

@@ -7,5 +7,6 @@ use Rattle.types.proofs.table.TypeTable.field_among.Given as goal
 abbrev pub invariant-loop-position : goal.invariant-loop-position
 invariant-loop-position l = record {
   summed : l.offset ≡ sum_by (λ field. cells_at (before l.self l.id) field.type_id) (take l.position l.fields);
-  same : field_among (before l.self l.id) l.position l.offset (map field_form (drop l.position l.fields)) l.name ≡ field_among (before l.self l.id) 0 0 (map field_form l.fields) l.name;
+  same : field_among (before l.self l.id) l.position l.offset (map field_form (drop l.position l.fields)) l.name
+      ≡ field_among (before l.self l.id) 0 0 (map field_form l.fields) l.name;
 }
