@@ -29,7 +29,6 @@ use Rattle.typed_tree.specs.declared.tree.Selector.{Selector as TreeSelector}
 use Rattle.typed_tree.specs.declared.tree.Selector.TheVariants as tree
 use Rattle.typed_tree.specs.declared.tree.Variable.{Variable}
 use Rattle.typed_tree.specs.Accesses.{index_count, element_type, field_type, selected as selects, led as led_by, accessed as leads, is_type}
-use Rattle.typed_tree.specs.Ids.{Stands}
 use Rattle.typed_tree.specs.Look.{Access, Value, WholeValue}
 use Rattle.typed_tree.specs.WellFormed.{is_well_formed_selector, leads_to, leads_to_whole, leads_to_ordinal}
 use Rattle.typing.specs.Names.{folded}
@@ -39,12 +38,12 @@ use Rattle.typing.specs.Expressions.{Written, typed, typed_whole, or_not_declare
 use Rattle.typing.specs.Expressions.{whole_value, accessed}
 use Rattle.typing_laws.proofs.Sound.{type_of}
 use Rattle.typing_laws.proofs.Tables.{AreLawful, stands_longer, is_ordinal_longer, cells_of_longer, element_of_longer, field_of_longer}
-use Rattle.typing_laws.proofs.Covers.{Covers, covers_none, covers_skip, covers_both, covers_lower, covers_ahead, leads_first, leads_more}
+use Rattle.typing_laws.proofs.Covers.{Covers, covers_none, covers_skip, covers_both, leads_first, leads_more}
 use Rattle.typing_laws.proofs.Grown.{Reached, IsFurther, further_still, both_true}
 use Rattle.typing_laws.proofs.Strings.{fit_is, there}
 use Rattle.typing_laws.proofs.Steps.{Does, Nothing, joins, quietly, last, checks, sited, mark_does, pass_does, pure_does, by_types_does, fail_does}
 use Rattle.typing_laws.proofs.Steps.{enter_does, host_type_does, site_does, led, IsKnown, behind_does}
-use Rattle.typing_laws.proofs.Leading.{IsLed, Types, known_later, lt_true, LawfulWritten, led_covers, led_behind}
+use Rattle.typing_laws.proofs.Leading.{IsLed, Types, known_later, lt_true, LawfulWritten, covers_test, led_covers, led_behind}
 
 -- ---- selectors
 
@@ -156,17 +155,10 @@ module _ (variables : List Variable) where
       → Does variables least (Covers 0 places) (index e w) (λ id now. id < now.sites)
   unfolding index
   index_does e places w law =
-      joins ahead (site_does kind.Index w.first) λ id now _ known.
+      joins (covers_test variables kind.Index (omega arith) (omega arith) places w law) (site_does kind.Index w.first) λ id now _ known.
       checks (law.types now None tt) λ types t b n more is _.
       let fit = fit_is (is_none t.length && is_compatible types e.index t.type_id) w.first id b is in
       subst (λ z. z < n.sites) fit.1 (omega (arith, known, more.sites))
-    where
-      ahead : (a b : List Stands) → a ≡ (kind.Index, w.first) ∷ [] → Covers 2 places b → Covers 0 places (a ++ b)
-      ahead a b one has =
-          subst (λ l. Covers 0 places (l ++ b)) (sym one)
-          (subst (λ p. Covers 0 p ((kind.Index, w.first) ∷ b)) (sym law.begins.1)
-          (covers_ahead 0 kind.Index (omega arith) w.first law.begins.0 b
-          (covers_lower 2 1 (omega arith) (w.first ∷ law.begins.0) b (subst (λ p. Covers 2 p b) law.begins.1 has))))
 
   -- index expressions with their places
   abbrev pub AreLawfulRows : List (List Place) → List Written → Type 0

@@ -26,7 +26,7 @@ use Rattle.syntax_tree.specs.declared.VariableGroup.{VariableGroup}
 use Rattle.types.specs.Forms.{Form}
 use Rattle.types.specs.Forms.{FieldForm, Enumeration, Subrange, Array, Record}
 use Rattle.types.specs.declared.form.TypeId.{TypeId}
-use Rattle.types.specs.Types.{integer, char, cells_of, form_range, host_of, is_ordinal, is_same, most_cells}
+use Rattle.types.specs.Types.{char, cells_of, form_range, host_of, is_ordinal, is_same, most_cells}
 use Rattle.scopes.specs.Scopes.{Region, found, opened, define}
 use Rattle.scopes.specs.declared.denotation.Denotation.{Denotation}
 use Rattle.scopes.specs.declared.denotation.Denotation.TheVariants as denotes
@@ -47,7 +47,7 @@ use Rattle.typing.specs.Typing.{parameter_of_program, definition, type_definitio
 use Rattle.typing_laws.proofs.WholeRanges.{IfWhole}
 use Rattle.typing_laws.proofs.Tables.{IsLonger, AreLawful, HaveTypes, AreTexts, as_long, cells_in, lawful_more, required_stand, one_has_type, have_types_longer}
 use Rattle.typing_laws.proofs.Tables.{cells_in_longer, texts_more}
-use Rattle.typing_laws.proofs.Constants.{IsWhole, IsWholeOrdinal, number_whole, constant_is, behind_sound, ordinal_whole}
+use Rattle.typing_laws.proofs.Constants.{IsWhole, IsWholeOrdinal, number_whole, number_sound, constant_is, behind_sound, ordinal_whole}
 use Rattle.typing_laws.proofs.Strings.{fit_is, all_of_char, char_whole, type_added, string_type_is}
 use Rattle.typing_laws.proofs.Grown.{both_true}
 use Rattle.typing_laws.proofs.Sound.{IsSound, AreSound, type_of, type_of_last, found_holds, opened_holds, required_sound, define_holds, regions_more}
@@ -304,13 +304,7 @@ string_constant_keeps place (c ∷ d ∷ cs) all = text_keeps place (c ∷ d ∷
 unsigned_keeps : (v : ConstantValue) → Keeps IsReady (unsigned_constant v) Denotes
 unfolding unsigned_constant
 unsigned_keeps (value.Number number place) =
-    keeps_checks (pass_keeps place) λ types _ c s is r. (r, number_fits number place c s is)
-  where
-    number_fits : (number : ℕ) (place : Place) (c : Denotation) (s : Passed)
-        → fits (nat_le number 2147483647) place (denotes.Constant (pos number) integer) ≡ Ok c → IsFit s c
-    number_fits number place c s is =
-        let fit = fit_is (nat_le number 2147483647) place (denotes.Constant (pos number) integer) c is in
-        subst (IsFit s) fit.1 (number_whole number fit.0)
+    keeps_checks (pass_keeps place) λ types _ c s is r. (r, number_sound s.variables s.types number place c is)
 unsigned_keeps (value.String text place) =
     keeps_then
     (keeps_then (pass_keeps place) λ _.

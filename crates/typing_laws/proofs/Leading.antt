@@ -1,14 +1,15 @@
 -- The laws of expressions: their sites stand at their places, and the leading site behind the first token's own.
-use Rattle.std.proofs.Common.{◌≡◌, ℕ, ◌<◌, ◌≤◌, true, nat_lt, List, ◌∷◌, Option, Some, None, arith}
+use Rattle.std.proofs.Common.{◌≡◌, ℕ, ◌<◌, ◌≤◌, true, nat_lt, List, [], ◌∷◌, ◌++◌, Option, Some, None, sym, subst, arith}
 use Rattle.std.proofs.lemmas.Bool.Decides.{nat_tests}
 use Rattle.place.specs.declared.Place.{Place}
 use Rattle.typed_tree.specs.declared.site.SiteKind.{SiteKind}
 use Rattle.typed_tree.specs.declared.tree.Variable.{Variable}
+use Rattle.typed_tree.specs.Ids.{Stands}
 use Rattle.typed_tree.specs.Sites.{number_of}
 use Rattle.typing.specs.Passing.{Passing}
 use Rattle.typing.specs.declared.typed.Typed.{Typed}
 use Rattle.typing.specs.Expressions.{Written, WrittenLink}
-use Rattle.typing_laws.proofs.Covers.{AreAbove, Covers, Leads, leads_covers}
+use Rattle.typing_laws.proofs.Covers.{AreAbove, Covers, Leads, covers_ahead, covers_lower, leads_covers}
 use Rattle.typing_laws.proofs.Grown.{Reached, IsFurther}
 use Rattle.typing_laws.proofs.Steps.{Does, sited, led, IsKnown}
 
@@ -49,6 +50,16 @@ module _ (variables : List Variable) where
 
   pub record LawfulLink (places : List Place) (l : WrittenLink) : Type 0 where
     pub types : (least : Reached) (left : Typed) → IsKnown left.site least → Does variables least (Covers 2 places) (l left) Types
+
+  -- the site of a test at the first token, before the token's own
+  pub covers_test : (kind : SiteKind) → 0 < number_of kind → number_of kind ≤ 2 → (places : List Place) (w : Written) → LawfulWritten places w
+      → (a b : List Stands) → a ≡ (kind, w.first) ∷ [] → Covers 2 places b → Covers 0 places (a ++ b)
+  covers_test kind high low places w law a b one has =
+      let others = law.begins.0 in
+      subst (λ l. Covers 0 places (l ++ b)) (sym one)
+      (subst (λ p. Covers 0 p ((kind, w.first) ∷ b)) (sym law.begins.1)
+      (covers_ahead 0 kind high w.first others b
+      (covers_lower 2 (number_of kind) low (w.first ∷ others) b (subst (λ p. Covers 2 p b) law.begins.1 has))))
 
   pub led_covers : (low : ℕ) (place : Place) (places : List Place) (kinds : List SiteKind) → AreAbove low kinds
       → {least : Reached} {A : Type 0} {p : Passing A} {K : A → Reached → Type 0} → Does variables least (Leads place kinds places) p K

@@ -47,13 +47,13 @@ use Rattle.typing.specs.Statements.{repeat_loop, way, bound, for_head, for_body,
 use Rattle.typing.specs.Statements.{statement}
 use Rattle.typing_laws.proofs.Tables.{stands_longer, cells_of_longer}
 use Rattle.typing_laws.proofs.WholeRanges.{HaveWholeRanges, IsWholeRange}
-use Rattle.typing_laws.proofs.Covers.{Covers, covers_both, covers_none, covers_behind, covers_skip, covers_lower, covers_ahead, leads_first}
+use Rattle.typing_laws.proofs.Covers.{Covers, covers_both, covers_none, covers_behind, covers_skip, covers_lower, leads_first}
 use Rattle.typing_laws.proofs.Grown.{Reached, further_still, both_true}
 use Rattle.typing_laws.proofs.Steps.{Does, Anything, Nothing, joins, quietly, last, checks, checks_types, sited, pure_does, given_does, by_types_does}
 use Rattle.typing_laws.proofs.Steps.{find_does, pass_does}
 use Rattle.typing_laws.proofs.Steps.{wants_output_does}
 use Rattle.typing_laws.proofs.Steps.{mark_does, enter_does, enter_loop_does, may_change_does, begin_control_does, end_control_does, site_does, IsKnown}
-use Rattle.typing_laws.proofs.Leading.{IsLed, Types, lt_true, LawfulWritten, led_covers}
+use Rattle.typing_laws.proofs.Leading.{IsLed, Types, lt_true, LawfulWritten, covers_test, led_covers}
 use Rattle.typing_laws.proofs.Accesses.{LeadsTo, AreLawfulRows, leads_nowhere, leads_later, selected_does, tests_ordinal_does, tested as tested_is}
 use Rattle.typing_laws.proofs.Accesses.{ordinal_formed, whole_formed}
 use Rattle.typing_laws.proofs.Expressions.{variable_is}
@@ -366,17 +366,11 @@ module _ (variables : List Variable) where
       → Does variables least (Covers 0 places) (bound type_id w) Anything
   unfolding bound
   bound_does least type_id places w law =
-      joins ahead (site_does kind.Subrange w.first) λ id there _ known.
+      joins (covers_test variables kind.Subrange (omega arith) (omega arith) places w law) (site_does kind.Subrange w.first) λ id there _ known.
       last (checks_types {L = λ range n. IsWholeRange range} (law.types there None tt) λ types t range sites more lawful fits _.
       fitting_whole w.first types lawful.whole type_id t range fits) λ range n more whole.
       mark_does (Fits (record { site = id; range = range })) refl refl
       (λ m h. both_true _ _ (lt_true id m.sites (omega (arith, known, more.sites, h.sites))) whole)
-    where
-      ahead : (a b : List Stands) → a ≡ (kind.Subrange, w.first) ∷ [] → Covers 2 places b → Covers 0 places (a ++ b)
-      ahead a b one has =
-          subst (λ l. Covers 0 places (l ++ b)) (sym one)
-          (subst (λ p. Covers 0 p ((kind.Subrange, w.first) ∷ b)) (sym law.begins.1)
-          (covers_ahead 0 kind.Subrange (omega arith) w.first law.begins.0 b (subst (λ p. Covers 2 p b) law.begins.1 has)))
 
   for_head_does : (least : Reached) (place : Place) (name : Name) (firsts lasts : List Place) (first : Written) (d : SyntaxDirection) (end : Written)
       → LawfulWritten variables firsts first → LawfulWritten variables lasts end
