@@ -8,7 +8,7 @@ use Rattle.certificate.specs.Contents.{Spells}
 use Rattle.cert_checker.specs.Promise.{Valid}
 use Rattle.pcode_assembler.specs.declared.code.Code.{Code}
 use Rattle.check_remover.specs.Strip.{strip}
-use Rattle.code_emitter.specs.Code.{program_code}
+use Rattle.code_scheme.specs.Code.{program_code}
 use Rattle.code_generator.specs.Tables.{site_table, point_table}
 use Rattle.stack_machine.specs.declared.stop.Stop.{Stop}
 use Rattle.stack_machine.specs.Does.{Ran}

@@ -1,7 +1,7 @@
 ghost use Rattle.std.specs.Prelude.{◌≡◌, ℕ, List, length, map, IfOk, IfErr, MatchResult};
 ghost use Rattle.certificate.specs.Contents.{Spells};
 ghost use Rattle.cert_checker.specs.Promise.{Valid, StatesHold};
-ghost use Rattle.code_emitter.specs.Code.{program_code};
+ghost use Rattle.code_scheme.specs.Code.{program_code};
 ghost use Rattle.code_generator.specs.Follows.{Follows};
 ghost use Rattle.code_generator.specs.Tables.{site_table, point_table};
 ghost use Rattle.report.specs.Headline.{Headline, IsTypedTreeOf};

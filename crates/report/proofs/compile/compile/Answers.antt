@@ -4,7 +4,7 @@ use Rattle.std.proofs.lemmas.Result.{err_from_is_err_and}
 use Rattle.report.specs.Refusals.{text_of}
 use Rattle.report.proofs.RefusalLemmas.{refused_by, certificate-refusal, checking-refusal, generation-refusal}
 use Rattle.check_remover.specs.Strip.{strip, KeepsInstructions}
-use Rattle.code_emitter.specs.Code.{program_code}
+use Rattle.code_scheme.specs.Code.{program_code}
 use Rattle.code_generator.specs.Tables.{site_table}
 use Rattle.code_generator.proofs.Program.{stripped_follows}
 use Rattle.report.proofs.OpenSites.{errs_at_open}
