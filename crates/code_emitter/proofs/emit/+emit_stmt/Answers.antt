@@ -12,7 +12,8 @@ use Rattle.code_emitter.specs.Emitted.{Emits, statements_table}
 use Rattle.code_scheme.specs.Sizes.{arms_table, capped, table_of, measured}
 use Rattle.code_emitter.proofs.Emitting.{AreLeft, none_left, arm_emitted, arms_emitted, case_emitted, IsLeft, if_emitted, if_else_emitted, one_emitted}
 use Rattle.code_emitter.proofs.Emitting.{passed_emitted, same_emitted, for_emitted, while_emitted, repeat_emitted}
-use Rattle.code_scheme.proofs.Measures.{measured-Case, measured-Compound, measured-If, measured-If-else, if_measured, if_else_measured, measured-While, measured-Repeat, measured-For}
+use Rattle.code_scheme.proofs.Measures.{measured-Case, measured-Compound, measured-If, measured-If-else, if_measured, if_else_measured}
+use Rattle.code_scheme.proofs.Measures.{measured-While, measured-Repeat, measured-For}
 use Rattle.code_scheme.proofs.Measures.{for_measured, while_measured}
 use Rattle.code_scheme.specs.Code.{statements_code}
 use Rattle.code_scheme.proofs.Pieces.{stmt_code-Compound, stmt_code-If, stmt_code-If-else, stmt_code-While, stmt_code-Repeat, stmt_code-For}

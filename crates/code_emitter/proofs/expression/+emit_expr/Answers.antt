@@ -28,7 +28,8 @@ emit_expr-returns-in_ok-emit_expr-in-Monadic t c =
     let before = c.args.code.now.items in
     let operation = monadic_code c.in-Monadic.operation in
     let operand = expr_code c.args.scope.now c.in-Monadic.operand.value in
-    let whole = ap (expr_code c.args.scope.now) c.in-Monadic.is ∙ expr_code-Monadic c.args.scope.now c.in-Monadic.number c.in-Monadic.operation c.in-Monadic.operand in
+    let whole = ap (expr_code c.args.scope.now) c.in-Monadic.is
+    ∙ expr_code-Monadic c.args.scope.now c.in-Monadic.number c.in-Monadic.operation c.in-Monadic.operand in
     let valued : c.emit_expr.new.code.items ≡ before ++ operand = c.in_ok-emit_expr-in-Monadic.ensures
     ∙ ap (λ e. before ++ expr_code c.args.scope.now e) c.deref.ensures in
     IfOk-equal c.emit_monadic.result c.emit_monadic.new.code.items _ _ c.emit_monadic.ensures
@@ -96,7 +97,8 @@ emit_selectors-loop-selector-preserved t c =
             let element = range_check fits ∷ instr.IndexAddress fits.range.first (row_length cells) ∷ [] in
             subst (λ (v : Vec Instr). v.items ++ selectors_code others (index_codes scope (drop c.match-selector.next indexes)) ≡ all) (sym w.code-is)
             (subst (λ k. w.emit_element.new.code.items ++ selectors_code others (index_codes scope (drop k indexes)) ≡ all) (sym w.next-is)
-            (piece_moved w.emit_expr.new.code.items w.emit_element.new.code.items element rest (element ++ rest) all w.in_ok-emit_element-in-Element.ensures refl
+            (piece_moved w.emit_expr.new.code.items w.emit_element.new.code.items element rest (element ++ rest) all
+            w.in_ok-emit_element-in-Element.ensures refl
             (piece_moved code w.emit_expr.new.code.items (expr_code scope index) (element ++ rest) _ all w.in_ok-emit_expr-in-Element.ensures split so_far.1))),
       )
       | emit_selectors-in-Element+in_default w ↦ (
