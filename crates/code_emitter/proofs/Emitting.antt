@@ -1,32 +1,22 @@
 -- Statements whose code is emitted by their sizes: the sizes tell where the code of a statement ends before it is there.
-use Rattle.std.proofs.Common.{◌≡◌, ℕ, ◌+◌, ◌-◌, ◌*◌, ◌<◌, ◌≤◌, List, [], ◌∷◌, ◌++◌, take, get_or, length, map, Some, None, Result, Ok, Err, refl, sym, ap, ◌∙◌}
+use Rattle.std.proofs.Common.{◌≡◌, ℕ, ◌+◌, ◌-◌, ◌*◌, ◌≤◌, List, [], ◌∷◌, ◌++◌, length, map, Result, Ok, Err, refl, sym, ap, ◌∙◌}
 use Rattle.std.proofs.Common.{subst, arith, length-append, append_assoc, append-nil}
-use Rattle.std.specs.Prelude.{ℤ, OnOk, slice_set}
-use Rattle.std.specs.Global.{Vec, Box}
+use Rattle.std.specs.Prelude.{ℤ, OnOk}
+use Rattle.std.specs.Global.{Vec}
 use Rattle.std.specs.declared.alloc.AllocError.{AllocError}
-use Rattle.std.proofs.lemmas.List.{map_more, flat_map_more}
-use Rattle.std.proofs.lemmas.List.Sums.{sum_by-cons}
-use Rattle.std.proofs.lemmas.Simd.{map-map}
 use Rattle.pcode_assembler.specs.declared.instr.Instr.{Instr}
 use Rattle.pcode_assembler.specs.declared.instr.Instr.TheVariants as instr
-use Rattle.place.specs.declared.Place.{Place as SourcePlace}
-use Rattle.typed_tree.specs.declared.tree.Access.{Access}
 use Rattle.typed_tree.specs.declared.tree.Direction.{Direction}
 use Rattle.typed_tree.specs.declared.tree.RangeTest.{RangeTest}
-use Rattle.typed_tree.specs.declared.tree.Expr.{Expr}
 use Rattle.typed_tree.specs.declared.tree.Stmt.{Stmt}
-use Rattle.typed_tree.specs.declared.tree.Stmt.TheVariants.{Assign, rolls-Assign, Compound, rolls-Compound, If, rolls-If, While, rolls-While, Repeat}
-use Rattle.typed_tree.specs.declared.tree.Stmt.TheVariants.{rolls-Repeat, For, rolls-For, Case, rolls-Case}
-use Rattle.typed_tree.specs.declared.tree.Stmt.TheOpen.Stmt-F.{Assign as Assign-layer, Compound as Compound-layer, If as If-layer, While as While-layer}
-use Rattle.typed_tree.specs.declared.tree.Stmt.TheOpen.Stmt-F.{Repeat as Repeat-layer, For as For-layer, Case as Case-layer}
-use Rattle.typed_tree.specs.declared.tree.Stmt.TheFolds.{fold-roll-Stmt}
-use Rattle.code_emitter.specs.declared.scope.Scope.{Scope}
-use Rattle.code_emitter.specs.Code.{assign_code, expr_code, stmt_code, if_code, if_else_code, while_code, repeat_code, for_code, for_entry, for_begin}
-use Rattle.code_emitter.specs.Code.{for_next, for_end, holding, row_code, arms_code, case_code}
+use Rattle.code_scheme.specs.Scopes.{Scope, holding}
+use Rattle.code_scheme.specs.Code.{stmt_code, if_code, if_else_code, while_code, repeat_code, for_code, for_entry, for_begin}
+use Rattle.code_scheme.specs.Code.{for_next, for_end, row_code, arms_code, case_code}
 use Rattle.code_emitter.specs.Emitted.{Emits}
-use Rattle.code_emitter.specs.Sizes.{capped, first_of, rest_of, Measured, measured, measured_step, table_of, all_sizes, all_tables, arms_size, arms_table}
-use Rattle.code_emitter.proofs.Measures.{is_measured, row_measured, arms_are_measured}
-use Rattle.code_emitter.proofs.Pieces.{stmts_code, length-If, length-If-else, length-While, length-Repeat, length-For}
+use Rattle.code_scheme.specs.Sizes.{capped, first_of, rest_of, measured, table_of, all_tables, arms_size, arms_table}
+use Rattle.code_scheme.proofs.Measures.{is_measured, row_measured, arms_are_measured, arms_table-none, case_measured}
+use Rattle.code_scheme.specs.Code.{statements_code}
+use Rattle.code_scheme.proofs.Pieces.{length-If, length-If-else, length-While, length-Repeat, length-For}
 
 pub on_ok : {P Q : Type 0} (answer : Result (Unit {0}) AllocError) → OnOk answer P → (P → Q) → OnOk answer Q
 on_ok (Ok done) p f = f p
@@ -290,7 +280,7 @@ case_emitted answer site index rows arms scope before tested done after sizes no
 
 -- what is emitted, and what is still to do: with the code of the statements that are left it is the whole
 pub record IsLeft (scope : Scope) (whole : List Instr) (rest : List ℕ) (statements : List Stmt) (code : List Instr) (sizes : List ℕ) : Type 0 where
-  pub code_is : code ++ stmts_code scope statements (length code) ≡ whole
+  pub code_is : code ++ statements_code scope statements (length code) ≡ whole
   pub sizes_are : sizes ≡ all_tables (map (λ s. measured s scope) statements) ++ rest
 
 -- a statement further
@@ -300,14 +290,14 @@ pub one_emitted : (scope : Scope) (whole : List Instr) (rest : List ℕ) (s : St
 one_emitted scope whole rest s statements code after sizes left few h emits =
     let place = length code in
     let c = stmt_code s scope place in
-    let next = stmts_code scope statements (place + length c) in
+    let next = statements_code scope statements (place + length c) in
     let tables = all_tables (map (λ x. measured x scope) statements) in
     let long = ap length h.code_is in
     let e = emits (tables ++ rest) (h.sizes_are ∙ append_assoc (table_of (measured s scope)) tables rest)
     (omega (arith, long, length-append code (c ++ next), length-append c next)) in
     record {
-      code_is = ap (λ xs. xs ++ stmts_code scope statements (length xs)) e.0
-          ∙ ap (λ n. (code ++ c) ++ stmts_code scope statements n) (length-append code c)
+      code_is = ap (λ xs. xs ++ statements_code scope statements (length xs)) e.0
+          ∙ ap (λ n. (code ++ c) ++ statements_code scope statements n) (length-append code c)
           ∙ append_assoc code c next
           ∙ h.code_is;
       sizes_are = e.1;

@@ -1,9 +1,10 @@
-//! The instructions of a program: their definition over its typed tree, and exactly those emitted.
+//! The instructions of a program: exactly those that the scheme gives it over its typed tree.
 #![tactic(auto)]
 
-mod depth;
+mod assign;
 mod emit;
+mod expression;
+mod instrs;
 pub mod program;
-mod scope;
-mod size;
 mod sizes;
+mod write;

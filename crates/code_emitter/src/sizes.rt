@@ -1,5 +1,5 @@
 ghost use Rattle.std.specs.Prelude.{◌≡◌, ℕ, ◌∷◌, List};
-ghost use Rattle.code_emitter.specs.Sizes.{first_of, rest_of};
+ghost use Rattle.code_scheme.specs.Sizes.{first_of, rest_of};
 
 use std::marker::Model;
 

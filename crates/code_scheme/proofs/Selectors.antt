@@ -1,5 +1,6 @@
 -- The code of selectors, of what they select, and how many instructions it has, as loops over them go on.
-use Rattle.std.proofs.Common.{◌≡◌, ℕ, ◌+◌, ◌<◌, max, true, false, List, [], ◌∷◌, ◌++◌, drop, get_or, length, length-append, refl, sym, ap, ◌∙◌, arith}
+use Rattle.std.proofs.Common.{◌≡◌, ℕ, ◌+◌, ◌<◌, max, true, false, List, [], ◌∷◌, ◌++◌, drop, get_or, length, length-append, refl, sym, ap, ◌∙◌}
+use Rattle.std.proofs.Common.{append_assoc, arith}
 use Rattle.std.specs.Bool.{◌==◌}
 use Rattle.std.proofs.lemmas.Bool.{eqb-true}
 use Rattle.std.proofs.lemmas.List.{drop_more, nil_from_length}
@@ -37,6 +38,11 @@ code-without scope selectors others fits cells indexes is none =
     ap (λ ss. selectors_code ss (index_codes scope indexes)) is
     ∙ ap (λ xs. selectors_code (Element fits cells ∷ others) (index_codes scope xs)) none
     ∙ sym (ap (λ xs. selectors_code others (index_codes scope xs)) none)
+
+-- a piece of code that is to come, where it has come
+pub piece_moved : (code more piece rest whole all : List Instr) → more ≡ code ++ piece → whole ≡ piece ++ rest → code ++ whole ≡ all → more ++ rest ≡ all
+piece_moved code more piece rest whole all grown split so_far =
+    ap (λ c. c ++ rest) grown ∙ append_assoc code piece rest ∙ ap (λ p. code ++ p) (sym split) ∙ so_far
 
 -- how many instructions they have
 pub length-field : (selectors others : List Selector) (codes : List (List Instr)) (position before : ℕ) → selectors ≡ Field position before ∷ others

@@ -6,15 +6,18 @@ use Rattle.std.proofs.lemmas.List.{drop_more, drop_all, nil_from_length}
 use Rattle.pcode_assembler.specs.declared.instr.Instr.{Instr}
 use Rattle.pcode_assembler.specs.declared.instr.Instr.TheVariants as instr
 use Rattle.typed_tree.specs.declared.tree.Stmt.TheVariants.{If}
-use Rattle.code_emitter.specs.Code.{arms_code, row_code, stmt_code, expr_code, if_code, if_else_code, while_code, for_code, for_begin, for_end, holding}
+use Rattle.code_scheme.specs.Scopes.{holding}
+use Rattle.code_scheme.specs.Code.{arms_code, row_code, stmt_code, expr_code, if_code, if_else_code, while_code, for_code, for_begin, for_end}
 use Rattle.code_emitter.specs.Emitted.{Emits, statements_table}
-use Rattle.code_emitter.specs.Sizes.{arms_table, capped, table_of, measured}
-use Rattle.code_emitter.proofs.Emitting.{AreLeft, none_left, arm_emitted, arms_emitted, case_emitted, measured-Case, IsLeft, if_emitted, if_else_emitted}
-use Rattle.code_emitter.proofs.Emitting.{one_emitted, passed_emitted, same_emitted, measured-Compound, measured-If, measured-If-else, if_measured}
-use Rattle.code_emitter.proofs.Emitting.{if_else_measured, measured-While, measured-Repeat, measured-For, for_measured, for_emitted, while_measured}
-use Rattle.code_emitter.proofs.Emitting.{while_emitted, repeat_emitted}
-use Rattle.code_emitter.proofs.Pieces.{stmts_code, stmt_code-Compound, stmt_code-If, stmt_code-If-else, stmt_code-While, stmt_code-Repeat, stmt_code-For}
-use Rattle.code_emitter.proofs.Pieces.{stmt_code-Case}
+use Rattle.code_scheme.specs.Sizes.{arms_table, capped, table_of, measured}
+use Rattle.code_emitter.proofs.Emitting.{AreLeft, none_left, arm_emitted, arms_emitted, case_emitted, IsLeft, if_emitted, if_else_emitted, one_emitted}
+use Rattle.code_emitter.proofs.Emitting.{passed_emitted, same_emitted, for_emitted, while_emitted, repeat_emitted}
+use Rattle.code_scheme.proofs.Measures.{measured-Case, measured-Compound, measured-If, measured-If-else, if_measured, if_else_measured}
+use Rattle.code_scheme.proofs.Measures.{measured-While, measured-Repeat, measured-For}
+use Rattle.code_scheme.proofs.Measures.{for_measured, while_measured}
+use Rattle.code_scheme.specs.Code.{statements_code}
+use Rattle.code_scheme.proofs.Pieces.{stmt_code-Compound, stmt_code-If, stmt_code-If-else, stmt_code-While, stmt_code-Repeat, stmt_code-For}
+use Rattle.code_scheme.proofs.Pieces.{stmt_code-Case}
 use Rattle.code_emitter.proofs.emit.+emit_stmt.Goals.{emit_arms-in-Some+in_ok-emit_row+in_ok-emit_stmt+in_ok-put, emit_arms-in_default}
 use Rattle.code_emitter.proofs.emit.+emit_stmt.Goals as goal
 
@@ -23,13 +26,13 @@ emit_statements-loop-statement-init t c = λ rest told few. record { code_is = r
 
 pub emit_statements-loop-statement-preserved : goal.emit_statements-loop-statement-preserved
 emit_statements-loop-statement-preserved t c = λ rest told few.
-    let scope = c.args.scope in
+    let scope = c.args.scope.now in
     let items = c.deref-statement-items.result.now in
     let i = c.loop-statement.statement-index in
     let statement = c.statement-item.result in
     let code = c.loop-statement.code.items in
     let sizes = c.loop-statement.sizes in
-    let whole = c.args.code.now.items ++ stmts_code scope items (length c.args.code.now.items) in
+    let whole = c.args.code.now.items ++ statements_code scope items (length c.args.code.now.items) in
     let next = drop_more items i statement c.loop-statement-test.true ∙ ap (λ s. s ∷ drop (i + 1) items) (sym c.statement-item.is) in
     one_emitted scope whole rest statement (drop (i + 1) items) code _ sizes _ few
     (subst (λ left. IsLeft scope whole rest left code sizes) next (c.loop-statement.invariant rest told few))
@@ -37,7 +40,7 @@ emit_statements-loop-statement-preserved t c = λ rest told few.
 
 pub emit_statements-returns : goal.emit_statements-returns
 emit_statements-returns t c = λ rest told few.
-    let scope = c.args.scope in
+    let scope = c.args.scope.now in
     let before = c.args.code.now.items in
     let place = length before in
     let items = c.deref-statement-items.result.now in
@@ -46,16 +49,16 @@ emit_statements-returns t c = λ rest told few.
     let sizes = c.loop-statement.sizes in
     let same = c.deref-statement-items.ensures.value in
     let told' = told ∙ ap (λ ss. statements_table scope ss ++ rest) (sym same) in
-    let few' : length (before ++ stmts_code scope items place) ≤ 4294967295 =
-    subst (λ ss. length (before ++ stmts_code scope ss place) ≤ 4294967295) (sym same)
-    (omega (arith, few, length-append before (stmts_code scope c.args.statements.now.items place))) in
-    let all = subst (λ left. IsLeft scope (before ++ stmts_code scope items place) rest left code sizes)
+    let few' : length (before ++ statements_code scope items place) ≤ 4294967295 =
+    subst (λ ss. length (before ++ statements_code scope ss place) ≤ 4294967295) (sym same)
+    (omega (arith, few, length-append before (statements_code scope c.args.statements.now.items place))) in
+    let all = subst (λ left. IsLeft scope (before ++ statements_code scope items place) rest left code sizes)
     (drop_all i items c.loop-statement-test.false) (c.loop-statement.invariant rest told' few') in
-    (sym (append-nil code) ∙ all.code_is ∙ ap (λ ss. before ++ stmts_code scope ss place) same, all.sizes_are)
+    (sym (append-nil code) ∙ all.code_is ∙ ap (λ ss. before ++ statements_code scope ss place) same, all.sizes_are)
 
 pub emit_stmt-returns-in-Compound : goal.emit_stmt-returns-in-Compound
 emit_stmt-returns-in-Compound t c =
-    let scope = c.args.scope in
+    let scope = c.args.scope.now in
     let before = c.args.code.now.items in
     let place = length before in
     let items = c.in-Compound.statements.items in
@@ -67,7 +70,7 @@ emit_stmt-returns-in-Compound t c =
 
 pub emit_stmt-returns-in_ok-emit_stmt-in-While : goal.emit_stmt-returns-in_ok-emit_stmt-in-While
 emit_stmt-returns-in_ok-emit_stmt-in-While t c =
-    let scope = c.args.scope in
+    let scope = c.args.scope.now in
     let before = c.args.code.now.items in
     let place = length before in
     let condition = c.in-While.condition in
@@ -96,7 +99,7 @@ emit_stmt-returns-in_ok-emit_stmt-in-While t c =
 
 pub emit_stmt-returns-in_ok-emit_next-in-For : goal.emit_stmt-returns-in_ok-emit_next-in-For
 emit_stmt-returns-in_ok-emit_next-in-For t c =
-    let scope = c.args.scope in
+    let scope = c.args.scope.now in
     let before = c.args.code.now.items in
     let place = length before in
     let first = expr_code scope c.in-For.first in
@@ -130,11 +133,11 @@ emit_stmt-returns-in_ok-emit_next-in-For t c =
     (for_emitted answer control first c.in-For.first_fits way last c.in-For.last_fits c.deref-in-For.result.now scope before bounds begun done after now left
     head out c.in_ok-emit_bounds-in-For.ensures (search rules) (search rules) entered
     (subst (λ sc. Emits (Ok tt) begun done now left (stmt_code c.deref-in-For.result.now sc (length begun)) (table_of (measured c.deref-in-For.result.now sc)))
-    c.scope_holding.ensures c.in_ok-emit_stmt-in-For.ensures) ended))
+    c.holding.ensures c.in_ok-emit_stmt-in-For.ensures) ended))
 
 pub emit_stmt-returns-in_ok-emit_expr-in-Repeat : goal.emit_stmt-returns-in_ok-emit_expr-in-Repeat
 emit_stmt-returns-in_ok-emit_expr-in-Repeat t c =
-    let scope = c.args.scope in
+    let scope = c.args.scope.now in
     let before = c.args.code.now.items in
     let place = length before in
     let condition = c.in-Repeat.condition in
@@ -155,12 +158,12 @@ emit_stmt-returns-in_ok-emit_expr-in-Repeat t c =
     (ap (λ s. stmt_code s scope place) c.in-Repeat.is ∙ stmt_code-Repeat scope place number loop_number word statements condition)
     (ap (λ s. table_of (measured s scope)) c.in-Repeat.is ∙ ap table_of (measured-Repeat scope number loop_number word statements condition))
     (passed_emitted answer before after c.args.sizes.now now left _ (statements_table scope statements.items) _ c.pass.ensures
-    (repeat_emitted answer (stmts_code scope statements.items) test before done after now left (statements_table scope statements.items)
+    (repeat_emitted answer (statements_code scope statements.items) test before done after now left (statements_table scope statements.items)
     c.place_of-head-in-Repeat.result c.in_ok-emit_statements-in-Repeat.ensures begins tested))
 
 pub emit_stmt-returns-in_ok-emit_test-in-None : goal.emit_stmt-returns-in_ok-emit_test-in-None
 emit_stmt-returns-in_ok-emit_test-in-None t c =
-    let scope = c.args.scope in
+    let scope = c.args.scope.now in
     let before = c.args.code.now.items in
     let place = length before in
     let condition = c.in-If.condition in
@@ -182,7 +185,7 @@ emit_stmt-returns-in_ok-emit_test-in-None t c =
 
 pub emit_stmt-returns-in_ok-emit_jump-in-Some : goal.emit_stmt-returns-in_ok-emit_jump-in-Some
 emit_stmt-returns-in_ok-emit_jump-in-Some t c =
-    let scope = c.args.scope in
+    let scope = c.args.scope.now in
     let before = c.args.code.now.items in
     let place = length before in
     let condition = c.in-If.condition in
@@ -214,7 +217,7 @@ emit_stmt-returns-in_ok-emit_jump-in-Some t c =
 
 pub emit_arms-loop-arm-preserved : goal.emit_arms-loop-arm-preserved
 emit_arms-loop-arm-preserved t c = λ rest told few.
-    let scope = c.args.scope in
+    let scope = c.args.scope.now in
     let inner = holding 1 scope in
     let out = c.args.out in
     let items = c.deref-arm-items.result.now in
@@ -238,7 +241,7 @@ emit_arms-loop-arm-preserved t c = λ rest told few.
           let compares = w.in_ok-emit_row.ensures ∙ ap (λ rs. emitted rs w.next.result) w.as_slice.ensures.value
           ∙ ap (λ n. emitted row.items n) w.next.ensures in
           let emits = subst (λ sc. Emits (Ok tt) w.emit_row.new.code.items w.emit_stmt.new.code.items sizes w.emit_stmt.new.sizes
-          (stmt_code arm sc (length w.emit_row.new.code.items)) (table_of (measured arm sc))) w.scope_holding.ensures w.in_ok-emit_stmt.ensures in
+          (stmt_code arm sc (length w.emit_row.new.code.items)) (table_of (measured arm sc))) c.holding-inside.ensures w.in_ok-emit_stmt.ensures in
           let done = arm_emitted scope out whole rest row others arm (drop (i + 1) items) code w.emit_row.new.code.items w.emit_stmt.new.code.items
           w.put.new.code.items sizes w.emit_stmt.new.sizes few here compares emits w.in_ok-put.ensures in
           subst (λ (rs : Bor (List (Vec ℤ))). AreLeft scope out whole rest rs.now (drop (i + 1) items) c.match-split_first.code.items c.match-split_first.sizes)
@@ -258,7 +261,7 @@ emit_arms-loop-arm-preserved t c = λ rest told few.
 
 pub emit_arms-returns : goal.emit_arms-returns
 emit_arms-returns t c = λ rest told few.
-    let scope = c.args.scope in
+    let scope = c.args.scope.now in
     let before = c.args.code.now.items in
     let place = length before in
     let items = c.deref-arm-items.result.now in
@@ -278,7 +281,7 @@ emit_arms-returns t c = λ rest told few.
 
 pub emit_stmt-returns-in_ok-emit_arms-in-Case : goal.emit_stmt-returns-in_ok-emit_arms-in-Case
 emit_stmt-returns-in_ok-emit_arms-in-Case t c =
-    let scope = c.args.scope in
+    let scope = c.args.scope.now in
     let before = c.args.code.now.items in
     let place = length before in
     let index = expr_code scope c.in-Case.index in

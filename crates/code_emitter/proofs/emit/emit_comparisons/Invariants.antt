@@ -1,5 +1,5 @@
 use Rattle.std.proofs.Common.{◌≡◌, ◌++◌, take}
-use Rattle.code_emitter.specs.Code.{row_code}
+use Rattle.code_scheme.specs.Code.{row_code}
 use Rattle.code_emitter.proofs.emit.emit_comparisons.Given as goal
 
 abbrev pub invariant-loop-constant : goal.invariant-loop-constant

@@ -1,6 +1,6 @@
 use Rattle.std.proofs.Common.{◌≡◌, ◌++◌, map, take, pos}
 use Rattle.pcode_assembler.specs.declared.instr.Instr.TheVariants.{LoadConstant}
-use Rattle.code_emitter.proofs.emit.emit_characters.Given as goal
+use Rattle.code_emitter.proofs.expression.emit_characters.Given as goal
 
 abbrev pub invariant-loop-character : goal.invariant-loop-character
 invariant-loop-character l =

@@ -1,7 +1,7 @@
 use Rattle.std.proofs.Common.{◌++◌, ap, sym, ◌∙◌, append-nil, map, pos}
 use Rattle.std.proofs.lemmas.List.{take_all}
 use Rattle.pcode_assembler.specs.declared.instr.Instr.TheVariants.{LoadConstant}
-use Rattle.code_emitter.proofs.emit.emit_characters.Goals as goal
+use Rattle.code_emitter.proofs.expression.emit_characters.Goals as goal
 
 pub loop-character-init : goal.loop-character-init
 loop-character-init c = sym (append-nil c.args.code.now.items)

@@ -1,0 +1,120 @@
+use Rattle.std.proofs.Common.{◌≡◌, ◌+◌, [], ◌∷◌, ◌++◌, ap, ◌∙◌, sym, refl, subst, drop, append_assoc, append-nil, arith}
+use Rattle.std.proofs.lemmas.Result.{IfOk-equal}
+use Rattle.std.proofs.lemmas.List.{drop_all}
+use Rattle.std.specs.Global.{Vec}
+use Rattle.std.specs.List.{flat_map}
+use Rattle.pcode_assembler.specs.declared.instr.Instr.{Instr}
+use Rattle.pcode_assembler.specs.declared.instr.Instr.TheVariants as instr
+use Rattle.code_scheme.specs.Scopes.{row_length}
+use Rattle.code_scheme.specs.Code.{dyadic_code, expr_code, field_code, index_codes, link_code, monadic_code, range_check, selectors_code, variable_code}
+use Rattle.code_scheme.proofs.Pieces.{expr_code-Variable, expr_code-Monadic, expr_code-Chain, link_code-is, joined_one_more, joined_at_end}
+use Rattle.code_scheme.proofs.Selectors.{at_place, code-element, code-field, code-without, piece_moved}
+use Rattle.code_emitter.proofs.expression.+emit_expr.Goals.{emit_selectors-in-Field+in_ok-emit_field-in-Field, emit_selectors-in-Element+in_default}
+use Rattle.code_emitter.proofs.expression.+emit_expr.Goals.{emit_selectors-in-Element+in-Some+in_ok-emit_expr-in-Element+in_ok-emit_element-in-Element}
+use Rattle.code_emitter.proofs.expression.+emit_expr.Goals as goal
+
+pub emit_expr-returns-in-Variable : goal.emit_expr-returns-in-Variable
+emit_expr-returns-in-Variable t c =
+    let scope = c.args.scope.now in
+    let before = c.args.code.now.items in
+    let access = c.in-Variable.access in
+    let defined = c.in-Variable.defined in
+    IfOk-equal c.emit_variable.result c.emit_variable.new.code.items _ _ c.emit_variable.ensures
+    (ap (λ indexes. before ++ variable_code scope access (index_codes scope indexes) defined) c.as_slice.ensures.value
+    ∙ ap (λ p. before ++ p) (sym (ap (expr_code scope) c.in-Variable.is ∙ expr_code-Variable scope access c.in-Variable.indexes defined)))
+
+pub emit_expr-returns-in_ok-emit_expr-in-Monadic : goal.emit_expr-returns-in_ok-emit_expr-in-Monadic
+emit_expr-returns-in_ok-emit_expr-in-Monadic t c =
+    let before = c.args.code.now.items in
+    let operation = monadic_code c.in-Monadic.operation in
+    let operand = expr_code c.args.scope.now c.in-Monadic.operand.value in
+    let whole = ap (expr_code c.args.scope.now) c.in-Monadic.is
+    ∙ expr_code-Monadic c.args.scope.now c.in-Monadic.number c.in-Monadic.operation c.in-Monadic.operand in
+    let valued : c.emit_expr.new.code.items ≡ before ++ operand = c.in_ok-emit_expr-in-Monadic.ensures
+    ∙ ap (λ e. before ++ expr_code c.args.scope.now e) c.deref.ensures in
+    IfOk-equal c.emit_monadic.result c.emit_monadic.new.code.items _ _ c.emit_monadic.ensures
+    (ap (λ p. p ++ operation) valued ∙ append_assoc before operand operation ∙ ap (λ p. before ++ p) (sym whole))
+
+pub emit_expr-loop-link-init : goal.emit_expr-loop-link-init
+emit_expr-loop-link-init t c = sym (append-nil c.emit_expr-in-Chain.new.code.items)
+
+pub emit_expr-loop-link-preserved : goal.emit_expr-loop-link-preserved
+emit_expr-loop-link-preserved t c =
+    joined_one_more (link_code c.args.scope.now) c.loop-link.code.items c.emit_link.new.code.items c.emit_expr-in-Chain.new.code.items
+    c.deref-link-items.result.now c.loop-link.link-index c.link-item.result
+    c.loop-link.invariant c.loop-link-test.true c.link-item.is c.in_ok-emit_link-in-Chain.ensures
+
+pub emit_expr-returns-after-loop-link : goal.emit_expr-returns-after-loop-link
+emit_expr-returns-after-loop-link t c =
+    let before = c.args.code.now.items in
+    let first = c.in-Chain.first.value in
+    let rest = flat_map (link_code c.args.scope.now) c.in-Chain.rest.items in
+    let whole = ap (expr_code c.args.scope.now) c.in-Chain.is ∙ expr_code-Chain c.args.scope.now c.in-Chain.first c.in-Chain.rest in
+    let links = joined_at_end (link_code c.args.scope.now) _ _ _ _ _ c.loop-link.invariant c.loop-link-test.false c.deref-link-items.ensures.value in
+    let head = c.in_ok-emit_expr-in-Chain.ensures ∙ ap (λ e. before ++ expr_code c.args.scope.now e) c.deref-in-Chain.ensures in
+    links ∙ ap (λ p. p ++ rest) head ∙ append_assoc before (expr_code c.args.scope.now first) rest ∙ ap (λ p. before ++ p) (sym whole)
+
+pub emit_link-returns : goal.emit_link-returns
+emit_link-returns t c =
+    let link = c.args.link.now in
+    let before = c.args.code.now.items in
+    let operation = dyadic_code link.operation in
+    IfOk-equal c.emit_dyadic.result c.emit_dyadic.new.code.items (c.emit_expr.new.code.items ++ operation) (before ++ link_code c.args.scope.now link)
+    c.emit_dyadic.ensures
+    (ap (λ p. p ++ operation) c.in_ok-emit_expr.ensures ∙ append_assoc before (expr_code c.args.scope.now link.operand) operation
+    ∙ ap (λ p. before ++ p) (sym (link_code-is c.args.scope.now link)))
+
+pub emit_selectors-loop-selector-preserved : goal.emit_selectors-loop-selector-preserved
+emit_selectors-loop-selector-preserved t c =
+    let scope = c.args.scope.now in
+    let selectors = c.args.selectors.now in
+    let indexes = c.args.indexes.now in
+    let i = c.loop-selector.selector-index in
+    let n = c.loop-selector.next in
+    let others = drop (i + 1) selectors in
+    let code = c.loop-selector.code.items in
+    let so_far = c.loop-selector.invariant in
+    let all = c.args.code.now.items ++ selectors_code selectors (index_codes scope indexes) in
+    elim c.match-selector.branch [
+      | emit_selectors-in-Field+in_ok-emit_field-in-Field w ↦ (
+        omega (arith, w.next-is, so_far.0),
+        let here = at_place selectors i _ _ c.loop-selector-test.true w.in-Field.is in
+            let split = code-field (drop i selectors) others (index_codes scope (drop n indexes)) w.in-Field.position w.in-Field.offset here in
+            subst (λ (v : Vec Instr). v.items ++ selectors_code others (index_codes scope (drop c.match-selector.next indexes)) ≡ all) (sym w.code-is)
+            (subst (λ k. w.emit_field.new.code.items ++ selectors_code others (index_codes scope (drop k indexes)) ≡ all) (sym w.next-is)
+            (piece_moved code w.emit_field.new.code.items (field_code w.in-Field.offset) (selectors_code others (index_codes scope (drop n indexes))) _ all
+            w.in_ok-emit_field-in-Field.ensures split so_far.1)),
+      )
+      | emit_selectors-in-Element+in-Some+in_ok-emit_expr-in-Element+in_ok-emit_element-in-Element w ↦ (
+        omega (arith, w.next-is, w.in-Some.ensures.lookup.3.0),
+        let here = at_place selectors i _ _ c.loop-selector-test.true w.in-Element.is in
+            let fits = w.in-Element.fits in
+            let cells = w.in-Element.cells in
+            let index = w.in-Some.index.now in
+            let there = at_place indexes n index index w.in-Some.ensures.lookup.3.0 (sym w.in-Some.ensures.lookup.1) in
+            let split = code-element scope (drop i selectors) others fits cells (drop n indexes) (drop (n + 1) indexes) index here there in
+            let rest = selectors_code others (index_codes scope (drop (n + 1) indexes)) in
+            let element = range_check fits ∷ instr.IndexAddress fits.range.first (row_length cells) ∷ [] in
+            subst (λ (v : Vec Instr). v.items ++ selectors_code others (index_codes scope (drop c.match-selector.next indexes)) ≡ all) (sym w.code-is)
+            (subst (λ k. w.emit_element.new.code.items ++ selectors_code others (index_codes scope (drop k indexes)) ≡ all) (sym w.next-is)
+            (piece_moved w.emit_expr.new.code.items w.emit_element.new.code.items element rest (element ++ rest) all
+            w.in_ok-emit_element-in-Element.ensures refl
+            (piece_moved code w.emit_expr.new.code.items (expr_code scope index) (element ++ rest) _ all w.in_ok-emit_expr-in-Element.ensures split so_far.1))),
+      )
+      | emit_selectors-in-Element+in_default w ↦ (
+        omega (arith, w.next-is, so_far.0),
+        let here = at_place selectors i _ _ c.loop-selector-test.true w.in-Element.is in
+            let none = drop_all n indexes w.in_default.ensures.lookup.3 in
+            let split = code-without scope (drop i selectors) others w.in-Element.fits w.in-Element.cells (drop n indexes) here none in
+            subst (λ (v : Vec Instr). v.items ++ selectors_code others (index_codes scope (drop c.match-selector.next indexes)) ≡ all) (sym w.code-is)
+            (subst (λ k. code ++ selectors_code others (index_codes scope (drop k indexes)) ≡ all) (sym w.next-is)
+            (ap (λ p. code ++ p) (sym split) ∙ so_far.1)),
+      )
+    ]
+
+pub emit_selectors-returns : goal.emit_selectors-returns
+emit_selectors-returns t c =
+    let code = c.loop-selector.code.items in
+    let codes = index_codes c.args.scope.now (drop c.loop-selector.next c.args.indexes.now) in
+    let last = drop_all c.loop-selector.selector-index c.args.selectors.now c.loop-selector-test.false in
+    sym (append-nil code) ∙ ap (λ ss. code ++ selectors_code ss codes) (sym last) ∙ c.loop-selector.invariant.1
