@@ -20,7 +20,7 @@ use Rattle.typed_tree.specs.declared.tree.Whole.{Whole}
 use Rattle.typed_tree.specs.Accesses.{index_count, led}
 use Rattle.typed_tree.specs.WellFormed.{all_hold, is_well_formed_expr, is_well_formed_test, is_well_formed_whole, is_whole}
 use Rattle.typed_tree.specs.WellFormed.{leads_to_ordinal}
-use Rattle.typed_tree.specs.WellFormed.{leads_to_whole, length_of, may_copy, type_of, whole_indexes}
+use Rattle.typed_tree.specs.WellFormed.{leads_to_whole, length_of, may_copy, whole_indexes}
 use Rattle.meaning.specs.declared.store.Value.{Value}
 use Rattle.meaning.specs.declared.store.Value.TheVariants as value
 use Rattle.meaning.specs.Store.{Place, kept}
@@ -218,14 +218,8 @@ module _ (g : Setting) where
   -- ---- whole values
 
   -- a value is copied to as many cells as it has
-  copied_cells : (target : TypeId) (o : Option TypeId) (cells : ℕ) → may_copy g.tree.variables.items g.tree.types (sites g) target o cells ≡ true
-      → cells_of g.tree.types target ≡ cells
-  copied_cells target None cells e =
-      let parts = and_parts (have_one_length (string_length g.tree.types target) (Some cells)) (nat_eq (cells_of g.tree.types target) cells) e in
-      eqb-true (cells_of g.tree.types target) cells parts.1
-  copied_cells target (Some type_id) cells e =
-      let parts = and_parts (is_assignable g.tree.types target type_id) (nat_eq (cells_of g.tree.types target) cells) e in
-      eqb-true (cells_of g.tree.types target) cells parts.1
+  copied_cells : (target : TypeId) (cells : ℕ) → may_copy g.tree.variables.items g.tree.types (sites g) target cells ≡ true → cells_of g.tree.types target ≡ cells
+  copied_cells target cells e = eqb-true (cells_of g.tree.types target) cells e
 
   -- a row gives way to the components that got it
   row_stored : (p : Place) (type_id : TypeId) (d count place : ℕ) (base held : List Cell) (ns : List ℤ) (s : effect.State) → PartAt g p type_id d
@@ -263,7 +257,7 @@ module _ (g : Setting) where
         && (leads_to_whole g.tree.variables.items g.tree.types (sites g) type_id target.root target.selectors.items (length es)
         && ((all_hold (whole_indexes v (map (is_well_formed_expr g.tree.variables.items g.tree.types (sites g)) vs))
         && is_well_formed_whole g.tree.variables.items g.tree.types (sites g) v (length vs))
-        && may_copy g.tree.variables.items g.tree.types (sites g) type_id (type_of v) (length_of v))))
+        && may_copy g.tree.variables.items g.tree.types (sites g) type_id (length_of v))))
         (λ env. effect.enter number env >>= λ _. accessed target (map value_of es) env >>= λ q. whole_of v (map value_of vs) env >>= λ ns.
         store_all q (components_of env.types type_id) ns)
 
@@ -273,7 +267,7 @@ module _ (g : Setting) where
         let n = length_of v in
         let wf_value = all_hold (whole_indexes v (wells g value_indexes))
         && is_well_formed_whole g.tree.variables.items g.tree.types (sites g) v (length (expressions g value_indexes)) in
-        let may = may_copy g.tree.variables.items g.tree.types (sites g) type_id (type_of v) n in
+        let may = may_copy g.tree.variables.items g.tree.types (sites g) type_id n in
         let one = and_parts (are_well_formed_indexes g indexes)
         (leads_to_whole g.tree.variables.items g.tree.types (sites g) type_id target.root target.selectors.items count && (wf_value && may)) good in
         let two = and_parts (leads_to_whole g.tree.variables.items g.tree.types (sites g) type_id target.root target.selectors.items count) (wf_value
@@ -282,7 +276,7 @@ module _ (g : Setting) where
         let three = and_parts wf_value may two.1 in
         let four = and_parts (all_hold (whole_indexes v (wells g value_indexes)))
         (is_well_formed_whole g.tree.variables.items g.tree.types (sites g) v (length (expressions g value_indexes))) three.0 in
-        let cells = copied_cells type_id (type_of v) n three.1 in
+        let cells = copied_cells type_id n three.1 in
         let same : n ≡ row_length n = few_components g v (length (expressions g value_indexes)) four.1 in
         let more = start_within 1 (map (λ i. i + 1) (depths g indexes)) in
         let far = g.far in
