@@ -1,11 +1,13 @@
 -- What stands inside the statements of a typed tree, as code makes them.
-use Rattle.std.proofs.Common.{◌≡◌, ℕ, ℤ, Bool, List, [], ◌∷◌, ◌++◌, Option, Some, None, map, Box, Vec, sym, ap, ◌∙◌}
+use Rattle.std.proofs.Common.{◌≡◌, ℕ, ℤ, Bool, List, [], ◌∷◌, ◌++◌, Some, None, map, Box, Vec, sym, ap, ◌∙◌}
 use Rattle.std.specs.declared.alloc.Global.{Global}
 use Rattle.place.specs.declared.Place.{Place}
 use Rattle.typed_tree.specs.declared.tree.Access.{Access}
 use Rattle.typed_tree.specs.declared.tree.RangeTest.{RangeTest}
 use Rattle.typed_tree.specs.declared.tree.Direction.{Direction}
+use Rattle.types.specs.declared.form.TypeId.{TypeId}
 use Rattle.typed_tree.specs.declared.tree.WriteParameter.{WriteParameter}
+use Rattle.typed_tree.specs.declared.tree.Whole.{Whole}
 use Rattle.typed_tree.specs.declared.tree.Expr.{Expr}
 use Rattle.typed_tree.specs.declared.tree.Stmt.{Stmt}
 use Rattle.typed_tree.specs.declared.tree.Stmt.TheVariants as stmt
@@ -21,10 +23,18 @@ rolled s d is = ap inside_of (sym is) ∙ fold-roll-Stmt Inside statement_inside
 pub inside_empty : (number : ℕ) → inside_of (stmt.Empty number) ≡ no_loop
 inside_empty number = rolled (stmt.Empty number) (layer.Empty number) (stmt.rolls-Empty number)
 
-pub inside_assign : (number : ℕ) (becomes : Place) (target : Access) (fits : RangeTest) (value : Expr)
-    → inside_of (stmt.Assign number becomes target fits value) ≡ no_loop
-inside_assign number becomes target fits value =
-    rolled (stmt.Assign number becomes target fits value) (layer.Assign number becomes target fits value) (stmt.rolls-Assign number becomes target fits value)
+pub inside_assign : (number : ℕ) (becomes : Place) (target : Access) (indexes : Vec Expr Global) (fits : RangeTest) (value : Expr)
+    → inside_of (stmt.Assign number becomes target indexes fits value) ≡ no_loop
+inside_assign number becomes target indexes fits value =
+    rolled (stmt.Assign number becomes target indexes fits value) (layer.Assign number becomes target indexes fits value)
+    (stmt.rolls-Assign number becomes target indexes fits value)
+
+pub inside_copy : (number : ℕ) (becomes : Place) (target : Access) (indexes : Vec Expr Global) (type_id : TypeId) (value : Whole)
+    (value_indexes : Vec Expr Global)
+    → inside_of (stmt.Copy number becomes target indexes type_id value value_indexes) ≡ no_loop
+inside_copy number becomes target indexes type_id value value_indexes =
+    rolled (stmt.Copy number becomes target indexes type_id value value_indexes) (layer.Copy number becomes target indexes type_id value value_indexes)
+    (stmt.rolls-Copy number becomes target indexes type_id value value_indexes)
 
 pub inside_write : (number : ℕ) (name : Place) (parameters : Vec WriteParameter Global) (ends_line : Bool)
     → inside_of (stmt.Write number name parameters ends_line) ≡ no_loop

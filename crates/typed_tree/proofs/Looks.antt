@@ -1,11 +1,13 @@
 -- How the forms of a typed tree look, as code builds them; and that the look of a tree tells its entries, and whether its
 -- blocks are well formed.
-use Rattle.std.proofs.Common.{◌≡◌, ℕ, ℤ, Bool, [], ◌∷◌, ◌++◌, map, Some, None, sym, ap, ◌∙◌}
+use Rattle.std.proofs.Common.{◌≡◌, ℕ, ℤ, Bool, [], ◌∷◌, ◌++◌, length, map, Some, None, sym, ap, ◌∙◌}
 use Rattle.std.proofs.Common.{Box, Vec}
 use Rattle.std.specs.Prelude.{flat_map}
 use Rattle.std.specs.declared.alloc.Global.{Global}
+use Rattle.std.proofs.lemmas.List.{length-map}
 use Rattle.std.proofs.lemmas.List.Folds.{flat_map-map}
 use Rattle.place.specs.declared.Place.{Place}
+use Rattle.types.specs.declared.form.TypeId.{TypeId}
 use Rattle.typed_tree.specs.declared.tree.Access.{Access}
 use Rattle.typed_tree.specs.declared.tree.Monadic.{Monadic as MonadicOperation}
 use Rattle.typed_tree.specs.declared.tree.RangeTest.{RangeTest}
@@ -24,10 +26,10 @@ use Rattle.typed_tree.specs.declared.tree.Stmt.{Stmt}
 use Rattle.typed_tree.specs.declared.tree.Stmt.TheVariants as stmt
 use Rattle.typed_tree.specs.declared.tree.Stmt.TheOpen as stmt_layer
 use Rattle.typed_tree.specs.declared.tree.Stmt.TheFolds.{fold-roll-Stmt}
-use Rattle.typed_tree.specs.Look.{Look, link_look, expression_look, look_expr, look_link, look_parameter, statement_look, look_stmt, Constant, Variable}
+use Rattle.typed_tree.specs.Look.{Look, link_look, expression_look, look_expr, look_link, look_parameter, statement_look, look_stmt, Constant, Value}
 use Rattle.typed_tree.specs.Look.{Operation, Applied, Begins, Operator, Ends, Empty, Assign, Target, Fits, Write, Compound, If, Then, Else, While, Do, Repeat}
-use Rattle.typed_tree.specs.Look.{Until, For, Case, arms_look, look_whole, Compared}
-use Rattle.typed_tree.specs.WellFormed.{length_of}
+use Rattle.typed_tree.specs.Look.{Until, For, Case, arms_look, look_whole, look_access, Compared, WholeTarget, Copied}
+use Rattle.typed_tree.specs.WellFormed.{length_of, type_of}
 pub use Rattle.typed_tree.proofs.Measured.{entries_are, formed_are}
 
 -- ---- expressions
@@ -36,9 +38,13 @@ pub look_constant : (number : ℕ) (value : ℤ) → look_expr (tree.Constant nu
 look_constant number value =
     ap look_expr (sym (tree.rolls-Constant number value)) ∙ fold-roll-Expr Look Look expression_look link_look (layer.Constant number value)
 
-pub look_variable : (access : Access) (defined : ℕ) → look_expr (tree.Variable access defined) ≡ Variable access.number access.root defined ∷ []
-look_variable access defined =
-    ap look_expr (sym (tree.rolls-Variable access defined)) ∙ fold-roll-Expr Look Look expression_look link_look (layer.Variable access defined)
+pub look_variable : (access : Access) (indexes : Vec Expr Global) (defined : ℕ)
+    → look_expr (tree.Variable access indexes defined)
+    ≡ look_access access indexes.items (Value access.root access.selectors.items (length indexes.items) defined)
+look_variable access indexes defined =
+    ap look_expr (sym (tree.rolls-Variable access indexes defined))
+    ∙ fold-roll-Expr Look Look expression_look link_look (layer.Variable access indexes defined)
+    ∙ ap (λ count. look_access access indexes.items (Value access.root access.selectors.items count defined)) (length-map indexes.items look_expr)
 
 pub look_monadic : (number : ℕ) (operation : MonadicOperation) (operand : Box Expr Global)
     → look_expr (tree.Monadic number operation operand) ≡ Operation number ∷ (look_expr operand.value ++ (Applied operation ∷ []))
@@ -52,14 +58,15 @@ look_chain first rest =
     ap look_expr (sym (tree.rolls-Chain first rest)) ∙ fold-roll-Expr Look Look expression_look link_look (layer.Chain first rest)
     ∙ ap (λ links. Begins ∷ (look_expr first.value ++ (links ++ (Ends ∷ [])))) (flat_map-map (λ (row : Look). row) look_link rest.items)
 
-pub look_compare : (number : ℕ) (relation : Relation) (left right : Whole)
-    → look_expr (tree.Compare number relation left right)
+pub look_compare : (number : ℕ) (relation : Relation) (left : Whole) (left_indexes : Vec Expr Global) (right : Whole) (right_indexes : Vec Expr Global)
+    → look_expr (tree.Compare number relation left left_indexes right right_indexes)
     ≡ Begins
-    ∷ (look_whole left
-    ++ (Operator number (dyadic.Relation relation) ∷ (look_whole right ++ (Compared (length_of left) (length_of right) ∷ Ends ∷ []))))
-look_compare number relation left right =
-    ap look_expr (sym (tree.rolls-Compare number relation left right))
-    ∙ fold-roll-Expr Look Look expression_look link_look (layer.Compare number relation left right)
+    ∷ (look_whole left left_indexes.items
+    ++ (Operator number (dyadic.Relation relation)
+    ∷ (look_whole right right_indexes.items ++ (Compared (length_of left) (length_of right) ∷ Ends ∷ []))))
+look_compare number relation left left_indexes right right_indexes =
+    ap look_expr (sym (tree.rolls-Compare number relation left left_indexes right right_indexes))
+    ∙ fold-roll-Expr Look Look expression_look link_look (layer.Compare number relation left left_indexes right right_indexes)
 
 -- an operator and its right operand, as they are made
 pub look_linked : (link : layer.Link-F Expr Link) → look_link (roll-Link link) ≡ Operator link.number link.operation ∷ look_expr link.operand
@@ -74,12 +81,23 @@ look_link_out link = fold_out-Link Look Look expression_look link_look link
 pub look_empty : (number : ℕ) → look_stmt (stmt.Empty number) ≡ Empty number ∷ []
 look_empty number = ap look_stmt (sym (stmt.rolls-Empty number)) ∙ fold-roll-Stmt Look statement_look (stmt_layer.Empty number)
 
-pub look_assign : (number : ℕ) (becomes : Place) (target : Access) (fits : RangeTest) (value : Expr)
-    → look_stmt (stmt.Assign number becomes target fits value)
-    ≡ Assign number becomes ∷ Target target.number target.root ∷ (look_expr value ++ (Fits fits ∷ []))
-look_assign number becomes target fits value =
-    ap look_stmt (sym (stmt.rolls-Assign number becomes target fits value))
-    ∙ fold-roll-Stmt Look statement_look (stmt_layer.Assign number becomes target fits value)
+pub look_assign : (number : ℕ) (becomes : Place) (target : Access) (indexes : Vec Expr Global) (fits : RangeTest) (value : Expr)
+    → look_stmt (stmt.Assign number becomes target indexes fits value)
+    ≡ Assign number becomes
+    ∷ (look_access target indexes.items (Target target.root target.selectors.items (length indexes.items)) ++ (look_expr value ++ (Fits fits ∷ [])))
+look_assign number becomes target indexes fits value =
+    ap look_stmt (sym (stmt.rolls-Assign number becomes target indexes fits value))
+    ∙ fold-roll-Stmt Look statement_look (stmt_layer.Assign number becomes target indexes fits value)
+
+pub look_copy : (number : ℕ) (becomes : Place) (target : Access) (indexes : Vec Expr Global) (type_id : TypeId) (value : Whole)
+    (value_indexes : Vec Expr Global)
+    → look_stmt (stmt.Copy number becomes target indexes type_id value value_indexes)
+    ≡ Assign number becomes
+    ∷ (look_access target indexes.items (WholeTarget target.root target.selectors.items (length indexes.items) type_id)
+    ++ (look_whole value value_indexes.items ++ (Copied type_id (type_of value) (length_of value) ∷ [])))
+look_copy number becomes target indexes type_id value value_indexes =
+    ap look_stmt (sym (stmt.rolls-Copy number becomes target indexes type_id value value_indexes))
+    ∙ fold-roll-Stmt Look statement_look (stmt_layer.Copy number becomes target indexes type_id value value_indexes)
 
 pub look_write : (number : ℕ) (name : Place) (parameters : Vec WriteParameter Global) (ends_line : Bool)
     → look_stmt (stmt.Write number name parameters ends_line) ≡ Write number name ends_line ∷ (flat_map look_parameter parameters.items ++ (Ends ∷ []))

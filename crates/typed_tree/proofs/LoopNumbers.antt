@@ -1,6 +1,6 @@
 -- What the look of a tree tells of its loops: their numbers.
 use Rattle.std.specs.declared.alloc.Global.{Global}
-use Rattle.std.proofs.Common.{Vec, ℤ, ◌≡◌, ℕ, List, [], ◌∷◌, ◌++◌, map, Option, Some, None, refl, sym, ap, ap₂, ◌∙◌, append-nil}
+use Rattle.std.proofs.Common.{Vec, ℤ, ◌≡◌, ℕ, List, [], ◌∷◌, ◌++◌, length, map, Option, Some, None, refl, sym, ap, ap₂, ◌∙◌, append-nil}
 use Rattle.std.specs.Prelude.{flat_map}
 use Rattle.std.proofs.lemmas.List.{map-append}
 use Rattle.std.proofs.lemmas.List.Concat.{flat_map-append}
@@ -10,7 +10,10 @@ use Rattle.typed_tree.specs.declared.tree.Width.{Width as TotalWidth}
 use Rattle.typed_tree.specs.declared.tree.WriteParameter.{WriteParameter}
 use Rattle.typed_tree.specs.declared.tree.Written.{Written as WrittenValue}
 use Rattle.typed_tree.specs.declared.tree.Written.TheVariants.{Ordinal, String}
-use Rattle.typed_tree.specs.declared.tree.Whole.TheVariants.{Text as TextOf}
+use Rattle.typed_tree.specs.declared.tree.Access.{Access}
+use Rattle.typed_tree.specs.declared.tree.Dyadic.TheVariants as dyadic
+use Rattle.typed_tree.specs.declared.tree.Whole.{Whole}
+use Rattle.typed_tree.specs.declared.tree.Whole.TheVariants.{Text as TextOf, Variable as WholeOf}
 use Rattle.typed_tree.specs.declared.tree.Expr.{Expr}
 use Rattle.typed_tree.specs.declared.tree.Link.{Link}
 use Rattle.typed_tree.specs.declared.tree.Expr.TheOpen.{Expr-F, Link-F}
@@ -18,14 +21,15 @@ use Rattle.typed_tree.specs.declared.tree.Expr.TheOpen.Expr-F.{Constant, Variabl
 use Rattle.typed_tree.specs.declared.tree.Expr.TheFolds.{map-Expr, map-Link, fold-roll-Expr, fold-roll-Link, ind-Expr}
 use Rattle.typed_tree.specs.declared.tree.Stmt.{Stmt}
 use Rattle.typed_tree.specs.declared.tree.Stmt.TheOpen.{Stmt-F}
-use Rattle.typed_tree.specs.declared.tree.Stmt.TheOpen.Stmt-F.{Empty, Assign, Write, Compound, If, While, Repeat, For, Case}
+use Rattle.typed_tree.specs.declared.tree.Stmt.TheOpen.Stmt-F.{Empty, Assign, Write, Compound, If, While, Repeat, For, Case, Copy}
 use Rattle.typed_tree.specs.declared.tree.Stmt.TheFolds.{map-Stmt, fold-roll-Stmt, ind-Stmt}
 use Rattle.typed_tree.specs.Entries.{joined}
+use Rattle.typed_tree.specs.WellFormed.{length_of, type_of}
 use Rattle.typed_tree.specs.Loops.{Inside, statement_inside, inside_of, loops_of}
 use Rattle.typed_tree.specs.Look.{Mark, Look, link_look, expression_look, look_expr, look_link, look_width, look_parameter, arms_look, statement_look}
-use Rattle.typed_tree.specs.Look.{look_stmt, look_block, look_written}
+use Rattle.typed_tree.specs.Look.{look_stmt, look_block, look_written, access_look, whole_look, look_access, look_whole, Value, WholeValue, Target, WholeTarget}
 use Rattle.typed_tree.specs.Look.{tree_look, mark_loops, loops_of_look, Ends, Then, Else, Do, Until, Fits as FitsMark, Written as WrittenMark}
-use Rattle.typed_tree.specs.Look.{Width as WidthMark, BlockEnds, Applied}
+use Rattle.typed_tree.specs.Look.{Width as WidthMark, BlockEnds, Applied, Operator, Compared, Copied, WrittenString}
 
 -- a form, and then one that is no loop
 ended : (look : Look) (end : Mark) → mark_loops end ≡ [] → loops_of_look (look ++ (end ∷ [])) ≡ loops_of_look look
@@ -50,6 +54,17 @@ silent_mapped : {X : Type 0} (look : X → Look) → ((x : X) → loops_of_look 
 silent_mapped look each [] = refl
 silent_mapped look each (x ∷ xs) = behind (look x) (flat_map look xs) (each x) ∙ silent_mapped look each xs
 
+-- an access has none, where its index expressions have none
+silent_access : (access : Access) (looks : List Look) (does : Mark) → loops_of_look (joined looks) ≡ [] → mark_loops does ≡ []
+    → loops_of_look (access_look access looks does) ≡ []
+silent_access access looks does none silent = ended (joined looks) does silent ∙ none
+
+-- the same of a whole value
+silent_whole : (value : Whole) (looks : List Look) → loops_of_look (joined looks) ≡ [] → loops_of_look (whole_look value looks) ≡ []
+silent_whole (TextOf number characters) looks none = refl
+silent_whole (WholeOf access type_id cells defined) looks none =
+    silent_access access looks (WholeValue access.root access.selectors.items (length looks) type_id cells defined) none refl
+
 abbrev bare : Expr-F (Silent look_expr) (Silent look_link) → Expr-F Expr Link
 bare = map-Expr (Silent look_expr) (Silent look_link) Expr Link (λ e. e.0) (λ l. l.0)
 
@@ -59,12 +74,20 @@ bare_link = map-Link (Silent look_expr) (Silent look_link) Expr Link (λ e. e.0)
 silent_layer : (y : Expr-F (Silent look_expr) (Silent look_link))
     → loops_of_look (expression_look (map-Expr Expr Link Look Look look_expr look_link (bare y))) ≡ []
 silent_layer (Constant number value) = refl
-silent_layer (Variable access defined) = refl
+silent_layer (Variable access indexes defined) =
+    let looks = map look_expr (map (λ e. e.0) indexes.items) in
+    silent_access access looks (Value access.root access.selectors.items (length looks) defined) (silent_joined look_expr indexes.items) refl
 silent_layer (MonadicOf number operation operand) = ended (look_expr operand.value.0) (Applied operation) refl ∙ operand.value.1
 silent_layer (Chain first rest) =
     let links = joined (map look_link (map (λ l. l.0) rest.items)) in
     behind (look_expr first.value.0) (links ++ (Ends ∷ [])) first.value.1 ∙ ended links Ends refl ∙ silent_joined look_link rest.items
-silent_layer (Compare number relation (TextOf left a) (TextOf right b)) = refl
+silent_layer (Compare number relation left left_indexes right right_indexes) =
+    let first = whole_look left (map look_expr (map (λ e. e.0) left_indexes.items)) in
+    let second = whole_look right (map look_expr (map (λ e. e.0) right_indexes.items)) in
+    let end = Compared (length_of left) (length_of right) ∷ Ends ∷ [] in
+    behind first (Operator number (dyadic.Relation relation) ∷ (second ++ end))
+    (silent_whole left (map look_expr (map (λ e. e.0) left_indexes.items)) (silent_joined look_expr left_indexes.items))
+    ∙ behind second end (silent_whole right (map look_expr (map (λ e. e.0) right_indexes.items)) (silent_joined look_expr right_indexes.items))
 
 silent_link : (y : Link-F (Silent look_expr) (Silent look_link))
     → loops_of_look (link_look (map-Link Expr Link Look Look look_expr look_link (bare_link y))) ≡ []
@@ -82,13 +105,18 @@ silent_expr =
     ∙ ap (λ z. loops_of_look (link_look (map-Link Expr Link Look Look look_expr look_link z))) (sym is)
     ∙ silent_link y)
 
+silent_indexes : (indexes : List Expr) → loops_of_look (joined (map look_expr indexes)) ≡ []
+silent_indexes [] = refl
+silent_indexes (index ∷ indexes) = behind (look_expr index) (joined (map look_expr indexes)) (silent_expr index) ∙ silent_indexes indexes
+
 silent_width : (width : Option TotalWidth) → loops_of_look (look_width width) ≡ []
 silent_width None = refl
 silent_width (Some width) = ended (look_expr width.value) (WidthMark width.site) refl ∙ silent_expr width.value
 
 silent_written : (value : WrittenValue) → loops_of_look (look_written value) ≡ []
 silent_written (Ordinal value representation) = ended (look_expr value) (WrittenMark representation) refl ∙ silent_expr value
-silent_written (String (TextOf number characters)) = refl
+silent_written (String value indexes) =
+    ended (look_whole value indexes.items) WrittenString refl ∙ silent_whole value (map look_expr indexes.items) (silent_indexes indexes.items)
 
 silent_parameter : (parameter : WriteParameter) → loops_of_look (look_parameter parameter) ≡ []
 silent_parameter parameter =
@@ -141,7 +169,18 @@ numbers_chosen condition look rest first second one two =
 numbers_layer : (y : Stmt-F Numbered)
     → loops_of_look (statement_look (map-Stmt Stmt Look look_stmt (bare_stmt y))) ≡ numbers (statement_inside (map-Stmt Stmt Inside inside_of (bare_stmt y)))
 numbers_layer (Empty number) = refl
-numbers_layer (Assign number becomes target fits value) = ended (look_expr value) (FitsMark fits) refl ∙ silent_expr value
+numbers_layer (Assign number becomes target indexes fits value) =
+    let does = Target target.root target.selectors.items (length indexes.items) in
+    behind (look_access target indexes.items does) (look_expr value ++ (FitsMark fits ∷ []))
+    (silent_access target (map look_expr indexes.items) does (silent_indexes indexes.items) refl)
+    ∙ ended (look_expr value) (FitsMark fits) refl ∙ silent_expr value
+numbers_layer (Copy number becomes target indexes type_id value value_indexes) =
+    let does = WholeTarget target.root target.selectors.items (length indexes.items) type_id in
+    let end = Copied type_id (type_of value) (length_of value) in
+    behind (look_access target indexes.items does) (look_whole value value_indexes.items ++ (end ∷ []))
+    (silent_access target (map look_expr indexes.items) does (silent_indexes indexes.items) refl)
+    ∙ ended (look_whole value value_indexes.items) end refl
+    ∙ silent_whole value (map look_expr value_indexes.items) (silent_indexes value_indexes.items)
 numbers_layer (Write number name parameters ends_line) =
     ended (flat_map look_parameter parameters.items) Ends refl ∙ silent_mapped look_parameter silent_parameter parameters.items
 numbers_layer (Compound number statements) = ended (joined (map look_stmt (map (λ s. s.0) statements.items))) Ends refl ∙ numbers_joined statements.items

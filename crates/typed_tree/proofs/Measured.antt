@@ -5,6 +5,7 @@ use Rattle.std.proofs.Common.{refl, sym, ap, ap₂, ◌∙◌, append-nil}
 use Rattle.std.proofs.Math.Bool.{and-true}
 use Rattle.std.specs.Prelude.{flat_map}
 use Rattle.std.specs.List.{list_all}
+use Rattle.std.proofs.lemmas.List.{length-map}
 use Rattle.std.proofs.lemmas.List.Concat.{flat_map-append}
 use Rattle.std.proofs.lemmas.List.Folds.{list_all-append, list_all-map}
 use Rattle.typed_tree.specs.declared.tree.Tree.{Tree}
@@ -14,7 +15,11 @@ use Rattle.typed_tree.specs.declared.tree.WriteParameter.{WriteParameter}
 use Rattle.typed_tree.specs.declared.tree.Written.{Written as WrittenValue}
 use Rattle.typed_tree.specs.declared.tree.Written.TheVariants.{Ordinal, String}
 use Rattle.typed_tree.specs.declared.tree.Whole.{Whole}
-use Rattle.typed_tree.specs.declared.tree.Whole.TheVariants.{Text as TextOf}
+use Rattle.typed_tree.specs.declared.tree.Access.{Access}
+use Rattle.typed_tree.specs.declared.tree.Variable.{Variable as DeclaredVariable}
+use Rattle.types.specs.declared.form.TypeForm.{TypeForm}
+use Rattle.typed_tree.specs.declared.tree.Dyadic.TheVariants as dyadic
+use Rattle.typed_tree.specs.declared.tree.Whole.TheVariants.{Text as TextOf, Variable as WholeOf}
 use Rattle.typed_tree.specs.declared.tree.Expr.{Expr}
 use Rattle.typed_tree.specs.declared.tree.Link.{Link}
 use Rattle.typed_tree.specs.declared.tree.Expr.TheOpen.{Expr-F, Link-F}
@@ -22,18 +27,19 @@ use Rattle.typed_tree.specs.declared.tree.Expr.TheOpen.Expr-F.{Constant, Variabl
 use Rattle.typed_tree.specs.declared.tree.Expr.TheFolds.{fold-Expr, fold-Link, map-Expr, map-Link, fold-roll-Expr, fold-roll-Link, ind-Expr}
 use Rattle.typed_tree.specs.declared.tree.Stmt.{Stmt}
 use Rattle.typed_tree.specs.declared.tree.Stmt.TheOpen.{Stmt-F}
-use Rattle.typed_tree.specs.declared.tree.Stmt.TheOpen.Stmt-F.{Empty, Assign, Write, Compound, If, While, Repeat, For, Case}
+use Rattle.typed_tree.specs.declared.tree.Stmt.TheOpen.Stmt-F.{Empty, Assign, Write, Compound, If, While, Repeat, For, Case, Copy}
 use Rattle.typed_tree.specs.declared.tree.Stmt.TheFolds.{fold-Stmt, map-Stmt, fold-roll-Stmt, ind-Stmt}
 use Rattle.typed_tree.specs.Entries.{joined, expression_entries, link_entries, entries_of_expression, entries_of_width, entries_of_parameter, statement_entries}
-use Rattle.typed_tree.specs.Entries.{entries_of_statement, entries_of, entries_of_whole, entries_of_written}
+use Rattle.typed_tree.specs.Entries.{entries_of_statement, entries_of, entries_of_written, access_entries, whole_entries}
 use Rattle.typed_tree.specs.WellFormed.{all_hold, is_whole, monadic_is_well_formed, dyadic_is_well_formed, link_is_well_formed, expr_is_well_formed}
 use Rattle.typed_tree.specs.WellFormed.{is_well_formed_expr, is_well_formed_link, is_well_formed_width, is_well_formed_parameter, is_well_formed_test}
-use Rattle.typed_tree.specs.WellFormed.{are_characters, length_of, is_well_formed_whole, is_well_formed_written}
+use Rattle.typed_tree.specs.WellFormed.{are_characters, length_of, type_of, whole_indexes, is_well_formed_whole, is_well_formed_written}
+use Rattle.typed_tree.specs.WellFormed.{leads_to_ordinal, are_well_formed, is_well_formed_value}
 use Rattle.typed_tree.specs.WellFormed.{are_whole, stmt_is_well_formed, is_well_formed_stmt, is_well_formed_block}
 use Rattle.typed_tree.specs.Look.{Mark, Look, link_look, expression_look, look_expr, look_link, look_width, look_parameter, arms_look, statement_look}
 use Rattle.typed_tree.specs.Look.{look_stmt, look_block, tree_look, mark_entries, entries_of_look, is_formed_mark, Ends, If as IfMark, Then, Else, Do, Until}
 use Rattle.typed_tree.specs.Look.{Fits as FitsMark, Written as WrittenMark, Width as WidthMark, BlockEnds, Compared, WrittenString, look_whole, look_written}
-use Rattle.typed_tree.specs.Look.{Applied}
+use Rattle.typed_tree.specs.Look.{Applied, Operator, Copied, access_look, whole_look, look_access, Value, WholeValue, Target, WholeTarget}
 
 -- ---- a measure of looks that is a fold over trees
 
@@ -126,9 +132,26 @@ entries_mapped look entries each [] = refl
 entries_mapped look entries each (x ∷ xs) =
     flat_map-append mark_entries (look x) (flat_map look xs) ∙ ap₂ (λ a b. a ++ b) (each x) (entries_mapped look entries each xs)
 
+-- an access is entered before its index expressions, which enter so many rows
+entries_access : (access : Access) (looks : List Look) (rows : List (List ℕ)) (does : Mark) → entries_of_look (joined looks) ≡ joined rows
+    → mark_entries does ≡ []
+    → entries_of_look (access_look access looks does) ≡ access_entries access rows
+entries_access access looks rows does told silent = ap (λ entries. access.number ∷ entries) (entries_ended (joined looks) does silent ∙ told)
+
+-- the same of a whole value
+entries_whole : (value : Whole) (looks : List Look) (rows : List (List ℕ)) → entries_of_look (joined looks) ≡ joined rows
+    → entries_of_look (whole_look value looks) ≡ whole_entries value rows
+entries_whole (TextOf number characters) looks rows told = refl
+entries_whole (WholeOf access type_id cells defined) looks rows told =
+    entries_access access looks rows (WholeValue access.root access.selectors.items (length looks) type_id cells defined) told refl
+
 entries_layer : Layers entries_of_look expression_entries link_entries
 entries_layer (Constant number value) = refl
-entries_layer (Variable access defined) = refl
+entries_layer (Variable access indexes defined) =
+    let inside = map (λ e. e.0) indexes.items in
+    let looks = map look_expr inside in
+    entries_access access looks (map entries_of_expression inside) (Value access.root access.selectors.items (length looks) defined)
+    (entries_joined look_expr entries_of_expression indexes.items) refl
 entries_layer (MonadicOf number operation operand) =
     ap (λ entries. number ∷ entries) (entries_ended (look_expr operand.value.0) (Applied operation) refl ∙ operand.value.1)
 entries_layer (Chain first rest) =
@@ -136,7 +159,18 @@ entries_layer (Chain first rest) =
     flat_map-append mark_entries (look_expr first.value.0) (links ++ (Ends ∷ []))
     ∙ ap₂ (λ a b. a ++ b) first.value.1
     (entries_ended links Ends refl ∙ entries_joined look_link (of_link entries_of_look expression_entries link_entries) rest.items)
-entries_layer (Compare number relation (TextOf left a) (TextOf right b)) = refl
+entries_layer (Compare number relation left left_indexes right right_indexes) =
+    let inside = map (λ e. e.0) left_indexes.items in
+    let others = map (λ e. e.0) right_indexes.items in
+    let second = whole_look right (map look_expr others) in
+    let end = Compared (length_of left) (length_of right) ∷ Ends ∷ [] in
+    flat_map-append mark_entries (whole_look left (map look_expr inside)) (Operator number (dyadic.Relation relation) ∷ (second ++ end))
+    ∙ ap₂ (λ a b. a ++ (number ∷ b))
+    (entries_whole left (map look_expr inside) (map entries_of_expression inside)
+    (entries_joined look_expr entries_of_expression left_indexes.items))
+    (flat_map-append mark_entries second end ∙ append-nil (entries_of_look second)
+    ∙ entries_whole right (map look_expr others) (map entries_of_expression others)
+    (entries_joined look_expr entries_of_expression right_indexes.items))
 
 entries_link : LinkLayers entries_of_look expression_entries link_entries
 entries_link y = ap (λ entries. y.number ∷ entries) y.operand.1
@@ -144,13 +178,20 @@ entries_link y = ap (λ entries. y.number ∷ entries) y.operand.1
 entries_expr : (e : Expr) → entries_of_look (look_expr e) ≡ entries_of_expression e
 entries_expr = measured_expr entries_of_look expression_entries link_entries entries_layer entries_link
 
+entries_indexes : (indexes : List Expr) → entries_of_look (joined (map look_expr indexes)) ≡ joined (map entries_of_expression indexes)
+entries_indexes [] = refl
+entries_indexes (index ∷ indexes) =
+    flat_map-append mark_entries (look_expr index) (joined (map look_expr indexes)) ∙ ap₂ (λ a b. a ++ b) (entries_expr index) (entries_indexes indexes)
+
 entries_width : (width : Option TotalWidth) → entries_of_look (look_width width) ≡ entries_of_width width
 entries_width None = refl
 entries_width (Some width) = entries_ended (look_expr width.value) (WidthMark width.site) refl ∙ entries_expr width.value
 
 entries_written : (value : WrittenValue) → entries_of_look (look_written value) ≡ entries_of_written value
 entries_written (Ordinal value representation) = entries_ended (look_expr value) (WrittenMark representation) refl ∙ entries_expr value
-entries_written (String (TextOf number characters)) = refl
+entries_written (String value indexes) =
+    entries_ended (look_whole value indexes.items) WrittenString refl
+    ∙ entries_whole value (map look_expr indexes.items) (map entries_of_expression indexes.items) (entries_indexes indexes.items)
 
 entries_parameter : (parameter : WriteParameter) → entries_of_look (look_parameter parameter) ≡ entries_of_parameter parameter
 entries_parameter parameter =
@@ -181,8 +222,24 @@ entries_stmt_layer : (y : Stmt-F (ToldStmt entries_of_look statement_entries))
     → entries_of_look (statement_look (map-Stmt Stmt Look look_stmt (stmt_opened entries_of_look statement_entries y)))
     ≡ statement_entries (map-Stmt Stmt (List ℕ) entries_of_statement (stmt_opened entries_of_look statement_entries y))
 entries_stmt_layer (Empty number) = refl
-entries_stmt_layer (Assign number becomes target fits value) =
-    ap (λ entries. number ∷ target.number ∷ entries) (entries_ended (look_expr value) (FitsMark fits) refl ∙ entries_expr value)
+entries_stmt_layer (Assign number becomes target indexes fits value) =
+    let does = Target target.root target.selectors.items (length indexes.items) in
+    ap (λ entries. number ∷ entries)
+    (flat_map-append mark_entries (look_access target indexes.items does) (look_expr value ++ (FitsMark fits ∷ []))
+    ∙ ap₂ (λ a b. a ++ b)
+    (entries_access target (map look_expr indexes.items) (map entries_of_expression indexes.items) does (entries_indexes indexes.items) refl)
+    (entries_ended (look_expr value) (FitsMark fits) refl ∙ entries_expr value))
+entries_stmt_layer (Copy number becomes target indexes type_id value value_indexes) =
+    let does = WholeTarget target.root target.selectors.items (length indexes.items) type_id in
+    let copied = look_whole value value_indexes.items in
+    let end = Copied type_id (type_of value) (length_of value) in
+    ap (λ entries. number ∷ entries)
+    (flat_map-append mark_entries (look_access target indexes.items does) (copied ++ (end ∷ []))
+    ∙ ap₂ (λ a b. a ++ b)
+    (entries_access target (map look_expr indexes.items) (map entries_of_expression indexes.items) does (entries_indexes indexes.items) refl)
+    (entries_ended copied end refl
+    ∙ entries_whole value (map look_expr value_indexes.items) (map entries_of_expression value_indexes.items)
+    (entries_indexes value_indexes.items)))
 entries_stmt_layer (Write number name parameters ends_line) =
     ap (λ entries. number ∷ entries)
     (entries_ended (flat_map look_parameter parameters.items) Ends refl
@@ -237,9 +294,14 @@ and_turned true false = refl
 and_turned false true = refl
 and_turned false false = refl
 
-and_compared : (a b c : Bool) → (a && (b && (c && true))) ≡ (a && (b && c))
-and_compared a b true = refl
-and_compared a b false = refl
+and_assigned : (a b c d : Bool) → ((a && b) && (c && (d && true))) ≡ (a && (b && (c && d)))
+and_assigned true true c d = ap (λ b. c && b) (and-true d)
+and_assigned true false c d = refl
+and_assigned false b c d = refl
+
+and_compared : (a b c d e : Bool) → ((a && b) && ((c && d) && (e && true))) ≡ (a && (b && (c && (d && e))))
+and_compared a b true d e = and_assigned a b d e
+and_compared a b false d e = and_assigned a b false e
 
 and_shifted : (a b c d : Bool) → (a && (b && (c && d))) ≡ ((a && c) && (b && d))
 and_shifted true true c d = refl
@@ -247,15 +309,19 @@ and_shifted true false true d = refl
 and_shifted true false false d = refl
 and_shifted false b c d = refl
 
-module _ (variables sites : ℕ) where
+-- as many looks as tests
+so_many : {X : Type 0} (look : X → Look) (test : X → Bool) (xs : List X) → length (map look xs) ≡ length (map test xs)
+so_many look test xs = length-map xs look ∙ sym (length-map xs test)
+
+module _ (variables : List DeclaredVariable) (types : List TypeForm) (sites : ℕ) where
   abbrev is_formed : Look → Bool
-  is_formed = list_all (is_formed_mark variables sites)
+  is_formed = list_all (is_formed_mark variables types sites)
 
   formed_cut : (look more : Look) → is_formed (look ++ more) ≡ (is_formed look && is_formed more)
-  formed_cut look more = list_all-append (is_formed_mark variables sites) look more
+  formed_cut look more = list_all-append (is_formed_mark variables types sites) look more
 
   -- the end of a form that is always well formed
-  formed_ended : (look : Look) (end : Mark) → is_formed_mark variables sites end ≡ true → is_formed (look ++ (end ∷ [])) ≡ is_formed look
+  formed_ended : (look : Look) (end : Mark) → is_formed_mark variables types sites end ≡ true → is_formed (look ++ (end ∷ [])) ≡ is_formed look
   formed_ended look end fine = formed_cut look (end ∷ []) ∙ ap (λ b. is_formed look && (b && true)) fine ∙ and-true (is_formed look)
 
   formed_joined : {X : Type 0} (look : X → Look) (test : X → Bool) (xs : List (Told (λ x. is_formed (look x)) test))
@@ -268,58 +334,105 @@ module _ (variables sites : ℕ) where
   formed_mapped look test each [] = refl
   formed_mapped look test each (x ∷ xs) = formed_cut (look x) (flat_map look xs) ∙ ap₂ (λ a b. a && b) (each x) (formed_mapped look test each xs)
 
-  formed_layer : Layers is_formed (expr_is_well_formed variables sites) (link_is_well_formed variables sites)
+  -- an access is well formed where its index expressions are, which these tests tell
+  formed_access : (access : Access) (looks : List Look) (tests : List Bool) (does : Mark) → is_formed (joined looks) ≡ all_hold tests
+      → is_formed (access_look access looks does) ≡ (all_hold tests && is_formed_mark variables types sites does)
+  formed_access access looks tests does told =
+      formed_cut (joined looks) (does ∷ []) ∙ ap₂ (λ a b. a && b) told (and-true (is_formed_mark variables types sites does))
+
+  -- the same of a whole value
+  formed_whole : (value : Whole) (looks : List Look) (tests : List Bool) (count : ℕ) → is_formed (joined looks) ≡ all_hold tests → length looks ≡ count
+      → is_formed (whole_look value looks) ≡ (all_hold (whole_indexes value tests) && is_well_formed_whole variables types sites value count)
+  formed_whole (TextOf number characters) looks tests count told counted = and-true (are_characters characters.items)
+  formed_whole (WholeOf access type_id cells defined) looks tests count told counted =
+      formed_access access looks tests (WholeValue access.root access.selectors.items (length looks) type_id cells defined) told
+      ∙ ap (λ n. all_hold tests && is_well_formed_whole variables types sites (WholeOf access type_id cells defined) n) counted
+
+  formed_layer : Layers is_formed (expr_is_well_formed variables types sites) (link_is_well_formed variables types sites)
   formed_layer (Constant number value) = and-true (is_whole value)
-  formed_layer (Variable access defined) = and-true (nat_lt access.root variables && nat_lt defined sites)
+  formed_layer (Variable access indexes defined) =
+      let inside = map (λ e. e.0) indexes.items in
+      let test = is_well_formed_expr variables types sites in
+      formed_access access (map look_expr inside) (map test inside)
+      (Value access.root access.selectors.items (length (map look_expr inside)) defined)
+      (formed_joined look_expr test indexes.items)
+      ∙ ap
+      (λ n. all_hold (map test inside) && (leads_to_ordinal variables types sites access.root access.selectors.items n && nat_lt defined sites))
+      (so_many look_expr test inside)
   formed_layer (MonadicOf number operation operand) =
-      let test = monadic_is_well_formed variables sites operation in
+      let test = monadic_is_well_formed variables types sites operation in
       formed_cut (look_expr operand.value.0) (Applied operation ∷ []) ∙ ap (λ b. b && (test && true)) operand.value.1
-      ∙ and_turned (is_well_formed_expr variables sites operand.value.0) test
+      ∙ and_turned (is_well_formed_expr variables types sites operand.value.0) test
   formed_layer (Chain first rest) =
       let links = joined (map look_link (map (λ l. l.0) rest.items)) in
       formed_cut (look_expr first.value.0) (links ++ (Ends ∷ []))
-      ∙ ap₂ (λ a b. a && b) first.value.1 (formed_ended links Ends refl ∙ formed_joined look_link (is_well_formed_link variables sites) rest.items)
-  formed_layer (Compare number relation (TextOf left a) (TextOf right b)) =
-      and_compared (are_characters a.items) (are_characters b.items) (nat_eq (length a.items) (length b.items))
+      ∙ ap₂ (λ a b. a && b) first.value.1 (formed_ended links Ends refl ∙ formed_joined look_link (is_well_formed_link variables types sites) rest.items)
+  formed_layer (Compare number relation left left_indexes right right_indexes) =
+      let inside = map (λ e. e.0) left_indexes.items in
+      let others = map (λ e. e.0) right_indexes.items in
+      let test = is_well_formed_expr variables types sites in
+      let second = whole_look right (map look_expr others) in
+      let end = Compared (length_of left) (length_of right) ∷ Ends ∷ [] in
+      formed_cut (whole_look left (map look_expr inside)) (Operator number (dyadic.Relation relation) ∷ (second ++ end))
+      ∙ ap₂ (λ a b. a && b)
+      (formed_whole left (map look_expr inside) (map test inside) (length (map test inside)) (formed_joined look_expr test left_indexes.items)
+      (so_many look_expr test inside))
+      (formed_cut second end
+      ∙ ap (λ a. a && (nat_eq (length_of left) (length_of right) && true))
+      (formed_whole right (map look_expr others) (map test others) (length (map test others)) (formed_joined look_expr test right_indexes.items)
+      (so_many look_expr test others)))
+      ∙ and_compared (all_hold (whole_indexes left (map test inside))) (is_well_formed_whole variables types sites left (length (map test inside)))
+      (all_hold (whole_indexes right (map test others))) (is_well_formed_whole variables types sites right (length (map test others)))
+      (nat_eq (length_of left) (length_of right))
 
-  formed_link : LinkLayers is_formed (expr_is_well_formed variables sites) (link_is_well_formed variables sites)
-  formed_link y = ap (λ b. dyadic_is_well_formed variables sites y.operation && b) y.operand.1
+  formed_link : LinkLayers is_formed (expr_is_well_formed variables types sites) (link_is_well_formed variables types sites)
+  formed_link y = ap (λ b. dyadic_is_well_formed variables types sites y.operation && b) y.operand.1
 
-  formed_expr : (e : Expr) → is_formed (look_expr e) ≡ is_well_formed_expr variables sites e
-  formed_expr = measured_expr is_formed (expr_is_well_formed variables sites) (link_is_well_formed variables sites) formed_layer formed_link
+  formed_expr : (e : Expr) → is_formed (look_expr e) ≡ is_well_formed_expr variables types sites e
+  formed_expr = measured_expr is_formed (expr_is_well_formed variables types sites) (link_is_well_formed variables types sites) formed_layer formed_link
 
-  formed_width : (width : Option TotalWidth) → is_formed (look_width width) ≡ is_well_formed_width variables sites width
+  formed_indexes : (indexes : List Expr) → is_formed (joined (map look_expr indexes)) ≡ are_well_formed variables types sites indexes
+  formed_indexes [] = refl
+  formed_indexes (index ∷ indexes) =
+      formed_cut (look_expr index) (joined (map look_expr indexes)) ∙ ap₂ (λ a b. a && b) (formed_expr index) (formed_indexes indexes)
+
+  formed_value : (value : Whole) (indexes : List Expr) → is_formed (look_whole value indexes) ≡ is_well_formed_value variables types sites value indexes
+  formed_value value indexes =
+      formed_whole value (map look_expr indexes) (map (is_well_formed_expr variables types sites) indexes) (length indexes) (formed_indexes indexes)
+      (length-map indexes look_expr)
+
+  formed_width : (width : Option TotalWidth) → is_formed (look_width width) ≡ is_well_formed_width variables types sites width
   formed_width None = refl
   formed_width (Some width) =
       formed_cut (look_expr width.value) (WidthMark width.site ∷ []) ∙ ap (λ b. b && (nat_lt width.site sites && true)) (formed_expr width.value)
-      ∙ and_turned (is_well_formed_expr variables sites width.value) (nat_lt width.site sites)
+      ∙ and_turned (is_well_formed_expr variables types sites width.value) (nat_lt width.site sites)
 
-  formed_written : (value : WrittenValue) → is_formed (look_written value) ≡ is_well_formed_written variables sites value
+  formed_written : (value : WrittenValue) → is_formed (look_written value) ≡ is_well_formed_written variables types sites value
   formed_written (Ordinal value representation) =
       formed_ended (look_expr value) (WrittenMark representation) refl ∙ formed_expr value
-  formed_written (String (TextOf number characters)) = and-true (are_characters characters.items)
+  formed_written (String value indexes) = formed_ended (look_whole value indexes.items) WrittenString refl ∙ formed_value value indexes.items
 
-  formed_parameter : (parameter : WriteParameter) → is_formed (look_parameter parameter) ≡ is_well_formed_parameter variables sites parameter
+  formed_parameter : (parameter : WriteParameter) → is_formed (look_parameter parameter) ≡ is_well_formed_parameter variables types sites parameter
   formed_parameter parameter =
       formed_cut (look_written parameter.value) (look_width parameter.width)
       ∙ ap₂ (λ a b. a && b) (formed_written parameter.value) (formed_width parameter.width)
 
-  abbrev opened_stmt : Stmt-F (ToldStmt is_formed (stmt_is_well_formed variables sites)) → Stmt-F Stmt
-  opened_stmt = stmt_opened is_formed (stmt_is_well_formed variables sites)
+  abbrev opened_stmt : Stmt-F (ToldStmt is_formed (stmt_is_well_formed variables types sites)) → Stmt-F Stmt
+  opened_stmt = stmt_opened is_formed (stmt_is_well_formed variables types sites)
 
   -- whether an if is well formed, by whether its two statements are
   formed_chosen : (number : ℕ) (condition : Expr) (look rest : Look)
       → is_formed (IfMark number ∷ (look_expr condition ++ (Then ∷ (look ++ (rest ++ (Ends ∷ []))))))
-      ≡ (is_well_formed_expr variables sites condition && (is_formed look && is_formed rest))
+      ≡ (is_well_formed_expr variables types sites condition && (is_formed look && is_formed rest))
   formed_chosen number condition look rest =
       formed_cut (look_expr condition) (Then ∷ (look ++ (rest ++ (Ends ∷ []))))
       ∙ ap₂ (λ a b. a && b) (formed_expr condition)
       (formed_cut look (rest ++ (Ends ∷ [])) ∙ ap (λ b. is_formed look && b) (formed_ended rest Ends refl))
 
   -- whether the arms of a case are well formed
-  formed_arms : (rows : List (Vec ℤ Global)) (ys : List (ToldStmt is_formed (stmt_is_well_formed variables sites)))
+  formed_arms : (rows : List (Vec ℤ Global)) (ys : List (ToldStmt is_formed (stmt_is_well_formed variables types sites)))
       → is_formed (arms_look rows (map look_stmt (map (λ s. s.0) ys)))
-      ≡ (list_all are_whole rows && all_hold (map (is_well_formed_stmt variables sites) (map (λ s. s.0) ys)))
+      ≡ (list_all are_whole rows && all_hold (map (is_well_formed_stmt variables types sites) (map (λ s. s.0) ys)))
   formed_arms [] [] = refl
   formed_arms (row ∷ rows) [] = ap (λ b. are_whole row && b) (formed_arms rows []) ∙ and_shifted (are_whole row) true (list_all are_whole rows) true
   formed_arms [] (y ∷ ys) =
@@ -327,45 +440,59 @@ module _ (variables sites : ℕ) where
   formed_arms (row ∷ rows) (y ∷ ys) =
       ap (λ b. are_whole row && b)
       (formed_cut (look_stmt y.0) (arms_look rows (map look_stmt (map (λ s. s.0) ys))) ∙ ap₂ (λ a b. a && b) y.1 (formed_arms rows ys))
-      ∙ and_shifted (are_whole row) (is_well_formed_stmt variables sites y.0) (list_all are_whole rows)
-      (all_hold (map (is_well_formed_stmt variables sites) (map (λ s. s.0) ys)))
+      ∙ and_shifted (are_whole row) (is_well_formed_stmt variables types sites y.0) (list_all are_whole rows)
+      (all_hold (map (is_well_formed_stmt variables types sites) (map (λ s. s.0) ys)))
 
-  formed_stmt_layer : (y : Stmt-F (ToldStmt is_formed (stmt_is_well_formed variables sites)))
+  formed_stmt_layer : (y : Stmt-F (ToldStmt is_formed (stmt_is_well_formed variables types sites)))
       → is_formed (statement_look (map-Stmt Stmt Look look_stmt (opened_stmt y)))
-      ≡ stmt_is_well_formed variables sites (map-Stmt Stmt Bool (is_well_formed_stmt variables sites) (opened_stmt y))
+      ≡ stmt_is_well_formed variables types sites (map-Stmt Stmt Bool (is_well_formed_stmt variables types sites) (opened_stmt y))
   formed_stmt_layer (Empty number) = refl
-  formed_stmt_layer (Assign number becomes target fits value) =
-      ap (λ b. nat_lt target.root variables && b)
-      (formed_cut (look_expr value) (FitsMark fits ∷ []) ∙ ap (λ b. b && (is_well_formed_test variables sites fits && true)) (formed_expr value)
-      ∙ and_turned (is_well_formed_expr variables sites value) (is_well_formed_test variables sites fits))
+  formed_stmt_layer (Assign number becomes target indexes fits value) =
+      let does = Target target.root target.selectors.items (length indexes.items) in
+      let tests = map (is_well_formed_expr variables types sites) indexes.items in
+      formed_cut (look_access target indexes.items does) (look_expr value ++ (FitsMark fits ∷ []))
+      ∙ ap₂ (λ a b. a && b) (formed_access target (map look_expr indexes.items) tests does (formed_indexes indexes.items))
+      (formed_cut (look_expr value) (FitsMark fits ∷ []) ∙ ap (λ b. b && (is_well_formed_test variables types sites fits && true)) (formed_expr value))
+      ∙ and_assigned (all_hold tests) (is_formed_mark variables types sites does) (is_well_formed_expr variables types sites value)
+      (is_well_formed_test variables types sites fits)
+  formed_stmt_layer (Copy number becomes target indexes type_id value value_indexes) =
+      let does = WholeTarget target.root target.selectors.items (length indexes.items) type_id in
+      let tests = map (is_well_formed_expr variables types sites) indexes.items in
+      let copied = look_whole value value_indexes.items in
+      let end = Copied type_id (type_of value) (length_of value) in
+      let fits = is_formed_mark variables types sites end in
+      formed_cut (look_access target indexes.items does) (copied ++ (end ∷ []))
+      ∙ ap₂ (λ a b. a && b) (formed_access target (map look_expr indexes.items) tests does (formed_indexes indexes.items))
+      (formed_cut copied (end ∷ []) ∙ ap (λ b. b && (fits && true)) (formed_value value value_indexes.items))
+      ∙ and_assigned (all_hold tests) (is_formed_mark variables types sites does) (is_well_formed_value variables types sites value value_indexes.items) fits
   formed_stmt_layer (Write number name parameters ends_line) =
       formed_ended (flat_map look_parameter parameters.items) Ends refl
-      ∙ formed_mapped look_parameter (is_well_formed_parameter variables sites) formed_parameter parameters.items
-      ∙ sym (list_all-map (λ b. b) (is_well_formed_parameter variables sites) parameters.items)
+      ∙ formed_mapped look_parameter (is_well_formed_parameter variables types sites) formed_parameter parameters.items
+      ∙ sym (list_all-map (λ b. b) (is_well_formed_parameter variables types sites) parameters.items)
   formed_stmt_layer (Compound number statements) =
       formed_ended (joined (map look_stmt (map (λ s. s.0) statements.items))) Ends refl
-      ∙ formed_joined look_stmt (is_well_formed_stmt variables sites) statements.items
+      ∙ formed_joined look_stmt (is_well_formed_stmt variables types sites) statements.items
   formed_stmt_layer (If number condition consequence None) =
       formed_chosen number condition (look_stmt consequence.value.0) []
-      ∙ ap (λ b. is_well_formed_expr variables sites condition && (b && true)) consequence.value.1
+      ∙ ap (λ b. is_well_formed_expr variables types sites condition && (b && true)) consequence.value.1
   formed_stmt_layer (If number condition consequence (Some other)) =
       formed_chosen number condition (look_stmt consequence.value.0) (Else ∷ look_stmt other.value.0)
-      ∙ ap₂ (λ a b. is_well_formed_expr variables sites condition && (a && b)) consequence.value.1 other.value.1
+      ∙ ap₂ (λ a b. is_well_formed_expr variables types sites condition && (a && b)) consequence.value.1 other.value.1
   formed_stmt_layer (While number loop_number place condition body) =
       formed_cut (look_expr condition) (Do ∷ (look_stmt body.value.0 ++ (Ends ∷ [])))
       ∙ ap₂ (λ a b. a && b) (formed_expr condition) (formed_ended (look_stmt body.value.0) Ends refl ∙ body.value.1)
   formed_stmt_layer (Repeat number loop_number place statements condition) =
       let rows = joined (map look_stmt (map (λ s. s.0) statements.items)) in
       formed_cut rows (Until ∷ (look_expr condition ++ (Ends ∷ [])))
-      ∙ ap₂ (λ a b. a && b) (formed_joined look_stmt (is_well_formed_stmt variables sites) statements.items)
+      ∙ ap₂ (λ a b. a && b) (formed_joined look_stmt (is_well_formed_stmt variables types sites) statements.items)
       (formed_ended (look_expr condition) Ends refl ∙ formed_expr condition)
   formed_stmt_layer (For number loop_number place control first first_fits direction last last_fits body) =
       let inside = look_stmt body.value.0 ++ (Ends ∷ []) in
-      ap (λ b. nat_lt control variables && b)
+      ap (λ b. leads_to_ordinal variables types sites control [] 0 && b)
       (formed_cut (look_expr first) (FitsMark first_fits ∷ (look_expr last ++ (FitsMark last_fits ∷ Do ∷ inside)))
-      ∙ ap₂ (λ a b. a && (is_well_formed_test variables sites first_fits && b)) (formed_expr first)
+      ∙ ap₂ (λ a b. a && (is_well_formed_test variables types sites first_fits && b)) (formed_expr first)
       (formed_cut (look_expr last) (FitsMark last_fits ∷ Do ∷ inside)
-      ∙ ap₂ (λ a b. a && (is_well_formed_test variables sites last_fits && b)) (formed_expr last)
+      ∙ ap₂ (λ a b. a && (is_well_formed_test variables types sites last_fits && b)) (formed_expr last)
       (formed_ended (look_stmt body.value.0) Ends refl ∙ body.value.1)))
   formed_stmt_layer (Case number site index constants arms) =
       let inside = arms_look constants.items (map look_stmt (map (λ s. s.0) arms.items)) in
@@ -373,14 +500,14 @@ module _ (variables sites : ℕ) where
       (formed_cut (look_expr index) (inside ++ (Ends ∷ []))
       ∙ ap₂ (λ a b. a && b) (formed_expr index) (formed_ended inside Ends refl ∙ formed_arms constants.items arms.items))
 
-  formed_stmt : (s : Stmt) → is_formed (look_stmt s) ≡ is_well_formed_stmt variables sites s
-  formed_stmt = measured_stmt is_formed (stmt_is_well_formed variables sites) formed_stmt_layer
+  formed_stmt : (s : Stmt) → is_formed (look_stmt s) ≡ is_well_formed_stmt variables types sites s
+  formed_stmt = measured_stmt is_formed (stmt_is_well_formed variables types sites) formed_stmt_layer
 
-  formed_block : (block : Block) → is_formed (look_block block) ≡ is_well_formed_block variables sites block
+  formed_block : (block : Block) → is_formed (look_block block) ≡ is_well_formed_block variables types sites block
   formed_block block = formed_ended (look_stmt block.body) (BlockEnds block.end) refl ∙ formed_stmt block.body
 
 -- the look of a tree tells whether its blocks are well formed
-pub formed_are : (variables sites : ℕ) (tree : Tree)
-    → list_all (is_formed_mark variables sites) (tree_look tree) ≡ list_all (is_well_formed_block variables sites) tree.blocks.items
-formed_are variables sites tree =
-    formed_mapped variables sites look_block (is_well_formed_block variables sites) (formed_block variables sites) tree.blocks.items
+pub formed_are : (variables : List DeclaredVariable) (types : List TypeForm) (sites : ℕ) (tree : Tree)
+    → list_all (is_formed_mark variables types sites) (tree_look tree) ≡ list_all (is_well_formed_block variables types sites) tree.blocks.items
+formed_are variables types sites tree =
+    formed_mapped variables types sites look_block (is_well_formed_block variables types sites) (formed_block variables types sites) tree.blocks.items

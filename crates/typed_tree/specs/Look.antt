@@ -1,8 +1,8 @@
 -- How a typed tree looks: its forms in the order of the text, each told by what is decided of it: its number in the
 -- order of entry, the variable, the operation, its sites and places. What encloses others tells where it ends, so two
 -- trees that look alike are alike. It says nothing of which tree a program has.
-use Rattle.std.specs.Prelude.{ℕ, ℤ, ◌++◌, ◌&&◌, Bool, true, List, [], ◌∷◌, Option, Some, None, Vec, flat_map, map, nat_lt}
-use Rattle.std.specs.Prelude.{nat_eq, length}
+use Rattle.std.specs.Prelude.{ℕ, ℤ, ◌++◌, ◌&&◌, Bool, true, List, [], ◌∷◌, Option, Some, None, Vec, flat_map, map}
+use Rattle.std.specs.Prelude.{nat_lt, nat_eq, length}
 use Rattle.std.specs.List.{list_all}
 use Rattle.std.specs.declared.alloc.Global.{Global}
 use Rattle.std.specs.declared.boxed.Box.{Box}
@@ -51,8 +51,8 @@ pub data Mark : Type 0 where
   Constant : ℕ → ℤ → Mark
   -- the number of an access; its index expressions stand behind it
   Access : ℕ → Mark
-  -- the value of what is accessed, an ordinal: the variable's root, the selectors, how many index expressions they take,
-  -- and the site of the test
+  -- the value of what is accessed, an ordinal: the variable's root, the selectors, how many index expressions they
+  -- take, and the site of the test
   Value : ℕ → List Selector → ℕ → ℕ → Mark
   -- the same of a structured type: this type, and how many cells its value has
   WholeValue : ℕ → List Selector → ℕ → TypeId → ℕ → ℕ → Mark

@@ -3,8 +3,8 @@
 -- wanted (6.5.3), what is copied fits its target (6.4.6), each test names a site of the table, each loop stands in the
 -- table of loops, there is a block, and its variables take no more cells than a block has. It does not say that a tree
 -- is that of a program.
-use Rattle.std.specs.Prelude.{◌≡◌, ℕ, ℤ, ◌<◌, ◌≤◌, pos, neg_ℤ, ◌&&◌, Bool, true, List, [], Option, Some, None, Vec, int_le}
-use Rattle.std.specs.Prelude.{nat_lt, nat_le, nat_eq, not, length, map, sum_by, slice_get}
+use Rattle.std.specs.Prelude.{◌≡◌, ℕ, ℤ, ◌<◌, ◌≤◌, pos, neg_ℤ, ◌&&◌, Bool, true, List, [], Option, Some, None, Vec}
+use Rattle.std.specs.Prelude.{int_le, nat_lt, nat_le, nat_eq, not, length, map, sum_by}
 use Rattle.std.specs.List.{list_all}
 use Rattle.std.specs.declared.alloc.Global.{Global}
 use Rattle.std.specs.declared.boxed.Box.{Box}
@@ -12,7 +12,6 @@ use Rattle.types.specs.declared.form.TypeForm.{TypeForm}
 use Rattle.types.specs.declared.form.TypeId.{TypeId}
 use Rattle.types.specs.Types.{cells_of, have_one_length, is_assignable, is_ordinal, is_same, most_cells, string_length}
 use Rattle.typed_tree.specs.declared.tree.Tree.{Tree}
-use Rattle.typed_tree.specs.declared.tree.Access.{Access}
 use Rattle.typed_tree.specs.declared.tree.Selector.{Selector}
 use Rattle.typed_tree.specs.declared.tree.Selector.TheVariants.{Element, Field}
 use Rattle.typed_tree.specs.declared.tree.Variable.{Variable as DeclaredVariable}

@@ -295,7 +295,10 @@ pub enum Expr {
 #[derive(Drop)]
 pub enum Whole {
     /// A string of two or more characters, 65,536 at most, each of 0 to 127; nothing counts as an index of it.
-    Text { number: u32, characters: Vec<u8> },
+    Text {
+        number: u32,
+        characters: Vec<u8>,
+    },
     /// The value of a variable or of a component: so many cells, one for each scalar component, all of which are tested
     /// at the site `defined` (undefined variable).
     Variable {
