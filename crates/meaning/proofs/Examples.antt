@@ -20,7 +20,9 @@ use Rattle.meaning.specs.declared.outcome.Ending.{Ending}
 use Rattle.meaning.specs.declared.outcome.Ending.TheVariants.{Error, Finished, More}
 use Rattle.meaning.specs.declared.store.Value.{Value}
 use Rattle.meaning.specs.declared.store.Value.TheVariants.{Number}
-use Rattle.meaning.specs.Store.{Place, Step, Element, Environment, stored, written, undefined, overlap}
+use Rattle.types.specs.declared.form.Step.{Step}
+use Rattle.types.specs.declared.form.Step.TheVariants.{Element}
+use Rattle.meaning.specs.Store.{Place, Environment, stored, written, undefined, overlap}
 use Rattle.meaning.specs.Integers.{is_integer_number}
 use Rattle.meaning.specs.Effect.{State, Reply, Gives, Stops, Action, Round, looped, ◌>>=◌, and_then, give, enter, fetch, store, undefine, require, use_turn}
 use Rattle.meaning.specs.Effect.{write, is_in, is_positive, places, boolean_text, char_text, row_text, text_of}
@@ -106,7 +108,7 @@ no_line = refl
 
 -- where no variable is visible
 nowhere : Environment
-nowhere root = None
+nowhere = record { variables = λ root. None; types = [] }
 
 -- a variable of the program's block lies in its activation; one that another block declares is not visible there
 of_its_block : (id : TypeId) → home_of 3 (Some (record { block = 0; type_id = id })) ≡ Some (place 3 [])
@@ -116,11 +118,11 @@ of_another_block : (id : TypeId) → home_of 3 (Some (record { block = 1; type_i
 of_another_block id = refl
 
 outside_the_program : (tree : Tree) (id : TypeId) → slice_get tree.variables.items 3 ≡ Some (record { block = 1; type_id = id }) →
-    program_environment tree 3 ≡ None
+    (program_environment tree).variables 3 ≡ None
 outside_the_program tree id is = ap (home_of 3) is
 
 -- a variable that isn't visible can't get a value
-not_kept : store (nowhere 0) (Number (pos 1)) (first_state [] 0) ≡ Gives tt (first_state [] 0)
+not_kept : store (nowhere.variables 0) (Number (pos 1)) (first_state [] 0) ≡ Gives tt (first_state [] 0)
 unfolding nowhere
 not_kept = refl
 
@@ -142,7 +144,7 @@ abbrev nothing_there : Evaluation
 nothing_there environment = fetch (Some (place 0 [])) 7
 
 -- the value of a variable that isn't visible is an error at its site
-not_found : told (fetch (nowhere 0) 7 (first_state [] 0)) ≡ End_of (Error 7)
+not_found : told (fetch (nowhere.variables 0) 7 (first_state [] 0)) ≡ End_of (Error 7)
 unfolding nowhere
 not_found = refl
 
@@ -377,7 +379,7 @@ repeat_wants_more = refl
 
 -- where each variable lies at the same place
 everywhere : Environment
-everywhere root = Some (place 0 [])
+everywhere = record { variables = λ root. Some (place 0 []); types = [] }
 
 abbrev number_out : Value → Action (Unit {0})
 number_out (Number n) = write (places n ∷ [])
@@ -385,7 +387,7 @@ number_out (Number n) = write (places n ∷ [])
 -- writes the control variable, as a number without its sign
 abbrev written_out : Execution
 written_out environment = do
-  v ← fetch (environment 0) 7
+  v ← fetch (environment.variables 0) 7
   w ← operated monadic.Abs v
   number_out w
 
@@ -396,7 +398,7 @@ integers = record { first = negsuc 2147483646; last = pos 2147483647 }
 abbrev counts_out : OrdinalRange → Direction → ℤ → ℤ → Action (Unit {0})
 counts_out range direction first last = do
   _ ← for_between 0 (record { site = 8; range = range }) direction (record { site = 9; range = range }) written_out everywhere (Number first) (Number last)
-  undefine (everywhere 0)
+  undefine (everywhere.variables 0)
 
 abbrev of_for : OrdinalRange → Direction → ℤ → ℤ → ℕ → Meaning
 of_for range direction first last turns = ended (counts_out range direction first last (first_state [] turns))
@@ -445,7 +447,7 @@ unfolding everywhere
 undefined_behind = refl
 
 undefined_all_the_same :
-    ended ((store (everywhere 0) (Number (pos 5)) >>= λ _. counts_out integers To (pos 1) (pos 0) >>= λ _. written_out everywhere) (first_state [] 1)) ≡
+    ended ((store (everywhere.variables 0) (Number (pos 5)) >>= λ _. counts_out integers To (pos 1) (pos 0) >>= λ _. written_out everywhere) (first_state [] 1)) ≡
     record { output = []; ending = Error 7 }
 unfolding everywhere
 undefined_all_the_same = refl

@@ -12,23 +12,27 @@ use Rattle.typed_tree.specs.declared.tree.Expr.TheFolds.{fold-roll-Expr, fold_ou
 use Rattle.meaning.specs.declared.store.Value.{Value}
 use Rattle.meaning.specs.Store.{Environment}
 use Rattle.meaning.specs.Effect.{◌>>=◌, give, enter, fetch}
-use Rattle.meaning.specs.Meaning.{Evaluation, Combination, value_step, link_step, operated, combined, compared, in_turn, whole_of, value_of, link_of}
+use Rattle.meaning.specs.Meaning.{Evaluation, Combination, value_step, link_step, operated, combined, compared, in_turn, accessed, whole_of}
+use Rattle.meaning.specs.Meaning.{value_of, values_of, link_of}
 
-pub value-Variable : (a : Access) (defined : ℕ) (env : Environment) →
-    value_of (expr.Variable a defined) env ≡ (enter a.number env >>= λ _. fetch (env a.root) defined)
-value-Variable a defined env = ap (λ (e : Expr). value_of e env) (sym (expr.rolls-Variable a defined))
-    ∙ ap (λ (f : Evaluation). f env) (fold-roll-Expr Evaluation Combination value_step link_step (Variable-F a defined))
+pub value-Variable : (a : Access) (indexes : Vec Expr Global) (defined : ℕ) (env : Environment) →
+    value_of (expr.Variable a indexes defined) env ≡ (accessed a (values_of indexes.items) env >>= λ place. fetch place defined)
+value-Variable a indexes defined env = ap (λ (e : Expr). value_of e env) (sym (expr.rolls-Variable a indexes defined))
+    ∙ ap (λ (f : Evaluation). f env) (fold-roll-Expr Evaluation Combination value_step link_step (Variable-F a indexes defined))
 
 pub value-Monadic : (n : ℕ) (operation : Monadic) (operand : Box Expr Global) (env : Environment) →
     value_of (expr.Monadic n operation operand) env ≡ (enter n env >>= λ _. value_of operand.value env >>= λ v. operated operation v)
 value-Monadic n operation operand env = ap (λ (e : Expr). value_of e env) (sym (expr.rolls-Monadic n operation operand))
     ∙ ap (λ (f : Evaluation). f env) (fold-roll-Expr Evaluation Combination value_step link_step (Monadic-F n operation operand))
 
-pub value-Compare : (n : ℕ) (r : Relation) (left right : Whole) (env : Environment) →
-    value_of (expr.Compare n r left right) env ≡
-    (whole_of left env >>= λ a. enter n env >>= λ _. whole_of right env >>= λ b. give (compared r a b))
-value-Compare n r left right env = ap (λ (e : Expr). value_of e env) (sym (expr.rolls-Compare n r left right))
-    ∙ ap (λ (f : Evaluation). f env) (fold-roll-Expr Evaluation Combination value_step link_step (Compare-F n r left right))
+pub value-Compare : (n : ℕ) (r : Relation) (left : Whole) (left_indexes : Vec Expr Global) (right : Whole) (right_indexes : Vec Expr Global)
+    (env : Environment) → value_of (expr.Compare n r left left_indexes right right_indexes) env ≡
+    (whole_of left (values_of left_indexes.items) env >>= λ a. enter n env >>= λ _. whole_of right (values_of right_indexes.items) env
+    >>= λ b. give (compared r a b))
+value-Compare n r left left_indexes right right_indexes env =
+    ap (λ (e : Expr). value_of e env) (sym (expr.rolls-Compare n r left left_indexes right right_indexes))
+    ∙ ap (λ (f : Evaluation). f env)
+    (fold-roll-Expr Evaluation Combination value_step link_step (Compare-F n r left left_indexes right right_indexes))
 
 pub value-Chain : (first : Box Expr Global) (rest : Vec Link Global) (env : Environment) →
     value_of (expr.Chain first rest) env ≡ (value_of first.value env >>= λ v. in_turn (map link_of rest.items) env v)

@@ -112,11 +112,11 @@ repeat_uses body condition env done tested =
 
 -- a control variable gets a value, and then comes a turn
 pub counted_uses : (control : ℕ) (body : Execution) (env : Environment) (behind : ℤ → Option ℤ) → Extended (body env) →
-    UsesTurns (λ n. store (env control) (Number n) >>= λ _. use_turn >>= λ _. body env >>= λ _. give (behind n))
+    UsesTurns (λ n. store (env.variables control) (Number n) >>= λ _. use_turn >>= λ _. body env >>= λ _. give (behind n))
 counted_uses control body env behind done =
     let next : ℤ → Action (Option ℤ) = λ n. give (behind n) in
     record {
-      spent = λ n s. spent_then (store (env control) (Number n) s) (λ _. use_turn >>= λ _. body env >>= λ _. next n) s.turns (omega arith)
+      spent = λ n s. spent_then (store (env.variables control) (Number n) s) (λ _. use_turn >>= λ _. body env >>= λ _. next n) s.turns (omega arith)
           (λ _ t. spent_turn (body env >>= λ _. next n) t (extended_then (body env) (λ _. next n) done (λ _. extended_give (behind n))));
     }
 

@@ -19,7 +19,13 @@ use Rattle.typed_tree.specs.declared.tree.WriteParameter.{WriteParameter}
 use Rattle.typed_tree.specs.declared.tree.Written.{Written}
 use Rattle.typed_tree.specs.declared.tree.Written.TheVariants.{Ordinal, String}
 use Rattle.typed_tree.specs.declared.tree.Whole.{Whole}
-use Rattle.typed_tree.specs.declared.tree.Whole.TheVariants.{Text}
+use Rattle.typed_tree.specs.declared.tree.Whole.TheVariants.{Text, Variable as VariableOf}
+use Rattle.typed_tree.specs.declared.tree.Access.{Access}
+use Rattle.typed_tree.specs.declared.tree.Selector.{Selector}
+use Rattle.typed_tree.specs.declared.tree.Selector.TheVariants.{Element, Field}
+use Rattle.types.specs.declared.form.Step.{Step}
+use Rattle.types.specs.declared.form.Step.TheVariants as step
+use Rattle.types.specs.Components.{components_of}
 use Rattle.typed_tree.specs.WellFormed.{length_of}
 use Rattle.typed_tree.specs.declared.tree.Expr.{Expr}
 use Rattle.typed_tree.specs.declared.tree.Link.{Link}
@@ -28,21 +34,21 @@ use Rattle.typed_tree.specs.declared.tree.Expr.TheOpen.{Expr-F, Link-F}
 use Rattle.typed_tree.specs.declared.tree.Expr.TheOpen.Expr-F.{Constant, Variable, Monadic as MonadicOf, Chain, Compare}
 use Rattle.typed_tree.specs.declared.tree.Expr.TheFolds.{map-Expr, map-Link, fold-roll-Expr, fold-roll-Link, ind-Expr}
 use Rattle.typed_tree.specs.declared.tree.Stmt.TheOpen.{Stmt-F}
-use Rattle.typed_tree.specs.declared.tree.Stmt.TheOpen.Stmt-F.{Empty, Assign, Write, Compound, If, While, Repeat, For, Case}
+use Rattle.typed_tree.specs.declared.tree.Stmt.TheOpen.Stmt-F.{Empty, Assign, Copy, Write, Compound, If, While, Repeat, For, Case}
 use Rattle.typed_tree.specs.declared.tree.Stmt.TheFolds.{map-Stmt, fold-roll-Stmt, ind-Stmt}
 use Rattle.meaning.specs.declared.outcome.Ending.{Ending}
 use Rattle.meaning.specs.declared.outcome.Ending.TheVariants as ending
 use Rattle.meaning.specs.declared.store.Value.{Value}
 use Rattle.meaning.specs.declared.store.Value.TheVariants.{Number}
 use Rattle.meaning.specs.Integers.{is_integer_number, is_within}
-use Rattle.meaning.specs.Store.{Environment, Place, held}
+use Rattle.meaning.specs.Store.{Environment, Place, held, part}
 use Rattle.meaning.specs.Effect.{State, Reply, Gives, Stops, Action, Round, ◌>>=◌, and_then, give, stop, require, enter, take_turn, use_turn, another, looping}
 use Rattle.meaning.specs.Effect.{looped}
-use Rattle.meaning.specs.Effect.{fetched, fetch, store, undefine, write, is_in, is_positive, row_text, text_of}
+use Rattle.meaning.specs.Effect.{fetched, fetch, fetch_all, store, store_all, undefine, write, is_in, is_positive, number_of, row_text, text_of}
 use Rattle.meaning.specs.Meaning.{Evaluation, Combination, Execution, value_step, link_step, effect_step, whole, operated, combined, in_turn, all_of}
-use Rattle.meaning.specs.Meaning.{compared, whole_of, default_width, width_of, written_of, parameter_of, line_ended, is_so, turn_if, while_round}
+use Rattle.meaning.specs.Meaning.{compared, selected, accessed, whole_of, values_of, default_width, width_of, written_of, parameter_of, line_ended, is_so, turn_if, while_round}
 use Rattle.meaning.specs.Meaning.{repeat_round, for_round, for_rounds, for_between, is_among}
-use Rattle.meaning.specs.Meaning.{arm_of, number_of, value_of, link_of, effect_of, Meaning, run_of, run, ended}
+use Rattle.meaning.specs.Meaning.{arm_of, value_of, link_of, effect_of, Meaning, run_of, run, ended}
 use Rattle.meaning.specs.Meaning.{program_environment, first_state}
 use Rattle.meaning.specs.Laws.{with_turns, reply_with_turns, state_after, Begins, Extends, TurnsGoOn, TurnsExtendTheOutput, EndingsStay}
 
@@ -217,6 +223,22 @@ extended_fetch p site = record {
   extends = λ more s. (extended_fetched (held s.store p) site).extends more s;
 }
 
+-- the numbers of the components of a place
+extended_fetch_all : (p : Option Place) (components : List (List Step)) (site : ℕ) → Extended (fetch_all p components site)
+extended_fetch_all p [] site = extended_give []
+extended_fetch_all p (steps ∷ components) site =
+    let further : Value → Action (List ℤ) = λ v. fetch_all p components site >>= λ numbers. give (number_of v ∷ numbers) in
+    extended_then (fetch (part p steps) site) further (extended_fetch (part p steps) site)
+    (λ v. extended_then (fetch_all p components site) (λ numbers. give (number_of v ∷ numbers)) (extended_fetch_all p components site)
+    (λ numbers. extended_give (number_of v ∷ numbers)))
+
+extended_store_all : (p : Option Place) (components : List (List Step)) (numbers : List ℤ) → Extended (store_all p components numbers)
+extended_store_all p [] numbers = extended_give tt
+extended_store_all p (steps ∷ components) [] = extended_give tt
+extended_store_all p (steps ∷ components) (n ∷ numbers) =
+    extended_then (store (part p steps) (Number n)) (λ _. store_all p components numbers) (extended_store (part p steps) (Number n))
+    (λ _. extended_store_all p components numbers)
+
 -- a test, and then a value
 extended_tested : (b : Bool) (site : ℕ) (v : Value) → Extended (require b site >>= λ _. give v)
 extended_tested b site v = extended_then (require b site) (λ _. give v) (extended_require b site) (λ _. extended_give v)
@@ -261,10 +283,39 @@ extended_in_turn (link ∷ links) env v =
     extended_then (link_of link.0 env v) (λ w. in_turn (map link_of (map (λ l. l.0) links)) env w) (link.1 env v)
     (λ w. extended_in_turn links env w)
 
+-- the place to which selectors lead
+extended_selected : (selectors : List Selector) (indexes : List ExtendedExpr) (env : Environment) (p : Option Place) →
+    Extended (selected selectors (values_of (map (λ e. e.0) indexes)) env p)
+extended_selected [] indexes env p = extended_give p
+extended_selected (Field position offset ∷ selectors) indexes env p = extended_selected selectors indexes env (part p (step.Field position ∷ []))
+extended_selected (Element fits cells ∷ selectors) [] env p = extended_give None
+extended_selected (Element fits cells ∷ selectors) (index ∷ indexes) env p =
+    let others : List Evaluation = values_of (map (λ e. e.0) indexes) in
+    let further : Value → Unit {0} → Action (Option Place) =
+    λ v _. selected selectors others env (part p (step.Element (number_of v) ∷ [])) in
+    let tested : Value → Action (Option Place) = λ v. require (is_in fits.range v) fits.site >>= further v in
+    extended_then (value_of index.0 env) tested (index.1 env)
+    (λ v. extended_then (require (is_in fits.range v) fits.site) (further v) (extended_require (is_in fits.range v) fits.site)
+    (λ _. extended_selected selectors indexes env (part p (step.Element (number_of v) ∷ []))))
+
+-- the place that is accessed
+extended_accessed : (access : Access) (indexes : List ExtendedExpr) (env : Environment) →
+    Extended (accessed access (values_of (map (λ e. e.0) indexes)) env)
+extended_accessed access indexes env =
+    let home : Option Place = env.variables access.root in
+    let indexed : Unit {0} → Action (Option Place) = λ _. selected access.selectors.items (values_of (map (λ e. e.0) indexes)) env home in
+    extended_then (enter access.number env) indexed (extended_enter access.number env)
+    (λ _. extended_selected access.selectors.items indexes env home)
+
 -- the components of a whole value
-extended_components : (value : Whole) (env : Environment) → Extended (whole_of value env)
-extended_components (Text number characters) env =
+extended_components : (value : Whole) (indexes : List ExtendedExpr) (env : Environment) →
+    Extended (whole_of value (values_of (map (λ e. e.0) indexes)) env)
+extended_components (Text number characters) indexes env =
     extended_then (enter number env) (λ _. give (map pos characters.items)) (extended_enter number env) (λ _. extended_give (map pos characters.items))
+extended_components (VariableOf access type_id cells defined) indexes env =
+    let components : List (List Step) = components_of env.types type_id in
+    extended_then (accessed access (values_of (map (λ e. e.0) indexes)) env) (λ p. fetch_all p components defined)
+    (extended_accessed access indexes env) (λ p. extended_fetch_all p components defined)
 
 -- the expressions of one layer
 abbrev valued : Expr-F Expr Link → Evaluation
@@ -277,9 +328,9 @@ value-parts : (y : Expr-F ExtendedExpr ExtendedLink) (env : Environment) →
     Extended (valued (map-Expr ExtendedExpr ExtendedLink Expr Link (λ e. e.0) (λ l. l.0) y) env)
 value-parts (Constant number value) env =
     extended_then (enter number env) (λ _. give (Number value)) (extended_enter number env) (λ _. extended_give (Number value))
-value-parts (Variable access defined) env =
-    extended_then (enter access.number env) (λ _. fetch (env access.root) defined) (extended_enter access.number env)
-    (λ _. extended_fetch (env access.root) defined)
+value-parts (Variable access indexes defined) env =
+    extended_then (accessed access (values_of (map (λ e. e.0) indexes.items)) env) (λ p. fetch p defined)
+    (extended_accessed access indexes.items env) (λ p. extended_fetch p defined)
 value-parts (MonadicOf number operation operand) env =
     let value : Action Value = value_of operand.value.0 env in
     extended_then (enter number env) (λ _. value >>= λ v. operated operation v) (extended_enter number env)
@@ -287,11 +338,13 @@ value-parts (MonadicOf number operation operand) env =
 value-parts (Chain first rest) env =
     extended_then (value_of first.value.0 env) (λ v. in_turn (map link_of (map (λ l. l.0) rest.items)) env v) (first.value.1 env)
     (λ v. extended_in_turn rest.items env v)
-value-parts (Compare number relation left right) env =
-    let behind : List ℤ → Action Value = λ a. enter number env >>= λ _. whole_of right env >>= λ b. give (compared relation a b) in
-    extended_then (whole_of left env) behind (extended_components left env)
-    (λ a. extended_then (enter number env) (λ _. whole_of right env >>= λ b. give (compared relation a b)) (extended_enter number env)
-    (λ _. extended_then (whole_of right env) (λ b. give (compared relation a b)) (extended_components right env)
+value-parts (Compare number relation left left_indexes right right_indexes) env =
+    let first : Action (List ℤ) = whole_of left (values_of (map (λ e. e.0) left_indexes.items)) env in
+    let second : Action (List ℤ) = whole_of right (values_of (map (λ e. e.0) right_indexes.items)) env in
+    let behind : List ℤ → Action Value = λ a. enter number env >>= λ _. second >>= λ b. give (compared relation a b) in
+    extended_then first behind (extended_components left left_indexes.items env)
+    (λ a. extended_then (enter number env) (λ _. second >>= λ b. give (compared relation a b)) (extended_enter number env)
+    (λ _. extended_then second (λ b. give (compared relation a b)) (extended_components right right_indexes.items env)
     (λ b. extended_give (compared relation a b))))
 
 link-parts : (y : Link-F ExtendedExpr ExtendedLink) (env : Environment) (left : Value) →
@@ -311,6 +364,23 @@ extended_value = ind-Expr
     (λ x y is env left. subst (λ (f : Combination). Extended (f env left))
     (sym (fold-roll-Link Evaluation Combination value_step link_step x ∙ ap linked (sym is))) (link-parts y env left))
 
+-- index expressions are such as more turns only extend
+abbrev extended_indexes : List Expr → List ExtendedExpr
+extended_indexes [] = []
+extended_indexes (index ∷ indexes) = (index, extended_value index) ∷ extended_indexes indexes
+
+all_indexes : (indexes : List Expr) → map (λ e. e.0) (extended_indexes indexes) ≡ indexes
+all_indexes [] = refl
+all_indexes (index ∷ indexes) = ap (λ others. index ∷ others) (all_indexes indexes)
+
+pub extended_access : (access : Access) (indexes : List Expr) (env : Environment) → Extended (accessed access (values_of indexes) env)
+extended_access access indexes env =
+    subst (λ all. Extended (accessed access (values_of all) env)) (all_indexes indexes) (extended_accessed access (extended_indexes indexes) env)
+
+pub extended_whole_of : (value : Whole) (indexes : List Expr) (env : Environment) → Extended (whole_of value (values_of indexes) env)
+extended_whole_of value indexes env =
+    subst (λ all. Extended (whole_of value (values_of all) env)) (all_indexes indexes) (extended_components value (extended_indexes indexes) env)
+
 extended_width : (width : Option Width) (default : ℤ) (env : Environment) → Extended (width_of width default env)
 extended_width None default env = extended_give _
 extended_width (Some width) default env =
@@ -324,10 +394,11 @@ extended_written (Ordinal value representation) width env =
     extended_then (value_of value env) (λ v. wide >>= written v) (extended_value value env)
     (λ v. extended_then wide (written v) (extended_width width (default_width representation) env)
     (λ w. extended_write (text_of representation v w)))
-extended_written (String value) width env =
+extended_written (String value indexes) width env =
+    let whole_value : Action (List ℤ) = whole_of value (values_of indexes.items) env in
     let wide : Action Value = width_of width (pos (length_of value)) env in
     let written : List ℤ → Value → Action (Unit {0}) = λ components w. write (row_text components w) in
-    extended_then (whole_of value env) (λ components. wide >>= written components) (extended_components value env)
+    extended_then whole_value (λ components. wide >>= written components) (extended_whole_of value indexes.items env)
     (λ components. extended_then wide (written components) (extended_width width (pos (length_of value)) env)
     (λ w. extended_write (row_text components w)))
 
@@ -393,7 +464,7 @@ pub extended_for_round : (control : ℕ) (direction : Direction) (last : ℤ) (b
     (n : ℤ) → Extended (for_round control direction last body env n)
 extended_for_round control direction last body env done n =
     let next : Action (Option ℤ) = give (value_behind direction last n) in
-    extended_then (store (env control) (Number n)) (λ _. use_turn >>= λ _. body env >>= λ _. next) (extended_store (env control) (Number n))
+    extended_then (store (env.variables control) (Number n)) (λ _. use_turn >>= λ _. body env >>= λ _. next) (extended_store (env.variables control) (Number n))
     (λ _. extended_then use_turn (λ _. body env >>= λ _. next) extended_use_turn
     (λ _. extended_then (body env) (λ _. next) done (λ _. extended_give (value_behind direction last n))))
 
@@ -428,15 +499,24 @@ executed y = effect_step (map-Stmt Stmt Execution effect_of y)
 
 effect-parts : (y : Stmt-F ExtendedStmt) (env : Environment) → Extended (executed (map-Stmt ExtendedStmt Stmt (λ e. e.0) y) env)
 effect-parts (Empty number) env = extended_enter number env
-effect-parts (Assign number becomes target fits value) env =
+effect-parts (Assign number becomes target indexes fits value) env =
+    let place : Action (Option Place) = accessed target (values_of indexes.items) env in
     let given : Action Value = value_of value env in
-    let kept : Value → Unit {0} → Action (Unit {0}) = λ v _. store (env target.root) v in
-    let tested : Value → Action (Unit {0}) = λ v. require (is_in fits.range v) fits.site >>= kept v in
-    extended_then (enter number env) (λ _. enter target.number env >>= λ _. given >>= tested) (extended_enter number env)
-    (λ _. extended_then (enter target.number env) (λ _. given >>= tested) (extended_enter target.number env)
-    (λ _. extended_then given tested (extended_value value env)
-    (λ v. extended_then (require (is_in fits.range v) fits.site) (kept v) (extended_require (is_in fits.range v) fits.site)
-    (λ _. extended_store (env target.root) v))))
+    let kept : Option Place → Value → Unit {0} → Action (Unit {0}) = λ p v _. store p v in
+    let tested : Option Place → Value → Action (Unit {0}) = λ p v. require (is_in fits.range v) fits.site >>= kept p v in
+    extended_then (enter number env) (λ _. place >>= λ p. given >>= tested p) (extended_enter number env)
+    (λ _. extended_then place (λ p. given >>= tested p) (extended_access target indexes.items env)
+    (λ p. extended_then given (tested p) (extended_value value env)
+    (λ v. extended_then (require (is_in fits.range v) fits.site) (kept p v) (extended_require (is_in fits.range v) fits.site)
+    (λ _. extended_store p v))))
+effect-parts (Copy number becomes target indexes type_id value value_indexes) env =
+    let place : Action (Option Place) = accessed target (values_of indexes.items) env in
+    let given : Action (List ℤ) = whole_of value (values_of value_indexes.items) env in
+    let copied : Option Place → List ℤ → Action (Unit {0}) = λ p numbers. store_all p (components_of env.types type_id) numbers in
+    extended_then (enter number env) (λ _. place >>= λ p. given >>= copied p) (extended_enter number env)
+    (λ _. extended_then place (λ p. given >>= copied p) (extended_access target indexes.items env)
+    (λ p. extended_then given (copied p) (extended_whole_of value value_indexes.items env)
+    (λ numbers. extended_store_all p (components_of env.types type_id) numbers)))
 effect-parts (Write number name parameters ends_line) env =
     let written : Action (Unit {0}) = all_of (map parameter_of parameters.items) env in
     extended_then (enter number env) (λ _. written >>= λ _. line_ended ends_line) (extended_enter number env)
@@ -463,7 +543,7 @@ effect-parts (Repeat number loop_number place statements condition) env =
     (extended_repeat_round all (value_of condition) env (extended_all_of statements.items env) (extended_value condition env)) tt)
 effect-parts (For number loop_number place control first first_fits direction last last_fits body) env =
     let inner : Execution = effect_of body.value.0 in
-    let behind : Unit {0} → Action (Unit {0}) = λ _. undefine (env control) in
+    let behind : Unit {0} → Action (Unit {0}) = λ _. undefine (env.variables control) in
     let between : Value → Value → Action (Unit {0}) = λ a b. for_between control first_fits direction last_fits inner env a b >>= behind in
     let rest : Value → Action (Unit {0}) = λ a. value_of last env >>= between a in
     extended_then (enter number env) (λ _. value_of first env >>= rest) (extended_enter number env)
@@ -471,7 +551,7 @@ effect-parts (For number loop_number place control first first_fits direction la
     (λ a. extended_then (value_of last env) (between a) (extended_value last env)
     (λ b. extended_then (for_between control first_fits direction last_fits inner env a b) behind
     (extended_for_between control first_fits direction last_fits inner env (body.value.1 env) a b)
-    (λ _. extended_undefine (env control)))))
+    (λ _. extended_undefine (env.variables control)))))
 effect-parts (Case number site index constants arms) env =
     let arm : Value → Action (Unit {0}) = λ v. arm_of site constants.items (map effect_of (map (λ e. e.0) arms.items)) (number_of v) env in
     extended_then (enter number env) (λ _. value_of index env >>= arm) (extended_enter number env)
