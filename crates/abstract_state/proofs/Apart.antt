@@ -1,18 +1,20 @@
 -- Variables that share no place: what is written at the place of one leaves each part of another alone.
-use Rattle.std.proofs.Common.{arith, ◌≡◌, ◌≢◌, ⊎_elim, ◌∙◌, ap, refl, ℕ, Bool, true, false, cond, ◌&&◌, nat_eq, List, [], ◌∷◌, ◌++◌, append-nil, Option, Some}
+use Rattle.std.proofs.Common.{arith, ◌≡◌, ◌≢◌, ⊎_elim, ◌∙◌, ap, refl, sym, ℕ, Bool, true, false, cond, ◌&&◌, nat_eq, List, [], ◌∷◌, ◌++◌, append-nil, Option, Some}
 use Rattle.std.proofs.Common.{None}
-use Rattle.std.proofs.lemmas.Bool.{and_parts, and_from, eq-eqb, false_from_ne_true}
+use Rattle.std.proofs.lemmas.Bool.{and_parts, and_from, eq-eqb, eqb-true, false_from_ne_true}
 use Rattle.std.specs.Cmp.{int_eq_equiv}
-use Rattle.std.specs.Cmp.Lexicographic.{pointwise, nat_list_eq_equiv}
+use Rattle.std.specs.Cmp.Lexicographic.{pointwise}
 use Rattle.meaning.specs.declared.store.Value.{Value}
-use Rattle.meaning.specs.Store.{Step, Element, Field, Place, Store, Environment, step_eq, place_eq, is_beginning, overlap, stored, written}
+use Rattle.types.specs.declared.form.Step.{Step}
+use Rattle.types.specs.declared.form.Step.TheVariants.{Element, Field}
+use Rattle.meaning.specs.Store.{Place, Store, Environment, step_eq, place_eq, is_beginning, overlap, stored, written}
 use Rattle.abstract_state.specs.Holds.{Separate, part_of}
 
 -- ---- places
 
 step-itself : (s : Step) → step_eq s s ≡ true
 step-itself (Element index) = int_eq_equiv.refl index
-step-itself (Field name) = nat_list_eq_equiv.refl name
+step-itself (Field position) = eq-eqb position position refl
 
 steps-themselves : (steps : List Step) → pointwise step_eq steps steps ≡ true
 steps-themselves [] = refl
@@ -27,7 +29,7 @@ place-itself p =
 
 step-back : (s t : Step) → step_eq s t ≡ true → step_eq t s ≡ true
 step-back (Element i) (Element j) is = int_eq_equiv.symm j i ∙ is
-step-back (Field a) (Field b) is = nat_list_eq_equiv.symm b a ∙ is
+step-back (Field a) (Field b) is = eq-eqb b a (sym (eqb-true a b is))
 step-back (Element i) (Field b) is = is
 step-back (Field a) (Element j) is = is
 
@@ -70,13 +72,14 @@ written-stored store p v = ap (λ (same : Bool). cond same (Some v) (stored stor
 -- ---- others
 
 -- no pair is listed, so no two variables share a place
-pub share-none : (env : Environment) → Separate env [] → (a b : ℕ) (p q : Place) → env a ≡ Some p → env b ≡ Some q → a ≢ b → overlap p q ≡ true → ⊥
+pub share-none : (env : Environment) → Separate env [] → (a b : ℕ) (p q : Place) → env.variables a ≡ Some p → env.variables b ≡ Some q → a ≢ b
+    → overlap p q ≡ true → ⊥
 share-none env separate a b p q at_a at_b differ overlaps =
     ⊎_elim (λ listed. absurd (omega (arith, listed.1))) (λ listed. absurd (omega (arith, listed.1))) (separate a b p q at_a at_b differ overlaps)
 
 -- a part of another variable has the value that it had
-pub other-kept : (env : Environment) → Separate env [] → (store : Store) (v : Value) (a b : ℕ) (p : Place) → env a ≡ Some p → a ≢ b → (found : Option Place)
-    → env b ≡ found → (steps : List Step)
+pub other-kept : (env : Environment) → Separate env [] → (store : Store) (v : Value) (a b : ℕ) (p : Place) → env.variables a ≡ Some p → a ≢ b
+    → (found : Option Place) → env.variables b ≡ found → (steps : List Step)
     → part_of (written store p v) found steps ≡ part_of store found steps
 other-kept env separate store v a b p at_a differ None at_b steps = refl
 other-kept env separate store v a b p at_a differ (Some q) at_b steps =
