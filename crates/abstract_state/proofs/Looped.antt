@@ -15,7 +15,7 @@ use Rattle.types.specs.declared.form.Step.{Step}
 use Rattle.types.specs.declared.form.Step.TheVariants.{Element}
 use Rattle.meaning.specs.Store.{Environment, Place, Store}
 use Rattle.abstract_state.specs.State.{State, Facts, Dead, Live, gives_fact, is_entire, range_of, with_defined, with_facts, with_range}
-use Rattle.abstract_state.specs.Changes.{bound_rests_on, changed, ordered, raised_number, rests_on, with_change}
+use Rattle.abstract_state.specs.Changes.{bound_rests_on, changed, ordered, raised_number, rests_on}
 use Rattle.abstract_state.specs.Loops.{after_turns, all_forgotten, all_touched, defines, gives_all, head, in_place, is_among, replaced, with_claim, with_claims}
 use Rattle.abstract_state.specs.Loops.{with_forgotten, with_touched, with_undefined}
 use Rattle.abstract_state.specs.Holds.{Holds, HasNumber, HasValue, IsBound, IsIn, is_named, part_of, value_at}
@@ -251,37 +251,6 @@ turned-known variables env shows limits touched controls state before after kept
     (all_forgotten-live controls (all_touched limits touched state) (all_touched-live limits touched state live))
     (all_forgotten-left variables env shows limits after controls (all_touched limits touched state)
     (all_touched-left variables env shows limits after touched controls state inside (known-left variables env touched controls state before after kept known)))
-
--- what is left after values were written to proper parts of a variable
-pub parts-known : (variables : ℕ) (env : Environment) (state : State) (before after : Store) (root : ℕ) → IsKept env (root ∷ []) [] before after
-    → value_at (moment env after) root [] ≡ value_at (moment env before) root [] → Knows variables env state before
-    → Knows variables env (with_change root None state) after
-parts-known variables env Dead before after root kept same known = known
-parts-known variables env (Live facts) before after root kept same known = record {
-  rows_are = known.rows_are;
-  hold = record {
-    ranges = λ other steps v named is.
-        ⊎_elim
-        (λ (here : nat_eq root other ≡ true).
-        let own : value_at (moment env after) other [] ≡ value_at (moment env before) other [] =
-        subst (λ (r : ℕ). value_at (moment env after) r [] ≡ value_at (moment env before) r []) (eqb-true root other here) same in
-        let kept_here : value_at (moment env after) other steps ≡ value_at (moment env before) other steps =
-        subst (λ (s : List Step). value_at (moment env after) other s ≡ value_at (moment env before) other s) (sym (named-entire steps named)) own in
-        known.hold.ranges other steps v named (sym kept_here ∙ is))
-        (λ (apart : nat_eq root other ≡ false).
-        known.hold.ranges other steps v named (sym (kept.values other (ap (λ (b : Bool). b || false) apart) steps) ∙ is))
-        (either-so (nat_eq root other));
-    facts = λ one listed.
-        let P = λ (one : Fact). Holds one (moment env after) in
-        let Q = λ (one : Fact). Holds one (moment env before) in
-        All-contains P (filter_map (changed root None) facts.facts) one
-        (changed-all P Q (changed root None)
-        (λ one other is holds.
-        let parts = unless-if (rests_on root one) one other is in
-        subst P parts.1 (fact-stays env (root ∷ []) [] before after kept one (ap (λ (b : Bool). b || false) parts.0) refl holds))
-        facts.facts (each-of Q facts.facts known.hold.facts)) listed;
-  };
-}
 
 -- ---- claims
 

@@ -1,7 +1,7 @@
 -- What holds of states at the moments of a run: where a state holds, those hold that follow from it, over an
 -- assignment, a condition, the turns of a loop, and where two ways meet (ISO 7185:1990, 6.5.1, 6.7.2.3, 6.7.2.5, 6.8).
 -- They do not say that a state which follows is the best that could be known.
-use Rattle.std.specs.Prelude.{◌≡◌, ℕ, ℤ, ◌<◌, true, List, [], ◌∷◌, Option, Some, None}
+use Rattle.std.specs.Prelude.{◌≡◌, ℕ, ℤ, ◌<◌, true, List, [], ◌∷◌, Option, Some}
 use Rattle.std.specs.List.{All}
 use Rattle.typed_tree.specs.declared.tree.Expr.{Expr}
 use Rattle.domain.specs.Interval.{Interval}
@@ -12,7 +12,7 @@ use Rattle.meaning.specs.Effect.{Gives}
 use Rattle.meaning.specs.Meaning.{is_so, value_of}
 use Rattle.meaning.specs.Store.{Environment, Place, Store, written}
 use Rattle.abstract_state.specs.State.{State, gives_fact, joined_states}
-use Rattle.abstract_state.specs.Changes.{assigned, with_change}
+use Rattle.abstract_state.specs.Changes.{assigned}
 use Rattle.abstract_state.specs.Conditions.{bound_form, branched}
 use Rattle.abstract_state.specs.Loops.{head, replaced, with_undefined}
 use Rattle.abstract_state.specs.Holds.{Moment, HasNumber, Holds, IsBound, IsIn, StateHolds, value_at}
@@ -45,14 +45,6 @@ AssignmentsHold =
     → root < variables → env.variables root ≡ Some place → Knows variables env state store → IsIn range v
     → IsOfForm (moment env store) form v
     → Knows variables env (assigned root range form state) (written store place v)
-
--- after values were written to proper parts of a variable, what doesn't rest on the variable holds
-abbrev pub PartsHold : Type 0
-PartsHold =
-    (variables : ℕ) (env : Environment) (state : State) (before after : Store) (root : ℕ)
-    → IsKept env (root ∷ []) [] before after
-    → value_at (moment env after) root [] ≡ value_at (moment env before) root [] → Knows variables env state before
-    → Knows variables env (with_change root None state) after
 
 -- where a condition had a truth value, what is known of that branch holds
 abbrev pub ConditionsTell : Type 0

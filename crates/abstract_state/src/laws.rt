@@ -1,6 +1,6 @@
 //! What holds of states at the moments of a run. Each law is the contract of a function that does nothing.
 ghost use Rattle.abstract_state.specs.Laws.{AssignmentsHold, ConditionsTell, FormsTell, GivenHolds, HeadsHold};
-ghost use Rattle.abstract_state.specs.Laws.{JoinHolds, LeavingHolds, PartsHold};
+ghost use Rattle.abstract_state.specs.Laws.{JoinHolds, LeavingHolds};
 
 /// Where two ways meet, what is known behind them holds, whichever was taken.
 pub fn join_holds()
@@ -20,11 +20,6 @@ pub fn forms_tell()
 /// After a value was written to a variable, what is known after its assignment holds.
 pub fn assignments_hold()
     ensures { AssignmentsHold }
-{}
-
-/// After values were written to proper parts of a variable, what doesn't rest on the variable holds.
-pub fn parts_hold()
-    ensures { PartsHold }
 {}
 
 /// Where a condition had a truth value, what is known of that branch holds.

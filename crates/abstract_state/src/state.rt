@@ -129,8 +129,8 @@ impl State {
         self.equate(root, form)
     }
 
-    /// What is left of facts after a variable, or a part of it, got a value.
-    pub fn change(&mut self, root: u32, form: Option<Bound>)
+    /// What is left of facts after a variable got a value.
+    pub(crate) fn change(&mut self, root: u32, form: Option<Bound>)
         ensures { viewed self.new ≡ with_change root (said_form form) (viewed self.old) }
     {
         if let State::Live(facts) = self {
