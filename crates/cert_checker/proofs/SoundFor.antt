@@ -9,7 +9,7 @@ use Rattle.std.proofs.lemmas.List.Elements.{Contains-push_cases}
 use Rattle.place.specs.declared.Place.{Place as SourcePlace}
 use Rattle.typed_tree.specs.declared.tree.Direction.{Direction}
 use Rattle.typed_tree.specs.declared.tree.Direction.TheVariants.{To, DownTo}
-use Rattle.domain.specs.Interval.{Interval, HasMember, is_included}
+use Rattle.domain.specs.Interval.{Interval, HasMember, common, is_included}
 use Rattle.domain.specs.Facts.{Bound}
 use Rattle.meaning.specs.declared.store.Value.TheVariants.{Number}
 use Rattle.meaning.specs.Counting.{has_values, next_value, value_behind}
@@ -18,7 +18,7 @@ use Rattle.meaning.specs.Effect.{Action, is_in}
 use Rattle.meaning.specs.Meaning as meaning
 use Rattle.meaning.specs.Store.{Environment, Place as StorePlace, Store, undefined, written}
 use Rattle.abstract_state.specs.declared.known.Known.TheVariants.{Ordinal}
-use Rattle.abstract_state.specs.State.{State, limits_of}
+use Rattle.abstract_state.specs.State.{State, integer, limits_of}
 use Rattle.abstract_state.specs.Loops.{is_among, with_undefined}
 use Rattle.abstract_state.specs.Holds.{HasNumber, IsIn}
 use Rattle.abstract_state.specs.Knows.{IsKept, IsOfForm, Knows, Shows, moment}

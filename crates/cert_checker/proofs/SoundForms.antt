@@ -513,7 +513,7 @@ module _ (world : World) (env : Environment) (shows : Shows (variables_in world)
       → IsPartOf world (walk.case_walk site index rows (map statement_walk (bodies arms)) known context state) → Stands world env context state t.store
       → IsOfForm (moment env t.store) (bound_form index) v → IsKnown known v
       → Good world (Foretold world env context (walk.case_walk site index rows (map statement_walk (bodies arms)) known context state) t.store) t.visited
-      (meaning.arm_of site rows (map effect_of (bodies arms)) (meaning.number_of v) env t)
+      (meaning.arm_of site rows (map effect_of (bodies arms)) (effect.number_of v) env t)
   case-good site index rows arms (Ordinal range) (Number n) context state t below well unbroken part stands form inside =
       let walks = map statement_walk (bodies arms) in
       let constants = constants_before (length walks) rows in
@@ -554,12 +554,12 @@ module _ (world : World) (env : Environment) (shows : Shows (variables_in world)
   case-sound : (site : ℕ) (index : Expr) (rows : List (Vec ℤ Global)) (arms : List ProvedStmt) → site < world.sites → well_expr index ≡ true
       → all_hold (map well_stmt (bodies arms)) ≡ true
       → SoundAction world env
-      (effect.◌>>=◌ (value_of index env) (λ v. meaning.arm_of site rows (map effect_of (bodies arms)) (meaning.number_of v) env))
+      (effect.◌>>=◌ (value_of index env) (λ v. meaning.arm_of site rows (map effect_of (bodies arms)) (effect.number_of v) env))
       (flow.◌>>=◌ (value_walk index) (walk.case_walk site index rows (map statement_walk (bodies arms))))
   case-sound site index rows arms below index_well well context state s unbroken part stands =
       let first = value_walk index context state in
       let rest = walk.case_walk site index rows (map statement_walk (bodies arms)) first.value context first.after in
-      let finish = λ (v : Value). meaning.arm_of site rows (map effect_of (bodies arms)) (meaning.number_of v) env in
+      let finish = λ (v : Value). meaning.arm_of site rows (map effect_of (bodies arms)) (effect.number_of v) env in
       good-then world (IsForetold world env IsKnown context first s.store) (Foretold world env context (followed first rest) s.store) s.visited
       (value_of index env s) finish
       (value-sound world env shows index index_well context state s (unbroken-left first.broken rest.broken unbroken) (part-left world first rest part) stands)
@@ -646,7 +646,7 @@ module _ (world : World) (env : Environment) (shows : Shows (variables_in world)
       let two = and_parts (well_expr index) (list_all are_whole constants.items && all_hold (map well_stmt inner)) one.1 in
       let three = and_parts (list_all are_whole constants.items) (all_hold (map well_stmt inner)) two.1 in
       entered-sound {A = Unit {0}} {B = Unit {0}} world env shows Any_value number
-      (effect.◌>>=◌ (value_of index env) (λ v. meaning.arm_of site constants.items (map effect_of inner) (meaning.number_of v) env))
+      (effect.◌>>=◌ (value_of index env) (λ v. meaning.arm_of site constants.items (map effect_of inner) (effect.number_of v) env))
       (flow.◌>>=◌ (value_walk index) (walk.case_walk site index constants.items (map statement_walk inner)))
       (case-sound site index constants.items arms.items (ltb-true site world.sites one.0) two.0 three.1)
 

@@ -26,7 +26,12 @@ use Rattle.abstract_state.specs.State.{State, joined_states, limits_of}
 use Rattle.expression_checker.specs.Walk.{Context, Walked, Walking, fitting, ◌>>=◌, give}
 use Rattle.expression_checker.specs.Walk.{access_walk, enter, index_walks, value_walk, followed, numbers_of}
 use Rattle.expression_checker.specs.Walk.{first_breach, IsBreachOf}
-use Rattle.cert_checker.specs.Walk.{assign_to, change, statement_walk, all_of, assignment, block_walk, branches, breach_unless, facts_given, first_context}
+use Rattle.typed_tree.specs.declared.tree.Selector.{Selector}
+use Rattle.std.specs.Bool.{◌==◌}
+use Rattle.std.proofs.Common.{arith}
+use Rattle.std.proofs.lemmas.Bool.{eqb-true}
+use Rattle.domain.specs.Facts.{Bound}
+use Rattle.cert_checker.specs.Walk.{assign, assign_to, change, statement_walk, all_of, assignment, block_walk, branches, breach_unless, facts_given, first_context}
 use Rattle.cert_checker.specs.Walk.{program_walk, here, loop_walk, parted, repeat_round, while_round, with_state, where_so}
 use Rattle.structured_states.specs.View.{kept_round}
 use Rattle.cert_checker.specs.View.{at_state, claims_in, context_of, else_walk, AtHead, IsBegun, IsMoved, LeavesLoop, loop_in, Meets, Parts, Walks}
@@ -172,6 +177,13 @@ assignment-stopped becomes target indexes fits value old entered new before entr
     (change becomes target.root (limits_of fits.range) >>= λ _. assign_to target.root target.selectors.items (bound_form value) passed) in
     goes-then (access_walk target (index_walks indexes)) (λ _. value_walk value >>= rest) old entered new before entries after tt (Err fault) one
     (goes-stopped (value_walk value) rest entered new entries after fault two)
+
+-- an access without selectors is to an entire variable
+pub assigned-entire : (root : ℕ) (selectors : List Selector) (form : Option Bound) (passed : Known) → (length selectors == 0) ≡ true
+    → assign_to root selectors form passed ≡ assign root form passed
+assigned-entire root [] form passed is = refl
+assigned-entire root (selector ∷ selectors) form passed is =
+    let none = eqb-true (length (selector ∷ selectors)) 0 is in absurd (omega (arith, none))
 
 -- ---- branches
 
