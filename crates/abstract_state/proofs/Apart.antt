@@ -1,5 +1,6 @@
 -- Variables that share no place: what is written at the place of one leaves each part of another alone.
-use Rattle.std.proofs.Common.{arith, ◌≡◌, ◌≢◌, ⊎_elim, ◌∙◌, ap, refl, sym, ℕ, Bool, true, false, cond, ◌&&◌, nat_eq, List, [], ◌∷◌, ◌++◌, append-nil, Option, Some}
+use Rattle.std.proofs.Common.{arith, ◌≡◌, ◌≢◌, ⊎_elim, ◌∙◌, ap, refl, sym, ℕ, Bool, true, false, cond, ◌&&◌, nat_eq, List, [], ◌∷◌, ◌++◌, append-nil, Option}
+use Rattle.std.proofs.Common.{Some}
 use Rattle.std.proofs.Common.{None}
 use Rattle.std.proofs.lemmas.Bool.{and_parts, and_from, eq-eqb, eqb-true, false_from_ne_true}
 use Rattle.std.specs.Cmp.{int_eq_equiv}

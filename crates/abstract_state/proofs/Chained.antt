@@ -10,7 +10,8 @@ use Rattle.typed_tree.specs.declared.tree.Dyadic.TheVariants as dyadic
 use Rattle.typed_tree.specs.declared.tree.Expr.{Expr}
 use Rattle.typed_tree.specs.declared.tree.Link.{Link}
 use Rattle.typed_tree.specs.declared.tree.Expr.TheVariants as expr
-use Rattle.abstract_state.specs.Forms.{Form, Operand, access_form, chain_form, chain_form_of, constant_of, literal_of, moved_form, negative, offset_form, root_of}
+use Rattle.abstract_state.specs.Forms.{Form, Operand, access_form, chain_form, chain_form_of, constant_of, literal_of, moved_form, negative, offset_form}
+use Rattle.abstract_state.specs.Forms.{root_of}
 use Rattle.abstract_state.specs.Conditions.{Condition, condition_of, conjunct_of, operand_of}
 use Rattle.abstract_state.proofs.Shapes.{condition-Chain, condition-Variable}
 

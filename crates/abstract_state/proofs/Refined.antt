@@ -38,7 +38,8 @@ use Rattle.meaning.specs.Effect.{Reply, Gives, Stops, and_then, fetch, fetch_all
 use Rattle.meaning.specs.Meaning as meaning
 use Rattle.meaning.specs.Meaning.{Evaluation, accessed, is_so, link_of, relates, selected, value_of, values_of, whole_of}
 use Rattle.abstract_state.specs.State.{State, Dead}
-use Rattle.abstract_state.specs.Forms.{Form, Literal, Signed, Entire, Moved, Other, access_form, bound_of, chain_form, constant_of, moved_form, negative, offset_form}
+use Rattle.abstract_state.specs.Forms.{Form, Literal, Signed, Entire, Moved, Other, access_form, bound_of, chain_form, constant_of, moved_form, negative}
+use Rattle.abstract_state.specs.Forms.{offset_form}
 use Rattle.abstract_state.specs.Forms.{sign_form, signed}
 use Rattle.abstract_state.specs.Conditions.{Condition, Conjunct, all_refined, bound_form, branched, chain_refined, condition_of, condition_step, conjunct_of}
 use Rattle.abstract_state.specs.Conditions.{link_condition, monadic_refined, operand_of, operation_refined, refined, related_forms, single_refined, takes_both}

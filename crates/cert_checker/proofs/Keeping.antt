@@ -189,7 +189,8 @@ module _ (variables : ℕ) (env : Environment) (shows : Shows variables env) (st
 
   gone-others : (other : ℕ) → root ≢ other → (steps : List Step) → value_at (moment env gone) other steps ≡ value_at (moment env store) other steps
   gone-others other differ steps =
-      entry-apart env shows.separate store None root other (place_of env root) (at-place variables env shows root within) differ (env.variables other) refl steps
+      entry-apart env shows.separate store None root other (place_of env root) (at-place variables env shows root within) differ (env.variables other) refl
+      steps
 
   nothing-stored : (v : Value) (found : Option Value) → found ≡ None → found ≡ Some v → ⊥
   nothing-stored v found none is = cc

@@ -38,7 +38,8 @@ use Rattle.expression_checker.proofs.Keeping.{Keeps, keeps-itself, keeps-then}
 use Rattle.cert_checker.proofs.Keeping.{control-kept, gone-keeps, gone-kept, gone-none, gone-typed, own-value, written-typed}
 use Rattle.structured_states.proofs.OnWay.{Between, MayBe, begun-known, counts-known, counts-ordered, ended-known, kept-may, met-in, next-between}
 use Rattle.structured_states.proofs.OnWay.{ordered-itself, untouched-form}
-use Rattle.expression_checker.proofs.Sound.{World, variables_in, IsPartOf, Stands, Good, IsForetold, Passes, Sound, Any_value, unbroken-left, unbroken-right, part-left}
+use Rattle.expression_checker.proofs.Sound.{World, variables_in, IsPartOf, Stands, Good, IsForetold, Passes, Sound, Any_value, unbroken-left, unbroken-right}
+use Rattle.expression_checker.proofs.Sound.{part-left}
 use Rattle.expression_checker.proofs.Sound.{part-right, nothing-new, good-give, good-weaker, good-then, stands-as}
 use Rattle.cert_checker.proofs.SoundLoops.{Foretold, RoundEnds, inner, kept-rule, loop-good, loop_begun, rounds-outer, rounds-own, turn-then, ways-good}
 use Rattle.cert_checker.proofs.SoundLoops.{with_head}

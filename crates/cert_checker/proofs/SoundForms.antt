@@ -36,8 +36,10 @@ use Rattle.expression_checker.specs.Walk.{Context, Walked, Walking, followed, va
 use Rattle.cert_checker.specs.Walk.{statement_walk}
 use Rattle.abstract_state.proofs.Ranged.{IsKnown, common-in, included-in, is_in-integer, is_in-limits}
 use Rattle.abstract_state.proofs.Knows.{Shows, at-place, moment, joined-known_other, nonempty-known}
-use Rattle.expression_checker.proofs.Sound.{World, variables_in, Any_value, sound-then, sound-given, sound-written, sound-give, sound-enter, IsPartOf, IsForetold, Stands}
-use Rattle.expression_checker.proofs.Sound.{Good, good-give, good-then, good-weaker, nothing-new, unbroken-left, unbroken-right, part-left, part-right, closed-passes}
+use Rattle.expression_checker.proofs.Sound.{World, variables_in, Any_value, sound-then, sound-given, sound-written, sound-give, sound-enter, IsPartOf}
+use Rattle.expression_checker.proofs.Sound.{IsForetold, Stands}
+use Rattle.expression_checker.proofs.Sound.{Good, good-give, good-then, good-weaker, nothing-new, unbroken-left, unbroken-right, part-left, part-right}
+use Rattle.expression_checker.proofs.Sound.{closed-passes}
 use Rattle.expression_checker.proofs.Sound.{errs-here, open-here, stands-as}
 use Rattle.cert_checker.proofs.SoundLoops.{Foretold, sound-choice, sound-loop, sound-while, sound-repeat, kept-rule, type-limits}
 use Rattle.cert_checker.proofs.Keeping.{listed-keeps, part-kept, part-typed, written-kept, written-typed}
@@ -193,8 +195,9 @@ module _ (world : World) (env : Environment) (shows : Shows (variables_in world)
       (λ listed. walk.assign_to target.root target.selectors.items (bound_form value) passed))
 
   -- the value is stored: each loop round lists its variable, and it lies in the range of the variable's type
-  entire-stored : (root : ℕ) (form : Option Bound) (known : Known) (v : Value) (context : Context) (state : State) (t : effect.State) → root < variables_in world
-      → all_list root context.rounds ≡ true → IsIn (limits_at world.limits root) v → IsIn integer v → IsKnown known v → IsOfForm (moment env t.store) form v
+  entire-stored : (root : ℕ) (form : Option Bound) (known : Known) (v : Value) (context : Context) (state : State) (t : effect.State)
+      → root < variables_in world → all_list root context.rounds ≡ true → IsIn (limits_at world.limits root) v → IsIn integer v → IsKnown known v
+      → IsOfForm (moment env t.store) form v
       → Stands world env context state t.store
       → Good world (Foretold world env context (walk.assign root form known context state) t.store) t.visited (effect.store (env.variables root) v t)
   entire-stored root form (Ordinal range) v context state t within listed own whole inside of_form stands =
@@ -352,7 +355,8 @@ module _ (world : World) (env : Environment) (shows : Shows (variables_in world)
       let told = components-told root context state s.store t.store listed.0 stands changed in
       record { tie = tt; stands = told.stands; kept = told.kept })
       (all-stored root before place within place_is
-      (subst (λ (limits : List Interval). is_included integer (limits_at limits root) ≡ true) stands.limits_are listed.1) components numbers whole s stands.typed)
+      (subst (λ (limits : List Interval). is_included integer (limits_at limits root) ≡ true) stands.limits_are listed.1) components numbers whole s
+      stands.typed)
 
   -- the target is accessed, and then comes the value
   abbrev copied : Access → List Expr → TypeId → Whole → List Expr → effect.Action (Unit {0})
@@ -639,7 +643,8 @@ module _ (world : World) (env : Environment) (shows : Shows (variables_in world)
       (flow.◌>>=◌ (value_walk first) (λ from. flow.◌>>=◌ (value_walk last) (λ to.
       walk.for_walk loop_number place (statement_walk body.value.0) (way_of control direction first first_fits last last_fits from to))))
       (for-sound loop_number place control first first_fits direction last last_fits execution (statement_walk body.value.0) (body.value.1 five.1)
-      (leads-within world.declared world.types world.sites (is_ordinal world.types) control [] 0 one.0) two.0 (site-within first_fits three.0) four.0 (site-within last_fits five.0))
+      (leads-within world.declared world.types world.sites (is_ordinal world.types) control [] 0 one.0) two.0
+      (site-within first_fits three.0) four.0 (site-within last_fits five.0))
   statement-layer (Case number site index constants arms) well =
       let inner = bodies arms.items in
       let one = and_parts (nat_lt site world.sites) (well_expr index && (list_all are_whole constants.items && all_hold (map well_stmt inner))) well in

@@ -32,7 +32,8 @@ use Rattle.cert_checker.specs.Walk as walk
 use Rattle.expression_checker.specs.Walk.{Context, Walked, Walking, followed, value_walk}
 use Rattle.cert_checker.specs.Walk.{where_so}
 use Rattle.expression_checker.proofs.Keeping.{Keeps, InTypes, keeps-itself, keeps-then}
-use Rattle.expression_checker.proofs.Sound.{World, variables_in, IsPartOf, Stands, Good, IsForetold, Sound, Any_value, unbroken-left, unbroken-right, part-left, part-right}
+use Rattle.expression_checker.proofs.Sound.{World, variables_in, IsPartOf, Stands, Good, IsForetold, Sound, Any_value, unbroken-left, unbroken-right}
+use Rattle.expression_checker.proofs.Sound.{part-left, part-right}
 use Rattle.expression_checker.proofs.Sound.{nothing-new, good-give, good-weaker, good-then, stands-as}
 
 -- ---- branches

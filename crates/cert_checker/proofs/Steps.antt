@@ -31,7 +31,8 @@ use Rattle.std.specs.Bool.{◌==◌}
 use Rattle.std.proofs.Common.{arith}
 use Rattle.std.proofs.lemmas.Bool.{eqb-true}
 use Rattle.domain.specs.Facts.{Bound}
-use Rattle.cert_checker.specs.Walk.{assign, assign_to, change, statement_walk, all_of, assignment, block_walk, branches, breach_unless, facts_given, first_context}
+use Rattle.cert_checker.specs.Walk.{assign, assign_to, change, statement_walk, all_of, assignment, block_walk, branches, breach_unless, facts_given}
+use Rattle.cert_checker.specs.Walk.{first_context}
 use Rattle.cert_checker.specs.Walk.{program_walk, here, loop_walk, parted, repeat_round, while_round, with_state, where_so}
 use Rattle.structured_states.specs.View.{kept_round}
 use Rattle.cert_checker.specs.View.{at_state, claims_in, context_of, else_walk, AtHead, IsBegun, IsMoved, LeavesLoop, loop_in, Meets, Parts, Walks}
@@ -40,7 +41,6 @@ use Rattle.structured_states.specs.Loops.{Claims, Round, all_list, claims_at, li
 use Rattle.abstract_state.specs.Loops.{gives_all, head, is_among}
 use Rattle.std.specs.List.{list_all}
 use Rattle.std.proofs.lemmas.List.Folds.{list_all-map}
-use Rattle.types.specs.declared.form.OrdinalRange.{OrdinalRange}
 use Rattle.typed_tree.specs.declared.tree.Tree.{Tree}
 use Rattle.certificate.specs.declared.Certificate.{Certificate}
 use Rattle.expression_checker.specs.declared.fault.Rule.TheVariants.{LoopEntry, LoopTurn, Changes}
@@ -165,18 +165,6 @@ assignment-done becomes target indexes fits value values old entered valued befo
     goes-then (access_walk target (index_walks indexes)) (λ _. value_walk value >>= rest) old entered new before entries after tt result one
     (goes-then (value_walk value) rest entered valued new entries after after known result two
     (subst (λ (v : Interval). Goes (stored v known) valued after result new after) is three))
-
--- the checker gave up over the target of an assignment, or over its value
-pub assignment-stopped : (becomes : SourcePlace) (target : Access) (indexes : List Expr) (fits : RangeTest) (value : Expr) (old entered new : Walk)
-    (before entries after : Visits) (fault : CheckFault)
-    → Walks (access_walk target (index_walks indexes)) old before entered entries tt
-    → IsBreachOf (value_walk value (context_of entered) (viewed entered.flow.state)) fault
-    → Goes (assignment becomes target (index_walks indexes) fits value) old before (Err fault) new after
-assignment-stopped becomes target indexes fits value old entered new before entries after fault one two =
-    let rest = λ (known : Known). fitting fits known >>= λ passed.
-    (change becomes target.root (limits_of fits.range) >>= λ _. assign_to target.root target.selectors.items (bound_form value) passed) in
-    goes-then (access_walk target (index_walks indexes)) (λ _. value_walk value >>= rest) old entered new before entries after tt (Err fault) one
-    (goes-stopped (value_walk value) rest entered new entries after fault two)
 
 -- an access without selectors is to an entire variable
 pub assigned-entire : (root : ℕ) (selectors : List Selector) (form : Option Bound) (passed : Known) → (length selectors == 0) ≡ true

@@ -19,14 +19,16 @@ use Rattle.typed_tree.specs.declared.tree.Link.{Link}
 use Rattle.typed_tree.specs.declared.tree.Expr.TheOpen.{Expr-F, Link-F}
 use Rattle.typed_tree.specs.declared.tree.Expr.TheOpen.Expr-F.{Constant, Variable, Monadic as MonadicOf, Chain, Compare}
 use Rattle.typed_tree.specs.declared.tree.Expr.TheFolds.{fold-Link, map-Expr, map-Link, fold-roll-Expr, fold-roll-Link, ind-Expr}
-use Rattle.typed_tree.specs.Entries.{joined, expression_entries, link_entries, entries_of_expression, entries_of_width, entries_of_parameter, access_entries, whole_entries}
+use Rattle.typed_tree.specs.Entries.{joined, expression_entries, link_entries, entries_of_expression, entries_of_width, entries_of_parameter, access_entries}
+use Rattle.typed_tree.specs.Entries.{whole_entries}
 use Rattle.typed_tree.specs.Entries.{entries_of_written, index_entries}
 use Rattle.abstract_state.specs.declared.known.Known.{Known}
 use Rattle.abstract_state.specs.declared.known.Known.TheVariants.{Ordinal}
 use Rattle.expression_checker.specs.Visits.{Visits, all_counted, counted}
 use Rattle.abstract_state.specs.State.{State}
 use Rattle.expression_checker.specs.Walk.{Context, Linked, Walking, Combination, numbers_of, operated, combined, width_test, value_step, link_step, value_walk}
-use Rattle.expression_checker.specs.Walk.{access_walk, behind_next, index_test, index_walks, indexes_walk, link_walk, next_test, value_use, whole_walk, width_walk}
+use Rattle.expression_checker.specs.Walk.{access_walk, behind_next, index_test, index_walks, indexes_walk, link_walk, next_test, value_use, whole_walk}
+use Rattle.expression_checker.specs.Walk.{width_walk}
 use Rattle.expression_checker.specs.Walk.{written_walk, parameter_walk, in_turn}
 
 -- a walk links states to these, in whatever context and from whatever state

@@ -24,7 +24,7 @@ use Rattle.typed_tree.specs.declared.tree.Whole.{Whole}
 use Rattle.typed_tree.specs.declared.tree.Whole.TheVariants.{Text, Variable as VariableOf}
 use Rattle.typed_tree.specs.Accesses as accesses
 use Rattle.typed_tree.specs.Accesses.{index_count, is_type, led}
-use Rattle.typed_tree.specs.WellFormed.{are_characters, is_character, is_value_of, is_well_formed_selector, is_well_formed_whole, is_whole, leads_to}
+use Rattle.typed_tree.specs.WellFormed.{is_character, is_value_of, is_well_formed_selector, is_well_formed_whole, is_whole, leads_to}
 use Rattle.typed_tree.specs.WellFormed.{leads_to_whole}
 use Rattle.domain.specs.Interval.{HasMember}
 use Rattle.meaning.specs.declared.outcome.Ending.TheVariants.{Error}
@@ -193,7 +193,8 @@ module _ (world : World) (env : Environment) (shows : Shows (variables_in world)
       let inner_is : inner_of v ≡ part (env.variables root) more =
       ap (λ (p : Option Place). part p (step.Element (number_of v) ∷ [])) place_is
       ∙ part-then (env.variables root) steps (step.Element (number_of v) ∷ []) in
-      let many : length more + length selectors ≡ length steps + suc (length selectors) = omega (arith, length-append steps (step.Element (number_of v) ∷ [])) in
+      let many : length more + length selectors ≡ length steps + suc (length selectors) =
+      omega (arith, length-append steps (step.Element (number_of v) ∷ [])) in
       sound-then world env Any_value R (effect.require (is_in fits.range v) fits.site) (λ tested. selected selectors evaluations env (inner_of v))
       (index_test (Some fits) known) (λ done. indexes_walk selectors walks) (tested-sound fits known v (ltb-true fits.site world.sites site.0) inside)
       (λ done tested tie.

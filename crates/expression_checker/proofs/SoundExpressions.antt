@@ -37,9 +37,10 @@ use Rattle.expression_checker.specs.Walk as walk
 use Rattle.expression_checker.specs.Walk.{Walking, value_walk, link_walk, parameter_walk, width_walk}
 use Rattle.abstract_state.proofs.Ranged.{IsKnown, constant-in, truth_values-has}
 use Rattle.abstract_state.proofs.Knows.{Shows}
-use Rattle.expression_checker.proofs.Sound.{World, Sound, Any_value, Passes, sound-then, sound-given, sound-named, sound-written, sound-give, sound-enter}
+use Rattle.expression_checker.proofs.Sound.{World, Sound, Any_value, Passes, sound-then, sound-named, sound-written, sound-give, sound-enter}
 use Rattle.expression_checker.proofs.Sound.{variables_in}
-use Rattle.expression_checker.proofs.SoundAccesses.{AllSound, Reaches, RowOfIntegers, leads-count, leads-tests, leads-within, reached-sound, used-sound, whole-good}
+use Rattle.expression_checker.proofs.SoundAccesses.{AllSound, Reaches, RowOfIntegers, leads-count, leads-tests, leads-within, reached-sound, used-sound}
+use Rattle.expression_checker.proofs.SoundAccesses.{whole-good}
 use Rattle.expression_checker.proofs.SoundOperations.{given-sound, operated-sound, combined-sound, positive-sound}
 
 -- the walk over an action that gives no value is sound

@@ -138,7 +138,8 @@ module _ (world : World) (env : Environment) where
       (λ closed. above-end range n first closed inside) (λ passes. at_least-has (first +ℤ pos 1) range n inside (above-first n first passes)))
       (λ passed tested passes. given-sound (difference passed single) (n -ℤ pos 1) (difference-has passed single n (pos 1) passes.0 one-single))
 
-  pub operated-sound : (operation : Monadic) (known : Known) (v : Value) → monadic_is_well_formed world.declared world.types world.sites operation ≡ true → IsKnown known v
+  pub operated-sound : (operation : Monadic) (known : Known) (v : Value) → monadic_is_well_formed world.declared world.types world.sites operation ≡ true
+      → IsKnown known v
       → Sound world env IsKnown (meaning.operated operation v) (walk.operated operation known)
   operated-sound monadic.Plus (Ordinal range) (Number n) well inside = given-sound range n inside
   operated-sound monadic.Minus (Ordinal range) (Number n) well inside = given-sound (negated range) (neg_ℤ n) (negated-has range n inside)

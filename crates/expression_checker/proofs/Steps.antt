@@ -27,7 +27,7 @@ use Rattle.domain.specs.Interval.{Interval, between}
 use Rattle.std.proofs.lemmas.Int.{ints}
 use Rattle.expression_checker.specs.Visits.{Visits, all_counted, counted}
 use Rattle.expression_checker.specs.Walk.{Breach, Context, Linked, Walked, Walking, IsBreachOf, use_of, tested, positive, within, width_test, fitting, ◌>>=◌}
-use Rattle.expression_checker.specs.Walk.{access_walk, behind_next, give, index_test, index_walks, indexes_walk, next_test, related_walk, variable_walk, whole_walk}
+use Rattle.expression_checker.specs.Walk.{behind_next, give, index_test, index_walks, indexes_walk, next_test, related_walk, variable_walk, whole_walk}
 use Rattle.expression_checker.specs.Walk.{ordinal, enter, first_breach, operated, combined, in_turn, value_walk, link_walk, numbers_of}
 use Rattle.expression_checker.specs.View.{Flows, Goes}
 use Rattle.structured_states.proofs.Claims.{item-cut, drop-past}

@@ -5,7 +5,8 @@ ghost use Rattle.expression_checker.specs.View.{Goes};
 ghost use Rattle.expression_checker.specs.Walk.{above, access_walk, behind_next, below, combined, component_use};
 ghost use Rattle.expression_checker.specs.Walk.{components_use, divisor, enter, fitting, index_test, index_walks};
 ghost use Rattle.expression_checker.specs.Walk.{indexes_walk, link_walk, next_test, operated, parameter_walk, positive};
-ghost use Rattle.expression_checker.specs.Walk.{related_walk, tested, use_of, value_use, value_walk, variable_walk, whole};
+ghost use Rattle.expression_checker.specs.Walk.{related_walk, tested, use_of, value_use, value_walk, variable_walk};
+ghost use Rattle.expression_checker.specs.Walk.{whole};
 ghost use Rattle.expression_checker.specs.Walk.{whole_walk, width_test, width_walk, within, written_walk};
 
 use crate::fault::CheckFault;

@@ -13,6 +13,8 @@ returns-in_err-passed c =
     let indexes = c.args.indexes.now in
     let fits = c.args.fits in
     let value = c.args.value.now in
+    let asked = change c.args.becomes target.root (limits_of fits.range) in
+    let stores = assign_to target.root target.selectors.items (bound_form value) in
     let valued = c.expression.new.self in
     let new = record valued { flow = c.fitting.new.self } in
     let after = c.expression.new.visits in
@@ -23,7 +25,7 @@ returns-in_err-passed c =
     (assignment-done c.args.becomes target indexes fits value (limits_of fits.range) c.args.self.now c.access.new.self valued c.args.visits.now
     c.access.new.visits after known (Err fault) new
     refl c.in_ok-access.ensures c.in_ok-known.ensures
-    (goes-stopped (fitting fits known) (λ passed. change c.args.becomes target.root (limits_of fits.range) >>= λ _. assign_to target.root target.selectors.items (bound_form value) passed)
+    (goes-stopped (fitting fits known) (λ passed. asked >>= λ _. stores passed)
     valued new after after fault (c.in_err-passed.ensures after (context_of valued))))
 
 pub returns-in_err-change : goal.returns-in_err-change
@@ -32,6 +34,8 @@ returns-in_err-change c =
     let indexes = c.args.indexes.now in
     let fits = c.args.fits in
     let value = c.args.value.now in
+    let asked = change c.args.becomes target.root c.limits.result in
+    let stores = assign_to target.root target.selectors.items (bound_form value) in
     let valued = c.expression.new.self in
     let tested = record valued { flow = c.fitting.new.self } in
     let new = c.change.new.self in
@@ -44,10 +48,10 @@ returns-in_err-change c =
     (assignment-done c.args.becomes target indexes fits value c.limits.result c.args.self.now c.access.new.self valued c.args.visits.now
     c.access.new.visits after known (Err fault) new
     c.limits.ensures c.in_ok-access.ensures c.in_ok-known.ensures
-    (goes-then (fitting fits known) (λ passed. change c.args.becomes target.root c.limits.result >>= λ _. assign_to target.root target.selectors.items (bound_form value) passed)
+    (goes-then (fitting fits known) (λ passed. asked >>= λ _. stores passed)
     valued tested new after after after passed (Err fault)
     (lifted (fitting fits known) valued c.fitting.new.self after after (Ok passed) (c.in_ok-passed.ensures after))
-    (goes-stopped (change c.args.becomes target.root c.limits.result) (λ _. assign_to target.root target.selectors.items (bound_form value) passed) tested new after after fault
+    (goes-stopped asked (λ _. stores passed) tested new after after fault
     (c.in_err-change.ensures after))))
 
 pub returns : goal.returns
@@ -56,6 +60,8 @@ returns c =
     let indexes = c.args.indexes.now in
     let fits = c.args.fits in
     let value = c.args.value.now in
+    let asked = change c.args.becomes target.root c.limits.result in
+    let stores = assign_to target.root target.selectors.items (bound_form value) in
     let valued = c.expression.new.self in
     let tested = record valued { flow = c.fitting.new.self } in
     let changed = c.change.new.self in
@@ -66,8 +72,8 @@ returns c =
     assignment-done c.args.becomes target indexes fits value c.limits.result c.args.self.now c.access.new.self valued c.args.visits.now
     c.access.new.visits after known c.store.result new
     c.limits.ensures c.in_ok-access.ensures c.in_ok-known.ensures
-    (goes-then (fitting fits known) (λ passed. change c.args.becomes target.root c.limits.result >>= λ _. assign_to target.root target.selectors.items (bound_form value) passed)
+    (goes-then (fitting fits known) (λ passed. asked >>= λ _. stores passed)
     valued tested new after after after passed c.store.result
     (lifted (fitting fits known) valued c.fitting.new.self after after (Ok passed) (c.in_ok-passed.ensures after))
-    (goes-then (change c.args.becomes target.root c.limits.result) (λ _. assign_to target.root target.selectors.items (bound_form value) passed) tested changed new after after after
+    (goes-then asked (λ _. stores passed) tested changed new after after after
     tt c.store.result (c.in_ok-change.ensures after) (c.store.ensures after)))

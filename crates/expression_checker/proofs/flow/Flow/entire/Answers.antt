@@ -1,4 +1,3 @@
-use Rattle.std.proofs.Common.{Err}
 use Rattle.expression_checker.specs.Walk.{use_of}
 use Rattle.expression_checker.proofs.Steps.{given-up, use-goes, use-stopped}
 use Rattle.expression_checker.proofs.flow.Flow.entire.Goals as goal
