@@ -7,4 +7,5 @@ pub mod Once
 pub mod Scalars
 pub mod Strings
 pub mod Longer
+pub mod Parts
 mod Examples
