@@ -1,5 +1,6 @@
 -- The part of a type that a place falls into.
-use Rattle.std.proofs.Common.{◌≡◌, ⊎_elim, ℕ, zero, suc, ◌+◌, ◌-◌, ◌*◌, ◌/◌, ◌%◌, ◌<◌, ◌≤◌, ℤ, pos, ◌+ℤ◌, false, List, [], ◌∷◌, length, drop, take, get_or, slice_index_or}
+use Rattle.std.proofs.Common.{◌≡◌, ⊎_elim, ℕ, zero, suc, ◌+◌, ◌-◌, ◌*◌, ◌/◌, ◌%◌, ◌<◌, ◌≤◌, ℤ, pos, ◌+ℤ◌, false}
+use Rattle.std.proofs.Common.{List, [], ◌∷◌, length, drop, take, get_or, slice_index_or}
 use Rattle.std.proofs.Common.{Bool, Vec, Global, Option, Some, None, refl, sym, ap, subst, ◌∙◌, arith}
 use Rattle.std.proofs.lemmas.Bool.{cases_lt}
 use Rattle.std.proofs.lemmas.List.{length-drop, length-take, nil_from_length, get_or_append_left, get_or-append_right}
@@ -23,7 +24,8 @@ use Rattle.types.specs.declared.form.TypeId.{TypeId}
 use Rattle.types.proofs.Counts.{cells_before, cells_of_form, values_counted}
 use Rattle.types.proofs.Elements.{part_at, value_at}
 use Rattle.types.proofs.Growing.{slice_get-take}
-use Rattle.types.proofs.Laid.{components_before, components_not_before, components_of_form, components_of_none, laid_before, length_behind, length_components, values_before}
+use Rattle.types.proofs.Laid.{components_before, components_not_before, components_of_form, components_of_none}
+use Rattle.types.proofs.Laid.{laid_before, length_behind, length_components, values_before}
 
 -- the components behind a step, at a place among them
 behind_at : (s : Step) (rows : List Steps) (place : ℕ) → place < length rows
@@ -99,7 +101,8 @@ module _ (types : List TypeForm) (id index element : TypeId) where
           let value : ℤ = range.first +ℤ pos (place / cells) in
           let rows : List Steps = components_at (laid_before types id) element in
           let as_many : length rows ≡ cells = length_components (take id.index types) element in
-          let at : place ≡ place / cells * cells + place % cells = sym (div-add-mod place cells) ∙ ap (λ n. n + place % cells) (mul_comm cells (place / cells)) in
+          let at : place ≡ place / cells * cells + place % cells =
+          sym (div-add-mod place cells) ∙ ap (λ n. n + place % cells) (mul_comm cells (place / cells)) in
           let item : slice_get (laid_values (laid_before types id) index) (place / cells) ≡ Some value =
           ap (λ values. slice_get values (place / cells)) (values_before types id index index_before ∙ ap range_values is)
           ∙ value_at range.first (values_in range) (place / cells) index_within in
@@ -157,7 +160,8 @@ module _ (types : List TypeForm) (id : TypeId) (position : ℕ) (field : Field) 
 module _ (types : List TypeForm) (part : Part) where
   -- a number that is none of theirs stands for a scalar
   pub steps_outside : part.before ≤ part.type_id.index → steps_to types part ≡ []
-  steps_outside h = ap (λ rows. slice_index_or rows part.place []) (components_not_before types (record { index = part.before }) part.type_id h) ∙ one part.place
+  steps_outside h =
+      ap (λ rows. slice_index_or rows part.place []) (components_not_before types (record { index = part.before }) part.type_id h) ∙ one part.place
 
   module _ (within : part.type_id.index < part.before) where
     same_rows : components_at (laid_out (take part.before types)) part.type_id ≡ components_of types part.type_id

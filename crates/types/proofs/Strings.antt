@@ -59,7 +59,8 @@ one_each : (values : List ℤ) → elements_components ([] ∷ []) values ≡ ma
 one_each [] = refl
 one_each (value ∷ values) = ap (λ rows. (step.Element value ∷ []) ∷ rows) (one_each values)
 
-module _ (types : List TypeForm) (id : TypeId) (e : ArrayElement) (n : ℕ) (array : element_of types id ≡ Some e) (string : string_length types id ≡ Some n) where
+module _ (types : List TypeForm) (id : TypeId) (e : ArrayElement) (n : ℕ) (array : element_of types id ≡ Some e)
+    (string : string_length types id ≡ Some n) where
   parts : (e.type_id ≡ char) × (range_of types e.index ≡ Some (indexes n))
   parts =
       let is = is_array types id e array in

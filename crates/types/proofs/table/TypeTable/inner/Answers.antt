@@ -1,6 +1,6 @@
 use Rattle.std.proofs.Common.{◌≡◌, ◌<◌, List, [], Some, slice_index_or, sum_by, sym, ap, subst, ◌∙◌}
 use Rattle.std.specs.Option.{MatchOption, option_copied}
-use Rattle.types.specs.Components.{fields_components, form_components}
+use Rattle.types.specs.Components.{Steps, fields_components, form_components}
 use Rattle.types.specs.Parts.{GoesOn, steps_to}
 use Rattle.types.specs.Types.{before, cells_at}
 use Rattle.types.specs.declared.form.Field.{Field}
@@ -15,8 +15,8 @@ returns-then-part-clause-leads c = steps_outside c.args.self.now c.args.part c.i
 
 pub returns-in_err-index-clause-leads : goal.returns-in_err-index-clause-leads
 returns-in_err-index-clause-leads c =
-    subst (λ next. MatchOption next (steps_to c.args.self.now c.args.part ≡ []) (GoesOn c.args.self.now c.args.part.type_id.index (steps_to c.args.self.now c.args.part)))
-    (sym c.from_residual.ensures)
+    let steps : Steps = steps_to c.args.self.now c.args.part in
+    subst (λ next. MatchOption next (steps ≡ []) (GoesOn c.args.self.now c.args.part.type_id.index steps)) (sym c.from_residual.ensures)
     (steps_of_none c.args.self.now c.args.part c.if-part.false (sym c.form.ensures ∙ ap option_copied c.in_err-index.was))
 
 pub inner_element-requires : goal.inner_element-requires
@@ -28,7 +28,8 @@ pub inner_field-requires : goal.inner_field-requires
 inner_field-requires c =
     let inside = inside_form c.args.self.now c.args.part c.if-part.false (Record c.in-Record.packed c.in-Record.fields)
     (sym c.form.ensures ∙ ap option_copied c.in_ok-index.was ∙ ap Some c.in-Record.is) c.requires in
-    subst (λ fields. c.args.part.place < sum_by (λ field. cells_at (before c.args.self.now c.args.part.type_id) field.type_id) fields) (sym c.deref.ensures.value) inside
+    subst (λ fields. c.args.part.place < sum_by (λ field. cells_at (before c.args.self.now c.args.part.type_id) field.type_id) fields)
+    (sym c.deref.ensures.value) inside
 
 pub returns-in-Array-clause-leads : goal.returns-in-Array-clause-leads
 returns-in-Array-clause-leads c =

@@ -28,12 +28,11 @@ returns c =
     let cells : c.part_cells-cells.result ≡ cells_at (before types id) c.args.element = c.part_cells-cells.ensures in
     let read : to_z w32 (of_z w32 c.value.result) ≡ c.value.result = search (rules, to_z-of_z) in
     let value = read ∙ c.value.ensures ∙ ap (λ n. c.in_ok-range.range.first +ℤ pos (place / n)) cells in
+    let inner = λ (n : ℕ). steps_to types (record { before = id.index; type_id = c.args.element; place = place % n }) in
     let within = place_within types id c.args.index c.args.element place c.requires c.in_ok-range.range is in (
       refl,
       subst (λ n. place % n < cells_at (before types id) c.args.element) (sym cells) within,
       element_reads types id c.args.index c.args.element place c.requires c.in_ok-range.range is
-          ∙ ap (λ value. Element value ∷ steps_to types (record { before = id.index; type_id = c.args.element; place = place % cells_at (before types id) c.args.element }))
-          (sym value)
-          ∙ ap (λ n. Element (to_z w32 (of_z w32 c.value.result)) ∷ steps_to types (record { before = id.index; type_id = c.args.element; place = place % n }))
-          (sym cells),
+          ∙ ap (λ value. Element value ∷ inner (cells_at (before types id) c.args.element)) (sym value)
+          ∙ ap (λ n. Element (to_z w32 (of_z w32 c.value.result)) ∷ inner n) (sym cells),
     )
