@@ -39,7 +39,7 @@ last_range (Some (Subrange host first last)) n is =
 last_range other n is = absurd (none-some n is)
 
 -- the type of the indexes and that of the elements
-string_parts : (types : List TypeForm) (packed : Bool) (index element : TypeId) (n : ℕ) → string_in types (Some (Array packed index element)) ≡ Some n
+pub string_parts : (types : List TypeForm) (packed : Bool) (index element : TypeId) (n : ℕ) → string_in types (Some (Array packed index element)) ≡ Some n
     → (element ≡ char) × (range_of types index ≡ Some (indexes n))
 string_parts types false index element n is = absurd (none-some n is)
 string_parts types true index element n is = by (is_same element char) refl is
