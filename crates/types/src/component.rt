@@ -54,7 +54,7 @@ impl TypeTable {
         }
     }
 
-    // The element that a place falls into.
+    // The element that a place falls into, in an array that is packed or not.
     fn inner_element(&self, part: Part, index: TypeId, element: TypeId) -> Option<(Step, Part)>
         requires { part.place
             < values_at (before self.now part.type_id) index * cells_at (before self.now part.type_id) element }
