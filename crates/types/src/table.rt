@@ -1,12 +1,12 @@
 ghost use Rattle.std.specs.Prelude.{◌≡◌, ◌⊎◌, ◌++◌, ◌*◌, ◌∷◌, [], List, Err, IfOk, IsOk, OnErr, OnOk, map};
-ghost use Rattle.std.specs.Prelude.{sum_by};
+ghost use Rattle.std.specs.Prelude.{◌<◌, ◌^◌, Some, length, sum_by};
 ghost use Rattle.std.specs.Option.{option_copied};
 ghost use Rattle.types.specs.Types.{admitted, admitted_cells, cells_at, counted, few, form_at, form_cells, is_turned};
-ghost use Rattle.types.specs.Types.{required_forms, values_at};
+ghost use Rattle.types.specs.Types.{own_field, required_forms, values_at};
 ghost use Rattle.types.specs.declared.form.TypeForm.{TypeForm};
 ghost use Rattle.types.specs.declared.refusal.TypeRefusal.TheVariants.{Memory};
 
-use crate::form::{Field, OrdinalRange, TypeForm, TypeId};
+use crate::form::{ArrayElement, Field, OrdinalRange, RecordField, TypeForm, TypeId};
 use crate::refusal::TypeRefusal;
 use std::alloc::{AllocError, Global};
 use std::marker::Model;
@@ -36,7 +36,7 @@ impl Model for TypeTable {
 }
 
 impl TypeTable {
-    ghost use Rattle.types.specs.Types.{cells_of, host_of, is_assignable, is_compatible};
+    ghost use Rattle.types.specs.Types.{cells_of, element_of, field_of, host_of, is_assignable, is_compatible};
     ghost use Rattle.types.specs.Types.{is_ordinal, is_string, range_of, string_length};
 
     /// The type integer in each table.
@@ -151,10 +151,42 @@ impl TypeTable {
             Some(entry) => entry.cells,
         }
     }
+
+    /// The field of a record that has this name in small letters (6.5.3.3); none, where the type has no such field, or
+    /// the field's type does not stand before it in the table.
+    pub fn field(&self, id: TypeId, name: &[u8]) -> Option<RecordField>
+        ensures { result ≡ field_of self.now id name.now }
+    {
+        // An offset is no more than all the cells of the record.
+        let _cells = self.cells(id);
+        match self.form(id)? {
+            TypeForm::Record { fields, .. } => own_field(id, self.field_among(id, fields, name)?),
+            _ => None,
+        }
+    }
+
+    /// The elements of an array (6.5.3.2); none, where the type is no array, or its index type or that of the elements
+    /// does not stand before it in the table.
+    pub fn element(&self, id: TypeId) -> Option<ArrayElement>
+        ensures { result ≡ element_of self.now id }
+    {
+        match self.form(id)? {
+            TypeForm::Array { index, element, .. } => self.elements(id, *index, *element),
+            _ => None,
+        }
+    }
 }
 
 impl TypeTable {
-    ghost use Rattle.types.specs.Types.{have_one_length, string_last, string_length};
+    ghost use Rattle.types.specs.Types.{before, elements, field_among, have_one_length, range_of};
+    ghost use Rattle.types.specs.Types.{string_last, string_length};
+
+    // How many types there are.
+    pub(crate) fn count(&self) -> usize
+        ensures { result ≡ length self.now }
+    {
+        self.entries.len()
+    }
 
     // Whether two types are strings of equal length.
     fn are_equally_long(&self, first: TypeId, second: TypeId) -> bool
@@ -222,6 +254,52 @@ impl TypeTable {
         }
     }
 
+    // The cells of a part of a type, if it stands before it.
+    #[tactic(auto, using(crate::proofs::Counts::cells_before, crate::proofs::Counts::cells_not_before))]
+    pub(crate) fn part_cells(&self, id: TypeId, part: TypeId) -> u32
+        ensures { result ≡ cells_at (before self.now id) part }
+    {
+        if part.index >= id.index {
+            return 1;
+        }
+        self.cells(part)
+    }
+
+    // The elements of an array with these types.
+    fn elements(&self, id: TypeId, index: TypeId, element: TypeId) -> Option<ArrayElement>
+        ensures { result ≡ elements (before self.now id) id index element (range_of self.now index) }
+    {
+        let range = self.range(index)?;
+        if index.index >= id.index || element.index >= id.index {
+            return None;
+        }
+        Some(ArrayElement {
+            index,
+            range,
+            type_id: element,
+            cells: self.part_cells(id, element),
+        })
+    }
+
+    // The field of a name among those of a record.
+    fn field_among(&self, id: TypeId, fields: &[Field], name: &[u8]) -> Option<RecordField>
+        requires { sum_by (λ field. cells_at (before self.now id) field.type_id) fields.now < 2 ^ 32 }
+        ensures { result ≡ field_among (before self.now id) 0 0 fields.now name.now }
+    {
+        let mut offset = 0;
+        for (position, field) in fields.iter().enumerate() {
+            if field.name.as_slice() == name {
+                return Some(RecordField {
+                    position,
+                    offset,
+                    type_id: field.type_id,
+                });
+            }
+            offset += self.part_cells(id, field.type_id);
+        }
+        None
+    }
+
     // Those of a record: the cells of all its fields.
     fn record_cells(&self, fields: &[Field]) -> Option<u32>
         ensures { result ≡ few (sum_by (λ field. cells_at (counted self.now) field.type_id) fields.now) }
@@ -232,6 +310,16 @@ impl TypeTable {
         }
         Some(cells)
     }
+}
+
+// A field of a record, if its type stands before it.
+fn own_field(id: TypeId, field: RecordField) -> Option<RecordField>
+    ensures { result ≡ own_field id (Some field) }
+{
+    if field.type_id.index >= id.index {
+        return None;
+    }
+    Some(field)
 }
 
 // Whether the first value of a subrange lies above its last.
