@@ -1,18 +1,21 @@
 -- Variables that share no place: what is written at the place of one leaves each part of another alone.
-use Rattle.std.proofs.Common.{arith, ◌≡◌, ◌≢◌, ⊎_elim, ◌∙◌, ap, refl, ℕ, Bool, true, false, cond, ◌&&◌, nat_eq, List, [], ◌∷◌, ◌++◌, append-nil, Option, Some}
+use Rattle.std.proofs.Common.{arith, ◌≡◌, ◌≢◌, ⊎_elim, ◌∙◌, ap, refl, sym, ℕ, Bool, true, false, cond, ◌&&◌, nat_eq, List, [], ◌∷◌, ◌++◌, append-nil, Option}
+use Rattle.std.proofs.Common.{Some}
 use Rattle.std.proofs.Common.{None}
-use Rattle.std.proofs.lemmas.Bool.{and_parts, and_from, eq-eqb, false_from_ne_true}
+use Rattle.std.proofs.lemmas.Bool.{and_parts, and_from, eq-eqb, eqb-true, false_from_ne_true}
 use Rattle.std.specs.Cmp.{int_eq_equiv}
-use Rattle.std.specs.Cmp.Lexicographic.{pointwise, nat_list_eq_equiv}
+use Rattle.std.specs.Cmp.Lexicographic.{pointwise}
 use Rattle.meaning.specs.declared.store.Value.{Value}
-use Rattle.meaning.specs.Store.{Step, Element, Field, Place, Store, Environment, step_eq, place_eq, is_beginning, overlap, stored, written}
+use Rattle.types.specs.declared.form.Step.{Step}
+use Rattle.types.specs.declared.form.Step.TheVariants.{Element, Field}
+use Rattle.meaning.specs.Store.{Place, Store, Environment, step_eq, place_eq, is_beginning, overlap, stored, written}
 use Rattle.abstract_state.specs.Holds.{Separate, part_of}
 
 -- ---- places
 
 step-itself : (s : Step) → step_eq s s ≡ true
 step-itself (Element index) = int_eq_equiv.refl index
-step-itself (Field name) = nat_list_eq_equiv.refl name
+step-itself (Field position) = eq-eqb position position refl
 
 steps-themselves : (steps : List Step) → pointwise step_eq steps steps ≡ true
 steps-themselves [] = refl
@@ -27,7 +30,7 @@ place-itself p =
 
 step-back : (s t : Step) → step_eq s t ≡ true → step_eq t s ≡ true
 step-back (Element i) (Element j) is = int_eq_equiv.symm j i ∙ is
-step-back (Field a) (Field b) is = nat_list_eq_equiv.symm b a ∙ is
+step-back (Field a) (Field b) is = eq-eqb b a (sym (eqb-true a b is))
 step-back (Element i) (Field b) is = is
 step-back (Field a) (Element j) is = is
 
@@ -58,6 +61,30 @@ part-overlaps p q steps is =
     (and_from (nat_eq p.variable q.variable) either two.0
     (or-then (is_beginning p.steps q.steps) (is_beginning q.steps p.steps) (begins p.steps q.steps steps two.1)))
 
+either-so : (a b c d : Bool) → a ≡ true → b ≡ true → cond c true d ≡ true → cond (a && c) true (b && d) ≡ true
+either-so true true c d a_is b_is is = is
+either-so false b c d a_is b_is is = absurd (cc)
+either-so true false c d a_is b_is is = absurd (cc)
+
+-- steps that go on alike begin alike
+begin-alike : (ps qs first second : List Step) → pointwise step_eq (ps ++ first) (qs ++ second) ≡ true
+    → cond (is_beginning ps qs) true (is_beginning qs ps) ≡ true
+begin-alike [] qs first second is = refl
+begin-alike (s ∷ ps) [] first second is = refl
+begin-alike (s ∷ ps) (t ∷ qs) first second is =
+    let parts = and_parts (step_eq s t) (pointwise step_eq (ps ++ first) (qs ++ second)) is in
+    either-so (step_eq s t) (step_eq t s) (is_beginning ps qs) (is_beginning qs ps) parts.0 (step-back s t parts.0) (begin-alike ps qs first second parts.1)
+
+-- places of which parts are the same overlap
+parts-overlap : (p q : Place) (first second : List Step) → place_eq (part p first) (part q second) ≡ true → overlap p q ≡ true
+parts-overlap p q first second is =
+    let rest = nat_eq p.variable q.variable && pointwise step_eq (p.steps ++ first) (q.steps ++ second) in
+    let one = and_parts (nat_eq p.activation q.activation) rest is in
+    let two = and_parts (nat_eq p.variable q.variable) (pointwise step_eq (p.steps ++ first) (q.steps ++ second)) one.1 in
+    let either = cond (is_beginning p.steps q.steps) true (is_beginning q.steps p.steps) in
+    and_from (nat_eq p.activation q.activation) (nat_eq p.variable q.variable && either) one.0
+    (and_from (nat_eq p.variable q.variable) either two.0 (begin-alike p.steps q.steps first second two.1))
+
 -- ---- the entire variable
 
 pub entire-stored : (store : Store) (p : Place) → part_of store (Some p) [] ≡ stored store p
@@ -70,15 +97,26 @@ written-stored store p v = ap (λ (same : Bool). cond same (Some v) (stored stor
 -- ---- others
 
 -- no pair is listed, so no two variables share a place
-pub share-none : (env : Environment) → Separate env [] → (a b : ℕ) (p q : Place) → env a ≡ Some p → env b ≡ Some q → a ≢ b → overlap p q ≡ true → ⊥
+pub share-none : (env : Environment) → Separate env [] → (a b : ℕ) (p q : Place) → env.variables a ≡ Some p → env.variables b ≡ Some q → a ≢ b
+    → overlap p q ≡ true → ⊥
 share-none env separate a b p q at_a at_b differ overlaps =
     ⊎_elim (λ listed. absurd (omega (arith, listed.1))) (λ listed. absurd (omega (arith, listed.1))) (separate a b p q at_a at_b differ overlaps)
 
 -- a part of another variable has the value that it had
-pub other-kept : (env : Environment) → Separate env [] → (store : Store) (v : Value) (a b : ℕ) (p : Place) → env a ≡ Some p → a ≢ b → (found : Option Place)
-    → env b ≡ found → (steps : List Step)
+pub other-kept : (env : Environment) → Separate env [] → (store : Store) (v : Value) (a b : ℕ) (p : Place) → env.variables a ≡ Some p → a ≢ b
+    → (found : Option Place) → env.variables b ≡ found → (steps : List Step)
     → part_of (written store p v) found steps ≡ part_of store found steps
 other-kept env separate store v a b p at_a differ None at_b steps = refl
 other-kept env separate store v a b p at_a differ (Some q) at_b steps =
     ap (λ (same : Bool). cond same (Some v) (stored store (part q steps)))
     (false_from_ne_true (place_eq p (part q steps)) (λ same. share-none env separate a b p q at_a at_b differ (part-overlaps p q steps same)))
+
+-- the same where a part of the one is written
+pub part-others : (env : Environment) → Separate env [] → (store : Store) (v : Value) (first : List Step) (a b : ℕ) (p : Place) → env.variables a ≡ Some p
+    → a ≢ b → (found : Option Place) → env.variables b ≡ found → (steps : List Step)
+    → part_of (written store (part p first) v) found steps ≡ part_of store found steps
+part-others env separate store v first a b p at_a differ None at_b steps = refl
+part-others env separate store v first a b p at_a differ (Some q) at_b steps =
+    ap (λ (same : Bool). cond same (Some v) (stored store (part q steps)))
+    (false_from_ne_true (place_eq (part p first) (part q steps))
+    (λ same. share-none env separate a b p q at_a at_b differ (parts-overlap p q first steps same)))

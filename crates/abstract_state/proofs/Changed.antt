@@ -12,7 +12,9 @@ use Rattle.domain.specs.Facts.{Path, Bound, Plus, Fact, Range, Defined, Stretch,
 use Rattle.meaning.specs.declared.store.Value.{Value}
 use Rattle.meaning.specs.declared.store.Value.TheVariants.{Number}
 use Rattle.meaning.specs.Integers.{is_integer_number}
-use Rattle.meaning.specs.Store.{Step, Element, Place, Environment, Store, place_eq, stored, written}
+use Rattle.types.specs.declared.form.Step.{Step}
+use Rattle.types.specs.declared.form.Step.TheVariants.{Element}
+use Rattle.meaning.specs.Store.{Place, Environment, Store, place_eq, stored, written}
 use Rattle.abstract_state.specs.State.{State, Facts, Dead, Live, with_value}
 use Rattle.abstract_state.specs.Changes.{assigned, bound_rests_on, changed, ordered, raised, raised_number, rests_on, unless_resting, with_change, with_equal}
 use Rattle.abstract_state.specs.Changes.{with_some}
@@ -70,7 +72,7 @@ module _ (variables : ℕ) (env : Environment) (shows : Shows variables env) (st
 
   other-value : (other : ℕ) → root ≢ other → (steps : List Step) → value_at after other steps ≡ value_at before other steps
   other-value other differ steps =
-      other-kept env shows.separate store v root other (place_of env root) (at-place variables env shows root within) differ (env other) refl steps
+      other-kept env shows.separate store v root other (place_of env root) (at-place variables env shows root within) differ (env.variables other) refl steps
 
   -- ---- facts that don't rest on the variable
 
@@ -85,7 +87,7 @@ module _ (variables : ℕ) (env : Environment) (shows : Shows variables env) (st
   bound-kept (Plus other m) n rests (number, has, is) = (number, other-number other number rests has, is)
 
   still-has : (other : ℕ) (steps : List Step) → HasValue before other steps → HasValue after other steps
-  still-has other steps has = still-value store (place_of env root) v (env other) steps has
+  still-has other steps has = still-value store (place_of env root) v (env.variables other) steps has
 
   pub kept-fact : (one : Fact) → rests_on root one ≡ false → Holds one before → Holds one after
   kept-fact (Range path range) rests holds = λ steps w named is.

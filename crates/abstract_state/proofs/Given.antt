@@ -9,7 +9,7 @@ use Rattle.domain.specs.Facts as fact
 use Rattle.domain.specs.Facts.{Path, Bound, Plus, Fact, Range, Defined, Stretch, Order, entire, has_fact}
 use Rattle.meaning.specs.declared.store.Value.{Value}
 use Rattle.meaning.specs.declared.store.Value.TheVariants.{Number}
-use Rattle.meaning.specs.Store.{Step}
+use Rattle.types.specs.declared.form.Step.{Step}
 use Rattle.abstract_state.specs.State.{Facts, Live, bound_range, gives, is_at_most, is_below, is_entire, le, range_of, says_at_most}
 use Rattle.abstract_state.specs.Holds.{Moment, FactsHold, Holds, HasNumber, IsBound, is_named, value_at}
 use Rattle.abstract_state.proofs.Like.{any-of, defined-like, each-of, of-had}

@@ -11,7 +11,8 @@ use Rattle.domain.specs.Interval.{Interval, vacant}
 use Rattle.domain.specs.Facts.{Fact, Defined, entire, with_fact}
 use Rattle.meaning.specs.declared.store.Value.{Value}
 use Rattle.meaning.specs.declared.store.Value.TheVariants.{Number}
-use Rattle.meaning.specs.Store.{Step, Place, Environment, Store, stored}
+use Rattle.types.specs.declared.form.Step.{Step}
+use Rattle.meaning.specs.Store.{Place, Environment, Store, stored}
 use Rattle.abstract_state.specs.State.{State, Facts, Dead, Live, gives_fact, joined_states, start, range_of, is_defined, with_defined, with_range, unless_empty}
 use Rattle.abstract_state.specs.Changes.{with_some}
 use Rattle.abstract_state.specs.Holds.{Moment, FactsHold, Holds, HasValue, IsIn, StateHolds, part_of, value_at}
@@ -41,7 +42,7 @@ pub known-start : (env : Environment) (variables : ℕ) → Knows variables env 
 known-start env variables = record {
   rows_are = omega (arith, length-replicate variables vacant);
   hold = record {
-    ranges = λ root steps v named is. absurd (none-at (env root) steps v is);
+    ranges = λ root steps v named is. absurd (none-at (env.variables root) steps v is);
     facts = λ one inside. absurd (omega (arith, inside.1));
   };
 }
@@ -50,9 +51,9 @@ known-start env variables = record {
 
 -- where a visible variable lies
 abbrev pub place_of : Environment → ℕ → Place
-place_of env root = unwrap_or (env root) (record { activation = 0; variable = root; steps = [] })
+place_of env root = unwrap_or (env.variables root) (record { activation = 0; variable = root; steps = [] })
 
-pub at-place : (variables : ℕ) (env : Environment) → Shows variables env → (root : ℕ) → root < variables → env root ≡ Some (place_of env root)
+pub at-place : (variables : ℕ) (env : Environment) → Shows variables env → (root : ℕ) → root < variables → env.variables root ≡ Some (place_of env root)
 at-place variables env shows root within =
     let at = shows.visible root within in
     at.1 ∙ ap (λ (found : Option Place). Some (unwrap_or found (record { activation = 0; variable = root; steps = [] }))) (sym at.1)

@@ -11,7 +11,9 @@ use Rattle.domain.specs.Facts as fact
 use Rattle.domain.specs.Facts.{Path, Bound, Plus, Fact, Range, Defined, Stretch, Order, entire}
 use Rattle.meaning.specs.declared.store.Value.{Value}
 use Rattle.meaning.specs.Integers.{is_integer_number}
-use Rattle.meaning.specs.Store.{Step, Element, Environment, Place, Store}
+use Rattle.types.specs.declared.form.Step.{Step}
+use Rattle.types.specs.declared.form.Step.TheVariants.{Element}
+use Rattle.meaning.specs.Store.{Environment, Place, Store}
 use Rattle.abstract_state.specs.State.{State, Facts, Dead, Live, gives_fact, is_entire, range_of, with_defined, with_facts, with_range}
 use Rattle.abstract_state.specs.Changes.{bound_rests_on, changed, ordered, raised_number, rests_on}
 use Rattle.abstract_state.specs.Loops.{after_turns, all_forgotten, all_touched, defines, gives_all, head, in_place, is_among, replaced, with_claim, with_claims}

@@ -2,18 +2,25 @@
 -- no variable.
 use Rattle.std.proofs.Common.{arith, ◌≡◌, ◌∙◌, sym, ap, ap₂, refl, subst, ℕ, ℤ, pos, ◌+ℤ◌, ◌-ℤ◌, ◌*ℤ◌, neg_ℤ, int_div, int_le, int_lt, Bool, true, false, not}
 use Rattle.std.proofs.Common.{◌&&◌, ◌||◌, cond, List, [], ◌∷◌, ◌++◌, map, Option, Some, None}
-use Rattle.std.specs.List.{list_all}
+use Rattle.std.specs.List.{All, list_all}
 use Rattle.std.specs.Int.{int_rem_euclid}
 use Rattle.std.specs.Ordering.{int_eq}
 use Rattle.std.proofs.lemmas.Int.{ints}
 use Rattle.std.proofs.lemmas.Bool.{and_parts, or_parts, cond_both}
+use Rattle.std.proofs.lemmas.List.Elements.{All-cons, All-nil, All-head, All-tail}
 use Rattle.typed_tree.specs.declared.tree.Monadic.{Monadic}
 use Rattle.typed_tree.specs.declared.tree.Monadic.TheVariants as monadic
 use Rattle.typed_tree.specs.declared.tree.Dyadic.{Dyadic}
 use Rattle.typed_tree.specs.declared.tree.Dyadic.TheVariants as dyadic
 use Rattle.typed_tree.specs.declared.tree.Relation.{Relation}
 use Rattle.typed_tree.specs.declared.tree.Whole.{Whole}
-use Rattle.typed_tree.specs.declared.tree.Whole.TheVariants.{Text}
+use Rattle.typed_tree.specs.declared.tree.Whole.TheVariants.{Text, Variable as VariableOf}
+use Rattle.typed_tree.specs.declared.tree.Access.{Access}
+use Rattle.typed_tree.specs.declared.tree.Selector.{Selector}
+use Rattle.typed_tree.specs.declared.tree.Selector.TheVariants.{Element, Field}
+use Rattle.types.specs.declared.form.Step.{Step}
+use Rattle.types.specs.declared.form.Step.TheVariants as step
+use Rattle.types.specs.Components.{components_of}
 use Rattle.typed_tree.specs.declared.tree.Expr.{Expr}
 use Rattle.typed_tree.specs.declared.tree.Link.{Link}
 use Rattle.typed_tree.specs.declared.tree.Expr.TheOpen.{Expr-F, Link-F}
@@ -25,13 +32,14 @@ use Rattle.domain.specs.Facts.{Bound}
 use Rattle.meaning.specs.declared.store.Value.{Value}
 use Rattle.meaning.specs.declared.store.Value.TheVariants.{Number}
 use Rattle.meaning.specs.Integers.{integer_or_none, is_integer_number, is_odd, is_true, is_within, magnitude, truth}
-use Rattle.meaning.specs.Store.{Environment, Place, Store, held}
+use Rattle.meaning.specs.Store.{Environment, Place, Store, held, part}
 use Rattle.meaning.specs.Effect as effect
-use Rattle.meaning.specs.Effect.{Reply, Gives, Stops, and_then}
+use Rattle.meaning.specs.Effect.{Reply, Gives, Stops, and_then, fetch, fetch_all, is_in, number_of}
 use Rattle.meaning.specs.Meaning as meaning
-use Rattle.meaning.specs.Meaning.{Evaluation, is_so, link_of, relates, value_of}
+use Rattle.meaning.specs.Meaning.{Evaluation, accessed, is_so, link_of, relates, selected, value_of, values_of, whole_of}
 use Rattle.abstract_state.specs.State.{State, Dead}
-use Rattle.abstract_state.specs.Forms.{Form, Literal, Signed, Entire, Moved, Other, bound_of, chain_form, constant_of, moved_form, negative, offset_form}
+use Rattle.abstract_state.specs.Forms.{Form, Literal, Signed, Entire, Moved, Other, access_form, bound_of, chain_form, constant_of, moved_form, negative}
+use Rattle.abstract_state.specs.Forms.{offset_form}
 use Rattle.abstract_state.specs.Forms.{sign_form, signed}
 use Rattle.abstract_state.specs.Conditions.{Condition, Conjunct, all_refined, bound_form, branched, chain_refined, condition_of, condition_step, conjunct_of}
 use Rattle.abstract_state.specs.Conditions.{link_condition, monadic_refined, operand_of, operation_refined, refined, related_forms, single_refined, takes_both}
@@ -478,21 +486,89 @@ abbrev entered : ℕ → Environment → effect.State → effect.State
 entered number env s =
     record s { visited = s.visited ++ record { number = number; environment = env; store = s.store } ∷ [] }
 
--- a string changes no variable
-whole-kept : (value : Whole) (env : Environment) (s t : effect.State) (row : List ℤ) → meaning.whole_of value env s ≡ Gives row t → t.store ≡ s.store
-whole-kept (Text number characters) env s t row is =
-    ap (λ (x : effect.State). x.store) (sym (given-same (map pos characters.items) row (entered number env s) t is).1)
+-- ---- accesses and whole values, which change no variable
 
-compare-evaluates : (number : ℕ) (relation : Relation) (left right : Whole) (env : Environment) (s t : effect.State) (v : Value)
-    → meaning.value_step (Compare number relation left right) env s ≡ Gives v t → t.store ≡ s.store
-compare-evaluates number relation left right env s t v is =
+abbrev KeepsStore : Evaluation → Type 0
+KeepsStore evaluation = (env : Environment) (s t : effect.State) (v : Value) → evaluation env s ≡ Gives v t → t.store ≡ s.store
+
+given-kept : {A : Type 0} (a b : A) (s t : effect.State) → effect.give a s ≡ Gives b t → t.store ≡ s.store
+given-kept a b s t is = ap (λ (x : effect.State). x.store) (sym (given-same a b s t is).1)
+
+selected-kept : (selectors : List Selector) (indexes : List Evaluation) → All KeepsStore indexes → (env : Environment) (place : Option Place)
+    (s t : effect.State) (found : Option Place)
+    → selected selectors indexes env place s ≡ Gives found t → t.store ≡ s.store
+selected-kept [] indexes all env place s t found is = given-kept place found s t is
+selected-kept (Field position offset ∷ selectors) indexes all env place s t found is =
+    selected-kept selectors indexes all env (part place (step.Field position ∷ [])) s t found is
+selected-kept (Element fits cells ∷ selectors) [] all env place s t found is = given-kept None found s t is
+selected-kept (Element fits cells ∷ selectors) (index ∷ indexes) all env place s t found is =
+    let behind : Value → effect.Action (Option Place) =
+    λ v. effect.◌>>=◌ (effect.require (is_in fits.range v) fits.site)
+    (λ tested. selected selectors indexes env (part place (step.Element (number_of v) ∷ []))) in
+    let first = then-gives (index env s) behind found t is in
+    let inner = part place (step.Element (number_of first.0) ∷ []) in
+    let passed = required (is_in fits.range first.0) fits.site first.1 t (λ tested. selected selectors indexes env inner) found first.3 in
+    selected-kept selectors indexes (All-tail KeepsStore index indexes all) env inner first.1 t found passed.1
+    ∙ All-head KeepsStore index indexes all env s first.1 first.0 first.2
+
+accessed-kept : (access : Access) (indexes : List Evaluation) → All KeepsStore indexes → (env : Environment) (s t : effect.State) (found : Option Place)
+    → accessed access indexes env s ≡ Gives found t → t.store ≡ s.store
+accessed-kept access indexes all env s t found is =
+    selected-kept access.selectors.items indexes all env (env.variables access.root) (entered access.number env s) t found is
+
+fetch-kept : (place : Option Place) (site : ℕ) (s t : effect.State) (v : Value) → fetch place site s ≡ Gives v t → t.store ≡ s.store
+fetch-kept place site s t v is = ap (λ (x : effect.State). x.store) (sym (fetch-gives (held s.store place) site s t v is).1)
+
+fetched_all-kept : (place : Option Place) (components : List (List Step)) (site : ℕ) (s t : effect.State) (row : List ℤ)
+    → fetch_all place components site s ≡ Gives row t → t.store ≡ s.store
+fetched_all-kept place [] site s t row is = given-kept [] row s t is
+fetched_all-kept place (steps ∷ components) site s t row is =
+    let behind : Value → effect.Action (List ℤ) =
+    λ v. effect.◌>>=◌ (fetch_all place components site) (λ numbers. effect.give (number_of v ∷ numbers)) in
+    let first = then-gives (fetch (part place steps) site s) behind row t is in
+    let second = then-gives (fetch_all place components site first.1) (λ numbers. effect.give (number_of first.0 ∷ numbers)) row t first.3 in
+    given-kept (number_of first.0 ∷ second.0) row second.1 t second.3
+    ∙ fetched_all-kept place components site first.1 second.1 second.0 second.2 ∙ fetch-kept (part place steps) site s first.1 first.0 first.2
+
+whole_of-kept : (value : Whole) (indexes : List Evaluation) → All KeepsStore indexes → (env : Environment) (s t : effect.State) (row : List ℤ)
+    → whole_of value indexes env s ≡ Gives row t → t.store ≡ s.store
+whole_of-kept (Text number characters) indexes all env s t row is = given-kept (map pos characters.items) row (entered number env s) t is
+whole_of-kept (VariableOf access type_id cells defined) indexes all env s t row is =
+    let behind : Option Place → effect.Action (List ℤ) = λ place. fetch_all place (components_of env.types type_id) defined in
+    let first = then-gives (accessed access indexes env s) behind row t is in
+    fetched_all-kept first.0 (components_of env.types type_id) defined first.1 t row first.3 ∙ accessed-kept access indexes all env s first.1 first.0 first.2
+
+compare-kept : (number : ℕ) (relation : Relation) (left right : Whole) (left_indexes right_indexes : List Evaluation) → All KeepsStore left_indexes
+    → All KeepsStore right_indexes → (env : Environment) (s t : effect.State) (v : Value)
+    → effect.◌>>=◌ (whole_of left left_indexes env)
+    (λ a. effect.◌>>=◌ (effect.enter number env)
+    (λ done. effect.◌>>=◌ (whole_of right right_indexes env) (λ b. effect.give (meaning.compared relation a b)))) s ≡ Gives v t
+    → t.store ≡ s.store
+compare-kept number relation left right left_indexes right_indexes of_left of_right env s t v is =
     let behind : List ℤ → effect.Action Value =
-    λ a. effect.◌>>=◌ (effect.enter number env) (λ done. effect.◌>>=◌ (meaning.whole_of right env) (λ b. effect.give (meaning.compared relation a b))) in
-    let first = then-gives (meaning.whole_of left env s) behind v t is in
+    λ a. effect.◌>>=◌ (effect.enter number env)
+    (λ done. effect.◌>>=◌ (whole_of right right_indexes env) (λ b. effect.give (meaning.compared relation a b))) in
+    let first = then-gives (whole_of left left_indexes env s) behind v t is in
     let start = entered number env first.1 in
-    let second = then-gives (meaning.whole_of right env start) (λ b. effect.give (meaning.compared relation first.0 b)) v t first.3 in
-    ap (λ (x : effect.State). x.store) (sym (given-same (meaning.compared relation first.0 second.0) v second.1 t second.3).1)
-    ∙ whole-kept right env start second.1 second.0 second.2 ∙ whole-kept left env s first.1 first.0 first.2
+    let second = then-gives (whole_of right right_indexes env start) (λ b. effect.give (meaning.compared relation first.0 b)) v t first.3 in
+    given-kept (meaning.compared relation first.0 second.0) v second.1 t second.3
+    ∙ whole_of-kept right right_indexes of_right env start second.1 second.0 second.2 ∙ whole_of-kept left left_indexes of_left env s first.1 first.0 first.2
+
+-- an entire variable has the value that is read
+access-form : (root : ℕ) (selectors : List Selector) (indexes : List Evaluation) (env : Environment) (s u t : effect.State) (found : Option Place) (site : ℕ)
+    (v : Value)
+    → selected selectors indexes env (env.variables root) s ≡ Gives found u → fetch found site u ≡ Gives v t
+    → IsForm (access_form root selectors) (moment env s.store) v
+access-form root [] indexes env s u t found site v reached is =
+    let same = given-same (env.variables root) found s u reached in
+    let fetched = fetch-gives (held u.store found) site u t v is in
+    held-part s.store (env.variables root) ∙ ap₂ (λ (x : effect.State) (place : Option Place). held x.store place) same.1 same.0 ∙ fetched.0
+access-form root (selector ∷ selectors) indexes env s u t found site v reached is = tt
+
+all-kept : (parts : List ProvedExpr) → All KeepsStore (map value_of (map (λ e. e.0) parts))
+all-kept [] = All-nil KeepsStore
+all-kept (one ∷ parts) =
+    All-cons KeepsStore (value_of one.0) (map value_of (map (λ (e : ProvedExpr). e.0) parts)) (λ env s t v is. (one.1 env s t v is).store_is) (all-kept parts)
 
 value-layer : (y : Expr-F ProvedExpr ProvedLink) → ExprLayer (map-Expr ProvedExpr ProvedLink Expr Link (λ e. e.0) (λ l. l.0) y)
 value-layer (Constant number value) env s t v is =
@@ -502,11 +578,14 @@ value-layer (Constant number value) env s t v is =
       form_is = sym same.0;
       refines = λ variables state known. known;
     }
-value-layer (Variable access defined) env s t v is =
-    let fetched = fetch-gives (held s.store (env access.root)) defined (entered access.number env s) t v is in
+value-layer (Variable access indexes defined) env s t v is =
+    let evaluations = map value_of (map (λ (e : ProvedExpr). e.0) indexes.items) in
+    let start = entered access.number env s in
+    let reached = then-gives (accessed access evaluations env s) (λ place. fetch place defined) v t is in
     record {
-      store_is = ap (λ (x : effect.State). x.store) (sym fetched.1);
-      form_is = held-part s.store (env access.root) ∙ fetched.0;
+      store_is = fetch-kept reached.0 defined reached.1 t v reached.3
+          ∙ accessed-kept access evaluations (all-kept indexes.items) env s reached.1 reached.0 reached.2;
+      form_is = access-form access.root access.selectors.items evaluations env start reached.1 t reached.0 defined v reached.2 reached.3;
       refines = λ variables state known. known;
     }
 value-layer (MonadicOf number operation operand) env s t v is =
@@ -516,8 +595,10 @@ value-layer (MonadicOf number operation operand) env s t v is =
 value-layer (Chain first rest) env s t v is =
     let step = then-gives (value_of first.value.0 env s) (turns rest.items env) v t is in
     chain-evaluates (condition_of first.value.0) rest.items env s step.1 t step.0 v (first.value.1 env s step.1 step.0 step.2) step.3
-value-layer (Compare number relation left right) env s t v is = record {
-  store_is = compare-evaluates number relation left right env s t v is;
+value-layer (Compare number relation left left_indexes right right_indexes) env s t v is = record {
+  store_is =
+      compare-kept number relation left right (map value_of (map (λ (e : ProvedExpr). e.0) left_indexes.items))
+      (map value_of (map (λ (e : ProvedExpr). e.0) right_indexes.items)) (all-kept left_indexes.items) (all-kept right_indexes.items) env s t v is;
   form_is = tt;
   refines = λ variables state known. known;
 }
@@ -551,6 +632,20 @@ evaluates =
     (rolled-link (map-Link ProvedExpr ProvedLink Expr Link (λ e. e.0) (λ l. l.0) y) (link-layer y)))
 
 -- ---- what the walk uses
+
+all-kept_of : (expressions : List Expr) → All KeepsStore (values_of expressions)
+all-kept_of [] = All-nil KeepsStore
+all-kept_of (e ∷ expressions) =
+    All-cons KeepsStore (value_of e) (values_of expressions) (λ env s t v is. (evaluates e env s t v is).store_is) (all-kept_of expressions)
+
+-- an access changes no variable, nor does a whole value
+pub access-kept : (access : Access) (indexes : List Expr) (env : Environment) (s t : effect.State) (found : Option Place)
+    → accessed access (values_of indexes) env s ≡ Gives found t → t.store ≡ s.store
+access-kept access indexes env s t found is = accessed-kept access (values_of indexes) (all-kept_of indexes) env s t found is
+
+pub whole-kept : (value : Whole) (indexes : List Expr) (env : Environment) (s t : effect.State) (row : List ℤ)
+    → whole_of value (values_of indexes) env s ≡ Gives row t → t.store ≡ s.store
+whole-kept value indexes env s t row is = whole_of-kept value (values_of indexes) (all-kept_of indexes) env s t row is
 
 -- an expression changes no variable
 pub expression-kept : (e : Expr) (env : Environment) (s t : effect.State) (v : Value) → value_of e env s ≡ Gives v t → t.store ≡ s.store

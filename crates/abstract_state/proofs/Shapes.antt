@@ -13,7 +13,7 @@ use Rattle.typed_tree.specs.declared.tree.Link.{Link}
 use Rattle.typed_tree.specs.declared.tree.Expr.TheVariants as expr
 use Rattle.typed_tree.specs.declared.tree.Expr.TheFolds.{the_lemmas}
 use Rattle.abstract_state.specs.State.{State}
-use Rattle.abstract_state.specs.Forms.{Form, Literal, Entire, bound_of, chain_form, sign_form}
+use Rattle.abstract_state.specs.Forms.{Form, Literal, access_form, bound_of, chain_form, sign_form}
 use Rattle.abstract_state.specs.Conditions.{Condition, Conjunct, all_refined, bound_form, chain_refined, condition_of, conjunct_of, monadic_refined, operand_of}
 use Rattle.abstract_state.specs.Conditions.{operation_refined, refined, single_refined, takes_both}
 
@@ -21,9 +21,10 @@ pub condition-Constant : (number : ℕ) (value : ℤ)
     → condition_of (expr.Constant number value) ≡ record { form = Literal value; refined = λ (truth : Bool) (state : State). state }
 condition-Constant number value = search (rules, the_lemmas)
 
-pub condition-Variable : (access : Access) (defined : ℕ)
-    → condition_of (expr.Variable access defined) ≡ record { form = Entire access.root; refined = λ (truth : Bool) (state : State). state }
-condition-Variable access defined = search (rules, the_lemmas)
+pub condition-Variable : (access : Access) (indexes : Vec Expr Global) (defined : ℕ)
+    → condition_of (expr.Variable access indexes defined)
+    ≡ record { form = access_form access.root access.selectors.items; refined = λ (truth : Bool) (state : State). state }
+condition-Variable access indexes defined = search (rules, the_lemmas)
 
 pub condition-Monadic : (number : ℕ) (operation : Monadic) (operand : Box Expr Global)
     → condition_of (expr.Monadic number operation operand)

@@ -20,7 +20,7 @@ use Rattle.domain.specs.Interval.{Interval, always_true, at_least, at_most, neve
 use Rattle.domain.specs.Facts.{Bound, Number, Plus}
 use Rattle.abstract_state.specs.State.{State, Dead, bound_range, range_of, unless_empty, with_range}
 use Rattle.abstract_state.specs.Changes.{ordered, with_some}
-use Rattle.abstract_state.specs.Forms.{Form, Literal, Entire, Other, Operand, bound_of, chain_form, sign_form}
+use Rattle.abstract_state.specs.Forms.{Form, Literal, Other, Operand, access_form, bound_of, chain_form, sign_form}
 
 -- ---- bounds
 
@@ -152,7 +152,8 @@ link_condition link = record { operation = link.operation; right = link.operand 
 
 abbrev pub condition_step : Expr-F Condition Conjunct → Condition
 condition_step (Constant number value) = record { form = Literal value; refined = λ truth state. state }
-condition_step (Variable access defined) = record { form = Entire access.root; refined = λ truth state. state }
+condition_step (Variable access indexes defined) =
+    record { form = access_form access.root access.selectors.items; refined = λ truth state. state }
 condition_step (MonadicOf number operation operand) = record {
   form = sign_form operand.value.form operation;
   refined = monadic_refined operation operand.value;
@@ -161,7 +162,8 @@ condition_step (Chain first rest) = record {
   form = chain_form first.value.form (map operand_of rest.items);
   refined = chain_refined first.value rest.items;
 }
-condition_step (Compare number relation left right) = record { form = Other; refined = λ truth state. state }
+condition_step (Compare number relation left left_indexes right right_indexes) =
+    record { form = Other; refined = λ truth state. state }
 
 -- an expression as a condition
 abbrev pub condition_of : Expr → Condition

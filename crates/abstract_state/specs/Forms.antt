@@ -1,6 +1,7 @@
 -- Bound forms: expressions that are a constant, perhaps with a sign, or a variable, or a variable plus or minus such a
 -- constant (ISO 7185:1990, 6.7.1, 6.7.2.2). It says nothing of expressions that have the same value in another form.
 use Rattle.std.specs.Prelude.{ℕ, ℤ, pos, neg_ℤ, List, [], ◌∷◌, Option, Some, None}
+use Rattle.typed_tree.specs.declared.tree.Selector.{Selector}
 use Rattle.typed_tree.specs.declared.tree.Monadic.{Monadic}
 use Rattle.typed_tree.specs.declared.tree.Monadic.TheVariants as monadic
 use Rattle.typed_tree.specs.declared.tree.Dyadic.{Dyadic}
@@ -17,6 +18,11 @@ pub data Form : Type 0 where
   -- a variable plus a number
   Moved : ℕ → ℤ → Form
   Other : Form
+
+-- a variable, or a component of one
+abbrev pub access_form : ℕ → List Selector → Form
+access_form root [] = Entire root
+access_form root (selector ∷ selectors) = Other
 
 -- an operator and the form of its right operand
 pub record Operand : Type 0 where

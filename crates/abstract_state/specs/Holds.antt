@@ -1,14 +1,15 @@
 -- What facts and states say of a moment of a run, and when variables share no place (ISO 7185:1990, 6.5.1).
 -- It does not say that a run keeps them.
-use Rattle.std.specs.Prelude.{◌≡◌, ◌≢◌, ℕ, ℤ, ◌+ℤ◌, ◌≤ℤ◌, Bool, true, false, ◌&&◌, ◌⊎◌, List, [], ◌∷◌, ◌++◌, Option}
-use Rattle.std.specs.Prelude.{Some, None, slice_index_or, nat_eq, Contains}
-use Rattle.std.specs.Cmp.Lexicographic.{pointwise}
+use Rattle.std.specs.Prelude.{◌≡◌, ◌≢◌, ℕ, ℤ, ◌+ℤ◌, ◌≤ℤ◌, Bool, true, false, ◌⊎◌, List, [], ◌∷◌, ◌++◌, Option}
+use Rattle.std.specs.Prelude.{Some, None, slice_index_or, Contains}
 use Rattle.domain.specs.Interval.{Interval, HasMember, vacant}
 use Rattle.domain.specs.Facts as fact
 use Rattle.domain.specs.Facts.{Path, Bound, Fact, Elements, Range, Defined, Stretch, Order, Plus, entire}
 use Rattle.meaning.specs.declared.store.Value.{Value}
 use Rattle.meaning.specs.declared.store.Value.TheVariants.{Number}
-use Rattle.meaning.specs.Store.{Step, Element, Field, Place, Store, Environment, stored, overlap}
+use Rattle.meaning.specs.Store.{Place, Store, Environment, stored, overlap}
+use Rattle.types.specs.declared.form.Step.{Step}
+use Rattle.types.specs.declared.form.Step.TheVariants.{Element}
 use Rattle.abstract_state.specs.State.{State, Facts, Dead, Live}
 
 -- where and with what a run is: the visible variables with their places, and the store
@@ -23,13 +24,12 @@ part_of store (Some place) steps = stored store (record place { steps = place.st
 
 -- what a part of a variable has as its value, if the variable is visible and the part is defined
 abbrev pub value_at : Moment → ℕ → List Step → Option Value
-value_at moment root steps = part_of moment.store (moment.environment root) steps
+value_at moment root steps = part_of moment.store (moment.environment.variables root) steps
 
--- steps are among those that a path names
+-- steps are among those that a path names; a path with the name of a field names none, since a store knows no names
 abbrev pub is_named : List fact.Step → List Step → Bool
 is_named [] [] = true
 is_named (Elements ∷ path) (Element index ∷ steps) = is_named path steps
-is_named (fact.Field a ∷ path) (Field b ∷ steps) = pointwise nat_eq a b && is_named path steps
 is_named path steps = false
 
 -- the value of a variable is a number of a range
@@ -75,5 +75,5 @@ StateHolds (Live facts) moment = FactsHold facts moment
 -- two visible variables whose places overlap are a listed pair
 abbrev pub Separate : Environment → List (ℕ × ℕ) → Type 0
 Separate environment pairs =
-    (a b : ℕ) (p q : Place) → environment a ≡ Some p → environment b ≡ Some q → a ≢ b → overlap p q ≡ true
-    → Contains pairs (a, b) ⊎ Contains pairs (b, a)
+    (a b : ℕ) (p q : Place) → environment.variables a ≡ Some p → environment.variables b ≡ Some q → a ≢ b
+    → overlap p q ≡ true → Contains pairs (a, b) ⊎ Contains pairs (b, a)

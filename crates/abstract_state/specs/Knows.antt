@@ -5,7 +5,8 @@ use Rattle.domain.specs.Interval.{Interval}
 use Rattle.domain.specs.Facts.{Bound}
 use Rattle.meaning.specs.declared.store.Value.{Value}
 use Rattle.meaning.specs.declared.store.Value.TheVariants.{Number}
-use Rattle.meaning.specs.Store.{Environment, Place, Step, Store}
+use Rattle.meaning.specs.Store.{Environment, Place, Store}
+use Rattle.types.specs.declared.form.Step.{Step}
 use Rattle.abstract_state.specs.State.{State, Facts, Dead, Live}
 use Rattle.abstract_state.specs.Loops.{is_among}
 use Rattle.abstract_state.specs.Holds.{Moment, FactsHold, HasValue, IsBound, IsIn, Separate, value_at}
@@ -16,8 +17,8 @@ moment env store = record { environment = env; store = store }
 
 -- an environment shows each variable and no other, and no two share a place
 pub record Shows (variables : ℕ) (env : Environment) : Type 0 where
-  pub visible : (root : ℕ) → root < variables → (p : Place) × (env root ≡ Some p)
-  pub only : (root : ℕ) → variables ≤ root → env root ≡ None
+  pub visible : (root : ℕ) → root < variables → (p : Place) × (env.variables root ≡ Some p)
+  pub only : (root : ℕ) → variables ≤ root → env.variables root ≡ None
   pub separate : Separate env []
 
 -- what facts say is so, with a row for each variable

@@ -42,7 +42,7 @@ abbrev pub AssignmentsHold : Type 0
 AssignmentsHold =
     (variables : ℕ) (env : Environment) → Shows variables env
     → (state : State) (store : Store) (root : ℕ) (place : Place) (range : Interval) (form : Option Bound) (v : Value)
-    → root < variables → env root ≡ Some place → Knows variables env state store → IsIn range v
+    → root < variables → env.variables root ≡ Some place → Knows variables env state store → IsIn range v
     → IsOfForm (moment env store) form v
     → Knows variables env (assigned root range form state) (written store place v)
 

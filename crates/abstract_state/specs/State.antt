@@ -108,7 +108,7 @@ is_entire [] = true
 is_entire (step ∷ steps) = false
 
 -- what is known gives a fact: the range lies inside; it is held that the variable is defined; both are, and the first
--- is at most the second and the number. There are no arrays, so no stretch is given
+-- is at most the second and the number. Nothing is known of elements, so no stretch is given
 abbrev pub gives : Facts → Fact → Bool
 gives known (Range path range) = is_entire path.steps && is_included (range_of (Live known) path.root) range
 gives known (Defined path) = has_fact (Defined path) known.facts

@@ -1,11 +1,11 @@
 ghost use Rattle.std.specs.Prelude.{◌≡◌, map};
 ghost use Rattle.abstract_state.specs.Conditions.{bound_form, condition_of, conjunct_of, operand_of};
-ghost use Rattle.abstract_state.specs.Forms.{bound_of, chain_form, constant_of, literal_of, moved_form, negative};
-ghost use Rattle.abstract_state.specs.Forms.{offset_form, root_of, signed, signed_if};
+ghost use Rattle.abstract_state.specs.Forms.{access_form, bound_of, chain_form, constant_of, literal_of, moved_form};
+ghost use Rattle.abstract_state.specs.Forms.{negative, offset_form, root_of, signed, signed_if};
 ghost use Rattle.abstract_state.specs.View.{said_form};
 
 use domain::facts::Bound;
-use typed_tree::tree::{Dyadic, Expr, Link, Monadic};
+use typed_tree::tree::{Access, Dyadic, Expr, Link, Monadic};
 
 /// The bound that an expression is: a constant, perhaps with a sign, a variable, or a variable plus or minus such a
 /// constant. `None`: it has another form.
@@ -14,10 +14,7 @@ pub fn bound_form(expression: &Expr) -> Option<Bound>
 {
     match expression {
         Expr::Constant { value, .. } => Some(Bound::Number(*value)),
-        Expr::Variable { access, .. } => Some(Bound::Plus {
-            root: access.root,
-            number: 0,
-        }),
+        Expr::Variable { access, .. } => unmoved(access),
         Expr::Monadic {
             operation,
             operand,
@@ -25,6 +22,20 @@ pub fn bound_form(expression: &Expr) -> Option<Bound>
         } => number(signed(*operation, literal(operand))),
         Expr::Chain { first, rest } => chain_bound(first, rest),
         Expr::Compare { .. } => None,
+    }
+}
+
+/// The variable that is accessed, unless it is a component of it.
+fn unmoved(access: &Access) -> Option<Bound>
+    ensures { said_form result ≡ bound_of (access_form access.now.root access.now.selectors.items) }
+{
+    if access.selectors.is_empty() {
+        Some(Bound::Plus {
+            root: access.root,
+            number: 0,
+        })
+    } else {
+        None
     }
 }
 
@@ -130,10 +141,21 @@ pub fn entire(expression: &Expr) -> Option<u32>
 {
     match expression {
         Expr::Constant { .. } => None,
-        Expr::Variable { access, .. } => Some(access.root),
+        Expr::Variable { access, .. } => whole_root(access),
         Expr::Monadic { .. } => None,
         Expr::Chain { .. } => None,
         Expr::Compare { .. } => None,
+    }
+}
+
+/// The variable that is accessed, unless it is a component of it.
+fn whole_root(access: &Access) -> Option<u32>
+    ensures { result ≡ root_of (access_form access.now.root access.now.selectors.items) }
+{
+    if access.selectors.is_empty() {
+        Some(access.root)
+    } else {
+        None
     }
 }
 

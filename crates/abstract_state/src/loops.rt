@@ -42,7 +42,7 @@ impl State {
     }
 
     /// A variable may have another value of the range.
-    fn touch(&mut self, root: u32, range: Interval)
+    pub fn touch(&mut self, root: u32, range: Interval)
         ensures { viewed self.new ≡ with_touched (λ _. range) root (viewed self.old) }
     {
         self.change(root, None);

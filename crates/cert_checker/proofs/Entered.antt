@@ -2,11 +2,13 @@
 use Rattle.std.proofs.Common.{◌≡◌, ◌∙◌, sym, ap, refl, ℕ, ℤ, true, false, List, [], ◌∷◌, ◌++◌, Option, Some, None, length, map}
 use Rattle.std.specs.Prelude.{flat_map, drop, slice_get}
 use Rattle.typed_tree.specs.declared.tree.Access.{Access}
+use Rattle.typed_tree.specs.declared.tree.Selector.{Selector}
 use Rattle.typed_tree.specs.declared.tree.RangeTest.{RangeTest}
+use Rattle.domain.specs.Facts.{Bound}
 use Rattle.typed_tree.specs.declared.tree.Expr.{Expr}
 use Rattle.typed_tree.specs.declared.tree.Stmt.{Stmt}
 use Rattle.typed_tree.specs.declared.tree.Stmt.TheOpen.{Stmt-F}
-use Rattle.typed_tree.specs.declared.tree.Stmt.TheOpen.Stmt-F.{Empty, Assign, Write, Compound, If, While, Repeat, For, Case}
+use Rattle.typed_tree.specs.declared.tree.Stmt.TheOpen.Stmt-F.{Empty, Assign, Copy, Write, Compound, If, While, Repeat, For, Case}
 use Rattle.typed_tree.specs.declared.tree.Stmt.TheFolds.{map-Stmt, fold-roll-Stmt, ind-Stmt}
 use Rattle.typed_tree.specs.declared.tree.Tree.{Tree}
 use Rattle.typed_tree.specs.declared.tree.Block.{Block}
@@ -15,7 +17,7 @@ use Rattle.certificate.specs.declared.Certificate.{Certificate}
 use Rattle.abstract_state.specs.declared.known.Known.{Known}
 use Rattle.abstract_state.specs.declared.known.Known.TheVariants.{Ordinal}
 use Rattle.cert_checker.specs.Promise.{LinksEntries}
-use Rattle.abstract_state.specs.State.{State, Dead, joined_states, start}
+use Rattle.abstract_state.specs.State.{State, Dead, joined_states, limits_of, start}
 use Rattle.structured_states.specs.Loops.{claims_at, limits_at, round_of, touched, with_own, without_own}
 use Rattle.structured_states.specs.Ways.{Way, turn_begun, way_of, where_counts}
 use Rattle.abstract_state.specs.Loops.{head}
@@ -25,17 +27,25 @@ use Rattle.abstract_state.specs.Conditions.{bound_form, condition_of}
 use Rattle.abstract_state.specs.Forms.{root_of}
 use Rattle.structured_states.specs.Cases.{arm_start, constants_before}
 use Rattle.place.specs.declared.Place.{Place}
-use Rattle.expression_checker.specs.Walk.{Context, Walking, ◌>>=◌, numbers_of, fitting, value_walk, parameter_walk}
-use Rattle.cert_checker.specs.Walk.{first_context, assign, arms_walk, case_walk, change, for_round, for_turns, for_walk, index_test, loop_walk, steady_in}
+use Rattle.expression_checker.specs.Walk.{Context, Walking, ◌>>=◌, access_walk, index_walks, numbers_of, fitting, value_walk, parameter_walk, whole_walk}
+use Rattle.cert_checker.specs.Walk.{first_context, assign, assign_to, arms_walk, case_walk, change, for_round, for_turns, for_walk, index_test, loop_walk}
+use Rattle.cert_checker.specs.Walk.{steady_in}
 use Rattle.cert_checker.specs.Walk.{tested_way, while_round, repeat_round, statement_step, statement_walk, where_so, all_of, block_walk, program_walk}
-use Rattle.expression_checker.proofs.Entered.{Enters, and_no_more, and_then, parameter-entered, value-entered}
+use Rattle.expression_checker.proofs.Entered.{Enters, access-entered, and_no_more, and_then, parameter-entered, value-entered, whole-entered}
 
 abbrev stores : Place → Access → RangeTest → Expr → Known → Walking (Unit {0})
 stores becomes target fits value known =
-    fitting fits known >>= λ passed. (change becomes target.root fits.range >>= λ _. assign target.root (bound_form value) passed)
+    fitting fits known >>= λ passed.
+    (change becomes target.root (limits_of fits.range) >>= λ _. assign_to target.root target.selectors.items (bound_form value) passed)
 
-fitting-silent : (becomes : Place) (target : Access) (fits : RangeTest) (value : Expr) (known : Known) → Enters (stores becomes target fits value known) []
-fitting-silent becomes target fits value (Ordinal range) context state = refl
+assigned-silent : (root : ℕ) (selectors : List Selector) (form : Option Bound) (known : Known) → Enters (assign_to root selectors form known) []
+assigned-silent root [] form (Ordinal range) context state = refl
+assigned-silent root (selector ∷ selectors) form known context state = refl
+
+stores-silent : (becomes : Place) (target : Access) (fits : RangeTest) (value : Expr) (known : Known) → Enters (stores becomes target fits value known) []
+stores-silent becomes target fits value (Ordinal range) context state =
+    let passed = fitting fits (Ordinal range) context state in
+    assigned-silent target.root target.selectors.items (bound_form value) passed.value context passed.after
 
 -- walks one after another enter what each enters
 all-entered : {X : Type 0} (walk : X → Walking (Unit {0})) (numbers : X → List ℕ) → ((x : X) → Enters (walk x) (numbers x)) → (xs : List X)
@@ -125,11 +135,20 @@ statement-parts : (y : Stmt-F EnteredStmt)
     → Enters (statement_step (map-Stmt Stmt (Walking (Unit {0})) statement_walk (map-Stmt EnteredStmt Stmt (λ s. s.0) y)))
     (statement_entries (map-Stmt Stmt (List ℕ) entries_of_statement (map-Stmt EnteredStmt Stmt (λ s. s.0) y)))
 statement-parts (Empty number) context state = refl
-statement-parts (Assign number becomes target fits value) context state =
-    let first = value_walk value context state in
+statement-parts (Assign number becomes target indexes fits value) context state =
+    let reached = access_walk target (index_walks indexes.items) context state in
+    let first = value_walk value context reached.after in
     let rest = stores becomes target fits value first.value context first.after in
-    ap (λ numbers. number ∷ target.number ∷ numbers)
-    (and_no_more first.linked rest.linked _ (value-entered value context state) (fitting-silent becomes target fits value first.value context first.after))
+    ap (λ numbers. number ∷ numbers)
+    (and_then reached.linked (first.linked ++ rest.linked) _ _ (access-entered target indexes.items context state)
+    (and_no_more first.linked rest.linked _ (value-entered value context reached.after)
+    (stores-silent becomes target fits value first.value context first.after)))
+statement-parts (Copy number becomes target indexes type_id value value_indexes) context state =
+    let reached = access_walk target (index_walks indexes.items) context state in
+    let first = whole_walk value (index_walks value_indexes.items) context reached.after in
+    ap (λ numbers. number ∷ numbers)
+    (and_then reached.linked (first.linked ++ []) _ _ (access-entered target indexes.items context state)
+    (and_no_more first.linked [] _ (whole-entered value value_indexes.items context reached.after) refl))
 statement-parts (Write number name parameters ends_line) context state =
     ap (λ numbers. number ∷ numbers) (all-entered parameter_walk entries_of_parameter parameter-entered parameters.items context state)
 statement-parts (Compound number statements) context state = ap (λ numbers. number ∷ numbers) (statements-entered statements.items context state)

@@ -1,16 +1,18 @@
 -- What an assignment keeps of the store, and that it keeps values in the ranges of their types; so does what undefines a variable.
 use Rattle.std.proofs.Common.{◌≡◌, ◌≢◌, ⊎_elim, ◌∙◌, sym, ap, refl, subst, ℕ, ◌<◌, Bool, true, false, cond, ◌||◌, nat_eq, List, [], ◌∷◌, Option, Some, None}
 use Rattle.std.specs.List.{Contains, list_all}
-use Rattle.std.proofs.lemmas.Bool.{cases_eq, false_from_ne_true}
+use Rattle.std.proofs.lemmas.Bool.{cases_eq, eq-eqb, eqb-true, false_from_ne_true}
 use Rattle.std.proofs.lemmas.List.Folds.{list_any-append, list_all_at}
 use Rattle.domain.specs.Interval.{Interval}
 use Rattle.meaning.specs.declared.store.Value.{Value}
-use Rattle.meaning.specs.Store.{Environment, Place, Step, Store, place_eq, stored, undefined, written}
+use Rattle.types.specs.declared.form.Step.{Step}
+use Rattle.meaning.specs.Store.{Environment, Place, Store, place_eq, stored, undefined, written}
 use Rattle.abstract_state.specs.Holds.{IsIn, Separate, part_of, value_at}
 use Rattle.abstract_state.specs.Knows.{IsKept, Shows, moment}
 use Rattle.abstract_state.specs.Loops.{is_among}
+use Rattle.abstract_state.specs.State.{integer}
 use Rattle.expression_checker.proofs.Keeping.{InTypes, Keeps}
-use Rattle.abstract_state.proofs.Apart.{part, part-overlaps, place-itself, share-none, written-stored, other-kept}
+use Rattle.abstract_state.proofs.Apart.{part, part-others, part-overlaps, place-itself, share-none, written-stored, other-kept}
 use Rattle.abstract_state.proofs.Knows.{place_of, at-place, entire-value}
 use Rattle.structured_states.specs.Loops.{Round, all_control, all_list, limits_at, touched}
 
@@ -56,6 +58,31 @@ apart-among : (root other : ℕ) (roots : List ℕ) → is_among root roots ≡ 
 apart-among root other roots is isnt same =
     true-false (is_among other roots) (subst (λ (r : ℕ). is_among r roots ≡ true) same is) isnt
 
+apart-if : (root other : ℕ) (same : Bool) → nat_eq root other ≡ same → root ≢ other → (same || false) ≡ false
+apart-if root other true is differ = absurd (differ (eqb-true root other is))
+apart-if root other false is differ = refl
+
+apart-alone : (root other : ℕ) → root ≢ other → is_among other (root ∷ []) ≡ false
+apart-alone root other differ = apart-if root other (nat_eq root other) refl differ
+
+own-alone : (root : ℕ) → is_among root (root ∷ []) ≡ true
+own-alone root = ap (λ (same : Bool). same || false) (eq-eqb root root refl)
+
+-- what is so of a value that was written, and of each that was there before, is so of what is there
+or-else : (P : Value → Type 0) (same : Bool) (v w : Value) (before : Option Value) → P v → ((u : Value) → before ≡ Some u → P u)
+    → cond same (Some v) before ≡ Some w → P w
+or-else P true v w before own each is = subst P (some-same v w is) own
+or-else P false v w before own each is = each w is
+
+written-or : (store : Store) (p : Place) (v : Value) (P : Value → Type 0) → P v → (found : Option Place) (steps : List Step) (w : Value)
+    → ((u : Value) → part_of store found steps ≡ Some u → P u) → part_of (written store p v) found steps ≡ Some w → P w
+written-or store p v P own None steps w each is = each w is
+written-or store p v P own (Some q) steps w each is = or-else P (place_eq p (part q steps)) v w (stored store (part q steps)) own each is
+
+integer-kept : (store : Store) (p : Place) (v : Value) → IsIn integer v → (found : Option Place) (steps : List Step) (w : Value)
+    → ((u : Value) → part_of store found steps ≡ Some u → IsIn integer u) → part_of (written store p v) found steps ≡ Some w → IsIn integer w
+integer-kept store p v whole found steps w each is = written-or store p v (IsIn integer) whole found steps w each is
+
 module _ (variables : ℕ) (env : Environment) (shows : Shows variables env) (store : Store) (root : ℕ) (v : Value) (within : root < variables) where
   abbrev after : Store
   after = written store (place_of env root) v
@@ -63,7 +90,7 @@ module _ (variables : ℕ) (env : Environment) (shows : Shows variables env) (st
   -- another variable has the value that it had
   others : (other : ℕ) → root ≢ other → (steps : List Step) → value_at (moment env after) other steps ≡ value_at (moment env store) other steps
   others other differ steps =
-      other-kept env shows.separate store v root other (place_of env root) (at-place variables env shows root within) differ (env other) refl steps
+      other-kept env shows.separate store v root other (place_of env root) (at-place variables env shows root within) differ (env.variables other) refl steps
 
   pub own-value : value_at (moment env after) root [] ≡ Some v
   own-value = entire-value variables env shows after root within ∙ written-stored store (place_of env root) v
@@ -74,7 +101,7 @@ module _ (variables : ℕ) (env : Environment) (shows : Shows variables env) (st
     values = λ other among steps. others other (λ same. true-false (is_among other (touched round))
         (subst (λ (r : ℕ). is_among r (touched round) ≡ true) same (among-touched root round
         (all-pass (λ (one : Round). is_among root one.changes) rounds round (is_among root round.changes) refl inside listed))) among) steps;
-    defined = λ other among steps has. still-value store (place_of env root) v (env other) steps has;
+    defined = λ other among steps has. still-value store (place_of env root) v (env.variables other) steps has;
   }
 
   -- the same where in each loop is a for statement that it controls
@@ -83,24 +110,78 @@ module _ (variables : ℕ) (env : Environment) (shows : Shows variables env) (st
       let own = all-pass (λ (one : Round). is_among root one.controls) rounds round (is_among root round.controls) refl inside controls in
       record {
         values = λ other among steps. others other (apart-among root other (touched round) (control-touched root round own) among) steps;
-        defined = λ other among steps has. still-value store (place_of env root) v (env other) steps has;
+        defined = λ other among steps has. still-value store (place_of env root) v (env.variables other) steps has;
       }
 
-  pub written-typed : (limits : List Interval) → InTypes limits env store → IsIn (limits_at limits root) v → InTypes limits env after
-  written-typed limits typed inside other w is = ⊎_elim
-      (λ same.
-      let one : v ≡ w = some-same v w (sym own-value ∙ subst (λ (r : ℕ). value_at (moment env after) r [] ≡ Some w) (sym same) is) in
-      subst (λ (r : ℕ). IsIn (limits_at limits r) w) same (subst (IsIn (limits_at limits root)) one inside))
-      (λ differ. typed other w (sym (others other differ []) ∙ is)) (cases_eq root other)
+  pub written-typed : (limits : List Interval) → InTypes limits env store → IsIn (limits_at limits root) v → IsIn integer v → InTypes limits env after
+  written-typed limits typed inside whole = record {
+    ranges = λ other w is. ⊎_elim
+        (λ same.
+        let one : v ≡ w = some-same v w (sym own-value ∙ subst (λ (r : ℕ). value_at (moment env after) r [] ≡ Some w) (sym same) is) in
+        subst (λ (r : ℕ). IsIn (limits_at limits r) w) same (subst (IsIn (limits_at limits root)) one inside))
+        (λ differ. typed.ranges other w (sym (others other differ []) ∙ is)) (cases_eq root other);
+    integers = λ other steps w is. integer-kept store (place_of env root) v whole (env.variables other) steps w (typed.integers other steps) is;
+  }
+
+-- ---- a component
+
+-- a variable of which no more than its components changed, in each loop that lists it
+pub listed-keeps : (env : Environment) (before after : Store) (root : ℕ) (rounds : List Round) → IsKept env (root ∷ []) [] before after
+    → all_list root rounds ≡ true → Keeps env rounds before after
+listed-keeps env before after root rounds kept listed round inside =
+    let own = all-pass (λ (one : Round). is_among root one.changes) rounds round (is_among root round.changes) refl inside listed in
+    record {
+      values = λ other among steps.
+          kept.values other (apart-alone root other (apart-among root other (touched round) (among-touched root round own) among)) steps;
+      defined = λ other among steps has. kept.defined other refl steps has;
+    }
+
+module _ (variables : ℕ) (env : Environment) (shows : Shows variables env) (store : Store) (root : ℕ) (v : Value) (within : root < variables)
+    (first : List Step) where
+  abbrev after_part : Store
+  after_part = written store (part (place_of env root) first) v
+
+  beside : (other : ℕ) → root ≢ other → (steps : List Step) → value_at (moment env after_part) other steps ≡ value_at (moment env store) other steps
+  beside other differ steps =
+      part-others env shows.separate store v first root other (place_of env root) (at-place variables env shows root within) differ (env.variables other) refl
+      steps
+
+  pub part-kept : IsKept env (root ∷ []) [] store after_part
+  part-kept = record {
+    values = λ other among steps. beside other (apart-among root other (root ∷ []) (own-alone root) among) steps;
+    defined = λ other among steps has. still-value store (part (place_of env root) first) v (env.variables other) steps has;
+  }
+
+  pub part-typed : (limits : List Interval) → InTypes limits env store → IsIn (limits_at limits root) v → IsIn integer v → InTypes limits env after_part
+  part-typed limits typed inside whole = record {
+    ranges = λ other w is. ⊎_elim
+        (λ same.
+        subst (λ (r : ℕ). IsIn (limits_at limits r) w) same
+        (written-or store (part (place_of env root) first) v (IsIn (limits_at limits root)) inside (env.variables root) [] w
+        (λ u held. typed.ranges root u held) (subst (λ (r : ℕ). value_at (moment env after_part) r [] ≡ Some w) (sym same) is)))
+        (λ differ. typed.ranges other w (sym (beside other differ []) ∙ is)) (cases_eq root other);
+    integers = λ other steps w is.
+        integer-kept store (part (place_of env root) first) v whole (env.variables other) steps w (typed.integers other steps) is;
+  }
 
 -- ---- a variable becomes undefined
 
-entry-apart : (env : Environment) → Separate env [] → (store : Store) (entry : Option Value) (a b : ℕ) (p : Place) → env a ≡ Some p → a ≢ b
-    → (found : Option Place) → env b ≡ found → (steps : List Step) → part_of ((p, entry) ∷ store) found steps ≡ part_of store found steps
+entry-apart : (env : Environment) → Separate env [] → (store : Store) (entry : Option Value) (a b : ℕ) (p : Place) → env.variables a ≡ Some p → a ≢ b
+    → (found : Option Place) → env.variables b ≡ found → (steps : List Step) → part_of ((p, entry) ∷ store) found steps ≡ part_of store found steps
 entry-apart env separate store entry a b p at_a differ None at_b steps = refl
 entry-apart env separate store entry a b p at_a differ (Some q) at_b steps =
     ap (λ (same : Bool). cond same entry (stored store (part q steps)))
     (false_from_ne_true (place_eq p (part q steps)) (λ same. share-none env separate a b p q at_a at_b differ (part-overlaps p q steps same)))
+
+unless-gone : (same : Bool) (w : Value) (before : Option Value) → ((u : Value) → before ≡ Some u → IsIn integer u) → cond same None before ≡ Some w
+    → IsIn integer w
+unless-gone true w before each is = absurd (cc)
+unless-gone false w before each is = each w is
+
+left-integer : (store : Store) (p : Place) (found : Option Place) (steps : List Step) (w : Value)
+    → ((u : Value) → part_of store found steps ≡ Some u → IsIn integer u) → part_of (undefined store p) found steps ≡ Some w → IsIn integer w
+left-integer store p None steps w each is = each w is
+left-integer store p (Some q) steps w each is = unless-gone (place_eq p (part q steps)) w (stored store (part q steps)) each is
 
 module _ (variables : ℕ) (env : Environment) (shows : Shows variables env) (store : Store) (root : ℕ) (within : root < variables) where
   abbrev gone : Store
@@ -108,7 +189,8 @@ module _ (variables : ℕ) (env : Environment) (shows : Shows variables env) (st
 
   gone-others : (other : ℕ) → root ≢ other → (steps : List Step) → value_at (moment env gone) other steps ≡ value_at (moment env store) other steps
   gone-others other differ steps =
-      entry-apart env shows.separate store None root other (place_of env root) (at-place variables env shows root within) differ (env other) refl steps
+      entry-apart env shows.separate store None root other (place_of env root) (at-place variables env shows root within) differ (env.variables other) refl
+      steps
 
   nothing-stored : (v : Value) (found : Option Value) → found ≡ None → found ≡ Some v → ⊥
   nothing-stored v found none is = cc
@@ -131,6 +213,9 @@ module _ (variables : ℕ) (env : Environment) (shows : Shows variables env) (st
       gone-kept (touched round) round.controls (control-touched root round own) own
 
   pub gone-typed : (limits : List Interval) → InTypes limits env store → InTypes limits env gone
-  gone-typed limits typed other w is = ⊎_elim
-      (λ same. absurd (gone-none w (subst (λ (r : ℕ). value_at (moment env gone) r [] ≡ Some w) (sym same) is)))
-      (λ differ. typed other w (sym (gone-others other differ []) ∙ is)) (cases_eq root other)
+  gone-typed limits typed = record {
+    ranges = λ other w is. ⊎_elim
+        (λ same. absurd (gone-none w (subst (λ (r : ℕ). value_at (moment env gone) r [] ≡ Some w) (sym same) is)))
+        (λ differ. typed.ranges other w (sym (gone-others other differ []) ∙ is)) (cases_eq root other);
+    integers = λ other steps w is. left-integer store (place_of env root) (env.variables other) steps w (typed.integers other steps) is;
+  }

@@ -9,7 +9,7 @@ use Rattle.std.proofs.lemmas.List.Elements.{Contains-push_cases}
 use Rattle.place.specs.declared.Place.{Place as SourcePlace}
 use Rattle.typed_tree.specs.declared.tree.Direction.{Direction}
 use Rattle.typed_tree.specs.declared.tree.Direction.TheVariants.{To, DownTo}
-use Rattle.domain.specs.Interval.{Interval, HasMember, is_included}
+use Rattle.domain.specs.Interval.{Interval, HasMember, common, is_included}
 use Rattle.domain.specs.Facts.{Bound}
 use Rattle.meaning.specs.declared.store.Value.TheVariants.{Number}
 use Rattle.meaning.specs.Counting.{has_values, next_value, value_behind}
@@ -18,14 +18,15 @@ use Rattle.meaning.specs.Effect.{Action, is_in}
 use Rattle.meaning.specs.Meaning as meaning
 use Rattle.meaning.specs.Store.{Environment, Place as StorePlace, Store, undefined, written}
 use Rattle.abstract_state.specs.declared.known.Known.TheVariants.{Ordinal}
-use Rattle.abstract_state.specs.State.{State, limits_of}
+use Rattle.abstract_state.specs.State.{State, integer, limits_of}
 use Rattle.abstract_state.specs.Loops.{is_among, with_undefined}
 use Rattle.abstract_state.specs.Holds.{HasNumber, IsIn}
 use Rattle.abstract_state.specs.Knows.{IsKept, IsOfForm, Knows, Shows, moment}
 use Rattle.abstract_state.proofs.Changed.{assigned-known}
 use Rattle.abstract_state.proofs.Knows.{at-place, place_of}
 use Rattle.abstract_state.proofs.Looped.{replaced-known, undefined-known}
-use Rattle.abstract_state.proofs.Ranged.{included-in, is_in-limits, limits-is_in}
+use Rattle.domain.specs.contracts.interval.IntervalDomain.TheImpl.Laws.{meet_has_common-law, meet_has_left-law, meet_has_right-law}
+use Rattle.abstract_state.proofs.Ranged.{is_in-integer, included-in, is_in-limits, limits-is_in}
 use Rattle.structured_states.specs.Loops.{Round, all_control, limits_at, round_of, touched, with_own, without_own}
 use Rattle.structured_states.specs.Ways.{Way, met, turn_begun, turn_ended, way_out, where_counts, with_values}
 use Rattle.expression_checker.specs.Walk as flow
@@ -37,7 +38,8 @@ use Rattle.expression_checker.proofs.Keeping.{Keeps, keeps-itself, keeps-then}
 use Rattle.cert_checker.proofs.Keeping.{control-kept, gone-keeps, gone-kept, gone-none, gone-typed, own-value, written-typed}
 use Rattle.structured_states.proofs.OnWay.{Between, MayBe, begun-known, counts-known, counts-ordered, ended-known, kept-may, met-in, next-between}
 use Rattle.structured_states.proofs.OnWay.{ordered-itself, untouched-form}
-use Rattle.expression_checker.proofs.Sound.{World, IsPartOf, Stands, Good, IsForetold, Passes, Sound, Any_value, unbroken-left, unbroken-right, part-left}
+use Rattle.expression_checker.proofs.Sound.{World, variables_in, IsPartOf, Stands, Good, IsForetold, Passes, Sound, Any_value, unbroken-left, unbroken-right}
+use Rattle.expression_checker.proofs.Sound.{part-left}
 use Rattle.expression_checker.proofs.Sound.{part-right, nothing-new, good-give, good-weaker, good-then, stands-as}
 use Rattle.cert_checker.proofs.SoundLoops.{Foretold, RoundEnds, inner, kept-rule, loop-good, loop_begun, rounds-outer, rounds-own, turn-then, ways-good}
 use Rattle.cert_checker.proofs.SoundLoops.{with_head}
@@ -77,19 +79,23 @@ last-kept env rounds one before after outer own round inside =
     ⊎_elim (λ old. outer round old) (λ is. subst (λ (r : Round). IsKept env (touched r) r.controls before after) is own)
     (Contains-push_cases rounds one round inside)
 
+-- the values of a variable's type, which are integers
+abbrev typed_values : World → ℕ → Interval
+typed_values world root = common integer (limits_at world.limits root)
+
 all-controls : (root : ℕ) (rounds : List Round) (one : Round) → all_control root rounds ≡ true → is_among root one.controls ≡ true
     → all_control root (rounds ++ one ∷ []) ≡ true
 all-controls root rounds one outer own =
     list_all-append (λ (round : Round). is_among root round.controls) rounds (one ∷ [])
     ∙ and_from (all_control root rounds) (is_among root one.controls && true) outer (and_from (is_among root one.controls) true own refl)
 
-module _ (world : World) (env : Environment) (shows : Shows world.variables env) (number : ℕ) (execution : meaning.Execution) (body : Walking (Unit {0}))
+module _ (world : World) (env : Environment) (shows : Shows (variables_in world) env) (number : ℕ) (execution : meaning.Execution) (body : Walking (Unit {0}))
     (one : Sound {A = Unit {0}} {B = Unit {0}} world env Any_value (execution env) body) where
   -- ---- the rounds
 
-  module _ (context : Context) (way : Way) (x y : ℤ) (is_variable : way.control < world.variables) (in_first : HasMember way.first.values x)
-      (in_last : HasMember way.last.values y) (first_typed : HasMember (limits_at world.limits way.control) x)
-      (last_typed : HasMember (limits_at world.limits way.control) y) (controls : all_control way.control context.rounds ≡ true) where
+  module _ (context : Context) (way : Way) (x y : ℤ) (is_variable : way.control < (variables_in world)) (in_first : HasMember way.first.values x)
+      (in_last : HasMember way.last.values y) (first_typed : HasMember (typed_values world way.control) x)
+      (last_typed : HasMember (typed_values world way.control) y) (controls : all_control way.control context.rounds ≡ true) where
     abbrev loop : Round
     loop = round_of context.tree context.claims number
 
@@ -114,10 +120,10 @@ module _ (world : World) (env : Environment) (shows : Shows world.variables env)
     Fits n store = Between way.direction x y n × MayBe env store steady.first.form x × MayBe env store steady.last.form y
 
     at-number : (n : ℤ) (store : Store) → HasNumber (moment env (at n store)) way.control n
-    at-number n store = own-value world.variables env shows store way.control (Number n) is_variable
+    at-number n store = own-value (variables_in world) env shows store way.control (Number n) is_variable
 
     at-kept : (n : ℤ) (store : Store) → Keeps env rounds store (at n store)
-    at-kept n store = control-kept world.variables env shows store way.control (Number n) is_variable rounds
+    at-kept n store = control-kept (variables_in world) env shows store way.control (Number n) is_variable rounds
         (all-controls way.control context.rounds own controls (own-controls way.control loop))
 
     -- so they are at a later store
@@ -148,7 +154,7 @@ module _ (world : World) (env : Environment) (shows : Shows world.variables env)
       round-out same =
           let forms = later-forms start later body-kept (fits.1, fits.2) in (
             stands-as world env within ended (way_out steady ended) later stands
-                (replaced-known world.variables env ended later way.control steady.last.form y
+                (replaced-known (variables_in world) env ended later way.control steady.last.form y
                 (subst (λ (m : ℤ). HasNumber (moment env later) way.control m) same still) forms.1 stands.known),
             body-kept,
           )
@@ -162,10 +168,13 @@ module _ (world : World) (env : Environment) (shows : Shows world.variables env)
           let between = next-between way.direction x y n fits.0 apart in (
             record {
               limits_are = stands.limits_are;
-              known = ended-known world.variables env shows steady ended later x y n is_variable still in_last fits.0 apart (at-number m later) forms.1
+              known = ended-known (variables_in world) env shows steady ended later x y n is_variable still in_last fits.0 apart (at-number m later) forms.1
                   stands.known;
-              typed = written-typed world.variables env shows later way.control (Number m) is_variable world.limits stands.typed
-                  (between-in way.direction (limits_at world.limits way.control) x y m first_typed last_typed between);
+              typed =
+                  let inside = between-in way.direction (typed_values world way.control) x y m first_typed last_typed between in
+                  written-typed (variables_in world) env shows later way.control (Number m) is_variable world.limits stands.typed
+                  (meet_has_right-law integer (limits_at world.limits way.control) m inside)
+                  (meet_has_left-law integer (limits_at world.limits way.control) m inside);
             },
             keeps-then env rounds start later (at m later) body-kept next_kept,
             (between, forms.0, forms.1),
@@ -192,10 +201,10 @@ module _ (world : World) (env : Environment) (shows : Shows world.variables env)
         let next = λ (used : Unit {0}). effect.◌>>=◌ (execution env) (λ done. effect.give more) in
         let stored = record s { store = start } in
         let begun_stands = stands-as world env within state begun start stands
-        (begun-known world.variables env start steady state x y n (at-number n s.store) in_first in_last fits.0 fits.1 fits.2 stands.known) in
+        (begun-known (variables_in world) env start steady state x y n (at-number n s.store) in_first in_last fits.0 fits.1 fits.2 stands.known) in
         subst (λ (place : Option StorePlace).
         Good world P s.visited (effect.◌>>=◌ (effect.store place (Number n)) (λ written. effect.◌>>=◌ effect.use_turn next) s))
-        (sym (at-place world.variables env shows way.control is_variable))
+        (sym (at-place (variables_in world) env shows way.control is_variable))
         (turn-then world P next stored
         (λ u same visited.
         good-then world (Foretold world env within first u.store) P u.visited (execution env u) (λ done. effect.give more)
@@ -228,7 +237,7 @@ module _ (world : World) (env : Environment) (shows : Shows world.variables env)
       (unbroken-left asked.broken [] (unbroken-right last.broken from_asked.broken
       (unbroken-right first.broken (last.broken ++ from_asked.broken) tests_unbroken)))
 
-  module _ (place : SourcePlace) (context : Context) (state : State) (way : Way) (x y : ℤ) (is_variable : way.control < world.variables)
+  module _ (place : SourcePlace) (context : Context) (state : State) (way : Way) (x y : ℤ) (is_variable : way.control < (variables_in world))
       (first_site : way.first.fits.site < world.sites) (last_site : way.last.fits.site < world.sites)
       (counts : has_values way.direction x y ≡ true) where
     abbrev first : Walked Interval
@@ -291,11 +300,15 @@ module _ (world : World) (env : Environment) (shows : Shows world.variables env)
       in-type own n is inside =
           subst (λ (all : List Interval). IsIn (limits_at all way.control) (Number n)) stands.limits_are (included-in own limits (Number n) is inside)
 
-      x_typed : HasMember (limits_at world.limits way.control) x
-      x_typed = in-type (limits_of way.first.fits.range) x included.0 (is_in-limits way.first.fits.range (Number x) x_fits)
+      x_typed : HasMember (typed_values world way.control) x
+      x_typed =
+          meet_has_common-law integer (limits_at world.limits way.control) x (is_in-integer way.first.fits.range (Number x) x_fits)
+          (in-type (limits_of way.first.fits.range) x included.0 (is_in-limits way.first.fits.range (Number x) x_fits))
 
-      y_typed : HasMember (limits_at world.limits way.control) y
-      y_typed = in-type (limits_of way.last.fits.range) y included.1 (is_in-limits way.last.fits.range (Number y) y_fits)
+      y_typed : HasMember (typed_values world way.control) y
+      y_typed =
+          meet_has_common-law integer (limits_at world.limits way.control) y (is_in-integer way.last.fits.range (Number y) y_fits)
+          (in-type (limits_of way.last.fits.range) y included.1 (is_in-limits way.last.fits.range (Number y) y_fits))
 
       rounds-good : Good world (Foretold world env context turns v.store) v.visited (rounds_action v)
       rounds-good =
@@ -306,9 +319,11 @@ module _ (world : World) (env : Environment) (shows : Shows world.variables env)
           (untouched-form env v.store own way.first.form x forms.0, untouched-form env v.store own way.last.form y forms.1) in
           let start_stands : Stands world env context begun.after start = record {
             limits_are = stands.limits_are;
-            known = assigned-known world.variables env shows last.after v.store way.control first.value way.first.form (Number x) is_variable stands.known
+            known = assigned-known (variables_in world) env shows last.after v.store way.control first.value way.first.form (Number x) is_variable stands.known
                 in_first (may-of_form v.store way.first.form x forms.0);
-            typed = written-typed world.variables env shows v.store way.control (Number x) is_variable world.limits stands.typed x_typed;
+            typed = written-typed (variables_in world) env shows v.store way.control (Number x) is_variable world.limits stands.typed
+                (meet_has_right-law integer (limits_at world.limits way.control) x x_typed)
+                (meet_has_left-law integer (limits_at world.limits way.control) x x_typed);
           } in
           good-weaker world (Foretold world env context turns start) (Foretold world env context turns v.store) v.visited (rounds_action v)
           (λ done w is told. record {
@@ -356,7 +371,7 @@ module _ (world : World) (env : Environment) (shows : Shows world.variables env)
 
       -- the test of the last bound, and then the rounds
       last-good : (start : Store) (u : effect.State) → Keeps env context.rounds start u.store → Stands world env context first.after u.store
-          → Knows world.variables env state u.store
+          → Knows (variables_in world) env state u.store
           → Forms u.store → HasMember way.last.values y → IsIn first.value (Number x) → first_test ≡ true
           → Good world (Foretold world env context whole start) u.visited
           (effect.◌>>=◌ (effect.require last_test way.last.fits.site) (λ done. rounds_action) u)
@@ -365,7 +380,7 @@ module _ (world : World) (env : Environment) (shows : Shows world.variables env)
           (effect.require last_test way.last.fits.site u) (λ done. rounds_action)
           (within-sound world env (limits_of way.last.fits.range) way.last.fits.site (met way.last.form state way.last.values) (Number y) last_test last_site
           (is_in-limits way.last.fits.range (Number y)) (limits-is_in way.last.fits.range (Number y))
-          (met-in world.variables env u.store way.last.form state way.last.values y forms.1 known inside) context first.after u
+          (met-in (variables_in world) env u.store way.last.form state way.last.values y forms.1 known inside) context first.after u
           (unbroken-left last.broken from_asked.broken (unbroken-right first.broken from_last.broken tests_unbroken))
           (part-left world last from_asked (part-right world first from_last from-first)) stands)
           (λ done v is told.
@@ -390,16 +405,16 @@ module _ (world : World) (env : Environment) (shows : Shows world.variables env)
           (within-sound world env (limits_of way.first.fits.range) way.first.fits.site (met way.first.form state way.first.values)
           (Number x) first_test first_site
           (is_in-limits way.first.fits.range (Number x)) (limits-is_in way.first.fits.range (Number x))
-          (met-in world.variables env t.store way.first.form state way.first.values x forms.0 stands.known in_first) context state t
+          (met-in (variables_in world) env t.store way.first.form state way.first.values x forms.0 stands.known in_first) context state t
           (unbroken-left first.broken from_last.broken tests_unbroken) (part-left world first from_last from-first) stands)
           (λ done u is told.
           let same = required-same first_test way.first.fits.site t u done is in
-          last-good t.store u told.kept told.stands (subst (λ (s : effect.State). Knows world.variables env state s.store) same.1 stands.known)
+          last-good t.store u told.kept told.stands (subst (λ (s : effect.State). Knows (variables_in world) env state s.store) same.1 stands.known)
           (subst (λ (s : effect.State). Forms s.store) same.1 forms) in_last told.tie.0 same.0)
 
   -- ---- the whole statement, from the values of its bounds
 
-  module _ (place : SourcePlace) (context : Context) (state : State) (way : Way) (x y : ℤ) (is_variable : way.control < world.variables)
+  module _ (place : SourcePlace) (context : Context) (state : State) (way : Way) (x y : ℤ) (is_variable : way.control < (variables_in world))
       (first_site : way.first.fits.site < world.sites) (last_site : way.last.fits.site < world.sites) where
     abbrev taken : Walked (Unit {0})
     taken = walk.for_turns number place body way context (where_counts true way state)
@@ -419,12 +434,12 @@ module _ (world : World) (env : Environment) (shows : Shows world.variables env)
     -- the control variable becomes undefined
     undefined-good : (start : Store) (u : effect.State) → all_control way.control context.rounds ≡ true → Keeps env context.rounds start u.store
         → Stands world env context both.after u.store
-        → Good world (Foretold world env context statement start) u.visited (effect.undefine (env way.control) u)
+        → Good world (Foretold world env context statement start) u.visited (effect.undefine (env.variables way.control) u)
     undefined-good start u controls kept stands =
         let gone = undefined u.store (place_of env way.control) in
         let own = way.control ∷ [] in
         subst (λ (place : Option StorePlace). Good world (Foretold world env context statement start) u.visited (effect.undefine place u))
-        (sym (at-place world.variables env shows way.control is_variable))
+        (sym (at-place (variables_in world) env shows way.control is_variable))
         (record {
           errs = tt;
           new = nothing-new world u.visited;
@@ -432,13 +447,13 @@ module _ (world : World) (env : Environment) (shows : Shows world.variables env)
             tie = tt;
             stands = record {
               limits_are = stands.limits_are;
-              known = undefined-known world.variables env shows both.after way.control u.store gone
-                  (gone-kept world.variables env shows u.store way.control is_variable own own (own-among way.control) (own-among way.control))
-                  (gone-none world.variables env shows u.store way.control is_variable) stands.known;
-              typed = gone-typed world.variables env shows u.store way.control is_variable world.limits stands.typed;
+              known = undefined-known (variables_in world) env shows both.after way.control u.store gone
+                  (gone-kept (variables_in world) env shows u.store way.control is_variable own own (own-among way.control) (own-among way.control))
+                  (gone-none (variables_in world) env shows u.store way.control is_variable) stands.known;
+              typed = gone-typed (variables_in world) env shows u.store way.control is_variable world.limits stands.typed;
             };
             kept = keeps-then env context.rounds start u.store gone kept
-                (gone-keeps world.variables env shows u.store way.control is_variable context.rounds controls);
+                (gone-keeps (variables_in world) env shows u.store way.control is_variable context.rounds controls);
           };
         })
 
@@ -446,17 +461,17 @@ module _ (world : World) (env : Environment) (shows : Shows world.variables env)
         → MayBe env t.store way.first.form x → MayBe env t.store way.last.form y → HasMember way.first.values x → HasMember way.last.values y
         → Good world (Foretold world env context statement t.store) t.visited
         (effect.◌>>=◌ (meaning.for_between way.control way.first.fits way.direction way.last.fits execution env (Number x) (Number y))
-        (λ done. effect.undefine (env way.control)) t)
+        (λ done. effect.undefine (env.variables way.control)) t)
     for-good t unbroken part stands one other in_first in_last =
         let both_unbroken = unbroken-left both.broken behind.broken unbroken in
         let turns = meaning.for_rounds way.control way.first.fits way.direction way.last.fits execution env x y in
         let counts = has_values way.direction x y in
         let stand : (b : Bool) → counts ≡ b → Stands world env context (where_counts b way state) t.store =
         λ b is. stands-as world env context state (where_counts b way state) t.store stands
-        (counts-known world.variables env t.store way b state x y is one other stands.known) in
+        (counts-known (variables_in world) env t.store way b state x y is one other stands.known) in
         let may = may-changed place context (where_counts true way state) way (unbroken-left taken.broken never.broken both_unbroken) in
         good-then world (Foretold world env context both t.store) (Foretold world env context statement t.store) t.visited
-        (cond counts turns (effect.give tt) t) (λ done. effect.undefine (env way.control))
+        (cond counts turns (effect.give tt) t) (λ done. effect.undefine (env.variables way.control))
         (ways-good world env turns (effect.give tt) taken never counts context t
         (λ is unbroken part.
         turns-good place context (where_counts true way state) way x y is_variable first_site last_site is unbroken part t (stand true is)

@@ -32,7 +32,8 @@ use Rattle.cert_checker.specs.Walk as walk
 use Rattle.expression_checker.specs.Walk.{Context, Walked, Walking, followed, value_walk}
 use Rattle.cert_checker.specs.Walk.{where_so}
 use Rattle.expression_checker.proofs.Keeping.{Keeps, InTypes, keeps-itself, keeps-then}
-use Rattle.expression_checker.proofs.Sound.{World, IsPartOf, Stands, Good, IsForetold, Sound, Any_value, unbroken-left, unbroken-right, part-left, part-right}
+use Rattle.expression_checker.proofs.Sound.{World, variables_in, IsPartOf, Stands, Good, IsForetold, Sound, Any_value, unbroken-left, unbroken-right}
+use Rattle.expression_checker.proofs.Sound.{part-left, part-right}
 use Rattle.expression_checker.proofs.Sound.{nothing-new, good-give, good-weaker, good-then, stands-as}
 
 -- ---- branches
@@ -43,7 +44,7 @@ pub chosen-stands : (world : World) (env : Environment) (condition : Expr) (know
     → Stands world env context (where_so (is_so v) condition known state) t.store
 chosen-stands world env condition (Ordinal range) v s t context state is inside stands =
     stands-as world env context state (where_so (is_so v) condition (Ordinal range) state) t.store stands
-    (branched-known world.variables env condition s t v range state is inside stands.known)
+    (branched-known (variables_in world) env condition s t v range state is inside stands.known)
 
 -- behind one of two ways the joined state holds
 abbrev pub Foretold : World → Environment → Context → Walked (Unit {0}) → Store → Unit {0} → Store → Type 0
@@ -54,7 +55,7 @@ one-way : (world : World) (env : Environment) (context : Context) (one other : W
 one-way world env context one other start store done told = record {
   tie = tt;
   stands = stands-as world env context one.after (joined_states one.after other.after) store told.stands
-      (joined-known_one world.variables env one.after other.after store told.stands.known);
+      (joined-known_one (variables_in world) env one.after other.after store told.stands.known);
   kept = told.kept;
 }
 
@@ -63,7 +64,7 @@ other-way : (world : World) (env : Environment) (context : Context) (one other :
 other-way world env context one other start store done told = record {
   tie = tt;
   stands = stands-as world env context other.after (joined_states one.after other.after) store told.stands
-      (joined-known_other world.variables env one.after other.after store told.stands.known);
+      (joined-known_other (variables_in world) env one.after other.after store told.stands.known);
   kept = told.kept;
 }
 
@@ -186,7 +187,7 @@ kept-rule false rule place is = absurd (cc)
 
 -- ---- the loops
 
-type-limits : (one other : List Interval) (root : ℕ) (v : Value) → one ≡ other → IsIn (limits_at other root) v → IsIn (limits_at one root) v
+pub type-limits : (one other : List Interval) (root : ℕ) (v : Value) → one ≡ other → IsIn (limits_at other root) v → IsIn (limits_at one root) v
 type-limits one other root v is inside = subst (λ (limits : List Interval). IsIn (limits_at limits root) v) (sym is) inside
 
 -- of the loops round a round of a loop, the last is the loop itself
@@ -214,7 +215,7 @@ loop_begun context number control state =
     let own = at_head context number control in
     head (limits_at context.limits) (touched own) own.controls (claims_at context.claims number).facts state
 
-module _ {A : Type 0} (world : World) (env : Environment) (shows : Shows world.variables env) (context : Context) (number : ℕ) (control : Option ℕ)
+module _ {A : Type 0} (world : World) (env : Environment) (shows : Shows (variables_in world) env) (context : Context) (number : ℕ) (control : Option ℕ)
     (state : State)
     (start : Store) (at : A → Store → Store) (Fits : A → Store → Type 0) (again out : State) (stands : Stands world env context state start) where
   abbrev facts : List Fact
@@ -244,9 +245,9 @@ module _ {A : Type 0} (world : World) (env : Environment) (shows : Shows world.v
       → Stands world env within begun store
   head-stands store typed kept hold = record {
     limits_are = stands.limits_are;
-    known = head-known world.variables env shows (limits_at context.limits) (touched own) own.controls facts state start store
+    known = head-known (variables_in world) env shows (limits_at context.limits) (touched own) own.controls facts state start store
         (rounds-own env context.rounds own start store kept)
-        (λ root v among is. type-limits context.limits world.limits root v stands.limits_are (typed root v is)) hold stands.known;
+        (λ root v among is. type-limits context.limits world.limits root v stands.limits_are (typed.ranges root v is)) hold stands.known;
     typed = typed;
   }
 
@@ -259,10 +260,10 @@ module _ {A : Type 0} (world : World) (env : Environment) (shows : Shows world.v
   )
   round-turns given before after kept (Some b) (stood, own_kept, fits) =
       let all = keeps-then env rounds start before (at b after) kept own_kept in
-      (head-stands (at b after) stood.typed all (given-all_known world.variables env again (at b after) facts stood.known given), all, fits)
+      (head-stands (at b after) stood.typed all (given-all_known (variables_in world) env again (at b after) facts stood.known given), all, fits)
 
 -- a loop whose rounds are sound
-pub loop-good : {A : Type 0} (world : World) (env : Environment) → Shows world.variables env → (number : ℕ) (place : SourcePlace) (control : Option ℕ)
+pub loop-good : {A : Type 0} (world : World) (env : Environment) → Shows (variables_in world) env → (number : ℕ) (place : SourcePlace) (control : Option ℕ)
     (round : effect.Round A) (walking : Walking State) (at : A → Store → Store) (Fits : A → Store → Type 0) (context : Context) (state : State) (a : A)
     (s : effect.State)
     → ((b : A) (t : effect.State) → (walking (inner context number control) (loop_begun context number control state)).broken ≡ []
@@ -289,7 +290,7 @@ loop-good {A} world env shows number place control round walking at Fits context
     let from_head = followed turn after_turn in
     let whole = walk.loop_walk number place control walking context state in
     let from_entry = unbroken-right entry.broken (turn.broken ++ (turned.broken ++ [])) unbroken in
-    let given = given-all_known world.variables env state start facts stands.known
+    let given = given-all_known (variables_in world) env state start facts stands.known
     (kept-rule (gives_all state facts) LoopEntry place (unbroken-left entry.broken (turn.broken ++ (turned.broken ++ [])) unbroken)) in
     let given_again = kept-rule (gives_all turn.after facts) LoopTurn place
     (unbroken-left turned.broken [] (unbroken-right turn.broken (turned.broken ++ []) from_entry)) in
@@ -321,7 +322,7 @@ plain-ends world env context again out start None store told = told
 plain-ends world env context again out start (Some a) store (stood, kept) = (stood, kept, tt)
 
 -- a loop that is no for statement
-pub sound-loop : {A : Type 0} (world : World) (env : Environment) → Shows world.variables env
+pub sound-loop : {A : Type 0} (world : World) (env : Environment) → Shows (variables_in world) env
     → (number : ℕ) (place : SourcePlace) (round : effect.Round A) (a : A)
     (walking : Walking State)
     → ((b : A) → SoundRound world env (round b) walking)

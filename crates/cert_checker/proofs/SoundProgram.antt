@@ -17,6 +17,7 @@ use Rattle.typed_tree.specs.Entries.{entries_of}
 use Rattle.typed_tree.specs.Ids.{AreInOrder}
 use Rattle.typed_tree.specs.WellFormed.{IsWellFormed, is_well_formed_block}
 use Rattle.meaning.specs.declared.outcome.Ending.TheVariants.{Error}
+use Rattle.types.specs.declared.form.Step.{Step}
 use Rattle.meaning.specs.Store.{Environment, Place, overlap}
 use Rattle.meaning.specs.Effect as effect
 use Rattle.meaning.specs.Effect.{Reply, Visit}
@@ -30,7 +31,7 @@ use Rattle.cert_checker.specs.Promise.{open_in, AreNumbered, ClosedNeverErr, Hol
 use Rattle.expression_checker.specs.Visits.{moment_of, visits_of}
 use Rattle.abstract_state.proofs.Knows.{Shows, Knows, known-start}
 use Rattle.structured_states.specs.Loops.{all_limits}
-use Rattle.expression_checker.proofs.Sound.{World, IsPartOf, Meets, New, ErrsWithin, unbroken-left, part-left, part-right}
+use Rattle.expression_checker.proofs.Sound.{World, variables_in, IsPartOf, Meets, New, ErrsWithin, unbroken-left, part-left, part-right}
 use Rattle.cert_checker.proofs.SoundForms.{statement-sound}
 
 -- ---- the environment of a program
@@ -82,7 +83,8 @@ program_world tree certificate = record {
   limits = all_limits tree;
   ids = (program_walk tree certificate).open_ids;
   sites = length tree.sites.items;
-  variables = length tree.variables.items;
+  declared = tree.variables.items;
+  types = tree.types;
   linked = (program_walk tree certificate).linked;
   aliases = λ block. [];
 }
@@ -93,13 +95,13 @@ pub record Foretold (world : World) (reply : Reply (Unit {0})) : Type 0 where
   pub new : New world [] (visits_of reply)
 
 -- nothing has a value where the store is empty
-none-at : (found : Option Place) (v : Value) → part_of [] found [] ≡ Some v → ⊥
-none-at None v is = cc
-none-at (Some p) v is = cc
+none-at : (found : Option Place) (steps : List Step) (v : Value) → part_of [] found steps ≡ Some v → ⊥
+none-at None steps v is = cc
+none-at (Some p) steps v is = cc
 
-blocks-foretold : (world : World) (env : Environment) → Shows world.variables env → (blocks : List Block) (context : Context) (input : List ℕ) (turns : ℕ)
-    → context.limits ≡ world.limits → length context.tree.variables.items ≡ world.variables
-    → list_all (is_well_formed_block world.variables world.sites) blocks ≡ true
+blocks-foretold : (world : World) (env : Environment) → Shows (variables_in world) env → (blocks : List Block) (context : Context) (input : List ℕ) (turns : ℕ)
+    → context.limits ≡ world.limits → length context.tree.variables.items ≡ (variables_in world)
+    → list_all (is_well_formed_block world.declared world.types world.sites) blocks ≡ true
     → (all_of (map block_walk blocks) context Dead).broken ≡ [] → IsPartOf world (all_of (map block_walk blocks) context Dead)
     → Foretold world (run_of (slice_get blocks 0) env (first_state input turns))
 blocks-foretold world env shows [] context input turns same variables well unbroken part = record { errs = tt; new = λ visit inside. inl inside }
@@ -108,12 +110,19 @@ blocks-foretold world env shows (block ∷ blocks) context input turns same vari
     let first : Walked (Unit {0}) = block_walk block context Dead in
     let body : Walked (Unit {0}) = statement_walk block.body context begun in
     let rest : Walked (Unit {0}) = all_of (map block_walk blocks) context first.after in
-    let is_well = is_well_formed_block world.variables world.sites in
+    let is_well = is_well_formed_block world.declared world.types world.sites in
     let parts = and_parts (is_well block) (list_all is_well blocks) well in
     let known = known-start env (length context.tree.variables.items) in
     let good = statement-sound world env shows block.body parts.0 context begun (first_state input turns) (unbroken-left first.broken rest.broken unbroken)
     (part-right world (begin block context Dead) body (part-left world first rest part))
-    (record { limits_are = same; known = subst (λ n. Knows n env begun []) variables known; typed = λ root v is. absurd (none-at (env root) v is) }) in
+    (record {
+      limits_are = same;
+      known = subst (λ n. Knows n env begun []) variables known;
+      typed = record {
+        ranges = λ root v is. absurd (none-at (env.variables root) [] v is);
+        integers = λ root steps v is. absurd (none-at (env.variables root) steps v is);
+      };
+    }) in
     record { errs = good.errs; new = good.new }
 
 pub program-foretold : (tree : Tree) (certificate : Certificate) (input : List ℕ) (turns : ℕ) → (program_walk tree certificate).broken ≡ [] → IsWellFormed tree

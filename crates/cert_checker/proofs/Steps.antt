@@ -18,15 +18,21 @@ use Rattle.expression_checker.specs.declared.fault.CheckFault.TheVariants.{Broke
 use Rattle.abstract_state.specs.declared.known.Known.{Known}
 use Rattle.expression_checker.specs.Visits.{Visits, all_counted}
 use Rattle.cert_checker.specs.declared.walk.Walk.{Walk}
-use Rattle.domain.specs.Interval.{is_included}
+use Rattle.domain.specs.Interval.{Interval, is_included}
 use Rattle.abstract_state.specs.declared.state.State.{State as Kept}
 use Rattle.abstract_state.specs.View.{viewed}
 use Rattle.abstract_state.specs.Conditions.{bound_form}
 use Rattle.abstract_state.specs.State.{State, joined_states, limits_of}
 use Rattle.expression_checker.specs.Walk.{Context, Walked, Walking, fitting, ◌>>=◌, give}
-use Rattle.expression_checker.specs.Walk.{enter, value_walk, followed, numbers_of}
+use Rattle.expression_checker.specs.Walk.{access_walk, enter, index_walks, value_walk, followed, numbers_of}
 use Rattle.expression_checker.specs.Walk.{first_breach, IsBreachOf}
-use Rattle.cert_checker.specs.Walk.{assign, change, statement_walk, all_of, assignment, block_walk, branches, breach_unless, facts_given, first_context}
+use Rattle.typed_tree.specs.declared.tree.Selector.{Selector}
+use Rattle.std.specs.Bool.{◌==◌}
+use Rattle.std.proofs.Common.{arith}
+use Rattle.std.proofs.lemmas.Bool.{eqb-true}
+use Rattle.domain.specs.Facts.{Bound}
+use Rattle.cert_checker.specs.Walk.{assign, assign_to, change, statement_walk, all_of, assignment, block_walk, branches, breach_unless, facts_given}
+use Rattle.cert_checker.specs.Walk.{first_context}
 use Rattle.cert_checker.specs.Walk.{program_walk, here, loop_walk, parted, repeat_round, while_round, with_state, where_so}
 use Rattle.structured_states.specs.View.{kept_round}
 use Rattle.cert_checker.specs.View.{at_state, claims_in, context_of, else_walk, AtHead, IsBegun, IsMoved, LeavesLoop, loop_in, Meets, Parts, Walks}
@@ -35,7 +41,6 @@ use Rattle.structured_states.specs.Loops.{Claims, Round, all_list, claims_at, li
 use Rattle.abstract_state.specs.Loops.{gives_all, head, is_among}
 use Rattle.std.specs.List.{list_all}
 use Rattle.std.proofs.lemmas.List.Folds.{list_all-map}
-use Rattle.types.specs.declared.form.OrdinalRange.{OrdinalRange}
 use Rattle.typed_tree.specs.declared.tree.Tree.{Tree}
 use Rattle.certificate.specs.declared.Certificate.{Certificate}
 use Rattle.expression_checker.specs.declared.fault.Rule.TheVariants.{LoopEntry, LoopTurn, Changes}
@@ -146,17 +151,27 @@ all-end {X} walk items i old visits past =
 -- ---- the assignment to a variable
 
 -- an assignment from its target's entry on
-pub assignment-done : (becomes : SourcePlace) (target : Access) (fits : RangeTest) (value : Expr) (old entered valued : Walk) (before entries after : Visits)
-    (known : Known) (result : Result (Unit {0}) CheckFault) (new : Walk)
-    → Walks (enter target.number) old before entered entries tt → Walks (value_walk value) entered entries valued after known
-    → Goes (fitting fits known >>= λ passed. (change becomes target.root fits.range >>= λ _. assign target.root (bound_form value) passed)) valued after
-    result new after
-    → Goes (assignment becomes target fits value) old before result new after
-assignment-done becomes target fits value old entered valued before entries after known result new one two three =
-    let rest = λ (known : Known). fitting fits known >>= λ passed.
-    (change becomes target.root fits.range >>= λ _. assign target.root (bound_form value) passed) in
-    goes-then (enter target.number) (λ _. value_walk value >>= rest) old entered new before entries after tt result one
-    (goes-then (value_walk value) rest entered valued new entries after after known result two three)
+pub assignment-done : (becomes : SourcePlace) (target : Access) (indexes : List Expr) (fits : RangeTest) (value : Expr) (values : Interval)
+    (old entered valued : Walk) (before entries after : Visits) (known : Known) (result : Result (Unit {0}) CheckFault) (new : Walk)
+    → values ≡ limits_of fits.range
+    → Walks (access_walk target (index_walks indexes)) old before entered entries tt → Walks (value_walk value) entered entries valued after known
+    → Goes (fitting fits known >>= λ passed. (change becomes target.root values >>= λ _.
+    assign_to target.root target.selectors.items (bound_form value) passed)) valued after result new after
+    → Goes (assignment becomes target (index_walks indexes) fits value) old before result new after
+assignment-done becomes target indexes fits value values old entered valued before entries after known result new is one two three =
+    let stored = λ (values : Interval) (known : Known). fitting fits known >>= λ passed.
+    (change becomes target.root values >>= λ _. assign_to target.root target.selectors.items (bound_form value) passed) in
+    let rest = stored (limits_of fits.range) in
+    goes-then (access_walk target (index_walks indexes)) (λ _. value_walk value >>= rest) old entered new before entries after tt result one
+    (goes-then (value_walk value) rest entered valued new entries after after known result two
+    (subst (λ (v : Interval). Goes (stored v known) valued after result new after) is three))
+
+-- an access without selectors is to an entire variable
+pub assigned-entire : (root : ℕ) (selectors : List Selector) (form : Option Bound) (passed : Known) → (length selectors == 0) ≡ true
+    → assign_to root selectors form passed ≡ assign root form passed
+assigned-entire root [] form passed is = refl
+assigned-entire root (selector ∷ selectors) form passed is =
+    let none = eqb-true (length (selector ∷ selectors)) 0 is in absurd (omega (arith, none))
 
 -- ---- branches
 
@@ -413,11 +428,11 @@ repeat_round-done body condition known old bodied valued taken new before betwee
 
 -- ---- a change of a variable, and the whole program
 
-pub change-done : (place : SourcePlace) (root : ℕ) (range : OrdinalRange) (walk : Walk) (visits : Visits) (fits listed : Bool)
-    → fits ≡ is_included (limits_of range) (limits_at walk.limits.items root)
+pub change-done : (place : SourcePlace) (root : ℕ) (values : Interval) (walk : Walk) (visits : Visits) (fits listed : Bool)
+    → fits ≡ is_included values (limits_at walk.limits.items root)
     → listed ≡ list_all (λ round. is_among root (kept_round round).changes) walk.rounds.items → fits ≡ true → listed ≡ true
-    → Walks (change place root range) walk visits walk visits tt
-change-done place root range walk visits fits listed fits_is listed_is fit list =
+    → Walks (change place root values) walk visits walk visits tt
+change-done place root values walk visits fits listed fits_is listed_is fit list =
     let all = list_all-map (λ (round : Round). is_among root round.changes) kept_round walk.rounds.items ∙ sym listed_is in
     record {
       context_is = refl;
@@ -426,7 +441,7 @@ change-done place root range walk visits fits listed fits_is listed_is fit list 
         state_is = refl;
         open_is = sym (append-nil walk.flow.open_ids.items);
         visits_are = refl;
-        unbroken = ap (λ l. breach_unless (l && is_included (limits_of range) (limits_at walk.limits.items root)) Changes place) (all ∙ list)
+        unbroken = ap (λ l. breach_unless (l && is_included values (limits_at walk.limits.items root)) Changes place) (all ∙ list)
             ∙ ap (λ f. breach_unless f Changes place) (sym fits_is ∙ fit);
       };
     }
@@ -436,29 +451,29 @@ and-false true b is = is
 and-false false b is = refl
 
 -- the test of what a change asks
-asked-same : (root : ℕ) (range : OrdinalRange) (walk : Walk) (listed : Bool)
+asked-same : (root : ℕ) (values : Interval) (walk : Walk) (listed : Bool)
     → listed ≡ list_all (λ round. is_among root (kept_round round).changes) walk.rounds.items
-    → (all_list root (context_of walk).rounds && is_included (limits_of range) (limits_at walk.limits.items root))
-    ≡ (listed && is_included (limits_of range) (limits_at walk.limits.items root))
-asked-same root range walk listed listed_is =
-    ap (λ l. l && is_included (limits_of range) (limits_at walk.limits.items root))
+    → (all_list root (context_of walk).rounds && is_included values (limits_at walk.limits.items root))
+    ≡ (listed && is_included values (limits_at walk.limits.items root))
+asked-same root values walk listed listed_is =
+    ap (λ l. l && is_included values (limits_at walk.limits.items root))
     (list_all-map (λ (round : Round). is_among root round.changes) kept_round walk.rounds.items ∙ sym listed_is)
 
 -- a loop doesn't list the variable
-pub unlisted : (place : SourcePlace) (root : ℕ) (range : OrdinalRange) (walk : Walk) (visits : Visits) (listed : Bool)
+pub unlisted : (place : SourcePlace) (root : ℕ) (values : Interval) (walk : Walk) (visits : Visits) (listed : Bool)
     → listed ≡ list_all (λ round. is_among root (kept_round round).changes) walk.rounds.items → listed ≡ false
-    → Goes {A = Unit {0}} (change place root range) walk visits (Err (Broken Changes place)) walk visits
-unlisted place root range walk visits listed listed_is none =
-    let fits = is_included (limits_of range) (limits_at walk.limits.items root) in
-    ap (λ l. first_breach (breach_unless l Changes place)) (asked-same root range walk listed listed_is ∙ ap (λ l. l && fits) none)
+    → Goes {A = Unit {0}} (change place root values) walk visits (Err (Broken Changes place)) walk visits
+unlisted place root values walk visits listed listed_is none =
+    let fits = is_included values (limits_at walk.limits.items root) in
+    ap (λ l. first_breach (breach_unless l Changes place)) (asked-same root values walk listed listed_is ∙ ap (λ l. l && fits) none)
 
 -- the value isn't tested for the variable's type
-pub unfit : (place : SourcePlace) (root : ℕ) (range : OrdinalRange) (walk : Walk) (visits : Visits) (fits : Bool)
-    → fits ≡ is_included (limits_of range) (limits_at walk.limits.items root) → fits ≡ false
-    → Goes {A = Unit {0}} (change place root range) walk visits (Err (Broken Changes place)) walk visits
-unfit place root range walk visits fits fits_is none =
+pub unfit : (place : SourcePlace) (root : ℕ) (values : Interval) (walk : Walk) (visits : Visits) (fits : Bool)
+    → fits ≡ is_included values (limits_at walk.limits.items root) → fits ≡ false
+    → Goes {A = Unit {0}} (change place root values) walk visits (Err (Broken Changes place)) walk visits
+unfit place root values walk visits fits fits_is none =
     ap (λ l. first_breach (breach_unless l Changes place))
-    (and-false (all_list root (context_of walk).rounds) (is_included (limits_of range) (limits_at walk.limits.items root)) (sym fits_is ∙ none))
+    (and-false (all_list root (context_of walk).rounds) (is_included values (limits_at walk.limits.items root)) (sym fits_is ∙ none))
 
 module _ (tree : Tree) (certificate : Certificate) (begun : Walk) (start : IsBegun tree certificate begun) where
   pub program-same : all_of (map block_walk begun.tree.now.blocks.items) (context_of begun) (viewed begun.flow.state) ≡ program_walk tree certificate

@@ -13,22 +13,24 @@ use Rattle.typed_tree.specs.declared.tree.Tree.{Tree}
 use Rattle.typed_tree.specs.declared.tree.Block.{Block}
 use Rattle.typed_tree.specs.declared.tree.Access.{Access}
 use Rattle.typed_tree.specs.declared.tree.RangeTest.{RangeTest}
+use Rattle.typed_tree.specs.declared.tree.Selector.{Selector}
+use Rattle.typed_tree.specs.declared.tree.Whole.{Whole}
 use Rattle.typed_tree.specs.declared.tree.Expr.{Expr}
 use Rattle.typed_tree.specs.declared.tree.Stmt.{Stmt}
 use Rattle.typed_tree.specs.declared.tree.Stmt.TheOpen.{Stmt-F}
 use Rattle.typed_tree.specs.declared.tree.Stmt.TheOpen.Stmt-F.{Empty, Assign, Write, Compound, If, While, Repeat, For}
-use Rattle.typed_tree.specs.declared.tree.Stmt.TheOpen.Stmt-F.{Case}
+use Rattle.typed_tree.specs.declared.tree.Stmt.TheOpen.Stmt-F.{Case, Copy}
 use Rattle.typed_tree.specs.declared.tree.Stmt.TheFolds.{fold-Stmt}
 use Rattle.domain.specs.Interval.{Interval, is_included, common}
 use Rattle.domain.specs.Numbers.{hull, is_covered}
 use Rattle.domain.specs.Facts.{Bound, Fact}
 use Rattle.abstract_state.specs.declared.known.Known.{Known}
 use Rattle.abstract_state.specs.declared.known.Known.TheVariants.{Ordinal}
-use Rattle.abstract_state.specs.State.{State, Dead, start, joined_states, limits_of}
+use Rattle.abstract_state.specs.State.{State, Dead, integer, start, joined_states, limits_of}
 use Rattle.abstract_state.specs.Changes.{assigned}
 use Rattle.abstract_state.specs.Conditions.{bound_form, branched, condition_of}
 use Rattle.abstract_state.specs.Forms.{root_of}
-use Rattle.abstract_state.specs.Loops.{gives_all, head, with_undefined}
+use Rattle.abstract_state.specs.Loops.{gives_all, head, with_touched, with_undefined}
 use Rattle.structured_states.specs.Cases.{arm_start, constants_before}
 use Rattle.structured_states.specs.Loops.{Round, all_claims, all_control, all_limits, all_list, claims_at, limits_at}
 use Rattle.structured_states.specs.Loops.{round_of, touched, with_own, without_own}
@@ -36,8 +38,9 @@ use Rattle.structured_states.specs.Ways.{End, Way, met, steady, turn_begun, turn
 use Rattle.structured_states.specs.Ways.{with_values}
 use Rattle.expression_checker.specs.declared.fault.Rule.{Rule}
 use Rattle.expression_checker.specs.declared.fault.Rule.TheVariants.{LoopEntry, LoopTurn, Changes}
-use Rattle.expression_checker.specs.Walk.{Breach, Context, Walked, Walking, ◌>>=◌, enter, fitting, followed, give}
-use Rattle.expression_checker.specs.Walk.{parameter_walk, tested, value_walk, within}
+use Rattle.expression_checker.specs.Walk.{Breach, Context, Walked, Walking, ◌>>=◌, access_walk, enter, fitting}
+use Rattle.expression_checker.specs.Walk.{followed, give, index_walks, parameter_walk, tested, value_walk, whole_walk}
+use Rattle.expression_checker.specs.Walk.{within}
 
 -- another state from here on
 abbrev pub with_state : State → Walking (Unit {0})
@@ -52,15 +55,25 @@ abbrev pub asked : Bool → Rule → Place → Walking (Unit {0})
 asked kept rule place context state =
     record { value = tt; after = state; open_ids = []; broken = breach_unless kept rule place; linked = [] }
 
--- a variable is changed at a place by a value in a range, which is that of its type: each loop round it lists it
-abbrev pub change : Place → ℕ → OrdinalRange → Walking (Unit {0})
-change place root range context =
-    asked (all_list root context.rounds && is_included (limits_of range) (limits_at context.limits root)) Changes place
-    context
+-- a variable is changed at a place by values of a range, which are ones of its type; those of a structured type are
+-- integers. Each loop round the place lists it
+abbrev pub change : Place → ℕ → Interval → Walking (Unit {0})
+change place root values context =
+    asked (all_list root context.rounds && is_included values (limits_at context.limits root)) Changes place context
 
 -- the assignment of a value to a variable, perhaps of a bound form
 abbrev pub assign : ℕ → Option Bound → Known → Walking (Unit {0})
 assign root form (Ordinal range) context state = with_state (assigned root range form state) context state
+
+-- components of a variable got values, of which nothing is known
+abbrev pub components_changed : ℕ → Walking (Unit {0})
+components_changed root context state =
+    with_state (with_touched (limits_at context.limits) root state) context state
+
+-- the assignment of a value to what is accessed
+abbrev pub assign_to : ℕ → List Selector → Option Bound → Known → Walking (Unit {0})
+assign_to root [] form passed = assign root form passed
+assign_to root (selector ∷ selectors) form passed = components_changed root
 
 -- the start of a block: each variable of the program is one of its own
 abbrev pub begin : Block → Walking (Unit {0})
@@ -73,14 +86,22 @@ all_of (statement ∷ statements) = do
   _ ← statement
   all_of statements
 
--- an assignment: the target is entered, and then comes the value
-abbrev pub assignment : Place → Access → RangeTest → Expr → Walking (Unit {0})
-assignment becomes target fits value = do
-  _ ← enter target.number
+-- an assignment: the target is accessed, and then comes the value
+abbrev pub assignment : Place → Access → List (Walking Known) → RangeTest → Expr → Walking (Unit {0})
+assignment becomes target indexes fits value = do
+  _ ← access_walk target indexes
   known ← value_walk value
   passed ← fitting fits known
-  _ ← change becomes target.root fits.range
-  assign target.root (bound_form value) passed
+  _ ← change becomes target.root (limits_of fits.range)
+  assign_to target.root target.selectors.items (bound_form value) passed
+
+-- an assignment of a whole value: the target is accessed, and then come the components, one after another
+abbrev pub copying : Place → Access → List (Walking Known) → Whole → List (Walking Known) → Walking (Unit {0})
+copying becomes target indexes value value_indexes = do
+  _ ← access_walk target indexes
+  _ ← whole_walk value value_indexes
+  _ ← change becomes target.root integer
+  components_changed target.root
 
 -- two pieces of which a run takes one, each walked from its own state; behind them the states are joined
 abbrev pub either_of : Walked (Unit {0}) → Walked (Unit {0}) → Walked (Unit {0})
@@ -253,9 +274,12 @@ case_walk site index rows arms (Ordinal range) = do
 -- one layer of a statement
 abbrev pub statement_step : Stmt-F (Walking (Unit {0})) → Walking (Unit {0})
 statement_step (Empty number) = enter number
-statement_step (Assign number becomes target fits value) = do
+statement_step (Assign number becomes target indexes fits value) = do
   _ ← enter number
-  assignment becomes target fits value
+  assignment becomes target (index_walks indexes.items) fits value
+statement_step (Copy number becomes target indexes type_id value value_indexes) = do
+  _ ← enter number
+  copying becomes target (index_walks indexes.items) value (index_walks value_indexes.items)
 statement_step (Write number name parameters ends_line) = do
   _ ← enter number
   all_of (map parameter_walk parameters.items)

@@ -1,7 +1,7 @@
 ghost use Rattle.std.specs.Prelude.{◌≡◌, slice_get};
 ghost use Rattle.std.specs.List.{list_all};
-ghost use Rattle.cert_checker.specs.Names.{claims_are_known, fact_is_known, is_known, is_variable, section_is_known};
-ghost use Rattle.cert_checker.specs.Names.{path_is_known, stands_in};
+ghost use Rattle.cert_checker.specs.Names.{claims_are_known, fact_is_known, is_known, is_ordinal_variable, is_variable};
+ghost use Rattle.cert_checker.specs.Names.{path_is_known, section_is_known, stands_in};
 
 use certificate::{Certificate, Fact, LoopClaims, Path, Section};
 use typed_tree::tree::Tree;
@@ -74,15 +74,27 @@ fn fact_is_known(tree: &Tree, fact: &Fact) -> bool
         Fact::Range { path, .. } => path_is_known(tree, path),
         Fact::Defined { path } => path_is_known(tree, path),
         Fact::Stretch { .. } => false,
-        Fact::Order { root, other, .. } => is_variable(tree, *root) && is_variable(tree, *other),
+        Fact::Order { root, other, .. } => {
+            is_ordinal_variable(tree, *root) && is_ordinal_variable(tree, *other)
+        }
     }
 }
 
-/// Whether a path names an entire variable: no variable has fields or elements.
+/// Whether a path names an entire variable of an ordinal type.
 fn path_is_known(tree: &Tree, path: &Path) -> bool
     ensures { result ≡ path_is_known tree.now path.now }
 {
-    is_variable(tree, path.root) && path.steps.is_empty()
+    is_ordinal_variable(tree, path.root) && path.steps.is_empty()
+}
+
+/// Whether a variable is there, and of an ordinal type.
+fn is_ordinal_variable(tree: &Tree, root: u32) -> bool
+    ensures { result ≡ is_ordinal_variable tree.now root }
+{
+    match tree.variables.get(root as usize) {
+        None => false,
+        Some(variable) => tree.types.is_ordinal(variable.type_id),
+    }
 }
 
 fn is_variable(tree: &Tree, root: u32) -> bool

@@ -11,13 +11,16 @@ ghost use Rattle.structured_states.specs.Loops.{limits_at};
 ghost use Rattle.structured_states.specs.View.{said_way};
 ghost use Rattle.structured_states.specs.Ways.{turn_begun, turn_ended, way_out, where_counts};
 ghost use Rattle.expression_checker.specs.Visits.{Visits, all_counted};
-ghost use Rattle.expression_checker.specs.Walk.{IsBreachOf, enter, parameter_walk, value_walk, within};
+ghost use Rattle.expression_checker.specs.Walk.{IsBreachOf, access_walk, enter, index_walks, parameter_walk};
+ghost use Rattle.expression_checker.specs.Walk.{value_walk};
+ghost use Rattle.expression_checker.specs.Walk.{whole_walk, within};
 ghost use Rattle.cert_checker.specs.View.{EntersLoop, Goes, IsBegun, IsLoop, LeavesLoop, Meets, Moves, Parts};
 ghost use Rattle.cert_checker.specs.View.{context_of, else_walk, said_state, said_tested};
-ghost use Rattle.cert_checker.specs.Walk.{all_of, arm_walk, arms_walk, assign, assignment, block_walk, case_walk};
-ghost use Rattle.cert_checker.specs.Walk.{change, control_change, for_round, for_turns, for_walk, index_test};
-ghost use Rattle.cert_checker.specs.Walk.{may_control, program_walk, repeat_round, rounds_of, statement_walk};
-ghost use Rattle.cert_checker.specs.Walk.{steady_in, tested_way, where_so, while_round};
+ghost use Rattle.cert_checker.specs.Walk.{all_of, arm_walk, arms_walk, assign, assign_to, assignment, block_walk};
+ghost use Rattle.cert_checker.specs.Walk.{case_walk, change, components_changed, control_change};
+ghost use Rattle.cert_checker.specs.Walk.{copying, for_round, for_turns, for_walk, index_test, may_control};
+ghost use Rattle.cert_checker.specs.Walk.{program_walk, repeat_round, rounds_of, statement_walk, steady_in, tested_way};
+ghost use Rattle.cert_checker.specs.Walk.{where_so, while_round};
 
 use abstract_state::{Known, State, bound_form, entire, limits};
 use certificate::{Certificate, LoopClaims};
@@ -34,8 +37,7 @@ use structured_states::rounds::{
     Round, all_claims, all_control, all_limits, all_list, claims_at, controls_inside, limits_at,
 };
 use structured_states::ways::{End, Way};
-use typed_tree::tree::{Access, Block, Expr, RangeTest, Stmt, Tree, WriteParameter};
-use types::OrdinalRange;
+use typed_tree::tree::{Access, Block, Expr, RangeTest, Stmt, Tree, Whole, WriteParameter};
 
 /// A walk over the statements of a program, in the order in which they are run. The counter of entries is lent to it.
 #[derive(Drop)]
@@ -119,11 +121,24 @@ impl<'a> Walk<'a> {
                 number,
                 becomes,
                 target,
+                indexes,
                 fits,
                 value,
             } => {
                 self.enter(*number, visits)?;
-                self.assignment(*becomes, *target, *fits, value, visits)
+                self.assignment(*becomes, target, indexes, *fits, value, visits)
+            }
+            Stmt::Copy {
+                number,
+                becomes,
+                target,
+                indexes,
+                value,
+                value_indexes,
+                ..
+            } => {
+                self.enter(*number, visits)?;
+                self.copying(*becomes, target, indexes, value, value_indexes, visits)
             }
             Stmt::Write {
                 number,
@@ -393,22 +408,64 @@ impl<'a> Walk<'a> {
     fn assignment(
         &mut self,
         becomes: Place,
-        target: Access,
+        target: &Access,
+        indexes: &[Expr],
         fits: RangeTest,
         value: &Expr,
         visits: &mut Visits,
     ) -> Result<(), CheckFault>
-        ensures { Goes (assignment becomes target fits value.now) self.old visits.old result self.new visits.new }
+        ensures { Goes (assignment becomes target.now (index_walks indexes.now) fits value.now)
+            self.old visits.old result self.new visits.new }
     {
-        self.enter(target.number, visits)?;
+        self.access(target, indexes, visits)?;
         let known = self.expression(value, visits)?;
         let passed = self.flow.fitting(fits, known)?;
-        self.change(becomes, target.root, fits.range)?;
-        self.store(target.root, value, passed)
+        self.change(becomes, target.root, limits(fits.range))?;
+        self.store(target, value, passed)
+    }
+
+    /// What is accessed gets the value of an expression.
+    fn store(&mut self, target: &Access, value: &Expr, passed: Known) -> Result<(), CheckFault>
+        ensures { (visits : Visits)
+            → Goes (assign_to target.now.root target.now.selectors.items (bound_form value.now) passed)
+            self.old visits result self.new visits }
+    {
+        if target.selectors.is_empty() {
+            self.assign(target.root, value, passed)
+        } else {
+            self.components_changed(target.root)
+        }
+    }
+
+    /// An assignment of a whole value.
+    fn copying(
+        &mut self,
+        becomes: Place,
+        target: &Access,
+        indexes: &[Expr],
+        value: &Whole,
+        value_indexes: &[Expr],
+        visits: &mut Visits,
+    ) -> Result<(), CheckFault>
+        ensures { Goes (copying becomes target.now (index_walks indexes.now) value.now (index_walks value_indexes.now))
+            self.old visits.old result self.new visits.new }
+    {
+        self.access(target, indexes, visits)?;
+        self.whole_value(value, value_indexes, visits)?;
+        self.change(becomes, target.root, Interval::INTEGER)?;
+        self.components_changed(target.root)
+    }
+
+    /// Components of a variable got values.
+    fn components_changed(&mut self, root: u32) -> Result<(), CheckFault>
+        ensures { (visits : Visits) → Goes (components_changed root) self.old visits result self.new visits }
+    {
+        self.flow.state.touch(root, limits_at(&self.limits, root));
+        Ok(())
     }
 
     /// A variable gets the value of an expression.
-    fn store(&mut self, root: u32, value: &Expr, passed: Known) -> Result<(), CheckFault>
+    fn assign(&mut self, root: u32, value: &Expr, passed: Known) -> Result<(), CheckFault>
         ensures { (visits : Visits)
             → Goes (assign root (bound_form value.now) passed) self.old visits result self.new visits }
     {
@@ -417,11 +474,11 @@ impl<'a> Walk<'a> {
         Ok(())
     }
 
-    /// Each loop round the walk lists the variable that is changed.
-    fn change(&mut self, place: Place, root: u32, range: OrdinalRange) -> Result<(), CheckFault>
-        ensures { (visits : Visits) → Goes (change place root range) self.old visits result self.new visits }
+    /// Each loop round the walk lists the variable that is changed, by values of its type.
+    fn change(&mut self, place: Place, root: u32, values: Interval) -> Result<(), CheckFault>
+        ensures { (visits : Visits) → Goes (change place root values) self.old visits result self.new visits }
     {
-        let fits = limits(range).leq(&limits_at(&self.limits, root));
+        let fits = values.leq(&limits_at(&self.limits, root));
         if fits && all_list(&self.rounds, root) {
             Ok(())
         } else {
@@ -452,7 +509,32 @@ impl<'a> Walk<'a> {
         self.flow.expression(expression, visits)
     }
 
-    /// Counts the entry into a statement or the target of an assignment.
+    /// A variable access.
+    fn access(
+        &mut self,
+        access: &Access,
+        indexes: &[Expr],
+        visits: &mut Visits,
+    ) -> Result<(), CheckFault>
+        ensures { Goes (access_walk access.now (index_walks indexes.now)) self.old visits.old result
+            self.new visits.new }
+    {
+        self.flow.access(access, indexes, visits)
+    }
+
+    /// A whole value.
+    fn whole_value(
+        &mut self,
+        value: &Whole,
+        indexes: &[Expr],
+        visits: &mut Visits,
+    ) -> Result<(), CheckFault>
+        ensures { Goes (whole_walk value.now (index_walks indexes.now)) self.old visits.old result self.new visits.new }
+    {
+        self.flow.whole_value(value, indexes, visits)
+    }
+
+    /// Counts the entry into a statement.
     fn enter(&mut self, number: u32, visits: &mut Visits) -> Result<(), CheckFault>
         ensures { Goes (enter number) self.old visits.old result self.new visits.new }
     {

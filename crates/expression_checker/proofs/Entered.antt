@@ -10,20 +10,26 @@ use Rattle.typed_tree.specs.declared.tree.WriteParameter.{WriteParameter}
 use Rattle.typed_tree.specs.declared.tree.Written.{Written}
 use Rattle.typed_tree.specs.declared.tree.Written.TheVariants as written
 use Rattle.typed_tree.specs.declared.tree.Whole.{Whole}
-use Rattle.typed_tree.specs.declared.tree.Whole.TheVariants.{Text}
+use Rattle.typed_tree.specs.declared.tree.Whole.TheVariants.{Text, Variable as VariableOf}
+use Rattle.typed_tree.specs.declared.tree.Access.{Access}
+use Rattle.typed_tree.specs.declared.tree.RangeTest.{RangeTest}
+use Rattle.typed_tree.specs.declared.tree.Selector.{Selector}
 use Rattle.typed_tree.specs.declared.tree.Expr.{Expr}
 use Rattle.typed_tree.specs.declared.tree.Link.{Link}
 use Rattle.typed_tree.specs.declared.tree.Expr.TheOpen.{Expr-F, Link-F}
 use Rattle.typed_tree.specs.declared.tree.Expr.TheOpen.Expr-F.{Constant, Variable, Monadic as MonadicOf, Chain, Compare}
 use Rattle.typed_tree.specs.declared.tree.Expr.TheFolds.{fold-Link, map-Expr, map-Link, fold-roll-Expr, fold-roll-Link, ind-Expr}
-use Rattle.typed_tree.specs.Entries.{joined, expression_entries, link_entries, entries_of_expression, entries_of_width, entries_of_parameter, entries_of_whole}
-use Rattle.typed_tree.specs.Entries.{entries_of_written}
+use Rattle.typed_tree.specs.Entries.{joined, expression_entries, link_entries, entries_of_expression, entries_of_width, entries_of_parameter, access_entries}
+use Rattle.typed_tree.specs.Entries.{whole_entries}
+use Rattle.typed_tree.specs.Entries.{entries_of_written, index_entries}
 use Rattle.abstract_state.specs.declared.known.Known.{Known}
 use Rattle.abstract_state.specs.declared.known.Known.TheVariants.{Ordinal}
 use Rattle.expression_checker.specs.Visits.{Visits, all_counted, counted}
 use Rattle.abstract_state.specs.State.{State}
 use Rattle.expression_checker.specs.Walk.{Context, Linked, Walking, Combination, numbers_of, operated, combined, width_test, value_step, link_step, value_walk}
-use Rattle.expression_checker.specs.Walk.{link_walk, whole_walk, width_walk, written_walk, parameter_walk, in_turn}
+use Rattle.expression_checker.specs.Walk.{access_walk, behind_next, index_test, index_walks, indexes_walk, link_walk, next_test, value_use, whole_walk}
+use Rattle.expression_checker.specs.Walk.{width_walk}
+use Rattle.expression_checker.specs.Walk.{written_walk, parameter_walk, in_turn}
 
 -- a walk links states to these, in whatever context and from whatever state
 abbrev pub Enters : {A : Type 0} → Walking A → List ℕ → Type 0
@@ -77,8 +83,49 @@ turns-entered (link ∷ links) left context state =
     let rest = in_turn (map link_walk (map (λ l. l.0) links)) first.value context first.after in
     and_then first.linked rest.linked _ _ (link.1 left context state) (turns-entered links first.value context first.after)
 
-whole-entered : (value : Whole) → Enters (whole_walk value) (entries_of_whole value)
-whole-entered (Text number characters) context state = refl
+-- ---- accesses and whole values
+
+-- index expressions link states to these
+abbrev AllEnter : List (Walking Known) → List (List ℕ) → Type 0
+AllEnter [] [] = Unit {0}
+AllEnter (walk ∷ walks) (numbers ∷ rows) = Enters walk numbers × AllEnter walks rows
+AllEnter walks rows = ⊥
+
+tested-silent : (fits : Option RangeTest) (known : Known) → Enters (index_test fits known) []
+tested-silent None known context state = refl
+tested-silent (Some fits) (Ordinal range) context state = refl
+
+indexes-entered : (selectors : List Selector) (walks : List (Walking Known)) (rows : List (List ℕ)) → AllEnter walks rows
+    → Enters (indexes_walk selectors walks) (joined rows)
+indexes-entered selectors [] [] all context state = refl
+indexes-entered selectors (walk ∷ walks) (numbers ∷ rows) all context state =
+    let first = walk context state in
+    let test = index_test (next_test selectors) first.value context first.after in
+    let rest = indexes_walk (behind_next selectors) walks context test.after in
+    and_then first.linked (test.linked ++ rest.linked) numbers (joined rows) (all.0 context state)
+    (and_then test.linked rest.linked [] (joined rows) (tested-silent (next_test selectors) first.value context first.after)
+    (indexes-entered (behind_next selectors) walks rows all.1 context test.after))
+indexes-entered selectors [] (numbers ∷ rows) all context state = absurd all
+indexes-entered selectors (walk ∷ walks) [] all context state = absurd all
+
+access-of : (access : Access) (walks : List (Walking Known)) (rows : List (List ℕ)) → AllEnter walks rows
+    → Enters (access_walk access walks) (access_entries access rows)
+access-of access walks rows all context state =
+    ap (λ (numbers : List ℕ). access.number ∷ numbers) (indexes-entered access.selectors.items walks rows all context state)
+
+used-silent : (root : ℕ) (selectors : List Selector) (site : ℕ) → Enters (value_use root selectors site) []
+used-silent root [] site context state = refl
+used-silent root (selector ∷ selectors) site context state = refl
+
+whole-of : (value : Whole) (walks : List (Walking Known)) (rows : List (List ℕ)) → AllEnter walks rows
+    → Enters (whole_walk value walks) (whole_entries value rows)
+whole-of (Text number text) walks rows all context state = refl
+whole-of (VariableOf access type_id cells defined) walks rows all context state =
+    and_no_more (access_walk access walks context state).linked [] (access_entries access rows) (access-of access walks rows all context state) refl
+
+all-entered : (parts : List EnteredExpr) → AllEnter (map value_walk (map (λ e. e.0) parts)) (map entries_of_expression (map (λ e. e.0) parts))
+all-entered [] = tt
+all-entered (one ∷ parts) = (one.1, all-entered parts)
 
 value-parts : (y : Expr-F EnteredExpr EnteredLink)
     → Enters (value_step
@@ -86,7 +133,12 @@ value-parts : (y : Expr-F EnteredExpr EnteredLink)
     (expression_entries
     (map-Expr Expr Link (List ℕ) (List ℕ) entries_of_expression entries_of_link (map-Expr EnteredExpr EnteredLink Expr Link (λ e. e.0) (λ l. l.0) y)))
 value-parts (Constant number value) context state = refl
-value-parts (Variable access defined) context state = refl
+value-parts (Variable access indexes defined) context state =
+    let walks = map value_walk (map (λ (e : EnteredExpr). e.0) indexes.items) in
+    let rows = map entries_of_expression (map (λ (e : EnteredExpr). e.0) indexes.items) in
+    let begun = access_walk access walks context state in
+    and_no_more begun.linked (value_use access.root access.selectors.items defined context begun.after).linked (access_entries access rows)
+    (access-of access walks rows (all-entered indexes.items) context state) (used-silent access.root access.selectors.items defined context begun.after)
 value-parts (MonadicOf number operation operand) context state =
     let begun = value_walk operand.value.0 context state in
     let after = operated operation begun.value context begun.after in
@@ -96,11 +148,17 @@ value-parts (Chain first rest) context state =
     let begun = value_walk first.value.0 context state in
     let after = in_turn (map link_walk (map (λ l. l.0) rest.items)) begun.value context begun.after in
     and_then begun.linked after.linked _ _ (first.value.1 context state) (turns-entered rest.items begun.value context begun.after)
-value-parts (Compare number relation left right) context state =
-    let begun = whole_walk left context state in
-    let end = whole_walk right context begun.after in
-    and_then begun.linked (record { number = number; state = begun.after } ∷ (end.linked ++ [])) _ _ (whole-entered left context state)
-    (ap (λ numbers. number ∷ numbers) (and_no_more end.linked [] _ (whole-entered right context begun.after) refl))
+value-parts (Compare number relation left left_indexes right right_indexes) context state =
+    let walks = map value_walk (map (λ (e : EnteredExpr). e.0) left_indexes.items) in
+    let rows = map entries_of_expression (map (λ (e : EnteredExpr). e.0) left_indexes.items) in
+    let right_walks = map value_walk (map (λ (e : EnteredExpr). e.0) right_indexes.items) in
+    let right_rows = map entries_of_expression (map (λ (e : EnteredExpr). e.0) right_indexes.items) in
+    let begun = whole_walk left walks context state in
+    let end = whole_walk right right_walks context begun.after in
+    and_then begun.linked (record { number = number; state = begun.after } ∷ (end.linked ++ [])) (whole_entries left rows)
+    (number ∷ whole_entries right right_rows) (whole-of left walks rows (all-entered left_indexes.items) context state)
+    (ap (λ (numbers : List ℕ). number ∷ numbers) (and_no_more end.linked [] (whole_entries right right_rows)
+    (whole-of right right_walks right_rows (all-entered right_indexes.items) context begun.after) refl))
 
 link-parts : (y : Link-F EnteredExpr EnteredLink)
     → EntersFrom
@@ -141,11 +199,22 @@ width-entered (Some width) context state =
     let test = width_test width.site first.value context first.after in
     and_no_more first.linked test.linked _ (value-entered width.value context state) (test-silent width.site first.value context first.after)
 
+all-entered_of : (indexes : List Expr) → AllEnter (index_walks indexes) (index_entries indexes)
+all-entered_of [] = tt
+all-entered_of (index ∷ indexes) = (value-entered index, all-entered_of indexes)
+
+-- an access, and a whole value
+pub access-entered : (access : Access) (indexes : List Expr) → Enters (access_walk access (index_walks indexes)) (access_entries access (index_entries indexes))
+access-entered access indexes = access-of access (index_walks indexes) (index_entries indexes) (all-entered_of indexes)
+
+pub whole-entered : (value : Whole) (indexes : List Expr) → Enters (whole_walk value (index_walks indexes)) (whole_entries value (index_entries indexes))
+whole-entered value indexes = whole-of value (index_walks indexes) (index_entries indexes) (all-entered_of indexes)
+
 -- a value that is written, and its width
 written-entered : (value : Written) → Enters (written_walk value) (entries_of_written value)
 written-entered (written.Ordinal value representation) context state =
     and_no_more (value_walk value context state).linked [] _ (value-entered value context state) refl
-written-entered (written.String value) context state = whole-entered value context state
+written-entered (written.String value indexes) context state = whole-entered value indexes.items context state
 
 pub parameter-entered : (parameter : WriteParameter) → Enters (parameter_walk parameter) (entries_of_parameter parameter)
 parameter-entered parameter context state =

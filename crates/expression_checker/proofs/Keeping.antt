@@ -3,15 +3,18 @@ use Rattle.std.proofs.Common.{◌≡◌, ℕ, List, [], Some}
 use Rattle.std.specs.List.{Contains}
 use Rattle.domain.specs.Interval.{Interval}
 use Rattle.meaning.specs.declared.store.Value.{Value}
+use Rattle.types.specs.declared.form.Step.{Step}
 use Rattle.meaning.specs.Store.{Environment, Store}
+use Rattle.abstract_state.specs.State.{integer}
 use Rattle.abstract_state.specs.Holds.{IsIn, value_at}
 use Rattle.abstract_state.specs.Knows.{IsKept, moment}
 use Rattle.abstract_state.proofs.Looped.{kept-itself, kept-then}
 use Rattle.structured_states.specs.Loops.{Round, limits_at, touched}
 
--- each variable's value lies in the range of its type
-abbrev pub InTypes : List Interval → Environment → Store → Type 0
-InTypes limits env store = (root : ℕ) (v : Value) → value_at (moment env store) root [] ≡ Some v → IsIn (limits_at limits root) v
+-- each variable's value lies in the range of its type, and that of each part of a variable is an integer
+pub record InTypes (limits : List Interval) (env : Environment) (store : Store) : Type 0 where
+  pub ranges : (root : ℕ) (v : Value) → value_at (moment env store) root [] ≡ Some v → IsIn (limits_at limits root) v
+  pub integers : (root : ℕ) (steps : List Step) (v : Value) → value_at (moment env store) root steps ≡ Some v → IsIn integer v
 
 -- so it is for each loop round a piece
 abbrev pub Keeps : Environment → List Round → Store → Store → Type 0

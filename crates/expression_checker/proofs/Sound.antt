@@ -1,9 +1,12 @@
 -- The walk is sound: what a piece of a program does from a state that holds, the walk over that piece foretells.
 use Rattle.std.proofs.Common.{arith, ◌≡◌, ⊎_elim, ◌⊎◌, inl, inr, ◌∙◌, sym, refl, subst, ℕ, ◌<◌, Bool, true, false, ◌||◌, List, [], ◌∷◌, ◌++◌, Option, Some}
+use Rattle.std.proofs.Common.{length}
 use Rattle.std.proofs.Common.{None}
 use Rattle.std.specs.List.{Contains}
 use Rattle.std.proofs.lemmas.List.Elements.{Contains-append_left, Contains-append_right, Contains-push_cases}
 use Rattle.domain.specs.Interval.{Interval}
+use Rattle.types.specs.Forms.{Form}
+use Rattle.typed_tree.specs.declared.tree.Variable.{Variable}
 use Rattle.meaning.specs.declared.outcome.Ending.TheVariants.{Error}
 use Rattle.meaning.specs.declared.store.Value.{Value}
 use Rattle.meaning.specs.Store.{Environment, Place, Store, stored}
@@ -18,15 +21,20 @@ use Rattle.expression_checker.specs.Walk.{Breach, Context, Linked, Walked, Walki
 use Rattle.expression_checker.specs.Visits.{moment_of, visits_of}
 use Rattle.expression_checker.proofs.Keeping.{InTypes, Keeps, keeps-itself, keeps-then}
 
--- what is fixed for a program: the values of its variables' types, the sites that the whole walk leaves open, how many sites and variables the
--- program has, the states that the whole walk links, and the pairs of aliases of each block by its number
+-- what is fixed for a program: the values of its variables' types, the sites that the whole walk leaves open, how many sites the program has, its
+-- variables and types, the states that the whole walk links, and the pairs of aliases of each block by its number
 pub record World : Type 0 where
   pub limits : List Interval
   pub ids : List ℕ
   pub sites : ℕ
-  pub variables : ℕ
+  pub declared : List Variable
+  pub types : List Form
   pub linked : List Linked
   pub aliases : ℕ → List (ℕ × ℕ)
+
+-- how many variables the program has
+abbrev pub variables_in : World → ℕ
+variables_in world = length world.declared
 
 -- a piece's walk is part of the world
 pub record IsPartOf {A : Type 0} (world : World) (walked : Walked A) : Type 0 where
@@ -36,7 +44,7 @@ pub record IsPartOf {A : Type 0} (world : World) (walked : Walked A) : Type 0 wh
 -- a walk goes by the world's program; its state holds, and each value lies in the range of its variable's type
 pub record Stands (world : World) (env : Environment) (context : Context) (state : State) (store : Store) : Type 0 where
   pub limits_are : context.limits ≡ world.limits
-  pub known : Knows world.variables env state store
+  pub known : Knows (variables_in world) env state store
   pub typed : InTypes world.limits env store
 
 -- a state of the world is linked to the entry, and it holds there
@@ -190,12 +198,12 @@ none-shared : (env : Environment) (pairs : List (ℕ × ℕ)) → Separate env [
 none-shared env pairs separate a b p q at_a at_b differ overlaps =
     ⊎_elim (λ listed. absurd (omega (arith, listed.1))) (λ listed. absurd (omega (arith, listed.1))) (separate a b p q at_a at_b differ overlaps)
 
-pub sound-enter : (world : World) (env : Environment) → Shows world.variables env → (number : ℕ)
+pub sound-enter : (world : World) (env : Environment) → Shows (variables_in world) env → (number : ℕ)
     → Sound world env Any_value (effect.enter number env) (walk.enter number)
 sound-enter world env shows number context state s unbroken part stands =
     let one : Linked = record { number = number; state = state } in
     let entered : Visit = record { number = number; environment = env; store = s.store } in
-    let meets : Meets world entered = (one, part.linked one (0, omega arith, refl), refl, known-holds world.variables env state s.store stands.known) in
+    let meets : Meets world entered = (one, part.linked one (0, omega arith, refl), refl, known-holds (variables_in world) env state s.store stands.known) in
     let separate : Separate env (world.aliases 0) = none-shared env (world.aliases 0) shows.separate in
     record {
       errs = tt;
@@ -222,38 +230,38 @@ none-some v is = cc
 
 -- another state that holds
 pub stands-as : (world : World) (env : Environment) (context : Context) (state other : State) (store : Store) → Stands world env context state store
-    → Knows world.variables env other store
+    → Knows (variables_in world) env other store
     → Stands world env context other store
 stands-as world env context state other store stands known = record { limits_are = stands.limits_are; known = known; typed = stands.typed }
 
-good-use : (world : World) (env : Environment) → Shows world.variables env → (root site : ℕ) → root < world.variables → site < world.sites
+good-use : (world : World) (env : Environment) → Shows (variables_in world) env → (root site : ℕ) → root < (variables_in world) → site < world.sites
     → (context : Context) (state : State) (s : effect.State) → IsPartOf world (walk.use_of root site context state)
     → Stands world env context state s.store
     → (found : Option Value) → stored s.store (place_of env root) ≡ found
     → Good world (IsForetold world env IsKnown context (walk.use_of root site context state) s.store) s.visited (effect.fetched found site s)
 good-use world env shows root site within below context state s part stands None is =
     let unclosed : is_defined state root ≡ true → ⊥ = λ closed.
-    let at = defined-stored world.variables env shows state s.store root within stands.known closed in none-some at.0 (sym is ∙ at.1) in
+    let at = defined-stored (variables_in world) env shows state s.store root within stands.known closed in none-some at.0 (sym is ∙ at.1) in
     record {
       errs = errs-here world site (part.ids site (open-here site (is_defined state root) unclosed)) below;
       new = nothing-new world s.visited;
       gives = tt;
     }
 good-use world env shows root site within below context state s part stands (Some v) is =
-    let inside : IsIn (range_of state root) v = read-in world.variables env shows state s.store root v within stands.known is in
-    let used = used-known world.variables env shows state s.store root v within stands.known is in
-    let known = nonempty-known world.variables env (range_of state root) (with_defined root state) s.store v inside used in
+    let inside : IsIn (range_of state root) v = read-in (variables_in world) env shows state s.store root v within stands.known is in
+    let used = used-known (variables_in world) env shows state s.store root v within stands.known is in
+    let known = nonempty-known (variables_in world) env (range_of state root) (with_defined root state) s.store v inside used in
     good-give world (IsForetold world env IsKnown context (walk.use_of root site context state) s.store) v s (record {
       tie = inside;
       stands = stands-as world env context state (walk.use_of root site context state).after s.store stands known;
       kept = keeps-itself env context.rounds s.store;
     })
 
-pub sound-use : (world : World) (env : Environment) → Shows world.variables env → (root site : ℕ) → root < world.variables → site < world.sites
-    → Sound world env IsKnown (effect.fetch (env root) site) (walk.use_of root site)
+pub sound-use : (world : World) (env : Environment) → Shows (variables_in world) env → (root site : ℕ) → root < (variables_in world) → site < world.sites
+    → Sound world env IsKnown (effect.fetch (env.variables root) site) (walk.use_of root site)
 sound-use world env shows root site within below =
     subst (λ (place : Option Place). Sound world env IsKnown (effect.fetch place site) (walk.use_of root site)) (sym
-    (at-place world.variables env shows root within))
+    (at-place (variables_in world) env shows root within))
     (λ context state s unbroken part stands.
     good-use world env shows root site within below context state s part stands (stored s.store (place_of env root)) refl)
 
@@ -281,12 +289,12 @@ sound-tested world env closed site passed v true below holds lets context state 
     good-give world (IsForetold world env (Passes true v) context (walk.tested closed site passed context state) s.store) tt s (record {
       tie = (inside, refl);
       stands = stands-as world env context state after s.store stands
-          (nonempty-known world.variables env passed state s.store v inside stands.known);
+          (nonempty-known (variables_in world) env passed state s.store v inside stands.known);
       kept = keeps-itself env context.rounds s.store;
     })
 sound-tested world env closed site passed v false below holds lets context state s unbroken part stands =
     let unclosed : (is_dead state || closed) ≡ true
-    → ⊥ = λ is. false-true (closed-passes world.variables env state s.store closed false stands.known holds is) in
+    → ⊥ = λ is. false-true (closed-passes (variables_in world) env state s.store closed false stands.known holds is) in
     record {
       errs = errs-here world site (part.ids site (open-here site (is_dead state || closed) unclosed)) below;
       new = nothing-new world s.visited;

@@ -1,7 +1,9 @@
 -- What the checker did over an expression, from what it did over the parts of it.
-use Rattle.std.proofs.Common.{rules, ◌≡◌, ◌≤◌, Bool, Some, Result, Ok, Err, ℕ, ℤ, ◌+◌, List, [], ◌∷◌, ◌++◌, length, map, refl, sym, ap, ◌∙◌}
+use Rattle.std.proofs.Common.{rules, ◌≡◌, ◌≤◌, Bool, Option, Some, Result, Ok, Err, ℕ, ℤ, ◌+◌, List, [], ◌∷◌, ◌++◌, length, map, refl, sym, ap, ◌∙◌}
 use Rattle.std.proofs.Common.{subst, append_assoc, append-nil, ◌<◌, get_or, drop}
 use Rattle.std.specs.Result.{IsErr, IsErrAnd}
+use Rattle.typed_tree.specs.declared.tree.Access.{Access}
+use Rattle.typed_tree.specs.declared.tree.Selector.{Selector}
 use Rattle.typed_tree.specs.declared.tree.RangeTest.{RangeTest}
 use Rattle.typed_tree.specs.declared.tree.Monadic.{Monadic}
 use Rattle.typed_tree.specs.declared.tree.Relation.{Relation}
@@ -25,7 +27,8 @@ use Rattle.domain.specs.Interval.{Interval, between}
 use Rattle.std.proofs.lemmas.Int.{ints}
 use Rattle.expression_checker.specs.Visits.{Visits, all_counted, counted}
 use Rattle.expression_checker.specs.Walk.{Breach, Context, Linked, Walked, Walking, IsBreachOf, use_of, tested, positive, within, width_test, fitting, ◌>>=◌}
-use Rattle.expression_checker.specs.Walk.{comparison_walk, give, ordinal, enter, first_breach, operated, combined, in_turn, value_walk, link_walk, numbers_of}
+use Rattle.expression_checker.specs.Walk.{behind_next, give, index_test, index_walks, indexes_walk, next_test, related_walk, variable_walk, whole_walk}
+use Rattle.expression_checker.specs.Walk.{ordinal, enter, first_breach, operated, combined, in_turn, value_walk, link_walk, numbers_of}
 use Rattle.expression_checker.specs.View.{Flows, Goes}
 use Rattle.structured_states.proofs.Claims.{item-cut, drop-past}
 
@@ -279,11 +282,70 @@ tested-goes walk test next passed result old new visits is result_is tested =
     (subst (λ r. Goes (test >>= λ x. give (next x)) old visits (Ok r) new visits) (sym result_is)
     (goes-then test (λ x. give (next x)) old new new visits visits visits passed (Ok (next passed)) tested (goes-give (next passed) new visits)))
 
--- ---- strings
+-- ---- accesses and whole values
 
-pub value-Compare : (number : ℕ) (relation : Relation) (left right : Whole)
-    → value_walk (expr.Compare number relation left right) ≡ comparison_walk left number right
-value-Compare number relation left right = search (rules, the_lemmas)
+pub value-Variable : (access : Access) (indexes : Vec Expr Global) (defined : ℕ)
+    → value_walk (expr.Variable access indexes defined) ≡ variable_walk access (index_walks indexes.items) defined
+value-Variable access indexes defined = search (rules, the_lemmas)
+
+pub value-Compare : (number : ℕ) (relation : Relation) (left : Whole) (left_indexes : Vec Expr Global) (right : Whole) (right_indexes : Vec Expr Global)
+    → value_walk (expr.Compare number relation left left_indexes right right_indexes)
+    ≡ (whole_walk left (index_walks left_indexes.items) >>= λ _. related_walk number right (index_walks right_indexes.items))
+value-Compare number relation left left_indexes right right_indexes = search (rules, the_lemmas)
+
+-- the index expressions from one of them on
+pub index-cut : (selectors : List Selector) (items : List Expr) (i : ℕ) (index : Expr) → i < length items → index ≡ get_or items i index
+    → indexes_walk selectors (index_walks (drop i items))
+    ≡ (value_walk index
+    >>= λ known. (index_test (next_test selectors) known >>= λ _. indexes_walk (behind_next selectors) (index_walks (drop (i + 1) items))))
+index-cut selectors items i index inside is = ap (λ indexes. indexes_walk selectors (index_walks indexes)) (item-cut items i index inside is)
+
+-- an index expression was walked over and its value tested: what the checker did over those behind it is what it did over all
+pub index-step : (selectors behind : List Selector) (items : List Expr) (i : ℕ) (index : Expr) (fits : Option RangeTest) (known : Known)
+    (old valued mid new : Flow) (before between after : Visits) (done : Unit {0}) (result : Result (Unit {0}) CheckFault)
+    → i < length items → index ≡ get_or items i index → fits ≡ next_test selectors → behind ≡ behind_next selectors
+    → Goes (value_walk index) old before (Ok known) valued between → Goes (index_test fits known) valued between (Ok done) mid between
+    → Goes (indexes_walk behind (index_walks (drop (i + 1) items))) mid between result new after
+    → Goes (indexes_walk selectors (index_walks (drop i items))) old before result new after
+index-step selectors behind items i index fits known old valued mid new before between after done result inside is fits_is behind_is one two three =
+    let rest = λ (left : List Selector). indexes_walk left (index_walks (drop (i + 1) items)) in
+    goes-as (indexes_walk selectors (index_walks (drop i items))) (value_walk index >>= λ known. (index_test fits known >>= λ _. rest behind)) old new
+    before after result
+    (index-cut selectors items i index inside is
+    ∙ ap (λ test. value_walk index >>= λ known. (index_test test known >>= λ _. rest (behind_next selectors))) (sym fits_is)
+    ∙ ap (λ left. value_walk index >>= λ known. (index_test fits known >>= λ _. rest left)) (sym behind_is))
+    (goes-then (value_walk index) (λ known. index_test fits known >>= λ _. rest behind) old valued new before between after known result one
+    (goes-then (index_test fits known) (λ _. rest behind) valued mid new between between after done result two three))
+
+-- the checker gave up over an index expression, or over the test of its value
+pub index-stopped : (selectors : List Selector) (items : List Expr) (i : ℕ) (index : Expr) (old new : Flow) (before after : Visits) (fault : CheckFault)
+    → i < length items → index ≡ get_or items i index → ((context : Context) → IsBreachOf (value_walk index context (viewed old.state)) fault)
+    → Goes (indexes_walk selectors (index_walks (drop i items))) old before (Err fault) new after
+index-stopped selectors items i index old new before after fault inside is one =
+    let rest = indexes_walk (behind_next selectors) (index_walks (drop (i + 1) items)) in
+    let next = λ (known : Known). index_test (next_test selectors) known >>= λ _. rest in
+    goes-as (indexes_walk selectors (index_walks (drop i items))) (value_walk index >>= next) old new before after (Err fault)
+    (index-cut selectors items i index inside is) (goes-stopped (value_walk index) next old new before after fault one)
+
+pub test-stopped : (selectors : List Selector) (items : List Expr) (i : ℕ) (index : Expr) (fits : Option RangeTest) (known : Known) (old valued new : Flow)
+    (before between after : Visits) (fault : CheckFault)
+    → i < length items → index ≡ get_or items i index → fits ≡ next_test selectors → Goes (value_walk index) old before (Ok known) valued between
+    → ((context : Context) → IsBreachOf (index_test fits known context (viewed valued.state)) fault)
+    → Goes (indexes_walk selectors (index_walks (drop i items))) old before (Err fault) new after
+test-stopped selectors items i index fits known old valued new before between after fault inside is fits_is one two =
+    let rest = indexes_walk (behind_next selectors) (index_walks (drop (i + 1) items)) in
+    let next = λ (known : Known). index_test fits known >>= λ _. rest in
+    goes-as (indexes_walk selectors (index_walks (drop i items))) (value_walk index >>= next) old new before after (Err fault)
+    (index-cut selectors items i index inside is
+    ∙ ap (λ test. value_walk index >>= λ known. (index_test test known >>= λ _. rest)) (sym fits_is))
+    (goes-then (value_walk index) next old valued new before between after known (Err fault) one
+    (goes-stopped (index_test fits known) (λ _. rest) valued new between after fault two))
+
+pub index-end : (selectors : List Selector) (items : List Expr) (i : ℕ) (old : Flow) (visits : Visits) → length items ≤ i
+    → Goes (indexes_walk selectors (index_walks (drop i items))) old visits (Ok (tt {0})) old visits
+index-end selectors items i old visits past =
+    subst (λ (indexes : List Expr). Goes (indexes_walk selectors (index_walks indexes)) old visits (Ok (tt {0})) old visits) (sym (drop-past items i past))
+    (goes-give (tt {0}) old visits)
 
 -- ---- the value after another, and before
 

@@ -1,11 +1,13 @@
 -- The walk of the checker over an expression, one equation a form: what is known of its value, the state after it, the
 -- sites that it leaves open, and the state at each entry into an expression (ISO 7185:1990, 6.7). Rules of certificates
 -- are broken by statements alone. It does not say that a run does what the walk says of it.
-use Rattle.std.specs.Prelude.{◌≡◌, ℕ, ℤ, pos, ◌+ℤ◌, ◌-ℤ◌, Bool, not, ◌||◌, int_le, int_lt, List, [], ◌∷◌, ◌++◌}
+use Rattle.std.specs.Prelude.{◌≡◌, ℕ, ℤ, pos, ◌+ℤ◌, ◌-ℤ◌, Bool, false, not, ◌||◌, int_le, int_lt, List, [], ◌∷◌, ◌++◌}
 use Rattle.std.specs.Prelude.{Option, Some, None, if◌then◌else◌, map}
 use Rattle.place.specs.declared.Place.{Place}
 use Rattle.typed_tree.specs.declared.tree.Tree.{Tree}
 use Rattle.typed_tree.specs.declared.tree.Access.{Access}
+use Rattle.typed_tree.specs.declared.tree.Selector.{Selector}
+use Rattle.typed_tree.specs.declared.tree.Selector.TheVariants.{Element, Field}
 use Rattle.typed_tree.specs.declared.tree.RangeTest.{RangeTest}
 use Rattle.typed_tree.specs.declared.tree.Monadic.{Monadic}
 use Rattle.typed_tree.specs.declared.tree.Monadic.TheVariants as monadic
@@ -16,7 +18,7 @@ use Rattle.typed_tree.specs.declared.tree.WriteParameter.{WriteParameter}
 use Rattle.typed_tree.specs.declared.tree.Written.{Written}
 use Rattle.typed_tree.specs.declared.tree.Written.TheVariants as written
 use Rattle.typed_tree.specs.declared.tree.Whole.{Whole}
-use Rattle.typed_tree.specs.declared.tree.Whole.TheVariants.{Text}
+use Rattle.typed_tree.specs.declared.tree.Whole.TheVariants.{Text, Variable as VariableOf}
 use Rattle.typed_tree.specs.declared.tree.Expr.{Expr}
 use Rattle.typed_tree.specs.declared.tree.Link.{Link}
 use Rattle.typed_tree.specs.declared.tree.Expr.TheOpen.{Expr-F, Link-F}
@@ -200,22 +202,80 @@ combined dyadic.And (Ordinal left) (Ordinal right) = ordinal (both left right)
 combined dyadic.Or (Ordinal left) (Ordinal right) = ordinal (either left right)
 combined (dyadic.Relation relation) (Ordinal left) (Ordinal right) = ordinal truth_values
 
--- the use of a variable, which is entered first
-abbrev pub variable_walk : Access → ℕ → Walking Known
-variable_walk access site = do
+-- a value has to lie in the range of a type
+abbrev pub fitting : RangeTest → Known → Walking Known
+fitting fits (Ordinal range) = do
+  passed ← within (limits_of fits.range) fits.site range
+  ordinal passed
+
+-- ---- accesses
+
+-- the test of the next index that selectors take, and the selectors behind the element of that index
+abbrev pub next_test : List Selector → Option RangeTest
+next_test [] = None
+next_test (Element fits cells ∷ selectors) = Some fits
+next_test (Field position offset ∷ selectors) = next_test selectors
+
+abbrev pub behind_next : List Selector → List Selector
+behind_next [] = []
+behind_next (Element fits cells ∷ selectors) = selectors
+behind_next (Field position offset ∷ selectors) = behind_next selectors
+
+-- an index is tested, if selectors take it
+abbrev pub index_test : Option RangeTest → Known → Walking (Unit {0})
+index_test None known = give tt
+index_test (Some fits) known = do
+  _ ← fitting fits known
+  give tt
+
+-- index expressions, each of which is tested at once
+abbrev pub indexes_walk : List Selector → List (Walking Known) → Walking (Unit {0})
+indexes_walk selectors [] = give tt
+indexes_walk selectors (index ∷ indexes) = do
+  known ← index
+  _ ← index_test (next_test selectors) known
+  indexes_walk (behind_next selectors) indexes
+
+-- an access, which is entered before its index expressions
+abbrev pub access_walk : Access → List (Walking Known) → Walking (Unit {0})
+access_walk access indexes = do
   _ ← enter access.number
-  use_of access.root site
+  indexes_walk access.selectors.items indexes
 
--- a string, which is entered: it has no site
-abbrev pub whole_walk : Whole → Walking (Unit {0})
-whole_walk (Text number characters) = enter number
+-- the use of a component, of which nothing is known but that its value is an integer
+abbrev pub component_use : ℕ → Walking Known
+component_use site = do
+  passed ← tested false site integer
+  ordinal passed
 
--- a relation of two strings, whose operator is entered between them
-abbrev pub comparison_walk : Whole → ℕ → Whole → Walking Known
-comparison_walk left number right = do
-  _ ← whole_walk left
+-- the use of components, of which no more is known
+abbrev pub components_use : ℕ → Walking (Unit {0})
+components_use site = do
+  _ ← tested false site integer
+  give tt
+
+-- the use of what is accessed, an ordinal
+abbrev pub value_use : ℕ → List Selector → ℕ → Walking Known
+value_use root [] site = use_of root site
+value_use root (selector ∷ selectors) site = component_use site
+
+abbrev pub variable_walk : Access → List (Walking Known) → ℕ → Walking Known
+variable_walk access indexes site = do
+  _ ← access_walk access indexes
+  value_use access.root access.selectors.items site
+
+-- a whole value: a string is entered, and has no site; of the components of a variable nothing is known
+abbrev pub whole_walk : Whole → List (Walking Known) → Walking (Unit {0})
+whole_walk (Text number text) indexes = enter number
+whole_walk (VariableOf access type_id cells defined) indexes = do
+  _ ← access_walk access indexes
+  components_use defined
+
+-- a relation of two whole values, from its operator on, which is entered between them
+abbrev pub related_walk : ℕ → Whole → List (Walking Known) → Walking Known
+related_walk number right indexes = do
   _ ← enter number
-  _ ← whole_walk right
+  _ ← whole_walk right indexes
   ordinal truth_values
 
 -- what the walk does with an operator and its right operand, by what is known of the value to its left
@@ -241,7 +301,7 @@ abbrev pub value_step : Expr-F (Walking Known) Combination → Walking Known
 value_step (Constant number value) = do
   _ ← enter number
   ordinal (record { first = value; last = value })
-value_step (Variable access defined) = variable_walk access defined
+value_step (Variable access indexes defined) = variable_walk access indexes.items defined
 value_step (MonadicOf number operation operand) = do
   _ ← enter number
   known ← operand.value
@@ -249,7 +309,9 @@ value_step (MonadicOf number operation operand) = do
 value_step (Chain first rest) = do
   known ← first.value
   in_turn rest.items known
-value_step (Compare number relation left right) = comparison_walk left number right
+value_step (Compare number relation left left_indexes right right_indexes) = do
+  _ ← whole_walk left left_indexes.items
+  related_walk number right right_indexes.items
 
 -- the walk over an operator and its right operand
 abbrev pub link_walk : Link → Combination
@@ -258,6 +320,10 @@ link_walk = fold-Link (Walking Known) Combination value_step link_step
 -- the walk over an expression: what is known of its value
 abbrev pub value_walk : Expr → Walking Known
 value_walk = fold-Expr (Walking Known) Combination value_step link_step
+
+-- the walks over index expressions
+abbrev pub index_walks : List Expr → List (Walking Known)
+index_walks = map value_walk
 
 -- a width has to be at least 1
 abbrev pub width_test : ℕ → Known → Walking (Unit {0})
@@ -277,16 +343,10 @@ abbrev pub written_walk : Written → Walking (Unit {0})
 written_walk (written.Ordinal value representation) = do
   _ ← value_walk value
   give tt
-written_walk (written.String value) = whole_walk value
+written_walk (written.String value indexes) = whole_walk value (index_walks indexes.items)
 
 -- the same, and then its width
 abbrev pub parameter_walk : WriteParameter → Walking (Unit {0})
 parameter_walk parameter = do
   _ ← written_walk parameter.value
   width_walk parameter.width
-
--- a value has to lie in the range of a type
-abbrev pub fitting : RangeTest → Known → Walking Known
-fitting fits (Ordinal range) = do
-  passed ← within (limits_of fits.range) fits.site range
-  ordinal passed

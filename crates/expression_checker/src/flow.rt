@@ -2,10 +2,12 @@ ghost use Rattle.std.specs.Prelude.{◌≡◌};
 ghost use Rattle.abstract_state.specs.State.{limits_of};
 ghost use Rattle.expression_checker.specs.Visits.{Visits};
 ghost use Rattle.expression_checker.specs.View.{Goes};
-ghost use Rattle.expression_checker.specs.Walk.{above, below, combined, comparison_walk, divisor, enter, fitting};
-ghost use Rattle.expression_checker.specs.Walk.{link_walk, operated, parameter_walk, positive, tested, value_walk};
-ghost use Rattle.expression_checker.specs.Walk.{variable_walk, whole, whole_walk, width_test, width_walk, within};
-ghost use Rattle.expression_checker.specs.Walk.{written_walk};
+ghost use Rattle.expression_checker.specs.Walk.{above, access_walk, behind_next, below, combined, component_use};
+ghost use Rattle.expression_checker.specs.Walk.{components_use, divisor, enter, fitting, index_test, index_walks};
+ghost use Rattle.expression_checker.specs.Walk.{indexes_walk, link_walk, next_test, operated, parameter_walk, positive};
+ghost use Rattle.expression_checker.specs.Walk.{related_walk, tested, use_of, value_use, value_walk, variable_walk};
+ghost use Rattle.expression_checker.specs.Walk.{whole};
+ghost use Rattle.expression_checker.specs.Walk.{whole_walk, width_test, width_walk, within, written_walk};
 
 use crate::fault::CheckFault;
 use crate::visits::Visits;
@@ -13,7 +15,7 @@ use abstract_state::{Known, State, limits};
 use domain::Domain;
 use domain::interval::Interval;
 use typed_tree::tree::{
-    Access, Dyadic, Expr, Link, Monadic, RangeTest, Whole, Width, WriteParameter, Written,
+    Access, Dyadic, Expr, Link, Monadic, RangeTest, Selector, Whole, Width, WriteParameter, Written,
 };
 
 /// The flow of a walk through a program: what it comes with to each expression, and goes on with behind it.
@@ -55,7 +57,11 @@ impl Flow {
                 self.enter(*number, visits)?;
                 Ok(Known::Ordinal(Interval::between(*value, *value)))
             }
-            Expr::Variable { access, defined } => self.variable(*access, *defined, visits),
+            Expr::Variable {
+                access,
+                indexes,
+                defined,
+            } => self.variable(access, indexes, *defined, visits),
             Expr::Monadic {
                 number,
                 operation,
@@ -75,9 +81,14 @@ impl Flow {
             Expr::Compare {
                 number,
                 left,
+                left_indexes,
                 right,
+                right_indexes,
                 ..
-            } => self.comparison(left, *number, right, visits),
+            } => {
+                self.whole_value(left, left_indexes, visits)?;
+                self.related(*number, right, right_indexes, visits)
+            }
         }
     }
 
@@ -91,44 +102,102 @@ impl Flow {
         self.combined(link.operation, left, right)
     }
 
-    /// A relation of two strings: the operator is entered between them.
-    fn comparison(
-        &mut self,
-        left: &Whole,
-        number: u32,
-        right: &Whole,
-        visits: &mut Visits,
-    ) -> Result<Known, CheckFault>
-        ensures { Goes (comparison_walk left.now number right.now) self.old visits.old result self.new visits.new }
-    {
-        self.whole_value(left, visits)?;
-        self.enter(number, visits)?;
-        self.whole_value(right, visits)?;
-        Ok(Known::Ordinal(Interval::TRUTH_VALUES))
-    }
-
-    /// A string is only entered.
-    fn whole_value(&mut self, value: &Whole, visits: &mut Visits) -> Result<(), CheckFault>
-        ensures { Goes (whole_walk value.now) self.old visits.old result self.new visits.new }
-    {
-        let Whole::Text { number, .. } = value;
-        self.enter(*number, visits)
-    }
-
-    /// The use of a variable: it is defined afterwards.
+    /// The value of a variable or of a component.
+    #[cycle(expression)]
     fn variable(
         &mut self,
-        access: Access,
+        access: &Access,
+        indexes: &[Expr],
         defined: u32,
         visits: &mut Visits,
     ) -> Result<Known, CheckFault>
-        ensures { Goes (variable_walk access defined) self.old visits.old result self.new visits.new }
+        ensures { Goes (variable_walk access.now (index_walks indexes.now) defined)
+            self.old visits.old result self.new visits.new }
+    {
+        self.access(access, indexes, visits)?;
+        self.used(access, defined)
+    }
+
+    /// A relation of two whole values behind the left one: the operator is entered between them.
+    #[cycle(expression)]
+    fn related(
+        &mut self,
+        number: u32,
+        right: &Whole,
+        indexes: &[Expr],
+        visits: &mut Visits,
+    ) -> Result<Known, CheckFault>
+        ensures { Goes (related_walk number right.now (index_walks indexes.now))
+            self.old visits.old result self.new visits.new }
+    {
+        self.enter(number, visits)?;
+        self.whole_value(right, indexes, visits)?;
+        Ok(Known::Ordinal(Interval::TRUTH_VALUES))
+    }
+
+    /// A whole value, with its index expressions (6.4.3): a string is only entered.
+    ///
+    /// # Errors
+    /// `Memory`; a value breaks no rule of certificates.
+    #[cycle(expression)]
+    pub fn whole_value(
+        &mut self,
+        value: &Whole,
+        indexes: &[Expr],
+        visits: &mut Visits,
+    ) -> Result<(), CheckFault>
+        ensures { Goes (whole_walk value.now (index_walks indexes.now)) self.old visits.old result
+            self.new visits.new }
+    {
+        match value {
+            Whole::Text { number, .. } => self.enter(*number, visits),
+            Whole::Variable {
+                access,
+                defined,
+                ..
+            } => {
+                self.access(access, indexes, visits)?;
+                self.components(*defined)
+            }
+        }
+    }
+
+    /// A variable access with its index expressions (6.5.1).
+    ///
+    /// # Errors
+    /// `Memory`; an access breaks no rule of certificates.
+    #[cycle(expression)]
+    pub fn access(
+        &mut self,
+        access: &Access,
+        indexes: &[Expr],
+        visits: &mut Visits,
+    ) -> Result<(), CheckFault>
+        ensures { Goes (access_walk access.now (index_walks indexes.now)) self.old visits.old result
+            self.new visits.new }
     {
         self.enter(access.number, visits)?;
-        let is_defined = self.state.is_defined(access.root);
-        let range = self.state.range(access.root);
-        self.state.define(access.root);
-        Ok(Known::Ordinal(self.test(is_defined, defined, range)?))
+        self.indexes(&access.selectors, indexes, visits)
+    }
+
+    /// Index expressions, each of which is tested at once.
+    #[cycle(expression)]
+    fn indexes(
+        &mut self,
+        selectors: &[Selector],
+        indexes: &[Expr],
+        visits: &mut Visits,
+    ) -> Result<(), CheckFault>
+        ensures { Goes (indexes_walk selectors.now (index_walks indexes.now)) self.old visits.old result
+            self.new visits.new }
+    {
+        let mut left = selectors;
+        for index in indexes {
+            let known = self.expression(index, visits)?;
+            self.index(next_test(left), known)?;
+            left = behind_next(left);
+        }
+        Ok(())
     }
 
     /// A value that is written, and then its width.
@@ -152,7 +221,7 @@ impl Flow {
                 self.expression(value, visits)?;
                 Ok(())
             }
-            Written::String { value } => self.whole_value(value, visits),
+            Written::String { value, indexes } => self.whole_value(value, indexes, visits),
         }
     }
 
@@ -168,6 +237,85 @@ impl Flow {
             }
         }
     }
+}
+
+// What is accessed, which enters nothing more.
+impl Flow {
+    /// The use of what is accessed: an entire variable is defined afterwards.
+    fn used(&mut self, access: &Access, defined: u32) -> Result<Known, CheckFault>
+        ensures { (visits : Visits) → Goes (value_use access.now.root access.now.selectors.items defined)
+            self.old visits result self.new visits }
+    {
+        if access.selectors.is_empty() {
+            self.entire(access.root, defined)
+        } else {
+            self.component(defined)
+        }
+    }
+
+    /// The use of an entire variable.
+    fn entire(&mut self, root: u32, defined: u32) -> Result<Known, CheckFault>
+        ensures { (visits : Visits) → Goes (use_of root defined) self.old visits result self.new visits }
+    {
+        let is_defined = self.state.is_defined(root);
+        let range = self.state.range(root);
+        self.state.define(root);
+        Ok(Known::Ordinal(self.test(is_defined, defined, range)?))
+    }
+
+    /// The use of a component, of which nothing is known.
+    fn component(&mut self, defined: u32) -> Result<Known, CheckFault>
+        ensures { (visits : Visits) → Goes (component_use defined) self.old visits result self.new visits }
+    {
+        Ok(Known::Ordinal(self.test(false, defined, Interval::INTEGER)?))
+    }
+
+    /// The use of components of which nothing is known.
+    fn components(&mut self, defined: u32) -> Result<(), CheckFault>
+        ensures { (visits : Visits) → Goes (components_use defined) self.old visits result self.new visits }
+    {
+        self.test(false, defined, Interval::INTEGER)?;
+        Ok(())
+    }
+
+    /// The test of an index, if selectors take it.
+    fn index(&mut self, fits: Option<RangeTest>, known: Known) -> Result<(), CheckFault>
+        ensures { (visits : Visits) → Goes (index_test fits known) self.old visits result self.new visits }
+    {
+        match fits {
+            None => Ok(()),
+            Some(fits) => {
+                self.fitting(fits, known)?;
+                Ok(())
+            }
+        }
+    }
+}
+
+/// The test of the next index that selectors take.
+fn next_test(selectors: &[Selector]) -> Option<RangeTest>
+    ensures { result ≡ next_test selectors.now }
+{
+    for i in 0..selectors.len() {
+        match selectors[i] {
+            Selector::Element { fits, .. } => return Some(fits),
+            Selector::Field { .. } => {}
+        }
+    }
+    None
+}
+
+/// The selectors behind the element of the next index.
+fn behind_next(selectors: &[Selector]) -> &[Selector]
+    ensures { result.now ≡ behind_next selectors.now }
+{
+    for i in 0..selectors.len() {
+        match selectors[i] {
+            Selector::Element { .. } => return &selectors[i + 1..],
+            Selector::Field { .. } => {}
+        }
+    }
+    &[]
 }
 
 // Operations and tests, which enter nothing.

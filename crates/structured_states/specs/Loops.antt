@@ -25,7 +25,7 @@ pub record Claims : Type 0 where
 abbrev pub no_claims : Claims
 no_claims = record { changes = []; facts = [] }
 
--- a claim as the checker goes by it: there are no arrays and records, so none of a part of a variable or of a stretch
+-- a claim as the checker goes by it: it knows nothing of components, so none of a part of a variable or of a stretch
 abbrev pub plain : Fact → Option Fact
 plain (Range path range) = if is_entire path.steps then Some (Range path range) else None
 plain (Defined path) = if is_entire path.steps then Some (Defined path) else None

@@ -12,7 +12,7 @@ use certificate::Fact as Claim;
 use domain::facts::Fact;
 use std::alloc::{AllocError, Global};
 
-/// A claim as a state keeps it; none of a part of a variable, or of a stretch, since there are no arrays and records.
+/// A claim as a state keeps it; none of a part of a variable, or of a stretch: of components it knows nothing.
 fn plain(claim: &Claim) -> Option<Fact>
     ensures { option_map said result ≡ plain (said_fact claim.now) }
 {

@@ -1,7 +1,6 @@
 use Rattle.std.proofs.Common.{ap, ◌∙◌}
 use Rattle.std.specs.List.{list_all}
 use Rattle.domain.specs.Interval.{is_included}
-use Rattle.abstract_state.specs.State.{limits_of}
 use Rattle.abstract_state.specs.Loops.{is_among}
 use Rattle.structured_states.specs.declared.rounds.Round.{Round as KeptRound}
 use Rattle.structured_states.specs.Loops.{limits_at}
@@ -13,9 +12,9 @@ use Rattle.cert_checker.proofs.walk.Walk.change.Goals as goal
 pub returns-then-all_list : goal.returns-then-all_list
 returns-then-all_list c = λ visits.
     let root = c.args.root in
-    change-done c.args.place root c.args.range c.args.self.now visits c.leq-fits.result c.all_list.result
-    (c.leq-fits.ensures.answer ∙ ap (λ l. is_included l c.limits_at.result) c.limits.ensures
-    ∙ ap (is_included (limits_of c.args.range)) (c.limits_at.ensures ∙ ap (λ limits. limits_at limits root) c.deref.ensures.value))
+    change-done c.args.place root c.args.values c.args.self.now visits c.leq-fits.result c.all_list.result
+    (c.leq-fits.ensures.answer
+    ∙ ap (is_included c.args.values) (c.limits_at.ensures ∙ ap (λ limits. limits_at limits root) c.deref.ensures.value))
     (c.all_list.ensures ∙ ap (list_all (λ (round : KeptRound). is_among root (kept_round round).changes)) c.deref-then-fits.ensures.value)
     c.if-fits.true c.if-all_list.true
 
@@ -23,11 +22,11 @@ pub returns-else-fits : goal.returns-else-fits
 returns-else-fits c = λ visits.
     let root = c.args.root in
     elim c.else-fits.branch [
-      | else-fits-via-then-fits+else-all_list w ↦ unlisted c.args.place root c.args.range c.args.self.now visits w.all_list.result
+      | else-fits-via-then-fits+else-all_list w ↦ unlisted c.args.place root c.args.values c.args.self.now visits w.all_list.result
           (w.all_list.ensures ∙ ap (list_all (λ (round : KeptRound). is_among root (kept_round round).changes)) w.deref-then-fits.ensures.value)
           w.if-all_list.false
-      | else-fits-via-else-fits w ↦ unfit c.args.place root c.args.range c.args.self.now visits c.leq-fits.result
-          (c.leq-fits.ensures.answer ∙ ap (λ l. is_included l c.limits_at.result) c.limits.ensures
-          ∙ ap (is_included (limits_of c.args.range)) (c.limits_at.ensures ∙ ap (λ limits. limits_at limits root) c.deref.ensures.value))
+      | else-fits-via-else-fits w ↦ unfit c.args.place root c.args.values c.args.self.now visits c.leq-fits.result
+          (c.leq-fits.ensures.answer
+          ∙ ap (is_included c.args.values) (c.limits_at.ensures ∙ ap (λ limits. limits_at limits root) c.deref.ensures.value))
           w.if-fits.false
     ]

@@ -1,0 +1,18 @@
+use Rattle.expression_checker.specs.Walk.{use_of}
+use Rattle.expression_checker.proofs.Steps.{given-up, use-goes, use-stopped}
+use Rattle.expression_checker.proofs.flow.Flow.entire.Goals as goal
+
+pub returns-in_err-test : goal.returns-in_err-test
+returns-in_err-test c = λ visits.
+    let root = c.args.root in
+    let old = c.args.self.now in
+    let new = c.test.new.self in
+    let fault = c.in_err-test.field-0.0 in
+    given-up (use_of root c.args.defined) old new visits visits fault c.from_residual.result c.from_residual.ensures
+    (use-stopped root c.args.defined old new visits visits c.is_defined-is_defined.result c.range-range.result c.define.new.self fault
+    (c.in_err-test.ensures visits))
+
+pub returns : goal.returns
+returns c = λ visits.
+    use-goes c.args.root c.args.defined c.is_defined-is_defined.result c.range-range.result c.in_ok-test.field-0 c.args.self.now c.test.new.self
+    c.define.new.self visits visits c.is_defined-is_defined.ensures c.range-range.ensures c.define.ensures (c.in_ok-test.ensures visits)
