@@ -60,53 +60,6 @@ with_top next operands = next (top_of operands) (below_top operands)
 abbrev pub giving : Action Value → Resumption → Resumption
 giving action next operands = action >>= λ v. next (v ∷ operands)
 
--- a value, or an error at a site
-abbrev pub answered : Result Value ℕ → Action Value
-answered (Ok v) = give v
-answered (Err site) = stop (ending.Error site)
-
--- a result is the value that an action gives, or the site of the error where it stops
-abbrev pub Answers : Action Value → Result Value ℕ → Type 0
-Answers action result = (s : State) → action s ≡ answered result s
-
--- a bound of a for, or the site of its test
-abbrev pub bound_tested : RangeTest → ℤ → Result ℤ ℕ
-bound_tested fits n = if is_in fits.range (Number n) then Ok n else Err fits.site
-
--- two bounds, the first tested first
-abbrev pub both_bounds : Result ℤ ℕ → Result ℤ ℕ → Result (Option (ℤ × ℤ)) ℕ
-both_bounds (Err site) last = Err site
-both_bounds (Ok first) (Err site) = Err site
-both_bounds (Ok first) (Ok last) = Ok (Some (first, last))
-
--- the bounds of a for, if they leave any value between them
-abbrev pub bounds_tested : Direction → RangeTest → Value → RangeTest → Value → Result (Option (ℤ × ℤ)) ℕ
-bounds_tested direction first_fits (Number first) last_fits (Number last) =
-    if has_values direction first last
-    then both_bounds (bound_tested first_fits first) (bound_tested last_fits last)
-    else Ok None
-
--- the arm at a value of the index of a case, if any constants hold it
-abbrev pub arm_at : List (Vec ℤ Global) → List Stmt → ℤ → Option Stmt
-arm_at [] arms n = None
-arm_at (row ∷ rows) [] n = None
-arm_at (row ∷ rows) (arm ∷ arms) n = if is_among row.items n then Some arm else arm_at rows arms n
-
--- the next value of a control variable on its way to the last one
-abbrev pub value_before : Direction → ℤ → ℤ → Option ℤ
-value_before To last n = if int_lt n last then Some (next_value To n) else None
-value_before DownTo last n = if int_lt last n then Some (next_value DownTo n) else None
-
--- a value, if it lies in a range
-abbrev pub checked : OrdinalRange → Value → Option Value
-checked range v = if is_in range v then Some v else None
-
--- a width, tested at a site
-abbrev pub positive : ℕ → Value → Action Value
-positive site w = do
-  _ ← require (is_positive w) site
-  give w
-
 -- the components of a whole value, which no entry changes
 abbrev pub components_of : Whole → List ℤ
 components_of (Text number characters) = map pos characters.items

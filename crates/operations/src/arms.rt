@@ -1,6 +1,6 @@
 ghost use Rattle.std.specs.Prelude.{◌≡◌, option_map};
 ghost use Rattle.meaning.specs.Meaning.{is_among};
-ghost use Rattle.interpreter.specs.Pending.{arm_at};
+ghost use Rattle.operations.specs.Answers.{arm_at};
 
 use meaning::store::Ordinal;
 use typed_tree::tree::Stmt;

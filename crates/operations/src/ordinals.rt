@@ -1,13 +1,10 @@
-ghost use Rattle.std.specs.Prelude.{◌≡◌, map, pos};
-ghost use Rattle.meaning.specs.Effect.{is_in, is_positive};
-ghost use Rattle.meaning.specs.Meaning.{combined, compared, default_width, is_so, number_of, operated, order_of};
-ghost use Rattle.meaning.specs.Meaning.{relates, whole};
-ghost use Rattle.interpreter.specs.Pending.{Answers, bound_tested, bounds_tested, checked, components_of, positive};
-ghost use Rattle.interpreter.specs.Pending.{value_before};
+ghost use Rattle.std.specs.Prelude.{◌≡◌};
+ghost use Rattle.meaning.specs.Effect.{is_in, is_positive, number_of};
+ghost use Rattle.meaning.specs.Meaning.{combined, default_width, is_so, operated, relates, whole};
+ghost use Rattle.operations.specs.Answers.{Answers, bounds_tested, checked, number_tested, positive, value_before};
 
 use meaning::store::{Ordinal, Value};
-use std::cmp::Ordering;
-use typed_tree::tree::{Direction, Dyadic, Monadic, RangeTest, Relation, Representation, Whole};
+use typed_tree::tree::{Direction, Dyadic, Monadic, RangeTest, Relation, Representation};
 use types::OrdinalRange;
 
 // The default total widths (ISO 7185:1990, 6.9.3.1).
@@ -121,34 +118,8 @@ fn modulus_value(left: Ordinal, right: Ordinal, by_zero_or_less: u32) -> Result<
     }
 }
 
-/// The value of a relation of two strings (6.7.2.5).
-pub fn compared_value(relation: Relation, left: &Whole, right: &Whole) -> Value
-    ensures { result ≡ compared relation (components_of left.now) (components_of right.now) }
-{
-    let Whole::Text {
-        characters: row,
-        ..
-    } = left;
-    let Whole::Text {
-        characters: other,
-        ..
-    } = right;
-    let order = order_between(row, other);
-    Value::Number(Ordinal::truth(is_related(relation, order, Ordinal::new(0))))
-}
-
-// The order of two rows of bytes, as -1, 0 or 1.
-fn order_between(row: &[u8], other: &[u8]) -> Ordinal
-    ensures { result ≡ order_of (map pos row.now) (map pos other.now) }
-{
-    match row.cmp(other) {
-        Ordering::Less => Ordinal::new(-1),
-        Ordering::Equal => Ordinal::new(0),
-        Ordering::Greater => Ordinal::new(1),
-    }
-}
-
-fn is_related(relation: Relation, left: Ordinal, right: Ordinal) -> bool
+// Whether two ordinals are in a relation.
+pub(crate) fn is_related(relation: Relation, left: Ordinal, right: Ordinal) -> bool
     ensures { result ≡ relates relation left right }
 {
     match relation {
@@ -191,22 +162,21 @@ pub fn tested_bounds(
         Direction::DownTo => last.is_at_most(first),
     };
     if any {
-        let first = tested_bound(first_fits, first)?;
-        let last = tested_bound(last_fits, last)?;
+        let first = tested_number(first_fits, first)?;
+        let last = tested_number(last_fits, last)?;
         Ok(Some((first, last)))
     } else {
         Ok(None)
     }
 }
 
-// A bound, or the site of its test.
-fn tested_bound(fits: RangeTest, bound: Ordinal) -> Result<i32, u32>
-    ensures { result ≡ bound_tested fits bound }
+/// A number in the range of a type, or the site of its test.
+pub fn tested_number(fits: RangeTest, number: Ordinal) -> Result<i32, u32>
+    ensures { result ≡ number_tested fits number }
 {
-    match i32::try_from(bound.number()) {
-        Ok(number) if bound.is_integer() && bound.is_within(fits.range.first, fits.range.last) => {
-            Ok(number)
-        }
+    match i32::try_from(number.number()) {
+        Ok(inside) if number.is_integer() && number.is_within(fits.range.first, fits.range.last) =>
+            { Ok(inside) }
         _ => Err(fits.site),
     }
 }

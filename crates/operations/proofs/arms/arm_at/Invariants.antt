@@ -1,6 +1,6 @@
 use Rattle.std.proofs.Common.{◌≡◌, drop}
-use Rattle.interpreter.specs.Pending.{arm_at}
-use Rattle.interpreter.proofs.arms.arm_at.Given as goal
+use Rattle.operations.specs.Answers.{arm_at}
+use Rattle.operations.proofs.arms.arm_at.Given as goal
 
 -- no constants held it so far
 abbrev pub invariant-loop-place : goal.invariant-loop-place

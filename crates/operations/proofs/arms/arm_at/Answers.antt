@@ -1,7 +1,7 @@
 use Rattle.std.proofs.Common.{◌≡◌, add-one, sym, ◌∙◌, ap, false, ℤ, List}
 use Rattle.meaning.specs.Meaning.{is_among}
-use Rattle.interpreter.proofs.FoundArms.{arm-later}
-use Rattle.interpreter.proofs.arms.arm_at.Goals as goal
+use Rattle.operations.proofs.FoundArms.{arm-later}
+use Rattle.operations.proofs.arms.arm_at.Goals as goal
 
 pub loop-place-preserved : goal.loop-place-preserved
 loop-place-preserved c =

@@ -1,11 +1,10 @@
-ghost use Rattle.std.specs.Prelude.{◌≡◌, ◌++◌, OnOk, length, map, pos, replicate};
-ghost use Rattle.typed_tree.specs.WellFormed.{length_of};
+ghost use Rattle.std.specs.Prelude.{◌≡◌, ◌++◌, OnOk, map, pos, replicate};
 ghost use Rattle.meaning.specs.Effect.{boolean_text, char_text, integer_text, places, row_text, string_text, text_of};
-ghost use Rattle.interpreter.specs.Pending.{components_of};
+ghost use Rattle.meaning.specs.Integers.{byte_of};
 
 use meaning::store::{Ordinal, Value};
 use std::alloc::{AllocError, Global};
-use typed_tree::tree::{Representation, Whole};
+use typed_tree::tree::Representation;
 
 /// Writes a value in a width (ISO 7185:1990, 6.9.3).
 pub fn write_value(
@@ -26,40 +25,34 @@ pub fn write_value(
     }
 }
 
-/// Writes a string in a width (ISO 7185:1990, 6.9.3.6).
-pub fn write_whole(output: &mut Vec<u8>, value: &Whole, width: Value) -> Result<(), AllocError>
-    ensures { OnOk result (output.new.items ≡ output.old.items ++ row_text (components_of value.now) width) }
+/// Writes a string, by its components, in a width (ISO 7185:1990, 6.9.3.6).
+pub fn write_row(output: &mut Vec<u8>, row: &[Ordinal], width: Value) -> Result<(), AllocError>
+    ensures { OnOk result (output.new.items ≡ output.old.items ++ row_text row.now width) }
 {
-    let Whole::Text { characters, .. } = value;
     let Value::Number(width) = width;
-    write_characters(output, characters, width)
+    write_row_in(output, row, places_in(width))
 }
 
-/// Writes a string in its own length.
-pub fn write_in_length(output: &mut Vec<u8>, value: &Whole) -> Result<(), AllocError>
-    ensures { OnOk result (output.new.items
-        ≡ output.old.items ++ row_text (components_of value.now) (Value.Number (pos (length_of value.now)))) }
+/// Writes a string, by its components, in so many places: it is set right in them, or cut to its first characters.
+pub fn write_row_in(output: &mut Vec<u8>, row: &[Ordinal], places: usize) -> Result<(), AllocError>
+    ensures { OnOk result (output.new.items ≡ output.old.items ++ row_text row.now (Value.Number (pos places))) }
 {
-    let Whole::Text { characters, .. } = value;
-    write_all(output, characters)
+    if places < row.len() {
+        write_bytes(output, &row[..places])
+    } else {
+        indent(output, places - row.len())?;
+        write_bytes(output, row)
+    }
 }
 
-fn write_characters(
-    output: &mut Vec<u8>,
-    characters: &[u8],
-    width: Ordinal,
-) -> Result<(), AllocError>
-    ensures { OnOk result (output.new.items
-        ≡ output.old.items ++ row_text (map pos characters.now) (Value.Number width)) }
+// Writes the characters with these numbers.
+fn write_bytes(output: &mut Vec<u8>, row: &[Ordinal]) -> Result<(), AllocError>
+    ensures { OnOk result (output.new.items ≡ output.old.items ++ map byte_of row.now) }
 {
-    write_string(output, characters, width)
-}
-
-fn write_all(output: &mut Vec<u8>, characters: &[u8]) -> Result<(), AllocError>
-    ensures { OnOk result (output.new.items
-        ≡ output.old.items ++ row_text (map pos characters.now) (Value.Number (pos (length characters.now)))) }
-{
-    output.extend_from_slice(characters)
+    for number in row {
+        output.push(number.byte())?;
+    }
+    Ok(())
 }
 
 // A character is set right in its width and never cut.
