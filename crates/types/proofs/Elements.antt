@@ -1,5 +1,5 @@
 -- The components of an array: those of each element, from the first index to the last.
-use Rattle.std.proofs.Common.{◌≡◌, ℕ, zero, suc, ◌+◌, ◌*◌, ◌<◌, ◌≤◌, ℤ, pos, negsuc, ◌+ℤ◌, ◌-ℤ◌, ◌≤ℤ◌, ◌<ℤ◌, List, [], ◌∷◌, ◌++◌, length, Bool, true, false, ◌&&◌, ltb}
+use Rattle.std.proofs.Common.{◌≡◌, ℕ, zero, suc, ◌+◌, ◌*◌, ◌<◌, ℤ, pos, negsuc, ◌+ℤ◌, ◌-ℤ◌, ◌≤ℤ◌, ◌<ℤ◌, List, [], ◌∷◌, ◌++◌, length, Bool, true, false, ◌&&◌, ltb}
 use Rattle.std.proofs.Common.{Option, Some, None, refl, sym, ap, subst, ◌∙◌, arith}
 use Rattle.std.proofs.lemmas.Bool.{false≢true, ltb-true}
 use Rattle.std.proofs.lemmas.Int.{ints}
@@ -7,11 +7,10 @@ use Rattle.std.proofs.lemmas.Option.{cond_some, none-some, same_Some, slice_get-
 use Rattle.std.specs.List.{flat_map}
 use Rattle.std.specs.Option.{option_map}
 use Rattle.std.specs.Prelude.{slice_get}
-use Rattle.types.specs.Components.{LaidOut, Steps, behind_step, components_of, range_values, values_at, values_from}
+use Rattle.types.specs.Components.{Steps, behind_step, components_of, range_values, values_at, values_from}
 use Rattle.types.specs.Types.{before, cells_at, cells_of, element_in, element_of, elements, form_at, natural, range_of, values_in}
 use Rattle.types.specs.declared.form.ArrayElement.{ArrayElement}
 use Rattle.types.specs.declared.form.OrdinalRange.{OrdinalRange}
-use Rattle.types.specs.declared.form.Step.{Step}
 use Rattle.types.specs.declared.form.Step.TheVariants as step
 use Rattle.types.specs.declared.form.TypeForm.{TypeForm}
 use Rattle.types.specs.declared.form.TypeForm.TheVariants.{Array}
@@ -29,7 +28,7 @@ pub record IsArray (types : List TypeForm) (id : TypeId) (element : ArrayElement
   pub type_before : element.type_id.index < id.index
   pub cells : element.cells ≡ cells_of types element.type_id
 
-both_hold : (s t : Bool) → (s && t) ≡ true → (s ≡ true) × (t ≡ true)
+pub both_hold : (s t : Bool) → (s && t) ≡ true → (s ≡ true) × (t ≡ true)
 both_hold true t h = (refl, h)
 both_hold false t h = absurd (false≢true h)
 

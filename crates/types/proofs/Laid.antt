@@ -1,15 +1,15 @@
 -- The components of the types of a table: those of a form over the types before it, as many as its cells.
-use Rattle.std.proofs.Common.{◌≡◌, ℕ, zero, suc, ◌+◌, ◌*◌, ◌<◌, ◌≤◌, List, [], ◌∷◌, ◌++◌, length, map, take, Option, Some, None, refl, sym, ap, ◌∙◌, arith, append_assoc, append-nil}
-use Rattle.std.proofs.Common.{ℤ, pos, ◌+ℤ◌, sum_by, fold}
-use Rattle.std.proofs.lemmas.List.{length-append, length-map, length-take, length-take-le, map-append}
+use Rattle.std.proofs.Common.{◌≡◌, ℕ, zero, suc, ◌+◌, ◌*◌, ◌<◌, ◌≤◌, List, [], ◌∷◌, length, take, Option, Some, None, refl, sym, ap, ◌∙◌, arith}
+use Rattle.std.proofs.Common.{ℤ, pos, ◌+ℤ◌, sum_by}
+use Rattle.std.proofs.lemmas.List.{length-append, length-map, length-take, length-take-le}
 use Rattle.std.proofs.lemmas.List.Sums.{sum_by-cons}
-use Rattle.std.proofs.lemmas.Option.{slice_get-map, slice_get_past, slice_get_within}
+use Rattle.std.proofs.lemmas.Option.{slice_get_past, slice_get_within}
 use Rattle.std.specs.List.{flat_map}
 use Rattle.std.specs.Option.{option_map, option_and_then}
 use Rattle.std.specs.Prelude.{slice_get}
 use Rattle.types.specs.Components.{LaidOut, Steps, behind_step, components_at, components_of, entry_components, entry_values, fields_components, form_components}
-use Rattle.types.specs.Components.{laid_out, lay_next, range_values, values_at, values_from}
-use Rattle.types.specs.Types.{before, cells_at, cells_of, counted, entry_cells, form_at, form_cells, form_range, index_values, range_of, values_in}
+use Rattle.types.specs.Components.{laid_out, range_values, values_at, values_from}
+use Rattle.types.specs.Types.{before, cells_at, cells_of, counted, form_at, form_cells, form_range, index_values, range_of, values_in}
 use Rattle.types.specs.Types.{values_at as counted_values}
 use Rattle.types.specs.declared.form.Field.{Field}
 use Rattle.types.specs.declared.form.OrdinalRange.{OrdinalRange}
@@ -57,8 +57,8 @@ components_not_before types id part h =
     ap (λ entries. components_at entries part) (first_laid types id.index)
     ∙ ap entry_components (slice_get_past (take id.index (laid_out types)) part.index (few h))
   where
-  few : id.index ≤ part.index → length (take id.index (laid_out types)) ≤ part.index
-  few h = let e = length-take id.index (laid_out types) in grind (arith, h, e)
+    few : id.index ≤ part.index → length (take id.index (laid_out types)) ≤ part.index
+    few h = let e = length-take id.index (laid_out types) in grind (arith, h, e)
 
 values_of_entry : (form : Option TypeForm) (entries : List LaidOut) → entry_values (option_map (laid_over entries) form) ≡ range_values (option_and_then form_range form)
 values_of_entry None entries = refl
@@ -91,8 +91,8 @@ length_parts parts (item ∷ items) n same =
     length-append (parts item) (flat_map parts items) ∙ ap (λ m. m + length (flat_map parts items)) (same item)
     ∙ ap (λ m. n + m) (length_parts parts items n same) ∙ one_more (length items)
   where
-  one_more : (m : ℕ) → n + m * n ≡ suc m * n
-  one_more m = omega arith
+    one_more : (m : ℕ) → n + m * n ≡ suc m * n
+    one_more m = omega arith
 
 pub length_behind : (s : Step) (rows : List Steps) → length (behind_step s rows) ≡ length rows
 length_behind s rows = length-map rows (λ steps. s ∷ steps)

@@ -2,4 +2,9 @@ pub mod Growing
 pub mod Counts
 pub mod Laid
 pub mod Elements
+pub mod Fields
+pub mod Once
+pub mod Scalars
+pub mod Strings
+pub mod Longer
 mod Examples
