@@ -10,7 +10,7 @@ use Rattle.meaning.specs.declared.outcome.Ending.TheVariants as ending
 use Rattle.meaning.specs.Store.{Environment}
 use Rattle.meaning.specs.Effect.{State, Action, stop}
 use Rattle.meaning.specs.Meaning.{Execution, arm_of, effect_of, is_among}
-use Rattle.interpreter.specs.Pending.{arm_at}
+use Rattle.operations.specs.Answers.{arm_at}
 use Rattle.interpreter.specs.Weight.{Weight, pending_weight, row_weight, weight_of_statement}
 
 -- an arm, or an error at the site where there is none
@@ -60,7 +60,7 @@ arm_below turns (row ∷ rows) (arm ∷ arms) n =
 
 -- the arm that is found is to be done, in the place of the case
 pub arm-lightens : (old taken new : Run) (rows : List (Vec ℤ Global)) (arms : List Stmt) (n : ℤ) (arm : Stmt) (result : Result (Option Ending) AllocError) →
-    arm_at rows arms n ≡ Some arm → taken ≡ record old { values = taken.values } →
+    arm_at rows arms n ≡ Some arm → taken ≡ record old { operands = taken.operands } →
     OnOk result (pending_weight new ≡ pending_weight taken + weight_of_statement arm taken.turns) →
     OnOk result (pending_weight new < pending_weight old + row_weight 1 (map weight_of_statement arms) old.turns)
 arm-lightens old taken new rows arms n arm (Err refused) is same weighs = tt
