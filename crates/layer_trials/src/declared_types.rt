@@ -1,7 +1,9 @@
 use std::alloc::{AllocError, Global};
 use std::process::Abort;
 use std::test::Fail;
-use types::{Field, TypeForm, TypeId, TypeRefusal, TypeTable};
+use types::{
+    ArrayElement, Field, OrdinalRange, RecordField, Step, TypeForm, TypeId, TypeRefusal, TypeTable,
+};
 
 /// A subrange of integer.
 fn subrange(first: i32, last: i32) -> TypeForm {
@@ -61,21 +63,87 @@ fn strings_hold(table: &mut TypeTable) -> Result<bool, TypeRefusal> {
     )
 }
 
+/// Whether these steps lead to the component at a place of a type.
+fn leads(
+    alloc: Global,
+    table: &TypeTable,
+    id: TypeId,
+    place: u32,
+    wanted: &[Step],
+) -> Result<bool, TypeRefusal> {
+    if place >= table.cells(id) {
+        return Ok(false);
+    }
+    let mut steps = Vec::new(alloc);
+    table.component(id, place, &mut steps)?;
+    Ok(steps.as_slice() == wanted)
+}
+
 /// Whether a record has its fields, and takes the cells of them all.
 fn records_hold(alloc: Global, table: &mut TypeTable) -> Result<bool, TypeRefusal> {
     let row = table.add(array(false, TypeTable::BOOLEAN, TypeTable::INTEGER))?;
+    let record = record(alloc, table, row)?;
+    let found = table.field(record, b"row");
+    Ok(
+        table.cells(record) == 3
+            && matches!(found, Some(RecordField { position: 1, offset: 1, type_id }) if type_id.same(row))
+            && table.field(record, b"column").is_none()
+            && table.field(row, b"row").is_none()
+            && table.element(record).is_none()
+            && leads(alloc, table, record, 0, &[Step::Field(0)])?
+            && leads(alloc, table, record, 2, &[Step::Field(1), Step::Element(1)])?,
+    )
+}
+
+/// A record of a number and a row.
+fn record(alloc: Global, table: &mut TypeTable, row: TypeId) -> Result<TypeId, TypeRefusal> {
     let number = field(alloc, "number", TypeTable::INTEGER)?;
     let rows = field(alloc, "row", row)?;
     let fields = vec![in alloc; number, rows]?;
+    table.add(TypeForm::Record {
+        packed: false,
+        fields,
+    })
+}
+
+/// Whether an array has its elements, one after another, negative indexes first.
+fn elements_hold(alloc: Global, table: &mut TypeTable) -> Result<bool, TypeRefusal> {
+    let below = table.add(subrange(-2, 0))?;
+    let row = table.add(array(false, TypeTable::BOOLEAN, TypeTable::CHAR))?;
+    let record = record(alloc, table, row)?;
+    let list = table.add(array(false, below, record))?;
+    let elements = table.element(list);
+    Ok(
+        matches!(elements, Some(ArrayElement { index, range: OrdinalRange { first: -2, last: 0 }, type_id, cells: 3 })
+            if index.same(below) && type_id.same(record))
+            && table.element(below).is_none()
+            && leads(alloc, table, list, 0, &[Step::Element(-2), Step::Field(0)])?
+            && leads(alloc, table, list, 3, &[Step::Element(-1), Step::Field(0)])?
+            && leads(
+                alloc,
+                table,
+                list,
+                8,
+                &[Step::Element(0), Step::Field(1), Step::Element(1)],
+            )?
+            && leads(alloc, table, below, 0, &[])?,
+    )
+}
+
+/// Whether a field of no cells is stepped over.
+fn empty_fields_hold(alloc: Global, table: &mut TypeTable) -> Result<bool, TypeRefusal> {
+    let nothing = table.add(TypeForm::Record {
+        packed: true,
+        fields: Vec::new(alloc),
+    })?;
+    let empty = field(alloc, "empty", nothing)?;
+    let number = field(alloc, "number", TypeTable::INTEGER)?;
+    let fields = vec![in alloc; empty, number]?;
     let record = table.add(TypeForm::Record {
         packed: false,
         fields,
     })?;
-    Ok(
-        table.cells(record) == 3
-            && matches!(table.field(record, b"row"), Some((1, _)))
-            && table.field(record, b"column").is_none(),
-    )
+    Ok(table.cells(nothing) == 0 && leads(alloc, table, record, 0, &[Step::Field(1)])?)
 }
 
 /// Whether forms that break a rule are refused, and leave no type behind.
@@ -94,5 +162,7 @@ fn declared_types_are_as_they_should_be(rt: HostRuntime) -> Result<(), Fail> {
     assert!(rt; matches!(enumerations_hold(&mut table), Ok(true)));
     assert!(rt; matches!(strings_hold(&mut table), Ok(true)));
     assert!(rt; matches!(records_hold(rt.alloc(), &mut table), Ok(true)));
+    assert!(rt; matches!(elements_hold(rt.alloc(), &mut table), Ok(true)));
+    assert!(rt; matches!(empty_fields_hold(rt.alloc(), &mut table), Ok(true)));
     Ok(())
 }

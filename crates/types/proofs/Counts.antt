@@ -1,5 +1,6 @@
 -- Lemmas on the counted types of a table.
-use Rattle.std.proofs.Common.{◌≡◌, ℕ, zero, suc, ◌<◌, ◌≤◌, length, take, arith, List, [], ◌∷◌, ◌++◌, Option, Some, None, map, fold, refl, sym, ap, ◌∙◌, append_assoc, append-nil, slice_get}
+use Rattle.std.proofs.Common.{◌≡◌, ℕ, zero, suc, ◌<◌, ◌≤◌, length, take, arith, List, [], ◌∷◌, ◌++◌}
+use Rattle.std.proofs.Common.{Option, Some, None, map, fold, refl, sym, ap, ◌∙◌, append_assoc, append-nil, slice_get}
 use Rattle.std.proofs.lemmas.List.{length-take, map-append}
 use Rattle.std.proofs.lemmas.List.Sums.{fold-append}
 use Rattle.std.proofs.lemmas.Option.{slice_get-map, slice_get_past}
@@ -7,7 +8,8 @@ use Rattle.std.specs.Option.{option_map, option_and_then}
 use Rattle.types.specs.declared.form.TypeForm.{TypeForm}
 use Rattle.types.specs.declared.form.TypeId.{TypeId}
 use Rattle.types.specs.declared.table.Entry.{Entry}
-use Rattle.types.specs.Types.{before, cells_at, cells_of, form_at, count_next, counted, entry_cells, entry_values, form_cells, form_range, index_values, range_of}
+use Rattle.types.specs.Types.{before, cells_at, cells_of, form_at, count_next, counted, entry_cells}
+use Rattle.types.specs.Types.{entry_values, form_cells, form_range, index_values, range_of}
 use Rattle.types.specs.Types.{required_forms, values_at}
 use Rattle.types.proofs.Growing.{grown_before, made_at, slice_get-take}
 

@@ -1,5 +1,6 @@
 -- The components of an array: those of each element, from the first index to the last.
-use Rattle.std.proofs.Common.{◌≡◌, ℕ, zero, suc, ◌+◌, ◌*◌, ◌<◌, ℤ, pos, negsuc, ◌+ℤ◌, ◌-ℤ◌, ◌≤ℤ◌, ◌<ℤ◌, List, [], ◌∷◌, ◌++◌, length, Bool, true, false, ◌&&◌, ltb}
+use Rattle.std.proofs.Common.{◌≡◌, ℕ, zero, suc, ◌+◌, ◌*◌, ◌<◌, ℤ, pos, negsuc, ◌+ℤ◌, ◌-ℤ◌, ◌≤ℤ◌, ◌<ℤ◌}
+use Rattle.std.proofs.Common.{List, [], ◌∷◌, ◌++◌, length, Bool, true, false, ◌&&◌, ltb}
 use Rattle.std.proofs.Common.{Option, Some, None, refl, sym, ap, subst, ◌∙◌, arith}
 use Rattle.std.proofs.lemmas.Bool.{false≢true, ltb-true}
 use Rattle.std.proofs.lemmas.Int.{ints}
@@ -113,7 +114,8 @@ module _ (types : List TypeForm) (id : TypeId) (e : ArrayElement) (is : element_
   pub array_cells : cells_of types id ≡ values_in e.range * e.cells
   array_cells =
       sym (length_components types id) ∙ ap length components_of_array
-      ∙ length_parts (λ value. behind_step (step.Element value) (components_of types e.type_id)) (values_from e.range.first (values_in e.range)) e.cells length_element
+      ∙ length_parts (λ value. behind_step (step.Element value) (components_of types e.type_id)) (values_from e.range.first (values_in e.range)) e.cells
+      length_element
       ∙ ap (λ n. n * e.cells) (length_values e.range.first (values_in e.range))
 
   module _ (index : ℤ) (low : e.range.first ≤ℤ index) (high : index ≤ℤ e.range.last) (n k : ℕ) (counts : pos n ≡ index -ℤ e.range.first) (h : k < e.cells) where
@@ -124,10 +126,11 @@ module _ (types : List TypeForm) (id : TypeId) (e : ArrayElement) (is : element_
     element_within = let i = within_parts (values_in e.range) e.cells n k index_within h in omega (arith, i, array_cells)
 
     -- the components of the element at an index
-    pub element_at : slice_get (components_of types id) (n * e.cells + k) ≡ option_map (λ steps. step.Element index ∷ steps) (slice_get (components_of types e.type_id) k)
+    pub element_at : slice_get (components_of types id) (n * e.cells + k)
+        ≡ option_map (λ steps. step.Element index ∷ steps) (slice_get (components_of types e.type_id) k)
     element_at =
         let value : e.range.first +ℤ pos n ≡ index = omega (arith, ints, counts) in
         ap (λ rows. slice_get rows (n * e.cells + k)) components_of_array
-        ∙ part_at (λ value. behind_step (step.Element value) (components_of types e.type_id)) e.cells length_element (values_from e.range.first (values_in e.range)) n k
-        index (value_at e.range.first (values_in e.range) n index_within ∙ ap Some value) h
+        ∙ part_at (λ value. behind_step (step.Element value) (components_of types e.type_id)) e.cells length_element
+        (values_from e.range.first (values_in e.range)) n k index (value_at e.range.first (values_in e.range) n index_within ∙ ap Some value) h
         ∙ slice_get-map (λ steps. step.Element index ∷ steps) (components_of types e.type_id) k

@@ -1,12 +1,14 @@
 -- Worked rows of the definitions of types.
-use Rattle.std.proofs.Common.{◌≡◌, ◌∷◌, ◌++◌, [], ℕ, List, Some, None, Ok, Err, Vec, Global, refl, true, false, codes, pos}
+use Rattle.std.proofs.Common.{◌≡◌, ◌∷◌, ◌++◌, [], ℕ, List, Some, None, Ok, Err, Vec, Global, refl, true, false, codes, pos, negsuc, slice_get}
 use Rattle.types.specs.declared.form.Field.{Field}
+use Rattle.types.specs.declared.form.Step.TheVariants as step
 use Rattle.types.specs.declared.form.TypeForm.{TypeForm}
 use Rattle.types.specs.declared.form.TypeForm.TheVariants.{Enumeration, Subrange, Array, Record}
 use Rattle.types.specs.declared.form.TypeId.{TypeId}
 use Rattle.types.specs.declared.refusal.TypeRefusal.TheVariants as refusal
-use Rattle.types.specs.Types.{admitted, boolean, cells_of, char, field_of, host_of, integer, is_assignable, is_compatible, is_ordinal}
-use Rattle.types.specs.Types.{is_string, range_of, required_forms, string_length}
+use Rattle.types.specs.Components.{components_of}
+use Rattle.types.specs.Types.{admitted, boolean, cells_of, char, element_of, field_at, field_of, host_of, integer, is_assignable, is_compatible}
+use Rattle.types.specs.Types.{is_ordinal, is_string, range_of, required_forms, string_length}
 
 -- a type by its number
 abbrev number : ℕ → TypeId
@@ -110,6 +112,31 @@ more_than_most = refl
 array_over_integer : admitted required_forms (Array false integer boolean) ≡ Err refusal.TooManyCells
 array_over_integer = refl
 
+-- a scalar is its own component, and an array has one for each index, negative ones too
+scalar : components_of table (number 4) ≡ [] ∷ []
+scalar = refl
+
+abbrev below_zero : List TypeForm
+below_zero = of_index (Subrange integer (negsuc 1) (pos 0)) ++ Array false (number 3) char ∷ Array false boolean (number 4) ∷ []
+
+negative_indexes : components_of below_zero (number 4)
+    ≡ (step.Element (negsuc 1) ∷ []) ∷ (step.Element (negsuc 0) ∷ []) ∷ (step.Element (pos 0) ∷ []) ∷ []
+negative_indexes = refl
+
+array_in_array : slice_get (components_of below_zero (number 5)) 4 ≡ Some (step.Element (pos 1) ∷ step.Element (negsuc 0) ∷ [])
+array_in_array = refl
+
+elements_with_range : element_of below_zero (number 5)
+    ≡ Some (record { index = boolean; range = record { first = pos 0; last = pos 1 }; type_id = number 4; cells = 3 })
+elements_with_range = refl
+
+no_array : element_of below_zero (number 3) ≡ None
+no_array = refl
+
+-- an array of a type that doesn't stand before it has no elements to step to
+of_itself : element_of (required_forms ++ Array false boolean (number 3) ∷ []) (number 3) ≡ None
+of_itself = refl
+
 -- a record with the fields number : integer, row : array [1..10] of integer
 module _ (fields none : Vec Field Global) (name other : Vec ℕ Global) (is_name : name.items ≡ codes "number") (is_other : other.items ≡ codes "row")
     (are : fields.items ≡ record { name = name; type_id = integer } ∷ record { name = other; type_id = number 7 } ∷ []) (are_none : none.items ≡ []) where
@@ -139,3 +166,27 @@ module _ (fields none : Vec Field Global) (name other : Vec ℕ Global) (is_name
 
   no_record : field_of with_record (number 14) (codes "row") ≡ None
   no_record = refl
+
+  field_of_place : field_at with_record (number 13) 1 ≡ field_of with_record (number 13) (codes "row")
+  field_of_place = simp (are, is_name, is_other)
+
+  no_place : field_at with_record (number 13) 2 ≡ None
+  no_place = rw are refl
+
+  -- the components of the fields one after another
+  first_component : slice_get (components_of with_record (number 13)) 0 ≡ Some (step.Field 0 ∷ [])
+  first_component = rw are refl
+
+  last_component : slice_get (components_of with_record (number 13)) 10 ≡ Some (step.Field 1 ∷ step.Element (pos 10) ∷ [])
+  last_component = rw are refl
+
+  -- and those of the elements
+  second_record : slice_get (components_of with_record (number 14)) 11 ≡ Some (step.Element (pos 1) ∷ step.Field 0 ∷ [])
+  second_record = rw are refl
+
+  in_second_record : slice_get (components_of with_record (number 14)) 14 ≡ Some (step.Element (pos 1) ∷ step.Field 1 ∷ step.Element (pos 3) ∷ [])
+  in_second_record = rw are refl
+
+  -- an empty record has none
+  no_components : components_of with_record (number 15) ≡ []
+  no_components = rw are_none refl

@@ -7,7 +7,8 @@ use Rattle.std.proofs.lemmas.Option.{slice_get_past, slice_get_within}
 use Rattle.std.specs.List.{flat_map}
 use Rattle.std.specs.Option.{option_map, option_and_then}
 use Rattle.std.specs.Prelude.{slice_get}
-use Rattle.types.specs.Components.{LaidOut, Steps, behind_step, components_at, components_of, entry_components, entry_values, fields_components, form_components}
+use Rattle.types.specs.Components.{LaidOut, Steps, behind_step, components_at, components_of, entry_components, entry_values}
+use Rattle.types.specs.Components.{fields_components, form_components}
 use Rattle.types.specs.Components.{laid_out, range_values, values_at, values_from}
 use Rattle.types.specs.Types.{before, cells_at, cells_of, counted, form_at, form_cells, form_range, index_values, range_of, values_in}
 use Rattle.types.specs.Types.{values_at as counted_values}
@@ -47,7 +48,8 @@ pub components_of_none : (types : List TypeForm) (id : TypeId) → form_at types
 components_of_none types id is = ap entry_components (laid_at types id ∙ ap (option_map (laid_over (laid_before types id))) is)
 
 -- the components of a part that stands before its type are those of the part
-pub components_before : (types : List TypeForm) (id part : TypeId) → part.index < id.index → components_at (laid_before types id) part ≡ components_of types part
+pub components_before : (types : List TypeForm) (id part : TypeId) → part.index < id.index
+    → components_at (laid_before types id) part ≡ components_of types part
 components_before types id part h =
     ap (λ entries. components_at entries part) (first_laid types id.index) ∙ ap entry_components (slice_get-take (laid_out types) id.index part.index h)
 
@@ -60,7 +62,8 @@ components_not_before types id part h =
     few : id.index ≤ part.index → length (take id.index (laid_out types)) ≤ part.index
     few h = let e = length-take id.index (laid_out types) in grind (arith, h, e)
 
-values_of_entry : (form : Option TypeForm) (entries : List LaidOut) → entry_values (option_map (laid_over entries) form) ≡ range_values (option_and_then form_range form)
+values_of_entry : (form : Option TypeForm) (entries : List LaidOut)
+    → entry_values (option_map (laid_over entries) form) ≡ range_values (option_and_then form_range form)
 values_of_entry None entries = refl
 values_of_entry (Some form) entries = refl
 
@@ -69,7 +72,8 @@ pub values_laid : (types : List TypeForm) (id : TypeId) → values_at (laid_out 
 values_laid types id = ap entry_values (laid_at types id) ∙ values_of_entry (form_at types id) (laid_before types id)
 
 -- those of a type that stands before another
-pub values_before : (types : List TypeForm) (id part : TypeId) → part.index < id.index → values_at (laid_before types id) part ≡ range_values (range_of types part)
+pub values_before : (types : List TypeForm) (id part : TypeId) → part.index < id.index
+    → values_at (laid_before types id) part ≡ range_values (range_of types part)
 values_before types id part h =
     ap (λ entries. values_at entries part) (first_laid types id.index)
     ∙ ap entry_values (slice_get-take (laid_out types) id.index part.index h) ∙ values_laid types part
@@ -85,7 +89,8 @@ many_values None = refl
 many_values (Some range) = length_values range.first (values_in range)
 
 -- parts of one length
-pub length_parts : {A B : Type 0} (parts : A → List B) (items : List A) (n : ℕ) → ((item : A) → length (parts item) ≡ n) → length (flat_map parts items) ≡ length items * n
+pub length_parts : {A B : Type 0} (parts : A → List B) (items : List A) (n : ℕ) → ((item : A) → length (parts item) ≡ n)
+    → length (flat_map parts items) ≡ length items * n
 length_parts parts [] n same = let e : 0 ≡ 0 * n = omega arith in e
 length_parts parts (item ∷ items) n same =
     length-append (parts item) (flat_map parts items) ∙ ap (λ m. m + length (flat_map parts items)) (same item)

@@ -7,4 +7,6 @@ pub mod Once
 pub mod Scalars
 pub mod Strings
 pub mod Longer
+pub mod Built
+pub mod Parts
 mod Examples

@@ -7,7 +7,8 @@ use Rattle.std.proofs.lemmas.Option.{none-some, slice_get_past}
 use Rattle.std.specs.Option.{option_map, option_and_then}
 use Rattle.std.specs.Prelude.{is_some, slice_get}
 use Rattle.types.specs.Components.{components_of, entry_components, laid_out}
-use Rattle.types.specs.Types.{before, cells_at, cells_of, char, counted, element_in, element_of, elements, entry_cells, field_at, field_in, field_of, fields_in, form_at, form_range, is_ordinal}
+use Rattle.types.specs.Types.{before, cells_at, cells_of, char, counted, element_in, element_of, elements, entry_cells}
+use Rattle.types.specs.Types.{field_at, field_in, field_of, fields_in, form_at, form_range, is_ordinal}
 use Rattle.types.specs.Types.{is_same, is_string, own_field, range_of, string_in, string_last, string_length}
 use Rattle.types.specs.declared.form.ArrayElement.{ArrayElement}
 use Rattle.types.specs.declared.form.OrdinalRange.{OrdinalRange}

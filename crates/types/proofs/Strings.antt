@@ -39,7 +39,7 @@ last_range (Some (Subrange host first last)) n is =
 last_range other n is = absurd (none-some n is)
 
 -- the type of the indexes and that of the elements
-string_parts : (types : List TypeForm) (packed : Bool) (index element : TypeId) (n : ℕ) → string_in types (Some (Array packed index element)) ≡ Some n
+pub string_parts : (types : List TypeForm) (packed : Bool) (index element : TypeId) (n : ℕ) → string_in types (Some (Array packed index element)) ≡ Some n
     → (element ≡ char) × (range_of types index ≡ Some (indexes n))
 string_parts types false index element n is = absurd (none-some n is)
 string_parts types true index element n is = by (is_same element char) refl is
@@ -59,7 +59,8 @@ one_each : (values : List ℤ) → elements_components ([] ∷ []) values ≡ ma
 one_each [] = refl
 one_each (value ∷ values) = ap (λ rows. (step.Element value ∷ []) ∷ rows) (one_each values)
 
-module _ (types : List TypeForm) (id : TypeId) (e : ArrayElement) (n : ℕ) (array : element_of types id ≡ Some e) (string : string_length types id ≡ Some n) where
+module _ (types : List TypeForm) (id : TypeId) (e : ArrayElement) (n : ℕ) (array : element_of types id ≡ Some e)
+    (string : string_length types id ≡ Some n) where
   parts : (e.type_id ≡ char) × (range_of types e.index ≡ Some (indexes n))
   parts =
       let is = is_array types id e array in

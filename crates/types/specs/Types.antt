@@ -1,6 +1,7 @@
 -- The rules of types (ISO 7185:1990, 6.4.2 to 6.4.6) over a table of types and their numbers there: the values of an
 -- ordinal type, host types, strings, compatible and assignment compatible types, the cells that a variable takes, the
--- fields of a record, the elements of an array, and the forms that may be added. They say nothing of which type a denoter denotes.
+-- fields of a record, the elements of an array, and the forms that may be added. They say nothing of which type a
+-- denoter denotes.
 use Rattle.std.specs.Prelude.{ℕ, ◌+◌, ◌*◌, nat_eq, nat_lt, ℤ, pos, negsuc, neg_ℤ, ◌+ℤ◌, ◌-ℤ◌, int_lt}
 use Rattle.std.specs.Prelude.{List, [], ◌∷◌, ◌++◌, length, fold, sum_by, slice_get, take, bytes_eq}
 use Rattle.std.specs.Prelude.{Bool, true, false, ◌&&◌, ◌||◌, if◌then◌else◌, Option, Some, None, is_some, ok_or}
@@ -200,7 +201,8 @@ elements entries id index element (Some range) =
     else None
 
 abbrev pub element_in : List TypeForm → List Entry → TypeId → Option TypeForm → Option ArrayElement
-element_in types entries id (Some (Array packed index element)) = elements entries id index element (range_of types index)
+element_in types entries id (Some (Array packed index element)) =
+    elements entries id index element (range_of types index)
 element_in types entries id other = None
 
 -- the elements of an array (6.5.3.2); their type and that of the indexes stand before the array

@@ -1,4 +1,4 @@
-ghost use Rattle.std.specs.Prelude.{◌≡◌};
+ghost use Rattle.std.specs.Prelude.{◌≡◌, ◌<◌, ◌+ℤ◌, pos};
 ghost use Rattle.types.specs.Types.{form_range, is_same, values_in};
 
 /// What a type is made of (ISO 7185:1990, 6.4), its parts by their numbers in a table.
@@ -129,6 +129,14 @@ impl OrdinalRange {
             return 0;
         }
         (i64::from(self.last) - i64::from(self.first) + 1) as u64
+    }
+
+    /// The value so many behind the first.
+    pub fn value(self, behind: u32) -> i32
+        requires within { behind < values_in self }
+        ensures { result ≡ self.first +ℤ pos behind }
+    {
+        (i64::from(self.first) + i64::from(behind)) as i32
     }
 }
 

@@ -1,6 +1,7 @@
 //! The types of a program, and the type rules (ISO 7185:1990, 6.4).
 #![tactic(auto)]
 
+mod component;
 mod form;
 mod refusal;
 mod table;

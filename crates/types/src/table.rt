@@ -1,5 +1,5 @@
 ghost use Rattle.std.specs.Prelude.{◌≡◌, ◌⊎◌, ◌++◌, ◌*◌, ◌∷◌, [], List, Err, IfOk, IsOk, OnErr, OnOk, map};
-ghost use Rattle.std.specs.Prelude.{◌<◌, ◌^◌, Some, sum_by};
+ghost use Rattle.std.specs.Prelude.{◌<◌, ◌^◌, Some, length, sum_by};
 ghost use Rattle.std.specs.Option.{option_copied};
 ghost use Rattle.types.specs.Types.{admitted, admitted_cells, cells_at, counted, few, form_at, form_cells, is_turned};
 ghost use Rattle.types.specs.Types.{own_field, required_forms, values_at};
@@ -181,6 +181,13 @@ impl TypeTable {
     ghost use Rattle.types.specs.Types.{before, elements, field_among, have_one_length, range_of};
     ghost use Rattle.types.specs.Types.{string_last, string_length};
 
+    // How many types there are.
+    pub(crate) fn count(&self) -> usize
+        ensures { result ≡ length self.now }
+    {
+        self.entries.len()
+    }
+
     // Whether two types are strings of equal length.
     fn are_equally_long(&self, first: TypeId, second: TypeId) -> bool
         ensures { result ≡ have_one_length (string_length self.now first) (string_length self.now second) }
@@ -249,7 +256,7 @@ impl TypeTable {
 
     // The cells of a part of a type, if it stands before it.
     #[tactic(auto, using(crate::proofs::Counts::cells_before, crate::proofs::Counts::cells_not_before))]
-    fn part_cells(&self, id: TypeId, part: TypeId) -> u32
+    pub(crate) fn part_cells(&self, id: TypeId, part: TypeId) -> u32
         ensures { result ≡ cells_at (before self.now id) part }
     {
         if part.index >= id.index {

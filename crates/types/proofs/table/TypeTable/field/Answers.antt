@@ -12,5 +12,6 @@ field_among-requires c =
     sym c.form.ensures ∙ ap option_copied c.in_ok-fields.was ∙ ap Some c.in-Record.is in
     let counted = c.cells-cells.ensures ∙ cells_of_form c.args.self.now c.args.id (Record c.in-Record.packed c.in-Record.fields) is in
     let fits : c.cells-cells.result < 4294967296 = search rules in
-    let all : sum_by (λ field. cells_at (before c.args.self.now c.args.id) field.type_id) c.in-Record.fields.items < 4294967296 = omega (arith, counted, fits) in
+    let all : sum_by (λ field. cells_at (before c.args.self.now c.args.id) field.type_id) c.in-Record.fields.items < 4294967296 =
+    omega (arith, counted, fits) in
     subst (λ fields. sum_by (λ field. cells_at (before c.args.self.now c.args.id) field.type_id) fields < 4294967296) (sym c.deref.ensures.value) all
