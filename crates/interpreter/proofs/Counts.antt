@@ -15,7 +15,8 @@ use Rattle.meaning.specs.Counting.{has_values, next_value, value_behind}
 use Rattle.meaning.specs.Store.{Environment, kept}
 use Rattle.meaning.specs.Effect.{State, Reply, Gives, Stops, Action, ◌>>=◌, and_then, give, stop, require, use_turn, another, looping, looped, is_in}
 use Rattle.meaning.specs.Meaning.{Execution, effect_of, for_round, for_between}
-use Rattle.interpreter.specs.Pending.{both_bounds, bounds_tested, value_before, counting}
+use Rattle.operations.specs.Answers.{both_bounds, bounds_tested, value_before}
+use Rattle.interpreter.specs.Pending.{counting}
 use Rattle.meaning.proofs.Replies.{and_then-same}
 
 -- none follows, or the same one does, which hasn't passed the last
@@ -74,7 +75,7 @@ module _ (env : Environment) (control : ℕ) (direction : Direction) (last : ℤ
       and_then (for_round control direction last (effect_of body) env n s) (λ more. another more first) ≡
       and_then (counting env control direction last body n s) (λ more. another more second)
   alike_round n s first second left same =
-      let there : State = record s { store = kept s.store (env control) (Number n) } in
+      let there : State = record s { store = kept s.store (env.variables control) (Number n) } in
       let inner = effect_of body env in
       turn-given (use_turn there) inner (value_behind direction last n) (λ more. another more first)
       ∙ and_then-same (use_turn there) _ _ (λ _ t. and_then-same (inner t) _ _

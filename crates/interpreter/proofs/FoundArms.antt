@@ -10,27 +10,8 @@ use Rattle.meaning.specs.declared.outcome.Ending.TheVariants as ending
 use Rattle.meaning.specs.Store.{Environment}
 use Rattle.meaning.specs.Effect.{State, Action, stop}
 use Rattle.meaning.specs.Meaning.{Execution, arm_of, effect_of, is_among}
-use Rattle.interpreter.specs.Pending.{arm_at}
+use Rattle.operations.specs.Answers.{arm_at}
 use Rattle.interpreter.specs.Weight.{Weight, pending_weight, row_weight, weight_of_statement}
-
-none_without_arms : (rows : List (Vec ℤ Global)) (n : ℤ) → arm_at rows [] n ≡ None
-none_without_arms [] n = refl
-none_without_arms (row ∷ rows) n = refl
-
-later_arm : (found : Bool) (arm : Stmt) (later : Option Stmt) → found ≡ false → later ≡ (if found then Some arm else later)
-later_arm true arm later absent = let never : ⊥ = cc in absurd never
-later_arm false arm later absent = refl
-
--- where a row doesn't hold the value, the arm is found behind it
-pub arm-later : (place : ℕ) (rows : List (Vec ℤ Global)) (arms : List Stmt) (n : ℤ) (row : Vec ℤ Global) → place < length rows →
-    row ≡ get_or rows place row → is_among row.items n ≡ false →
-    arm_at (drop (suc place) rows) (drop (suc place) arms) n ≡ arm_at (drop place rows) (drop place arms) n
-arm-later place [] arms n row there is absent = let never : ⊥ = omega (arith, there) in absurd never
-arm-later zero (one ∷ rows) [] n row there is absent = none_without_arms rows n
-arm-later zero (one ∷ rows) (arm ∷ arms) n row there is absent =
-    later_arm (is_among one.items n) arm (arm_at rows arms n) (ap (λ (r : Vec ℤ Global). is_among r.items n) (sym is) ∙ absent)
-arm-later (suc place) (one ∷ rows) [] n row there is absent = none_without_arms (drop (suc place) rows) n ∙ sym (none_without_arms (drop place rows) n)
-arm-later (suc place) (one ∷ rows) (arm ∷ arms) n row there is absent = arm-later place rows arms n row (omega (arith, there)) is absent
 
 -- an arm, or an error at the site where there is none
 abbrev pub arm_or_error : ℕ → Option Stmt → Execution
@@ -79,7 +60,7 @@ arm_below turns (row ∷ rows) (arm ∷ arms) n =
 
 -- the arm that is found is to be done, in the place of the case
 pub arm-lightens : (old taken new : Run) (rows : List (Vec ℤ Global)) (arms : List Stmt) (n : ℤ) (arm : Stmt) (result : Result (Option Ending) AllocError) →
-    arm_at rows arms n ≡ Some arm → taken ≡ record old { values = taken.values } →
+    arm_at rows arms n ≡ Some arm → taken ≡ record old { operands = taken.operands } →
     OnOk result (pending_weight new ≡ pending_weight taken + weight_of_statement arm taken.turns) →
     OnOk result (pending_weight new < pending_weight old + row_weight 1 (map weight_of_statement arms) old.turns)
 arm-lightens old taken new rows arms n arm (Err refused) is same weighs = tt

@@ -1,7 +1,8 @@
 mod Counts
 mod FoundArms
+mod Places
 mod Resuming
+mod Rows
 mod Starting
-mod Strings
 mod Unrolling
 mod Weights

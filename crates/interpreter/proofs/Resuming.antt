@@ -1,5 +1,5 @@
 -- What pending work means, step by step.
-use Rattle.std.proofs.Common.{◌≡◌, ℕ, List, [], ◌∷◌, ◌++◌, Option, Some, None, Result, Ok, reverse, sym, ◌∙◌, ap, subst, refl, length, arith, Bool}
+use Rattle.std.proofs.Common.{◌≡◌, ℕ, List, [], ◌∷◌, ◌++◌, Option, Some, None, Result, Ok, Err, reverse, sym, ◌∙◌, ap, subst, refl, length, arith, Bool}
 use Rattle.std.proofs.Common.{true, false, if◌then◌else◌, Box, Global, ℤ}
 use Rattle.std.proofs.lemmas.Int.{ints}
 use mir.Syntax.{w32}
@@ -16,11 +16,15 @@ use Rattle.meaning.specs.declared.store.Value.{Value}
 use Rattle.interpreter.specs.declared.interpreter.Run.{Run}
 use Rattle.interpreter.specs.declared.work.Work.{Work}
 use Rattle.interpreter.specs.declared.work.Work.TheVariants as work
-use Rattle.meaning.specs.Store.{Environment, Place, held, kept}
-use Rattle.meaning.specs.Effect.{State, Reply, Gives, Stops, Action, ◌>>=◌, and_then, fetched, fetch, is_in, require, store}
+use Rattle.types.specs.declared.form.Step.TheVariants as step
+use Rattle.meaning.specs.declared.outcome.Ending.TheVariants as ending
+use Rattle.meaning.specs.declared.store.Value.TheVariants.{Number}
+use Rattle.meaning.specs.Store.{Environment, Place, held, kept, part}
+use Rattle.meaning.specs.Effect.{State, Reply, Gives, Stops, Action, ◌>>=◌, and_then, fetched, fetch, give, is_in, number_of, require, stop, store}
 use Rattle.meaning.specs.Meaning.{effect_of, is_so}
-use Rattle.interpreter.specs.Pending.{Resumption, Agrees, Continues, Does, EndsAs, pending_of, resumed, rest_of, answered, giving, with_top, chosen, top_of}
-use Rattle.interpreter.specs.Pending.{below_top, checked}
+use Rattle.operations.specs.Answers.{answered, checked, number_tested}
+use Rattle.interpreter.specs.Pending.{Resumption, InHand, OfValue, OfPlace, OfRow, Agrees, Continues, Does, EndsAs, pending_of, resumed, rest_of, operands_of}
+use Rattle.interpreter.specs.Pending.{giving, with_top, chosen, top_of, top_place, below_top, indexed}
 
 -- one more at the end of a stack is one more at its top
 pub reverse_push : {A : Type 0} (xs : List A) (x : A) → reverse (xs ++ x ∷ []) ≡ x ∷ reverse xs
@@ -44,10 +48,10 @@ fetched_there defined s place o answer holds is = ap (λ w. fetched w defined s)
 
 module _ (env : Environment) (old new : Run) where
   -- the run goes on with other work
-  pub goes_on_to : (s : State) (works : List Work) (reply : Reply (Unit {0})) → Agrees env new s → reverse new.pending.items ≡ works →
-      new.values.items ≡ old.values.items → reply ≡ pending_of env works (reverse old.values.items) s → Continues env reply (Ok None) new
-  goes_on_to s works reply agrees work same is =
-      (s, agrees, is ∙ ap (λ l. pending_of env works (reverse l) s) (sym same) ∙ ap (λ p. pending_of env p (reverse new.values.items) s) (sym work))
+  pub goes_on_to : (s : State) (works : List Work) (operands : List InHand) (reply : Reply (Unit {0})) → Agrees env new s →
+      reverse new.pending.items ≡ works → operands_of new ≡ operands → reply ≡ pending_of env works operands s → Continues env reply (Ok None) new
+  goes_on_to s works operands reply agrees work same is =
+      (s, agrees, is ∙ ap (λ l. pending_of env works l s) (sym same) ∙ ap (λ p. pending_of env p (operands_of new) s) (sym work))
 
   -- what another reply goes on to
   pub continues_as : (reply other : Reply (Unit {0})) (result : Result (Option Ending) AllocError) → reply ≡ other → Continues env other result new →
@@ -78,25 +82,30 @@ module _ (old new : Run) where
   pub done_from : (env : Environment) (start : Reply (Unit {0})) (t : State) → start ≡ rest_of env new t → new.pending.items ≡ [] → Agrees env new t →
       EndsAs env start new Finished
   done_from env start t is none agrees =
-      let done : start ≡ Gives tt t = is ∙ ap (λ (l : List Work). pending_of env (reverse l) (reverse new.values.items) t) none in
+      let done : start ≡ Gives tt t = is ∙ ap (λ (l : List Work). pending_of env (reverse l) (operands_of new) t) none in
       subst (λ (r : Reply (Unit {0})). EndsAs env r new Finished) (sym done) (record { state = agrees; ending = refl })
 
 -- a run that stops behind its operands
 pub stops_below : (old taken : Run) (env : Environment) (s : State) (start : Reply (Unit {0})) (ending : Ending) →
-    taken ≡ record old { values = taken.values } → start ≡ Stops ending s → Agrees env old s → Continues env start (Ok (Some ending)) taken
+    taken ≡ record old { operands = taken.operands } → start ≡ Stops ending s → Agrees env old s → Continues env start (Ok (Some ending)) taken
 stops_below old taken env s start ending same is agrees = (s, subst (λ (r : Run). Agrees env r s) (sym same) agrees, is)
 
+-- a run whose operands changed
+pub agreed_below : (old taken : Run) (env : Environment) (s : State) → taken ≡ record old { operands = taken.operands } → Agrees env old s →
+    Agrees env taken s
+agreed_below old taken env s same agrees = subst (λ (r : Run). Agrees env r s) (sym same) agrees
+
 -- a piece of work whose operands were taken from the stack
-pub goes_on_below : (old taken new : Run) (env : Environment) (s : State) (piece : Environment → Resumption → Resumption) (below : List Value)
-    (result : Result (Option Ending) AllocError) (start : Reply (Unit {0})) → taken ≡ record old { values = taken.values } →
-    reverse taken.values.items ≡ below → start ≡ piece env (pending_of env (reverse old.pending.items)) below s → Agrees env old s →
+pub goes_on_below : (old taken new : Run) (env : Environment) (s : State) (piece : Environment → Resumption → Resumption) (below : List InHand)
+    (result : Result (Option Ending) AllocError) (start : Reply (Unit {0})) → taken ≡ record old { operands = taken.operands } →
+    operands_of taken ≡ below → start ≡ piece env (pending_of env (reverse old.pending.items)) below s → Agrees env old s →
     Does piece taken result new → Continues env start result new
 goes_on_below old taken new env s piece below result start same left is agrees does =
     let agreed : Agrees env taken s = subst (λ (r : Run). Agrees env r s) (sym same) agrees in
     continues_as env old new start _ result
     (is
-    ∙ ap (λ (l : List Value). piece env (pending_of env (reverse old.pending.items)) l s) (sym left)
-    ∙ ap (λ (r : Run). piece env (pending_of env (reverse r.pending.items)) (reverse taken.values.items) s) (sym same))
+    ∙ ap (λ (l : List InHand). piece env (pending_of env (reverse old.pending.items)) l s) (sym left)
+    ∙ ap (λ (r : Run). piece env (pending_of env (reverse r.pending.items)) (operands_of taken) s) (sym same))
     (does env s agreed)
 
 -- a statement, and then the rest
@@ -104,7 +113,7 @@ abbrev pub executing : Stmt → Environment → Resumption → Resumption
 executing statement env next operands = effect_of statement env >>= λ _. next operands
 
 -- the topmost operand chooses a branch
-pub chooses : (env : Environment) (consequence : Stmt) (alternative : Option (Box Stmt Global)) (next : Resumption) (operands : List Value) (s : State)
+pub chooses : (env : Environment) (consequence : Stmt) (alternative : Option (Box Stmt Global)) (next : Resumption) (operands : List InHand) (s : State)
     (so : Bool) → is_so (top_of operands) ≡ so →
     with_top (λ v below. chosen (is_so v) consequence alternative env >>= λ _. next below) operands s ≡
     and_then (chosen so consequence alternative env s) (λ _. next (below_top operands))
@@ -112,28 +121,43 @@ chooses env consequence alternative next operands s so is =
     ap (λ (b : Bool). and_then (chosen b consequence alternative env s) (λ _. next (below_top operands))) is
 
 -- a calculation with operands that were taken from the stack
-pub goes_on_by : (old taken new : Run) (env : Environment) (s : State) (action : Action Value) (answer : Result Value ℕ) (below : List Value)
-    (result : Result (Option Ending) AllocError) → taken ≡ record old { values = taken.values } → reverse taken.values.items ≡ below →
+pub goes_on_by : (old taken new : Run) (env : Environment) (s : State) (action : Action Value) (answer : Result Value ℕ) (below : List InHand)
+    (result : Result (Option Ending) AllocError) → taken ≡ record old { operands = taken.operands } → operands_of taken ≡ below →
     action s ≡ answered answer s → Agrees env old s → Does (λ env. giving (answered answer)) taken result new →
     Continues env (giving action (pending_of env (reverse old.pending.items)) below s) result new
 goes_on_by old taken new env s action answer below result same left gives agrees does =
     goes_on_below old taken new env s (λ env. giving (answered answer)) below result _ same left
-    (ap (λ (r : Reply Value). and_then r (λ v. pending_of env (reverse old.pending.items) (v ∷ below))) gives)
+    (ap (λ (r : Reply Value). and_then r (λ v. pending_of env (reverse old.pending.items) (OfValue v ∷ below))) gives)
     agrees does
 
 -- the topmost piece of work is taken from the stack
 pub taken : (env : Environment) (run : Run) (left : List Work) (work : Work) (t : State) → run.pending.items ≡ left ++ work ∷ [] →
-    rest_of env run t ≡ resumed env work (pending_of env (reverse left)) (reverse run.values.items) t
-taken env run left work t is = ap (λ (l : List Work). pending_of env l (reverse run.values.items) t) (ap reverse is ∙ reverse_push left work)
+    rest_of env run t ≡ resumed env work (pending_of env (reverse left)) (operands_of run) t
+taken env run left work t is = ap (λ (l : List Work). pending_of env l (operands_of run) t) (ap reverse is ∙ reverse_push left work)
 
 -- the topmost operand is stored
-pub stores : (env : Environment) (root : ℕ) (fits : RangeTest) (next : Resumption) (operands : List Value) (s : State) (v : Value) → v ≡ top_of operands →
-    is_in fits.range v ≡ true → resumed env (work.Store root fits) next operands s ≡
-    next (below_top operands) (record s { store = kept s.store (env root) v })
-stores env root fits next operands s v top fine =
-    let then_rest : Value → Unit {0} → Action (Unit {0}) = λ u _. store (env root) u >>= λ _. next (below_top operands) in
+pub stores : (env : Environment) (fits : RangeTest) (next : Resumption) (operands : List InHand) (s : State) (v : Value) → v ≡ top_of operands →
+    is_in fits.range v ≡ true → resumed env (work.Store fits) next operands s ≡
+    next (below_top (below_top operands)) (record s { store = kept s.store (top_place (below_top operands)) v })
+stores env fits next operands s v top fine =
+    let then_rest : Value → Unit {0} → Action (Unit {0}) =
+    λ u _. store (top_place (below_top operands)) u >>= λ _. next (below_top (below_top operands)) in
     ap (λ (u : Value). and_then (require (is_in fits.range u) fits.site s) (then_rest u)) (sym top)
     ∙ ap (λ (b : Bool). and_then (require b fits.site s) (then_rest v)) fine
+
+-- an index that was tested
+abbrev pub index_answer : Option Place → Result ℤ ℕ → Action (Option Place)
+index_answer place (Ok n) = give (part place (step.Element n ∷ []))
+index_answer place (Err site) = stop (ending.Error site)
+
+index_choice : (b : Bool) (site : ℕ) (place : Option Place) (n : ℤ) (s : State) →
+    (require b site >>= λ _. give (part place (step.Element n ∷ []))) s ≡ index_answer place (if b then Ok n else Err site) s
+index_choice true site place n s = refl
+index_choice false site place n s = refl
+
+pub indexed_as : (fits : RangeTest) (place : Option Place) (v : Value) (s : State) →
+    indexed fits place v s ≡ index_answer place (number_tested fits (number_of v)) s
+indexed_as fits place (Number n) s = index_choice (is_in fits.range (Number n)) fits.site place n s
 
 -- a value that passed the test
 choice_some : (b : Bool) (v u : Value) → (if b then Some v else None) ≡ Some u → (v ≡ u) × (b ≡ true)

@@ -16,7 +16,7 @@ use Rattle.interpreter.specs.contracts.store.PlaceOrd.TheImpl.{ghosts}
 use Rattle.meaning.specs.Store.{Environment}
 use Rattle.meaning.specs.Effect.{State, Reply, Gives, Stops, and_then, give}
 use Rattle.meaning.specs.Meaning.{effect_of, run_of, run, meaning, program_environment, first_state}
-use Rattle.interpreter.specs.Pending.{Agrees, StoreAgrees, EndsAs, pending_of}
+use Rattle.interpreter.specs.Pending.{Agrees, InHand, StoreAgrees, EndsAs, pending_of}
 use Rattle.meaning.proofs.Turns.{output_after}
 
 -- nothing follows
@@ -25,7 +25,7 @@ and_then-nothing (Gives a s) = refl
 and_then-nothing (Stops e s) = refl
 
 -- the statement of the program's block is all that is pending
-pub begins_with_block : (inner : Bor Stmt) (block : Block) (first : Option Block) (env : Environment) (operands : List Value) (s : State)
+pub begins_with_block : (inner : Bor Stmt) (block : Block) (first : Option Block) (env : Environment) (operands : List InHand) (s : State)
     (pending before : List Work) → pending ≡ before ++ work.Statement inner ∷ [] → before ≡ [] → inner.now ≡ block.body → first ≡ Some block
     → run_of first env s ≡ pending_of env (reverse pending) operands s
 begins_with_block inner block first env operands s pending before pushed none body is =
@@ -42,7 +42,7 @@ finishes_as env new whole rest result is finished =
 
 -- a map with no entries holds what an empty store does
 pub holds_nothing : (kept : BTreeMap KeptPlace Value) → kept.entries ≡ [] → StoreAgrees kept []
-holds_nothing kept none p whole = ap (λ (l : List (KeptPlace × Value)). lookup (is_at (ghosts.cmp p)) l) none
+holds_nothing kept none p = ap (λ (l : List (KeptPlace × Value)). lookup (is_at (ghosts.cmp p)) l) none
 
 -- a run that did the program's block from the first state ends as the program does
 pub ends_as_meant : (tree : Tree) (input : List ℕ) (turns : ℕ) (begun done : Run) (ending : Ending) →

@@ -1,115 +1,110 @@
 -- What the work that an interpreter has still to do means: from its operands and the state, the topmost first.
 -- It says nothing of how many steps the work takes.
 use Rattle.std.specs.Prelude.{◌≡◌, ℕ, ℤ, pos, Bool, List, [], ◌∷◌, Option, Some, None, Result, Ok, Err, Vec, IfOk}
-use Rattle.std.specs.Prelude.{int_lt, if◌then◌else◌, drop, map, reverse, slice_get}
+use Rattle.std.specs.Prelude.{if◌then◌else◌, drop, map, option_map, reverse, slice_get}
 use Rattle.std.specs.BTreeMap.{BTreeMap, get}
 use Rattle.std.specs.declared.alloc.AllocError.{AllocError}
 use Rattle.std.specs.declared.alloc.Global.{Global}
 use Rattle.std.specs.declared.boxed.Box.{Box}
-use Rattle.types.specs.declared.form.OrdinalRange.{OrdinalRange}
+use Rattle.types.specs.declared.form.Step.{Step}
+use Rattle.types.specs.declared.form.Step.TheVariants as step
+use Rattle.types.specs.Components.{components_of}
+use Rattle.typed_tree.specs.declared.tree.Access.{Access}
+use Rattle.typed_tree.specs.declared.tree.Selector.{Selector}
 use Rattle.typed_tree.specs.declared.tree.Direction.{Direction}
-use Rattle.typed_tree.specs.declared.tree.Direction.TheVariants.{To, DownTo}
 use Rattle.typed_tree.specs.declared.tree.RangeTest.{RangeTest}
 use Rattle.typed_tree.specs.declared.tree.Expr.{Expr}
 use Rattle.typed_tree.specs.declared.tree.Stmt.{Stmt}
 use Rattle.typed_tree.specs.declared.tree.Whole.{Whole}
-use Rattle.typed_tree.specs.declared.tree.Whole.TheVariants.{Text}
+use Rattle.typed_tree.specs.declared.tree.Relation.{Relation}
 use Rattle.typed_tree.specs.declared.tree.Representation.{Representation}
 use Rattle.typed_tree.specs.declared.tree.Width.{Width}
 use Rattle.typed_tree.specs.WellFormed.{length_of}
 use Rattle.meaning.specs.declared.outcome.Ending.{Ending}
 use Rattle.meaning.specs.declared.outcome.Ending.TheVariants as ending
-use Rattle.interpreter.specs.declared.store.Place.{Place as KeptPlace}
 use Rattle.meaning.specs.declared.store.Value.{Value}
 use Rattle.meaning.specs.declared.store.Value.TheVariants.{Number}
+use Rattle.operations.specs.Answers.{positive, value_before}
+use Rattle.interpreter.specs.declared.operand.Operand.{Operand}
+use Rattle.interpreter.specs.declared.operand.Operand.TheVariants as operand
+use Rattle.interpreter.specs.declared.store.Place.{Place as KeptPlace}
 use Rattle.interpreter.specs.declared.work.Work.{Work}
 use Rattle.interpreter.specs.declared.work.Work.TheVariants as work
 use Rattle.interpreter.specs.declared.interpreter.Run.{Run}
 use Rattle.interpreter.specs.contracts.store.PlaceOrd.TheImpl.{ghosts as places}
-use Rattle.meaning.specs.Store.{Environment, Place, Store, stored}
-use Rattle.meaning.specs.Effect.{State, Reply, Stops, Action, Round, ◌>>=◌, give, stop, require, use_turn}
-use Rattle.meaning.specs.Effect.{another, looped, store, undefine, write, is_in, is_positive, row_text}
-use Rattle.meaning.specs.Effect.{text_of}
-use Rattle.meaning.specs.Meaning.{Combination, Execution, completed, ended, home_of, operated, combined, value_of}
-use Rattle.meaning.specs.Meaning.{default_width, link_of}
+use Rattle.meaning.specs.Store.{Environment, Place, Store, held, kept, part, stored}
+use Rattle.meaning.specs.Effect.{State, Reply, Stops, Action, Round, ◌>>=◌, give, stop, require, enter, use_turn}
+use Rattle.meaning.specs.Effect.{another, fetch, fetch_all, looped, number_of, store, store_all, undefine, write, is_in}
+use Rattle.meaning.specs.Effect.{row_text, text_of}
+use Rattle.meaning.specs.Meaning.{Combination, Execution, completed, ended, home_of, operated, combined, compared}
+use Rattle.meaning.specs.Meaning.{default_width, link_of, selected, value_of, values_of, whole_of}
 use Rattle.meaning.specs.Meaning.{effect_of, all_of, width_of, parameter_of, line_ended, is_so, turn_if, while_round}
-use Rattle.meaning.specs.Meaning.{repeat_round}
-use Rattle.meaning.specs.Meaning.{for_between, is_among, arm_of, number_of}
-use Rattle.meaning.specs.Counting.{has_values, next_value}
+use Rattle.meaning.specs.Meaning.{repeat_round, for_between, arm_of}
 use Rattle.meaning.specs.Laws.{state_after}
+
+-- what a run has in hand: a value, a place that is accessed, if there is one, or the numbers of a whole value
+pub data InHand : Type 0 where
+  OfValue : Value → InHand
+  OfPlace : Option Place → InHand
+  OfRow : List ℤ → InHand
 
 -- what is done with the operands, the topmost first, and the state
 abbrev pub Resumption : Type 0
-Resumption = List Value → Action (Unit {0})
+Resumption = List InHand → Action (Unit {0})
 
--- the topmost operand; what is pending finds those that it needs
-abbrev pub top_of : List Value → Value
+-- an operand as a value, a place or a row; what is pending finds those that it needs
+abbrev pub value_in : InHand → Value
+value_in (OfValue v) = v
+value_in (OfPlace place) = Number (pos 0)
+value_in (OfRow row) = Number (pos 0)
+
+abbrev pub place_in : InHand → Option Place
+place_in (OfValue v) = None
+place_in (OfPlace place) = place
+place_in (OfRow row) = None
+
+abbrev pub row_in : InHand → List ℤ
+row_in (OfValue v) = []
+row_in (OfPlace place) = []
+row_in (OfRow row) = row
+
+-- the topmost operand
+abbrev pub top_of : List InHand → Value
 top_of [] = Number (pos 0)
-top_of (v ∷ below) = v
+top_of (top ∷ below) = value_in top
+
+abbrev pub top_place : List InHand → Option Place
+top_place [] = None
+top_place (top ∷ below) = place_in top
+
+abbrev pub top_row : List InHand → List ℤ
+top_row [] = []
+top_row (top ∷ below) = row_in top
 
 -- the operands below it
-abbrev pub below_top : List Value → List Value
+abbrev pub below_top : List InHand → List InHand
 below_top [] = []
-below_top (v ∷ below) = below
+below_top (top ∷ below) = below
 
 -- takes the topmost operand
 abbrev pub with_top : (Value → Resumption) → Resumption
 with_top next operands = next (top_of operands) (below_top operands)
 
--- goes on with the value of an action as the topmost operand
+abbrev pub with_place : (Option Place → Resumption) → Resumption
+with_place next operands = next (top_place operands) (below_top operands)
+
+abbrev pub with_row : (List ℤ → Resumption) → Resumption
+with_row next operands = next (top_row operands) (below_top operands)
+
+-- goes on with what an action gives as the topmost operand
 abbrev pub giving : Action Value → Resumption → Resumption
-giving action next operands = action >>= λ v. next (v ∷ operands)
+giving action next operands = action >>= λ v. next (OfValue v ∷ operands)
 
--- a value, or an error at a site
-abbrev pub answered : Result Value ℕ → Action Value
-answered (Ok v) = give v
-answered (Err site) = stop (ending.Error site)
+abbrev pub giving_place : Action (Option Place) → Resumption → Resumption
+giving_place action next operands = action >>= λ place. next (OfPlace place ∷ operands)
 
--- a result is the value that an action gives, or the site of the error where it stops
-abbrev pub Answers : Action Value → Result Value ℕ → Type 0
-Answers action result = (s : State) → action s ≡ answered result s
-
--- a bound of a for, or the site of its test
-abbrev pub bound_tested : RangeTest → ℤ → Result ℤ ℕ
-bound_tested fits n = if is_in fits.range (Number n) then Ok n else Err fits.site
-
--- two bounds, the first tested first
-abbrev pub both_bounds : Result ℤ ℕ → Result ℤ ℕ → Result (Option (ℤ × ℤ)) ℕ
-both_bounds (Err site) last = Err site
-both_bounds (Ok first) (Err site) = Err site
-both_bounds (Ok first) (Ok last) = Ok (Some (first, last))
-
--- the bounds of a for, if they leave any value between them
-abbrev pub bounds_tested : Direction → RangeTest → Value → RangeTest → Value → Result (Option (ℤ × ℤ)) ℕ
-bounds_tested direction first_fits (Number first) last_fits (Number last) =
-    if has_values direction first last
-    then both_bounds (bound_tested first_fits first) (bound_tested last_fits last)
-    else Ok None
-
--- the arm at a value of the index of a case, if any constants hold it
-abbrev pub arm_at : List (Vec ℤ Global) → List Stmt → ℤ → Option Stmt
-arm_at [] arms n = None
-arm_at (row ∷ rows) [] n = None
-arm_at (row ∷ rows) (arm ∷ arms) n = if is_among row.items n then Some arm else arm_at rows arms n
-
--- the next value of a control variable on its way to the last one
-abbrev pub value_before : Direction → ℤ → ℤ → Option ℤ
-value_before To last n = if int_lt n last then Some (next_value To n) else None
-value_before DownTo last n = if int_lt last n then Some (next_value DownTo n) else None
-
--- a value, if it lies in a range
-abbrev pub checked : OrdinalRange → Value → Option Value
-checked range v = if is_in range v then Some v else None
-
--- a width, tested at a site
-abbrev pub positive : ℕ → Value → Action Value
-positive site w = do
-  _ ← require (is_positive w) site
-  give w
-
--- the components of a whole value, which no entry changes
-abbrev pub components_of : Whole → List ℤ
-components_of (Text number characters) = map pos characters.items
+abbrev pub giving_row : Action (List ℤ) → Resumption → Resumption
+giving_row action next operands = action >>= λ row. next (OfRow row ∷ operands)
 
 -- the operators of a chain, from left to right, whose value so far is the topmost operand
 abbrev pub linking : Environment → List Combination → Resumption → Resumption
@@ -145,7 +140,7 @@ repeat_rounds env statements condition = repeat_round (all_of (map effect_of sta
 -- the rounds of a for with values that haven't passed the last one
 abbrev pub counting : Environment → ℕ → Direction → ℤ → Stmt → Round ℤ
 counting env control direction last body n = do
-  _ ← store (env control) (Number n)
+  _ ← store (env.variables control) (Number n)
   _ ← use_turn
   _ ← effect_of body env
   give (value_before direction last n)
@@ -156,12 +151,49 @@ forgetting place next operands = do
   _ ← undefine place
   next operands
 
+-- a while, and then the rest
+abbrev pub whiling : Environment → Expr → Stmt → Resumption → Resumption
+whiling env condition body next operands = do
+  _ ← looped (while_rounds env condition body) tt
+  next operands
+
+-- a repeat, and then the rest
+abbrev pub repeating : Environment → List Stmt → Expr → Resumption → Resumption
+repeating env statements condition next operands = do
+  _ ← looped (repeat_rounds env statements condition) tt
+  next operands
+
+-- a for from a value of its control variable on, and then the rest
+abbrev pub counting_on : Environment → ℕ → Direction → ℤ → ℤ → Stmt → Resumption → Resumption
+counting_on env control direction value last body next operands = do
+  _ ← looped (counting env control direction last body) value
+  forgetting (env.variables control) next operands
+
 -- further rounds of a repeat, unless the topmost operand ends it, and then the rest
 abbrev pub unless_so : Environment → List Stmt → Expr → Resumption → Resumption
 unless_so env statements condition next =
     with_top
     (λ v below. further (repeat_rounds env statements condition) (give (if is_so v then None else Some tt))
     >>= λ _. next below)
+
+-- the element of a place at an index, which is tested
+abbrev pub indexed : RangeTest → Option Place → Value → Action (Option Place)
+indexed fits place v = do
+  _ ← require (is_in fits.range v) fits.site
+  give (part place (step.Element (number_of v) ∷ []))
+
+-- a relation, from its operator on
+abbrev pub comparing : Environment → ℕ → Relation → Whole → List Expr → List ℤ → Action Value
+comparing env number relation right indexes row = do
+  _ ← enter number env
+  other ← whole_of right (values_of indexes) env
+  give (compared relation row other)
+
+-- the selectors that lead on from the topmost place, and then the rest
+abbrev pub selecting : Environment → List Selector → List Expr → Resumption → Resumption
+selecting env [] indexes next = next
+selecting env (selector ∷ selectors) indexes next =
+    with_place (λ place. giving_place (selected (selector ∷ selectors) (values_of indexes) env place) next)
 
 -- a piece of work, and then the rest
 abbrev pub resumed : Environment → Work → Resumption → Resumption
@@ -175,34 +207,23 @@ resumed env (work.Choose consequence alternative) next operands =
     with_top
     (λ v below. chosen (is_so v) consequence.now alternative.now env >>= λ _. next below)
     operands
-resumed env (work.While condition body) next operands = do
-  _ ← looped (while_rounds env condition.now body.now) tt
-  next operands
 resumed env (work.WhileTurn condition body) next operands =
     with_top
     (λ v below. further (while_rounds env condition.now body.now) (turn_if (is_so v) (effect_of body.now env))
     >>= λ _. next below)
     operands
-resumed env (work.Repeat statements condition) next operands = do
-  _ ← looped (repeat_rounds env statements.now condition.now) tt
-  next operands
-resumed env (work.Until statements condition) next operands =
-    giving (value_of condition.now env) (unless_so env statements.now condition.now next) operands
 resumed env (work.Unless statements condition) next operands =
     unless_so env statements.now condition.now next operands
 resumed env (work.Bounds control first_fits direction last_fits body) next operands =
     with_top
     (λ last rest. with_top
     (λ first below. for_between control first_fits direction last_fits (effect_of body.now) env first last
-    >>= λ _. forgetting (env control) next below)
+    >>= λ _. forgetting (env.variables control) next below)
     rest)
     operands
-resumed env (work.For control direction value last body) next operands = do
-  _ ← looped (counting env control direction last body.now) value
-  forgetting (env control) next operands
 resumed env (work.Next control direction value last body) next operands = do
   _ ← further (counting env control direction last body.now) (give (value_before direction last value))
-  forgetting (env control) next operands
+  forgetting (env.variables control) next operands
 resumed env (work.Case site constants arms) next operands =
     with_top
     (λ v below. arm_of site constants.now (map effect_of arms.now) (number_of v) env >>= λ _. next below)
@@ -218,17 +239,43 @@ resumed env (work.Width width representation) next operands =
 resumed env (work.WidthTest site) next operands = with_top (λ w. giving (positive site w) next) operands
 resumed env (work.Write representation) next operands =
     with_top (λ w rest. with_top (λ v below. write (text_of representation v w) >>= λ _. next below) rest) operands
-resumed env (work.WriteWhole value) next operands =
-    with_top (λ w below. write (row_text (components_of value.now) w) >>= λ _. next below) operands
-resumed env (work.Store root fits) next operands =
+resumed env work.WriteRow next operands =
+    with_top (λ w rest. with_row (λ row below. write (row_text row w) >>= λ _. next below) rest) operands
+resumed env (work.WriteRowIn places) next operands =
+    with_row (λ row below. write (row_text row (Number (pos places))) >>= λ _. next below) operands
+resumed env (work.Store fits) next operands =
     with_top
-    (λ v below. require (is_in fits.range v) fits.site >>= λ _. store (env root) v >>= λ _. next below)
+    (λ v rest. with_place
+    (λ place below. require (is_in fits.range v) fits.site >>= λ _. store place v >>= λ _. next below)
+    rest)
     operands
+resumed env (work.StoreRow type_id) next operands =
+    with_row
+    (λ row rest. with_place
+    (λ place below. store_all place (components_of env.types type_id) row >>= λ _. next below)
+    rest)
+    operands
+resumed env (work.Select selectors indexes) next operands = selecting env selectors.now indexes.now next operands
+resumed env (work.Index fits) next operands =
+    with_top
+    (λ v rest. with_place
+    (λ place. giving_place (indexed fits place v) next)
+    rest)
+    operands
+resumed env (work.Fetch defined) next operands = with_place (λ place. giving (fetch place defined) next) operands
+resumed env (work.Whole value indexes) next operands =
+    giving_row (whole_of value.now (values_of indexes.now) env) next operands
+resumed env (work.FetchRow type_id defined) next operands =
+    with_place (λ place. giving_row (fetch_all place (components_of env.types type_id) defined) next) operands
 resumed env (work.Value expression) next operands = giving (value_of expression.now env) next operands
 resumed env (work.Monadic operation) next operands = with_top (λ v. giving (operated operation v) next) operands
 resumed env (work.Links links) next operands = linking env (map link_of links.now) next operands
 resumed env (work.Combine operation) next operands =
     with_top (λ right rest. with_top (λ left. giving (combined operation left right) next) rest) operands
+resumed env (work.RightSide number relation right indexes) next operands =
+    with_row (λ row. giving (comparing env number relation right.now indexes.now row) next) operands
+resumed env (work.Compare relation) next operands =
+    with_row (λ other rest. with_row (λ row. giving (give (compared relation row other)) next) rest) operands
 
 -- two values, a piece of work with them, and then the rest
 abbrev pub evaluating : Environment → Expr → Expr → Work → Resumption → Resumption
@@ -244,11 +291,21 @@ writing env value representation width next operands = do
   next operands
 
 -- a string is written, and then the rest
-abbrev pub writing_whole : Environment → Whole → Option Width → Resumption → Resumption
-writing_whole env value width next operands = do
+abbrev pub writing_row : Environment → Whole → List Expr → Option Width → Resumption → Resumption
+writing_row env value indexes width next operands = do
+  row ← whole_of value (values_of indexes) env
   w ← width_of width (pos (length_of value)) env
-  _ ← write (row_text (components_of value) w)
+  _ ← write (row_text row w)
   next operands
+
+-- the place of an access that was entered, and then the rest
+abbrev pub placing : Environment → Access → List Expr → Resumption → Resumption
+placing env access indexes =
+    giving_place (selected access.selectors.items (values_of indexes) env (env.variables access.root))
+
+-- the same, a piece of work with the place, and then the rest
+abbrev pub accessing : Environment → Access → List Expr → Work → Resumption → Resumption
+accessing env access indexes later next = placing env access indexes (resumed env later next)
 
 -- two pieces of work in a turn, and then the rest
 abbrev pub turning : Environment → Work → Work → Resumption → Resumption
@@ -256,23 +313,63 @@ turning env first second next operands = do
   _ ← use_turn
   resumed env first (resumed env second next) operands
 
+-- a piece of work in a turn, a condition and a piece of work with it, and then the rest
+abbrev pub turning_tested : Environment → Work → Expr → Work → Resumption → Resumption
+turning_tested env first condition second next operands = do
+  _ ← use_turn
+  resumed env first (giving (value_of condition env) (resumed env second next)) operands
+
 -- what is pending, the next first
 abbrev pub pending_of : Environment → List Work → Resumption
 pending_of env [] operands = give tt
 pending_of env (work ∷ rest) operands = resumed env work (pending_of env rest) operands
 
--- a place that the interpreter keeps, without components
+-- a place that the interpreter keeps
 abbrev pub place_seen : KeptPlace → Place
-place_seen p = record { activation = p.activation; variable = p.variable; steps = [] }
+place_seen p = record { activation = p.activation; variable = p.variable; steps = p.steps.items }
 
--- the map holds for each variable what the store holds
+-- what the interpreter has in hand
+abbrev pub operand_seen : Operand → InHand
+operand_seen (operand.Value v) = OfValue v
+operand_seen (operand.Place place) = OfPlace (option_map place_seen place)
+operand_seen (operand.Row row) = OfRow row.items
+
+-- the operands of a run, the topmost first
+abbrev pub operands_of : Run → List InHand
+operands_of run = map operand_seen (reverse run.operands.items)
+
+-- the number of a value before others, if they are there
+abbrev pub number_before : Option Value → Option (List ℤ) → Option (List ℤ)
+number_before None numbers = None
+number_before (Some v) None = None
+number_before (Some v) (Some numbers) = Some (number_of v ∷ numbers)
+
+-- the numbers at the components of a place, if all of them are defined
+abbrev pub held_all : Store → Option Place → List (List Step) → Option (List ℤ)
+held_all store place [] = Some []
+held_all store place (steps ∷ components) =
+    number_before (held store (part place steps)) (held_all store place components)
+
+-- the store after numbers were written to the components of a place
+abbrev pub kept_all : Store → Option Place → List (List Step) → List ℤ → Store
+kept_all store place [] numbers = store
+kept_all store place (steps ∷ components) [] = store
+kept_all store place (steps ∷ components) (n ∷ numbers) =
+    kept_all (kept store (part place steps) (Number n)) place components numbers
+
+-- the numbers of a row that the interpreter keeps
+abbrev pub items_of : Vec ℤ Global → List ℤ
+items_of row = row.items
+
+-- the map holds at each place what the store holds
 abbrev pub StoreAgrees : BTreeMap KeptPlace Value → Store → Type 0
-StoreAgrees kept store = (p : KeptPlace) → p.steps.items ≡ [] → get places.cmp kept p ≡ stored store (place_seen p)
+StoreAgrees kept store = (p : KeptPlace) → get places.cmp kept p ≡ stored store (place_seen p)
 
 -- the interpreter has what a state has, but for its entries, and finds the variables of an environment
 abbrev pub Agrees : Environment → Run → State → Type 0
 Agrees env run s = record {
-  visible : (root : ℕ) → env root ≡ home_of root (slice_get run.variables.now root);
+  visible : (root : ℕ) → env.variables root ≡ home_of root (slice_get run.variables.now root);
+  types : env.types ≡ run.types.now;
   store : StoreAgrees run.store s.store;
   input : drop run.taken (completed run.input.now) ≡ s.input;
   output : run.output.items ≡ s.output;
@@ -282,7 +379,7 @@ Agrees env run s = record {
 
 -- what a run has still to do, from a state
 abbrev pub rest_of : Environment → Run → State → Reply (Unit {0})
-rest_of env run s = pending_of env (reverse run.pending.items) (reverse run.values.items) s
+rest_of env run s = pending_of env (reverse run.pending.items) (operands_of run) s
 
 -- a step answered: it goes on to what the reply goes on to, or the reply stops with this ending, in a state that the
 -- run agrees with
@@ -295,7 +392,7 @@ Continues env reply (Ok (Some ending)) run = (s : State) × Agrees env run s × 
 abbrev pub Does : (Environment → Resumption → Resumption) → Run → Result (Option Ending) AllocError → Run → Type 0
 Does piece old result new =
     (env : Environment) (s : State) → Agrees env old s →
-    Continues env (piece env (pending_of env (reverse old.pending.items)) (reverse old.values.items) s) result new
+    Continues env (piece env (pending_of env (reverse old.pending.items)) (operands_of old) s) result new
 
 -- a run ended as a reply does, and agrees with the state there
 abbrev pub EndsAs : Environment → Reply (Unit {0}) → Run → Ending → Type 0

@@ -1,7 +1,7 @@
 -- How many steps of the interpreter a piece of pending work needs at most, for the turns that are left: the measure by
 -- which it ends.
 -- It says nothing of what the steps do.
-use Rattle.std.specs.Prelude.{ℕ, zero, suc, ◌+◌, ◌<◌, List, Option, Some, None, Result, OnOk, map, sum_by}
+use Rattle.std.specs.Prelude.{ℕ, zero, suc, ◌+◌, ◌<◌, List, Option, Some, None, Result, OnOk, length, map, sum_by}
 use Rattle.std.specs.declared.alloc.AllocError.{AllocError}
 use Rattle.std.specs.declared.alloc.Global.{Global}
 use Rattle.std.specs.declared.boxed.Box.{Box}
@@ -9,6 +9,9 @@ use Rattle.typed_tree.specs.declared.tree.Width.{Width}
 use Rattle.typed_tree.specs.declared.tree.WriteParameter.{WriteParameter}
 use Rattle.typed_tree.specs.declared.tree.Written.{Written}
 use Rattle.typed_tree.specs.declared.tree.Written.TheVariants.{Ordinal, String}
+use Rattle.typed_tree.specs.declared.tree.Selector.{Selector}
+use Rattle.typed_tree.specs.declared.tree.Whole.{Whole}
+use Rattle.typed_tree.specs.declared.tree.Whole.TheVariants.{Text, Variable as VariableOf}
 use Rattle.typed_tree.specs.declared.tree.Expr.{Expr}
 use Rattle.typed_tree.specs.declared.tree.Link.{Link}
 use Rattle.typed_tree.specs.declared.tree.Expr.TheOpen.{Expr-F, Link-F}
@@ -17,7 +20,7 @@ use Rattle.typed_tree.specs.declared.tree.Expr.TheFolds.{fold-Expr, fold-Link}
 use Rattle.typed_tree.specs.declared.tree.Stmt.{Stmt}
 use Rattle.typed_tree.specs.declared.tree.Stmt.TheOpen.{Stmt-F}
 use Rattle.typed_tree.specs.declared.tree.Stmt.TheOpen.Stmt-F.{Empty, Assign, Write, Compound, If, While, Repeat, For}
-use Rattle.typed_tree.specs.declared.tree.Stmt.TheOpen.Stmt-F.{Case}
+use Rattle.typed_tree.specs.declared.tree.Stmt.TheOpen.Stmt-F.{Case, Copy}
 use Rattle.typed_tree.specs.declared.tree.Stmt.TheFolds.{fold-Stmt}
 use Rattle.meaning.specs.declared.outcome.Ending.{Ending}
 use Rattle.interpreter.specs.declared.interpreter.Run.{Run}
@@ -32,15 +35,25 @@ Weight = ℕ → ℕ
 abbrev pub row_weight : ℕ → List Weight → Weight
 row_weight k pieces turns = 1 + sum_by (λ piece. piece turns + k) pieces
 
+-- the selectors of an access: a step for each of them, and one behind each index for its test
+abbrev pub access_weight : List Selector → List Weight → Weight
+access_weight selectors indexes turns = length selectors + row_weight 1 indexes turns
+
+-- a whole value
+abbrev pub whole_weight : Whole → List Weight → Weight
+whole_weight (Text n characters) indexes turns = 1
+whole_weight (VariableOf a type_id cells defined) indexes turns = 2 + access_weight a.selectors.items indexes turns
+
 abbrev pub link_weight : Link-F Weight Weight → Weight
 link_weight l turns = l.operand turns
 
 abbrev pub expression_weight : Expr-F Weight Weight → Weight
 expression_weight (Constant n v) turns = 1
-expression_weight (Variable a d) turns = 1
+expression_weight (Variable a indexes d) turns = 2 + access_weight a.selectors.items indexes.items turns
 expression_weight (Monadic n operation operand) turns = 2 + operand.value turns
 expression_weight (Chain first rest) turns = 1 + first.value turns + row_weight 2 rest.items turns
-expression_weight (Compare n relation left right) turns = 1
+expression_weight (Compare n relation left left_indexes right right_indexes) turns =
+    3 + whole_weight left left_indexes.items turns + whole_weight right right_indexes.items turns
 
 abbrev pub weight_of_expression : Expr → Weight
 weight_of_expression = fold-Expr Weight Weight expression_weight link_weight
@@ -48,13 +61,19 @@ weight_of_expression = fold-Expr Weight Weight expression_weight link_weight
 abbrev pub weight_of_link : Link → Weight
 weight_of_link = fold-Link Weight Weight expression_weight link_weight
 
+abbrev pub weight_of_selectors : List Selector → List Expr → Weight
+weight_of_selectors selectors indexes = access_weight selectors (map weight_of_expression indexes)
+
+abbrev pub weight_of_whole : Whole → List Expr → Weight
+weight_of_whole value indexes = whole_weight value (map weight_of_expression indexes)
+
 abbrev pub weight_of_width : Option Width → Weight
 weight_of_width None turns = 1
 weight_of_width (Some width) turns = 2 + weight_of_expression width.value turns
 
 abbrev pub weight_of_written : Written → Weight
 weight_of_written (Ordinal value representation) turns = weight_of_expression value turns
-weight_of_written (String value) turns = 0
+weight_of_written (String value indexes) turns = weight_of_whole value indexes.items turns
 
 abbrev pub weight_of_parameter : WriteParameter → Weight
 weight_of_parameter parameter turns =
@@ -88,7 +107,11 @@ for_weight body turns = 1 + rounds_weight (λ left. 3 + body left) turns
 
 abbrev pub statement_weight : Stmt-F Weight → Weight
 statement_weight (Empty n) turns = 1
-statement_weight (Assign n becomes target fits value) turns = 2 + weight_of_expression value turns
+statement_weight (Assign n becomes target indexes fits value) turns =
+    2 + weight_of_selectors target.selectors.items indexes.items turns + weight_of_expression value turns
+statement_weight (Copy n becomes target indexes type_id value value_indexes) turns =
+    2 + weight_of_selectors target.selectors.items indexes.items turns
+    + weight_of_whole value value_indexes.items turns
 statement_weight (Write n name parameters ends_line) turns =
     row_weight 1 (map weight_of_parameter parameters.items) turns
 statement_weight (Compound n statements) turns = row_weight 1 statements.items turns
@@ -115,20 +138,12 @@ weight_of turns (work.Statements statements) = row_weight 1 (map weight_of_state
 weight_of turns (work.Statement statement) = weight_of_statement statement.now turns
 weight_of turns (work.Choose consequence alternative) =
     1 + weight_of_statement consequence.now turns + weight_of_alternative alternative.now turns
-weight_of turns (work.While condition body) =
-    while_weight (weight_of_expression condition.now) (weight_of_statement body.now) turns
 weight_of turns (work.WhileTurn condition body) =
     1 + rounds_weight (round_weight (weight_of_statement body.now) (weight_of_expression condition.now)) turns
-weight_of turns (work.Repeat statements condition) =
-    repeat_weight (row_weight 1 (map weight_of_statement statements.now)) (weight_of_expression condition.now) turns
-weight_of turns (work.Until statements condition) =
-    2 + weight_of_expression condition.now turns
-    + repeat_weight (row_weight 1 (map weight_of_statement statements.now)) (weight_of_expression condition.now) turns
 weight_of turns (work.Unless statements condition) =
-    1 + repeat_weight (row_weight 1 (map weight_of_statement statements.now)) (weight_of_expression condition.now) turns
+    repeat_weight (row_weight 1 (map weight_of_statement statements.now)) (weight_of_expression condition.now) turns
 weight_of turns (work.Bounds control first_fits direction last_fits body) =
     1 + for_weight (weight_of_statement body.now) turns
-weight_of turns (work.For control direction value last body) = for_weight (weight_of_statement body.now) turns
 weight_of turns (work.Next control direction value last body) = 1 + for_weight (weight_of_statement body.now) turns
 weight_of turns (work.Case site constants arms) = row_weight 1 (map weight_of_statement arms.now) turns
 weight_of turns (work.Parameters parameters ends_line) = row_weight 1 (map weight_of_parameter parameters.now) turns
@@ -136,17 +151,32 @@ weight_of turns (work.Parameter parameter) = weight_of_parameter parameter.now t
 weight_of turns (work.Width width representation) = weight_of_width width.now turns
 weight_of turns (work.WidthTest site) = 1
 weight_of turns (work.Write representation) = 1
-weight_of turns (work.WriteWhole value) = 1
-weight_of turns (work.Store root fits) = 1
+weight_of turns work.WriteRow = 1
+weight_of turns (work.WriteRowIn places) = 1
+weight_of turns (work.Store fits) = 1
+weight_of turns (work.StoreRow type_id) = 1
+weight_of turns (work.Select selectors indexes) = weight_of_selectors selectors.now indexes.now turns
+weight_of turns (work.Index fits) = 1
+weight_of turns (work.Fetch defined) = 1
+weight_of turns (work.Whole value indexes) = weight_of_whole value.now indexes.now turns
+weight_of turns (work.FetchRow type_id defined) = 1
 weight_of turns (work.Value expression) = weight_of_expression expression.now turns
 weight_of turns (work.Monadic operation) = 1
 weight_of turns (work.Links links) = row_weight 2 (map weight_of_link links.now) turns
 weight_of turns (work.Combine operation) = 1
+weight_of turns (work.RightSide number relation right indexes) = 2 + weight_of_whole right.now indexes.now turns
+weight_of turns (work.Compare relation) = 1
 
 -- two pieces of work in a turn, if one is left
 abbrev pub turn_weight : ℕ → Work → Work → ℕ
 turn_weight zero next later = 0
 turn_weight (suc left) next later = weight_of left next + weight_of left later
+
+-- one in a turn, a condition, and another with it
+abbrev pub tested_turn_weight : ℕ → Work → Expr → Work → ℕ
+tested_turn_weight zero next condition later = 0
+tested_turn_weight (suc left) next condition later =
+    weight_of left next + weight_of_expression condition left + weight_of left later
 
 -- all that a run has still to do, for the turns that it has left
 abbrev pub pending_weight : Run → ℕ

@@ -2,11 +2,13 @@
 //! (ISO 7185:1990, 6.7 to 6.10).
 #![tactic(auto)]
 
-mod arms;
+mod accesses;
+mod expressions;
 mod interpreter;
-mod operations;
+mod operand;
+mod statements;
 mod store;
-mod text;
+mod variables;
 mod work;
 
 pub use interpreter::interpret;

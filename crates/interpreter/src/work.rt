@@ -2,11 +2,12 @@ ghost use Rattle.std.specs.Prelude.{◌≡◌, [], ◌∷◌, ◌++◌, OnOk};
 
 use std::alloc::AllocError;
 use typed_tree::tree::{
-    Direction, Dyadic, Expr, Link, Monadic, RangeTest, Representation, Stmt, Whole, Width,
-    WriteParameter,
+    Direction, Dyadic, Expr, Link, Monadic, RangeTest, Relation, Representation, Selector, Stmt,
+    Whole, Width, WriteParameter,
 };
+use types::TypeId;
 
-/// Work that a run has still to do. What it needs lies on the stack of values.
+/// Work that a run has still to do. What it needs lies on the stack of operands.
 #[derive(Clone, Copy)]
 pub enum Work<'t> {
     /// The statements of a compound statement, one after another.
@@ -17,25 +18,10 @@ pub enum Work<'t> {
         consequence: &'t Stmt,
         alternative: &'t Option<Box<Stmt>>,
     },
-    /// The rounds of a while.
-    While {
-        condition: &'t Expr,
-        body: &'t Stmt,
-    },
     /// A turn of a while, and its further rounds, if the topmost value asks for them.
     WhileTurn {
         condition: &'t Expr,
         body: &'t Stmt,
-    },
-    /// The rounds of a repeat.
-    Repeat {
-        statements: &'t [Stmt],
-        condition: &'t Expr,
-    },
-    /// The condition of a repeat, behind its statements.
-    Until {
-        statements: &'t [Stmt],
-        condition: &'t Expr,
     },
     /// Further rounds of a repeat, unless the topmost value ends it.
     Unless {
@@ -48,14 +34,6 @@ pub enum Work<'t> {
         first_fits: RangeTest,
         direction: Direction,
         last_fits: RangeTest,
-        body: &'t Stmt,
-    },
-    /// The rounds of a for, from a value of its control variable on.
-    For {
-        control: u32,
-        direction: Direction,
-        value: i32,
-        last: i32,
         body: &'t Stmt,
     },
     /// The rounds of a for behind that with a value of its control variable.
@@ -89,12 +67,35 @@ pub enum Work<'t> {
     },
     /// Writes a value, whose width is topmost, right above it.
     Write(Representation),
-    /// Writes a whole value, whose width is topmost.
-    WriteWhole(&'t Whole),
-    /// Tests the topmost value and stores it.
-    Store {
-        root: u32,
-        fits: RangeTest,
+    /// Writes a row of numbers as a string, whose width is topmost, right above it.
+    WriteRow,
+    /// Writes the topmost row as a string in so many places.
+    WriteRowIn {
+        places: usize,
+    },
+    /// Tests the topmost value and stores it at the place below it.
+    Store(RangeTest),
+    /// Stores the topmost row at the place below it, which has this type.
+    StoreRow(TypeId),
+    /// The selectors that lead on from the topmost place.
+    Select {
+        selectors: &'t [Selector],
+        indexes: &'t [Expr],
+    },
+    /// Tests the topmost value as an index of the place below it.
+    Index(RangeTest),
+    /// The value at the topmost place, tested at the site.
+    Fetch {
+        defined: u32,
+    },
+    Whole {
+        value: &'t Whole,
+        indexes: &'t [Expr],
+    },
+    /// The row at the topmost place, which has this type, tested at the site.
+    FetchRow {
+        type_id: TypeId,
+        defined: u32,
     },
     Value(&'t Expr),
     /// An operation on the topmost value.
@@ -103,6 +104,15 @@ pub enum Work<'t> {
     Links(&'t [Link]),
     /// An operation on the two topmost values.
     Combine(Dyadic),
+    /// The operator with this number and its right side, whose left side is topmost.
+    RightSide {
+        number: u32,
+        relation: Relation,
+        right: &'t Whole,
+        indexes: &'t [Expr],
+    },
+    /// A relation of the two topmost rows.
+    Compare(Relation),
 }
 
 /// Puts a piece of work on top of what is left.

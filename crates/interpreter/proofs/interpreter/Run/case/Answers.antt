@@ -1,8 +1,9 @@
 use Rattle.std.proofs.Common.{◌≡◌, Option, Some, None, Bor, option_map, reverse, sym, ◌∙◌, ap}
 use Rattle.typed_tree.specs.declared.tree.Stmt.{Stmt}
 use Rattle.meaning.specs.Effect.{Reply, and_then}
-use Rattle.meaning.specs.Meaning.{number_of}
-use Rattle.interpreter.specs.Pending.{arm_at, top_of, below_top, pending_of}
+use Rattle.meaning.specs.Effect.{number_of}
+use Rattle.operations.specs.Answers.{arm_at}
+use Rattle.interpreter.specs.Pending.{top_of, below_top, pending_of, operands_of}
 use Rattle.interpreter.proofs.FoundArms.{arm_or_error, arm-found, arm-lightens}
 use Rattle.interpreter.proofs.Resuming.{executing, goes_on_below, stops_below}
 use Rattle.interpreter.proofs.interpreter.Run.case.Goals as goal
@@ -17,7 +18,7 @@ returns-in-Some-clause-fewer c =
 pub returns-in-Some-clause-does : goal.returns-in-Some-clause-does
 returns-in-Some-clause-does c = λ env s agrees.
     let old = c.args.self.now in
-    let operands = reverse old.values.items in
+    let operands = operands_of old in
     let next = pending_of env (reverse old.pending.items) in
     let rows = c.args.constants.now in
     let arms = c.args.arms.now in
@@ -33,7 +34,7 @@ returns-in-Some-clause-does c = λ env s agrees.
 pub returns-in-None-clause-does : goal.returns-in-None-clause-does
 returns-in-None-clause-does c = λ env s agrees.
     let old = c.args.self.now in
-    let operands = reverse old.values.items in
+    let operands = operands_of old in
     let next = pending_of env (reverse old.pending.items) in
     let rows = c.args.constants.now in
     let arms = c.args.arms.now in

@@ -2,14 +2,14 @@ use Rattle.std.proofs.Common.{◌≡◌, true, false, Option, Box, Global, rever
 use Rattle.typed_tree.specs.declared.tree.Stmt.{Stmt}
 use Rattle.meaning.specs.Effect.{and_then}
 use Rattle.meaning.specs.Meaning.{effect_of, is_so}
-use Rattle.interpreter.specs.Pending.{otherwise, top_of, below_top, pending_of}
+use Rattle.interpreter.specs.Pending.{otherwise, top_of, below_top, pending_of, operands_of}
 use Rattle.interpreter.proofs.Resuming.{executing, goes_on_below, chooses}
 use Rattle.interpreter.proofs.interpreter.Run.choose.Goals as goal
 
 pub returns-then-truth_of-clause-does : goal.returns-then-truth_of-clause-does
 returns-then-truth_of-clause-does c = λ env s agrees.
     let old = c.args.self.now in
-    let operands = reverse old.values.items in
+    let operands = operands_of old in
     let next = pending_of env (reverse old.pending.items) in
     let so : is_so (top_of operands) ≡ true = ap is_so (sym c.popped.ensures.top) ∙ sym c.truth_of.ensures ∙ c.if-truth_of.true in
     goes_on_below old c.popped.new.self c.do_next.new.self env s (executing c.args.consequence.now) (below_top operands) c.do_next.result _
@@ -20,7 +20,7 @@ returns-then-truth_of-clause-does c = λ env s agrees.
 pub returns-in-Some-clause-does : goal.returns-in-Some-clause-does
 returns-in-Some-clause-does c = λ env s agrees.
     let old = c.args.self.now in
-    let operands = reverse old.values.items in
+    let operands = operands_of old in
     let next = pending_of env (reverse old.pending.items) in
     let so : is_so (top_of operands) ≡ false = ap is_so (sym c.popped.ensures.top) ∙ sym c.truth_of.ensures ∙ c.if-truth_of.false in
     goes_on_below old c.popped.new.self c.do_next-in-Some.new.self env s (executing c.deref.result.now) (below_top operands)

@@ -2,19 +2,20 @@ use Rattle.std.proofs.Common.{reverse, ◌∙◌, ap, subst}
 use Rattle.interpreter.specs.declared.interpreter.Run.{Run}
 use Rattle.meaning.specs.declared.store.Value.{Value}
 use Rattle.meaning.specs.Meaning.{combined}
-use Rattle.interpreter.specs.Pending.{Answers, top_of, below_top}
+use Rattle.operations.specs.Answers.{Answers}
+use Rattle.interpreter.specs.Pending.{top_of, below_top, operands_of}
 use Rattle.interpreter.proofs.Resuming.{goes_on_by}
 use Rattle.interpreter.proofs.interpreter.Run.combine.Goals as goal
 
 pub returns-clause-does : goal.returns-clause-does
 returns-clause-does c = λ env s agrees.
     let old = c.args.self.now in
-    let operands = reverse old.values.items in
+    let operands = operands_of old in
     let taken = c.popped-left.new.self in
     let answer = c.combined_value.result in
     let right = c.popped-right.ensures in
     let left = c.popped-left.ensures in
-    let same = left.same ∙ ap (λ (r : Run). record r { values = taken.values }) right.same in
+    let same = left.same ∙ ap (λ (r : Run). record r { operands = taken.operands }) right.same in
     let answers : Answers (combined c.args.operation (top_of (below_top operands)) (top_of operands)) answer =
     subst (λ (v : Value). Answers (combined c.args.operation (top_of (below_top operands)) v) answer) right.top
     (subst (λ (v : Value). Answers (combined c.args.operation v c.popped-right.result) answer) (left.top ∙ ap top_of right.below) c.combined_value.ensures) in

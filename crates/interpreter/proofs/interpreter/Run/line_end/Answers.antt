@@ -1,6 +1,6 @@
 use Rattle.std.proofs.Common.{Bool, [], ◌∷◌, ◌++◌, reverse, ap, ◌∙◌}
 use Rattle.meaning.specs.Effect.{State}
-use Rattle.interpreter.specs.Pending.{line_ending, pending_of}
+use Rattle.interpreter.specs.Pending.{line_ending, pending_of, operands_of}
 use Rattle.interpreter.proofs.interpreter.Run.line_end.Goals as goal
 
 pub returns-in_ok-push-clause-does : goal.returns-in_ok-push-clause-does
@@ -10,11 +10,12 @@ returns-in_ok-push-clause-does c = λ env s agrees.
       after,
       record {
         visible = agrees.visible;
+        types = agrees.types;
         store = agrees.store;
         input = agrees.input;
         output = c.in_ok-push.ensures.items ∙ ap (λ out. out ++ 10 ∷ []) agrees.output;
         turns = agrees.turns;
         activations = agrees.activations;
       },
-      ap (λ (b : Bool). line_ending b (pending_of env (reverse old.pending.items)) (reverse old.values.items) s) c.if-ends_line.true,
+      ap (λ (b : Bool). line_ending b (pending_of env (reverse old.pending.items)) (operands_of old) s) c.if-ends_line.true,
     )

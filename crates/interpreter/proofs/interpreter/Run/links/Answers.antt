@@ -6,6 +6,7 @@ use Rattle.typed_tree.specs.declared.tree.Expr.TheFolds.{fold_out-Link}
 use Rattle.std.proofs.lemmas.List.Sums.{sum_by-cons, sum_by_push}
 use Rattle.interpreter.specs.declared.work.Work.{Work}
 use Rattle.interpreter.specs.declared.work.Work.TheVariants as work
+use Rattle.interpreter.specs.Pending.{operands_of}
 use Rattle.interpreter.proofs.Resuming.{continues_as, reverse_pushed}
 use Rattle.interpreter.proofs.Unrolling.{entered, evaluated, does-Links}
 use Rattle.interpreter.proofs.interpreter.Run.links.Goals as goal
@@ -16,8 +17,8 @@ returns-in_ok-put-in-Some-clause-does c = λ env s agrees.
     let first = c.in-Some.first.now in
     let all : c.args.links.now ≡ first ∷ c.in-Some.rest.now = c.in-Some.ensures.cases.0 in
     continues_as env old c.plan.new.self _ _ c.plan.result
-    (does-Links first c.in-Some.rest c.args.links all env (reverse old.pending.items) (reverse old.values.items) s
-    ∙ ap (λ (works : List Work). evaluated env first.operand (work.Combine first.operation ∷ works) (reverse old.values.items) (entered first.number env s))
+    (does-Links first c.in-Some.rest c.args.links all env (reverse old.pending.items) (operands_of old) s
+    ∙ ap (λ (works : List Work). evaluated env first.operand (work.Combine first.operation ∷ works) (operands_of old) (entered first.number env s))
     (sym (reverse_pushed _ _ _ _ c.in_ok-put-in-Some.ensures refl)))
     (c.plan.ensures.does env (entered first.number env s) agrees)
 

@@ -1,14 +1,15 @@
 use Rattle.std.proofs.Common.{reverse, subst}
 use Rattle.meaning.specs.declared.store.Value.{Value}
 use Rattle.meaning.specs.Meaning.{operated}
-use Rattle.interpreter.specs.Pending.{Answers, top_of, below_top}
+use Rattle.operations.specs.Answers.{Answers}
+use Rattle.interpreter.specs.Pending.{top_of, below_top, operands_of}
 use Rattle.interpreter.proofs.Resuming.{goes_on_by}
 use Rattle.interpreter.proofs.interpreter.Run.monadic.Goals as goal
 
 pub returns-clause-does : goal.returns-clause-does
 returns-clause-does c = λ env s agrees.
     let old = c.args.self.now in
-    let operands = reverse old.values.items in
+    let operands = operands_of old in
     let answer = c.operated_value.result in
     let answers : Answers (operated c.args.operation (top_of operands)) answer =
     subst (λ (v : Value). Answers (operated c.args.operation v) answer) c.popped-operand.ensures.top c.operated_value.ensures in

@@ -2,9 +2,9 @@ use mir.Syntax.{w32}
 use mir.Val.{SFits, to_z, of_z}
 use Rattle.std.proofs.lemmas.Int.{ints}
 use Rattle.std.proofs.Common.{◌≡◌, ℤ, rules, arith, Option, reverse, sym, ◌∙◌, ap}
-use Rattle.interpreter.specs.declared.work.Work.TheVariants as work
 use Rattle.meaning.specs.Effect.{and_then, another, looped}
-use Rattle.interpreter.specs.Pending.{Does, resumed, counting, value_before, forgetting, pending_of}
+use Rattle.operations.specs.Answers.{value_before}
+use Rattle.interpreter.specs.Pending.{Does, counting, counting_on, forgetting, pending_of, operands_of}
 use Rattle.interpreter.proofs.Resuming.{continues_as, passed}
 use Rattle.interpreter.proofs.interpreter.Run.next_round.Goals as goal
 
@@ -14,12 +14,12 @@ returns-in-Some-clause-does c = λ env s agrees.
     let each = counting env c.args.control c.args.direction c.args.last c.args.body.now in
     let value_fits : SFits w32 c.in-Some.value = search rules in
     let does : ℤ → ℤ → Type 0 = λ n m.
-    Does (λ env. resumed env (work.For c.args.control c.args.direction n m c.args.body)) old c.do_next.result c.do_next.new.self in
+    Does (λ env. counting_on env c.args.control c.args.direction n m c.args.body.now) old c.for_round.result c.for_round.new.self in
     let last : to_z w32 (of_z w32 c.args.last) ≡ c.args.last = omega (arith, ints, c.ranges.last) in
     let value : to_z w32 (of_z w32 c.args.value) ≡ c.args.value = omega (arith, ints, c.ranges.value) in
     let next = pending_of env (reverse old.pending.items) in
-    continues_as env old c.do_next.new.self _ _ c.do_next.result
-    (ap (λ (o : Option ℤ). and_then (another o (looped each) s) (λ _. forgetting (env c.args.control) next (reverse old.values.items)))
+    continues_as env old c.for_round.new.self _ _ c.for_round.result
+    (ap (λ (o : Option ℤ). and_then (another o (looped each) s) (λ _. forgetting (env.variables c.args.control) next (operands_of old)))
     (sym (ap (value_before c.args.direction c.args.last) value)
     ∙ sym (ap (λ n. value_before c.args.direction n (to_z w32 (of_z w32 c.args.value))) last) ∙ sym c.value_toward.ensures ∙ c.in-Some.is))
-    (passed does c.in-Some.value c.args.last value_fits c.ranges.last c.do_next.ensures.does env s agrees)
+    (passed does c.in-Some.value c.args.last value_fits c.ranges.last c.for_round.ensures.does env s agrees)

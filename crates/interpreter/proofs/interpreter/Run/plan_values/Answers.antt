@@ -1,7 +1,7 @@
 use Rattle.std.proofs.Common.{List, reverse, refl, ap, sym}
 use Rattle.interpreter.specs.declared.work.Work.{Work}
 use Rattle.meaning.specs.Meaning.{value_of}
-use Rattle.interpreter.specs.Pending.{giving, pending_of}
+use Rattle.interpreter.specs.Pending.{giving, pending_of, operands_of}
 use Rattle.interpreter.proofs.Resuming.{continues_as, reverse_pushed}
 use Rattle.interpreter.proofs.interpreter.Run.plan_values.Goals as goal
 
@@ -10,6 +10,6 @@ returns-clause-does c = λ env s agrees.
     let old = c.args.self.now in
     let second = value_of c.args.second.now env in
     continues_as env old c.plan.new.self _ _ c.plan.result
-    (ap (λ (works : List Work). giving (value_of c.args.first.now env) (giving second (pending_of env works)) (reverse old.values.items) s)
+    (ap (λ (works : List Work). giving (value_of c.args.first.now env) (giving second (pending_of env works)) (operands_of old) s)
     (sym (reverse_pushed _ _ _ _ c.in_ok-put.ensures refl)))
     (c.plan.ensures.does env s agrees)

@@ -1,4 +1,5 @@
 use Rattle.std.proofs.Common.{reverse}
+use Rattle.interpreter.specs.Pending.{operands_of}
 use Rattle.interpreter.proofs.Resuming.{continues_as}
 use Rattle.interpreter.proofs.Unrolling.{does-repeat-round}
 use Rattle.interpreter.proofs.interpreter.Run.repeat_round.Goals as goal
@@ -6,6 +7,6 @@ use Rattle.interpreter.proofs.interpreter.Run.repeat_round.Goals as goal
 pub returns-clause-does : goal.returns-clause-does
 returns-clause-does c = λ env s agrees.
     let old = c.args.self.now in
-    continues_as env old c.turn.new.self _ _ c.turn.result
-    (does-repeat-round env c.args.statements c.args.condition (reverse old.pending.items) (reverse old.values.items) s)
-    (c.turn.ensures.does env s agrees)
+    continues_as env old c.tested_turn.new.self _ _ c.tested_turn.result
+    (does-repeat-round env c.args.statements c.args.condition (reverse old.pending.items) (operands_of old) s)
+    (c.tested_turn.ensures.does env s agrees)

@@ -16,35 +16,14 @@ returns-in-Statement-clause-does c = does_as c.args.self.now c.statement.new.sel
 pub returns-in-Choose-clause-does : goal.returns-in-Choose-clause-does
 returns-in-Choose-clause-does c = does_as c.args.self.now c.choose.new.self c.args.work _ c.choose.result c.in-Choose.is c.choose.ensures.does
 
-pub returns-in-While-clause-does : goal.returns-in-While-clause-does
-returns-in-While-clause-does c = does_as c.args.self.now c.while_round.new.self c.args.work _ c.while_round.result c.in-While.is c.while_round.ensures.does
-
 pub returns-in-WhileTurn-clause-does : goal.returns-in-WhileTurn-clause-does
 returns-in-WhileTurn-clause-does c = does_as c.args.self.now c.while_turn.new.self c.args.work _ c.while_turn.result c.in-WhileTurn.is c.while_turn.ensures.does
-
-pub returns-in-Repeat-clause-does : goal.returns-in-Repeat-clause-does
-returns-in-Repeat-clause-does c = does_as c.args.self.now c.repeat_round.new.self c.args.work _ c.repeat_round.result c.in-Repeat.is c.repeat_round.ensures.does
-
-pub returns-in-Until-clause-does : goal.returns-in-Until-clause-does
-returns-in-Until-clause-does c = does_as c.args.self.now c.until.new.self c.args.work _ c.until.result c.in-Until.is c.until.ensures.does
 
 pub returns-in-Unless-clause-does : goal.returns-in-Unless-clause-does
 returns-in-Unless-clause-does c = does_as c.args.self.now c.unless.new.self c.args.work _ c.unless.result c.in-Unless.is c.unless.ensures.does
 
 pub returns-in-Bounds-clause-does : goal.returns-in-Bounds-clause-does
 returns-in-Bounds-clause-does c = does_as c.args.self.now c.bounds.new.self c.args.work _ c.bounds.result c.in-Bounds.is c.bounds.ensures.does
-
-pub returns-in-For-clause-does : goal.returns-in-For-clause-does
-returns-in-For-clause-does c =
-    let given = c.in-For in
-    let old = c.args.self.now in
-    let new = c.for_round.new.self in
-    let fits : SFits w32 given.value = search rules in
-    let last_fits : SFits w32 given.last = search rules in
-    let does : ℤ → ℤ → Type 0 = λ value last.
-    Does (λ env. resumed env (work.For given.control given.direction value last given.body)) old c.for_round.result new in
-    does_as old new c.args.work _ c.for_round.result given.is
-    (passed does given.value given.last fits last_fits c.for_round.ensures.does)
 
 pub returns-in-Next-clause-does : goal.returns-in-Next-clause-does
 returns-in-Next-clause-does c =
@@ -74,10 +53,6 @@ returns-in-Width-clause-does c = does_as c.args.self.now c.width.new.self c.args
 pub returns-in-WidthTest-clause-does : goal.returns-in-WidthTest-clause-does
 returns-in-WidthTest-clause-does c = does_as c.args.self.now c.width_test.new.self c.args.work _ c.width_test.result c.in-WidthTest.is c.width_test.ensures.does
 
-pub returns-in-WriteWhole-clause-does : goal.returns-in-WriteWhole-clause-does
-returns-in-WriteWhole-clause-does c =
-    does_as c.args.self.now c.write_whole.new.self c.args.work _ c.write_whole.result c.in-WriteWhole.is c.write_whole.ensures.does
-
 pub returns-in-Store-clause-does : goal.returns-in-Store-clause-does
 returns-in-Store-clause-does c = does_as c.args.self.now c.store.new.self c.args.work _ c.store.result c.in-Store.is c.store.ensures.does
 
@@ -92,3 +67,33 @@ returns-in-Links-clause-does c = does_as c.args.self.now c.links.new.self c.args
 
 pub returns-in-Combine-clause-does : goal.returns-in-Combine-clause-does
 returns-in-Combine-clause-does c = does_as c.args.self.now c.combine.new.self c.args.work _ c.combine.result c.in-Combine.is c.combine.ensures.does
+
+pub returns-in-WriteRow-clause-does : goal.returns-in-WriteRow-clause-does
+returns-in-WriteRow-clause-does c = does_as c.args.self.now c.write_row.new.self c.args.work _ c.write_row.result c.in-WriteRow.is c.write_row.ensures.does
+
+pub returns-in-WriteRowIn-clause-does : goal.returns-in-WriteRowIn-clause-does
+returns-in-WriteRowIn-clause-does c = does_as c.args.self.now c.write_row_in.new.self c.args.work _ c.write_row_in.result c.in-WriteRowIn.is c.write_row_in.ensures.does
+
+pub returns-in-StoreRow-clause-does : goal.returns-in-StoreRow-clause-does
+returns-in-StoreRow-clause-does c = does_as c.args.self.now c.store_row.new.self c.args.work _ c.store_row.result c.in-StoreRow.is c.store_row.ensures.does
+
+pub returns-in-Select-clause-does : goal.returns-in-Select-clause-does
+returns-in-Select-clause-does c = does_as c.args.self.now c.select.new.self c.args.work _ c.select.result c.in-Select.is c.select.ensures.does
+
+pub returns-in-Index-clause-does : goal.returns-in-Index-clause-does
+returns-in-Index-clause-does c = does_as c.args.self.now c.index.new.self c.args.work _ c.index.result c.in-Index.is c.index.ensures.does
+
+pub returns-in-Fetch-clause-does : goal.returns-in-Fetch-clause-does
+returns-in-Fetch-clause-does c = does_as c.args.self.now c.fetch.new.self c.args.work _ c.fetch.result c.in-Fetch.is c.fetch.ensures.does
+
+pub returns-in-Whole-clause-does : goal.returns-in-Whole-clause-does
+returns-in-Whole-clause-does c = does_as c.args.self.now c.whole.new.self c.args.work _ c.whole.result c.in-Whole.is c.whole.ensures.does
+
+pub returns-in-FetchRow-clause-does : goal.returns-in-FetchRow-clause-does
+returns-in-FetchRow-clause-does c = does_as c.args.self.now c.fetch_row.new.self c.args.work _ c.fetch_row.result c.in-FetchRow.is c.fetch_row.ensures.does
+
+pub returns-in-RightSide-clause-does : goal.returns-in-RightSide-clause-does
+returns-in-RightSide-clause-does c = does_as c.args.self.now c.right_side.new.self c.args.work _ c.right_side.result c.in-RightSide.is c.right_side.ensures.does
+
+pub returns-in-Compare-clause-does : goal.returns-in-Compare-clause-does
+returns-in-Compare-clause-does c = does_as c.args.self.now c.compare.new.self c.args.work _ c.compare.result c.in-Compare.is c.compare.ensures.does

@@ -1,6 +1,6 @@
 use Rattle.std.proofs.Common.{◌≡◌, suc, ◌-◌, reverse, arith, refl, sym, ap, ◌∙◌}
 use Rattle.meaning.specs.Effect.{State, and_then, take_turn}
-use Rattle.interpreter.specs.Pending.{Agrees, pending_of, resumed}
+use Rattle.interpreter.specs.Pending.{Agrees, pending_of, resumed, operands_of}
 use Rattle.interpreter.proofs.Resuming.{continues_as}
 use Rattle.interpreter.proofs.Weights.{turn_weighs}
 use Rattle.interpreter.proofs.interpreter.Run.turn.Goals as goal
@@ -19,6 +19,7 @@ returns-clause-does c = λ env s agrees.
     let after : State = record s { turns = left } in
     let moved : Agrees env (record old { turns = left }) after = record {
       visible = agrees.visible;
+      types = agrees.types;
       store = agrees.store;
       input = agrees.input;
       output = agrees.output;
@@ -27,6 +28,6 @@ returns-clause-does c = λ env s agrees.
     } in
     let works = pending_of env (reverse old.pending.items) in
     continues_as env old c.plan.new.self _ _ c.plan.result
-    (ap (λ n. and_then (take_turn n s) (λ _. resumed env c.args.next (resumed env c.args.later works) (reverse old.values.items)))
+    (ap (λ n. and_then (take_turn n s) (λ _. resumed env c.args.next (resumed env c.args.later works) (operands_of old)))
     (sym agrees.turns ∙ some))
     (c.plan.ensures.does env after moved)

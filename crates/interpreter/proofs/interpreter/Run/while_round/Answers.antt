@@ -1,4 +1,5 @@
 use Rattle.std.proofs.Common.{reverse}
+use Rattle.interpreter.specs.Pending.{operands_of}
 use Rattle.interpreter.proofs.Resuming.{continues_as}
 use Rattle.interpreter.proofs.Unrolling.{does-while-round}
 use Rattle.interpreter.proofs.interpreter.Run.while_round.Goals as goal
@@ -7,5 +8,5 @@ pub returns-clause-does : goal.returns-clause-does
 returns-clause-does c = λ env s agrees.
     let old = c.args.self.now in
     continues_as env old c.plan.new.self _ _ c.plan.result
-    (does-while-round env c.args.condition.now c.args.body.now (reverse old.pending.items) (reverse old.values.items) s)
+    (does-while-round env c.args.condition.now c.args.body.now (reverse old.pending.items) (operands_of old) s)
     (c.plan.ensures.does env s agrees)

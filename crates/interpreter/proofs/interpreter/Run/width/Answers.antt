@@ -1,5 +1,6 @@
 use Rattle.std.proofs.Common.{reverse}
 use Rattle.meaning.specs.Meaning.{default_width}
+use Rattle.interpreter.specs.Pending.{operands_of}
 use Rattle.interpreter.proofs.Resuming.{continues_as}
 use Rattle.interpreter.proofs.Unrolling.{does-Width}
 use Rattle.interpreter.proofs.interpreter.Run.width.Goals as goal
@@ -9,5 +10,5 @@ returns-in-Some-clause-does c = λ env s agrees.
     let old = c.args.self.now in
     continues_as env old c.plan.new.self _ _ c.plan.result
     (does-Width c.args.width.now c.in-Some.width c.in-Some.is (default_width c.args.representation) env (reverse old.pending.items)
-    (reverse old.values.items) s)
+    (operands_of old) s)
     (c.plan.ensures.does env s agrees)

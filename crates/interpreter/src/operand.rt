@@ -1,0 +1,114 @@
+ghost use Rattle.std.specs.Prelude.{◌≡◌, ◌∷◌, OnOk, option_map};
+ghost use Rattle.operations.specs.Answers.{answered};
+ghost use Rattle.interpreter.specs.Pending.{Does, below_top, giving, operand_seen, operands_of, place_in, place_seen};
+ghost use Rattle.interpreter.specs.Pending.{row_in, top_of, top_place, top_row, value_in};
+ghost use Rattle.interpreter.specs.Weight.{pending_weight};
+
+use crate::interpreter::Run;
+use crate::store::Place;
+use meaning::outcome::Ending;
+use meaning::store::{Ordinal, Value};
+use std::alloc::{AllocError, Global};
+
+/// What a run has in hand, on a stack.
+#[derive(Drop)]
+pub enum Operand {
+    Value(Value),
+    /// A place that is accessed; none, where no variable is visible.
+    Place(Option<Place>),
+    /// The numbers of the components of a whole value.
+    Row(Vec<Ordinal>),
+}
+
+impl Operand {
+    // The value that it is.
+    fn value(&self) -> Value
+        ensures { result ≡ value_in (operand_seen self.now) }
+    {
+        match self {
+            Operand::Value(value) => *value,
+            _ => Value::Number(Ordinal::new(0)),
+        }
+    }
+
+    // The place that it is.
+    fn place(self) -> Option<Place>
+        ensures { option_map place_seen result ≡ place_in (operand_seen self) }
+    {
+        match self {
+            Operand::Place(place) => place,
+            _ => None,
+        }
+    }
+
+    // The row that it is.
+    fn row(self, alloc: Global) -> Vec<Ordinal>
+        ensures { result.items ≡ row_in (operand_seen self) }
+    {
+        match self {
+            Operand::Row(row) => row,
+            _ => Vec::new(alloc),
+        }
+    }
+}
+
+// The stack of operands. Each piece of work that takes one follows work that left it.
+impl Run<'_, '_> {
+    // Goes on with a value, or stops at the site of its error.
+    pub(crate) fn go_on(
+        &mut self,
+        value: Result<Value, u32>,
+    ) -> Result<Option<Ending>, AllocError>
+        ensures weight { pending_weight self.new ≡ pending_weight self.old }
+        ensures does { Does (λ env. giving (answered value)) self.old result self.new }
+    {
+        match value {
+            Ok(value) => {
+                self.push(Operand::Value(value))?;
+                Ok(None)
+            }
+            Err(site) => Ok(Some(Ending::Error(site))),
+        }
+    }
+
+    pub(crate) fn push(&mut self, operand: Operand) -> Result<(), AllocError>
+        ensures same { self.new ≡ record self.old { operands = self.new.operands } }
+        ensures top { OnOk result (operands_of self.new ≡ operand_seen operand ∷ operands_of self.old) }
+    {
+        self.operands.push(operand)?;
+        Ok(())
+    }
+
+    // The topmost value.
+    pub(crate) fn popped(&mut self) -> Value
+        ensures same { self.new ≡ record self.old { operands = self.new.operands } }
+        ensures top { result ≡ top_of (operands_of self.old) }
+        ensures below { operands_of self.new ≡ below_top (operands_of self.old) }
+    {
+        match self.operands.pop() {
+            Some(operand) => operand.value(),
+            None => Value::Number(Ordinal::new(0)),
+        }
+    }
+
+    // The topmost place.
+    pub(crate) fn popped_place(&mut self) -> Option<Place>
+        ensures same { self.new ≡ record self.old { operands = self.new.operands } }
+        ensures top { option_map place_seen result ≡ top_place (operands_of self.old) }
+        ensures below { operands_of self.new ≡ below_top (operands_of self.old) }
+    {
+        self.operands.pop()?.place()
+    }
+
+    // The topmost row.
+    pub(crate) fn popped_row(&mut self) -> Vec<Ordinal>
+        ensures same { self.new ≡ record self.old { operands = self.new.operands } }
+        ensures top { result.items ≡ top_row (operands_of self.old) }
+        ensures below { operands_of self.new ≡ below_top (operands_of self.old) }
+    {
+        match self.operands.pop() {
+            Some(operand) => operand.row(self.alloc),
+            None => Vec::new(self.alloc),
+        }
+    }
+}

@@ -1,0 +1,468 @@
+ghost use Rattle.std.specs.Prelude.{◌≡◌, ◌+◌, ◌<◌, ◌≤◌, OnOk};
+ghost use Rattle.typed_tree.specs.WellFormed.{length_of};
+ghost use Rattle.interpreter.specs.Pending.{Does, counting_on, forgetting, line_ending, repeating, resumed, whiling};
+ghost use Rattle.interpreter.specs.Pending.{writing, writing_row};
+ghost use Rattle.interpreter.specs.Weight.{Lightens, for_weight, pending_weight, weight_of_expression};
+ghost use Rattle.interpreter.specs.Weight.{weight_of_statement, weight_of_whole, weight_of_width, while_weight};
+
+use crate::interpreter::Run;
+use crate::work::{Work, put};
+use meaning::outcome::Ending;
+use meaning::store::{Ordinal, Value};
+use operations::arms::arm_at;
+use operations::ordinals::{
+    number_of, positive_width, tested_bounds, truth_of, value_toward, width_by_default,
+};
+use operations::text::{write_row, write_row_in, write_value};
+use std::alloc::AllocError;
+use typed_tree::tree::{
+    Direction, Expr, RangeTest, Representation, Stmt, Whole, Width, WriteParameter, Written,
+};
+
+// The steps of statements.
+impl<'t> Run<'t, '_> {
+    pub(crate) fn statements(&mut self, statements: &'t [Stmt]) -> Result<Option<Ending>, AllocError>
+        ensures fewer { Lightens (Work.Statements statements.entry) self.old result self.new }
+        ensures does { Does (λ env. resumed env (Work.Statements statements.entry)) self.old result self.new }
+    {
+        match statements.split_first() {
+            Some((first, rest)) => self.plan(Work::Statement(first), Work::Statements(rest)),
+            None => Ok(None),
+        }
+    }
+
+    pub(crate) fn statement(&mut self, statement: &'t Stmt) -> Result<Option<Ending>, AllocError>
+        ensures fewer { Lightens (Work.Statement statement.entry) self.old result self.new }
+        ensures does { Does (λ env. resumed env (Work.Statement statement.entry)) self.old result self.new }
+    {
+        match statement {
+            Stmt::Empty { .. } => Ok(None),
+            Stmt::Assign {
+                target,
+                indexes,
+                fits,
+                value,
+                ..
+            } => {
+                put(&mut self.pending, Work::Store(*fits))?;
+                self.access(target, indexes, Work::Value(value))
+            }
+            Stmt::Copy {
+                target,
+                indexes,
+                type_id,
+                value,
+                value_indexes,
+                ..
+            } => {
+                put(&mut self.pending, Work::StoreRow(*type_id))?;
+                self.access(
+                    target,
+                    indexes,
+                    Work::Whole {
+                        value,
+                        indexes: value_indexes,
+                    },
+                )
+            }
+            Stmt::Write {
+                parameters,
+                ends_line,
+                ..
+            } => self.parameters(parameters, *ends_line),
+            Stmt::Compound { statements, .. } => self.statements(statements),
+            Stmt::If {
+                condition,
+                consequence,
+                alternative,
+                ..
+            } => self.plan(
+                Work::Value(condition),
+                Work::Choose {
+                    consequence,
+                    alternative,
+                },
+            ),
+            Stmt::While {
+                condition,
+                body,
+                ..
+            } => self.while_round(condition, body),
+            Stmt::Repeat {
+                statements,
+                condition,
+                ..
+            } => self.repeat_round(statements, condition),
+            Stmt::For {
+                control,
+                first,
+                first_fits,
+                direction,
+                last,
+                last_fits,
+                body,
+                ..
+            } => self.plan_values(
+                first,
+                last,
+                Work::Bounds {
+                    control: *control,
+                    first_fits: *first_fits,
+                    direction: *direction,
+                    last_fits: *last_fits,
+                    body,
+                },
+            ),
+            Stmt::Case {
+                site,
+                index,
+                constants,
+                arms,
+                ..
+            } => self.plan(
+                Work::Value(index),
+                Work::Case {
+                    site: *site,
+                    constants,
+                    arms,
+                },
+            ),
+        }
+    }
+
+    pub(crate) fn choose(
+        &mut self,
+        consequence: &'t Stmt,
+        alternative: &'t Option<Box<Stmt>>,
+    ) -> Result<Option<Ending>, AllocError>
+        ensures fewer { Lightens (Work.Choose consequence.entry alternative.entry) self.old result self.new }
+        ensures does { Does (λ env. resumed env (Work.Choose consequence.entry alternative.entry))
+            self.old result self.new }
+    {
+        if truth_of(self.popped()) {
+            self.do_next(Work::Statement(consequence))
+        } else if let Some(statement) = alternative {
+            self.do_next(Work::Statement(statement))
+        } else {
+            Ok(None)
+        }
+    }
+
+    // The rounds of a while.
+    fn while_round(
+        &mut self,
+        condition: &'t Expr,
+        body: &'t Stmt,
+    ) -> Result<Option<Ending>, AllocError>
+        ensures fewer { OnOk result (pending_weight self.new < pending_weight self.old
+            + while_weight (weight_of_expression condition.now) (weight_of_statement body.now) self.old.turns) }
+        ensures does { Does (λ env. whiling env condition.now body.now) self.old result self.new }
+    {
+        self.plan(
+            Work::Value(condition),
+            Work::WhileTurn { condition, body },
+        )
+    }
+
+    pub(crate) fn while_turn(
+        &mut self,
+        condition: &'t Expr,
+        body: &'t Stmt,
+    ) -> Result<Option<Ending>, AllocError>
+        ensures fewer { Lightens (Work.WhileTurn condition.entry body.entry) self.old result self.new }
+        ensures does { Does (λ env. resumed env (Work.WhileTurn condition.entry body.entry))
+            self.old result self.new }
+    {
+        if truth_of(self.popped()) {
+            self.tested_turn(
+                Work::Statement(body),
+                condition,
+                Work::WhileTurn { condition, body },
+            )
+        } else {
+            Ok(None)
+        }
+    }
+
+    // The rounds of a repeat.
+    fn repeat_round(
+        &mut self,
+        statements: &'t [Stmt],
+        condition: &'t Expr,
+    ) -> Result<Option<Ending>, AllocError>
+        ensures fewer { Lightens (Work.Unless statements.entry condition.entry) self.old result self.new }
+        ensures does { Does (λ env. repeating env statements.now condition.now) self.old result self.new }
+    {
+        self.tested_turn(
+            Work::Statements(statements),
+            condition,
+            Work::Unless {
+                statements,
+                condition,
+            },
+        )
+    }
+
+    pub(crate) fn unless(
+        &mut self,
+        statements: &'t [Stmt],
+        condition: &'t Expr,
+    ) -> Result<Option<Ending>, AllocError>
+        ensures fewer { Lightens (Work.Unless statements.entry condition.entry) self.old result self.new }
+        ensures does { Does (λ env. resumed env (Work.Unless statements.entry condition.entry))
+            self.old result self.new }
+    {
+        if truth_of(self.popped()) {
+            Ok(None)
+        } else {
+            self.repeat_round(statements, condition)
+        }
+    }
+
+    pub(crate) fn bounds(
+        &mut self,
+        control: u32,
+        first_fits: RangeTest,
+        direction: Direction,
+        last_fits: RangeTest,
+        body: &'t Stmt,
+    ) -> Result<Option<Ending>, AllocError>
+        ensures fewer { Lightens (Work.Bounds control first_fits direction last_fits body.entry)
+            self.old result self.new }
+        ensures does { Does (λ env. resumed env (Work.Bounds control first_fits direction last_fits body.entry))
+            self.old result self.new }
+    {
+        let last = self.popped();
+        let first = self.popped();
+        match tested_bounds(direction, first_fits, first, last_fits, last) {
+            Ok(Some((value, last))) => self.for_round(control, direction, value, last, body),
+            Ok(None) => self.forget(control),
+            Err(site) => Ok(Some(Ending::Error(site))),
+        }
+    }
+
+    // The rounds of a for, from a value of its control variable on.
+    fn for_round(
+        &mut self,
+        control: u32,
+        direction: Direction,
+        value: i32,
+        last: i32,
+        body: &'t Stmt,
+    ) -> Result<Option<Ending>, AllocError>
+        ensures fewer { OnOk result (pending_weight self.new
+            < pending_weight self.old + for_weight (weight_of_statement body.now) self.old.turns) }
+        ensures does { Does (λ env. counting_on env control direction value last body.now) self.old result self.new }
+    {
+        let place = self.place(control);
+        self.keep(place, Value::Number(Ordinal::new(value)))?;
+        self.turn(
+            Work::Statement(body),
+            Work::Next {
+                control,
+                direction,
+                value,
+                last,
+                body,
+            },
+        )
+    }
+
+    pub(crate) fn next_round(
+        &mut self,
+        control: u32,
+        direction: Direction,
+        value: i32,
+        last: i32,
+        body: &'t Stmt,
+    ) -> Result<Option<Ending>, AllocError>
+        ensures fewer { Lightens (Work.Next control direction value last body.entry) self.old result self.new }
+        ensures does { Does (λ env. resumed env (Work.Next control direction value last body.entry))
+            self.old result self.new }
+    {
+        match value_toward(direction, last, value) {
+            Some(value) => self.for_round(control, direction, value, last, body),
+            None => self.forget(control),
+        }
+    }
+
+    // Behind a for its control variable is undefined.
+    fn forget(&mut self, control: u32) -> Result<Option<Ending>, AllocError>
+        ensures weight { pending_weight self.new ≡ pending_weight self.old }
+        ensures does { Does (λ env. forgetting (env.variables control)) self.old result self.new }
+    {
+        let place = self.place(control);
+        self.lose(&place);
+        Ok(None)
+    }
+
+    pub(crate) fn case(
+        &mut self,
+        site: u32,
+        constants: &'t [Vec<i32>],
+        arms: &'t [Stmt],
+    ) -> Result<Option<Ending>, AllocError>
+        ensures fewer { Lightens (Work.Case site constants.entry arms.entry) self.old result self.new }
+        ensures does { Does (λ env. resumed env (Work.Case site constants.entry arms.entry)) self.old result self.new }
+    {
+        let index = number_of(self.popped());
+        match arm_at(constants, arms, index) {
+            Some(arm) => self.do_next(Work::Statement(arm)),
+            None => Ok(Some(Ending::Error(site))),
+        }
+    }
+
+    pub(crate) fn parameters(
+        &mut self,
+        parameters: &'t [WriteParameter],
+        ends_line: bool,
+    ) -> Result<Option<Ending>, AllocError>
+        ensures fewer { Lightens (Work.Parameters parameters.entry ends_line) self.old result self.new }
+        ensures does { Does (λ env. resumed env (Work.Parameters parameters.entry ends_line)) self.old result self.new }
+    {
+        match parameters.split_first() {
+            Some((first, rest)) => self.plan(
+                Work::Parameter(first),
+                Work::Parameters {
+                    parameters: rest,
+                    ends_line,
+                },
+            ),
+            None => self.line_end(ends_line),
+        }
+    }
+
+    pub(crate) fn parameter(&mut self, parameter: &'t WriteParameter) -> Result<Option<Ending>, AllocError>
+        ensures fewer { Lightens (Work.Parameter parameter.entry) self.old result self.new }
+        ensures does { Does (λ env. resumed env (Work.Parameter parameter.entry)) self.old result self.new }
+    {
+        match &parameter.value {
+            Written::Ordinal {
+                value,
+                representation,
+            } => self.ordinal(value, *representation, &parameter.width),
+            Written::String { value, indexes } => self.string(value, indexes, &parameter.width),
+        }
+    }
+
+    // An ordinal that is written: its value, and then its width.
+    fn ordinal(
+        &mut self,
+        value: &'t Expr,
+        representation: Representation,
+        width: &'t Option<Width>,
+    ) -> Result<Option<Ending>, AllocError>
+        ensures weight { OnOk result (pending_weight self.new ≡ pending_weight self.old + 1
+            + weight_of_width width.now self.old.turns + weight_of_expression value.now self.old.turns) }
+        ensures does { Does (λ env. writing env value.now representation width.now) self.old result self.new }
+    {
+        put(&mut self.pending, Work::Write(representation))?;
+        self.plan(
+            Work::Value(value),
+            Work::Width {
+                width,
+                representation,
+            },
+        )
+    }
+
+    // A string that is written: its components, and then its width, or its length.
+    fn string(
+        &mut self,
+        value: &'t Whole,
+        indexes: &'t [Expr],
+        width: &'t Option<Width>,
+    ) -> Result<Option<Ending>, AllocError>
+        ensures weight { OnOk result (pending_weight self.new ≤ pending_weight self.old + 1
+            + weight_of_whole value.now indexes.now self.old.turns + weight_of_width width.now self.old.turns) }
+        ensures does { Does (λ env. writing_row env value.now indexes.now width.now) self.old result self.new }
+    {
+        match width {
+            Some(width) => {
+                put(&mut self.pending, Work::WriteRow)?;
+                put(&mut self.pending, Work::WidthTest { site: width.site })?;
+                self.plan(Work::Whole { value, indexes }, Work::Value(&width.value))
+            }
+            None => self.plan(
+                Work::Whole { value, indexes },
+                Work::WriteRowIn {
+                    places: length_of(value),
+                },
+            ),
+        }
+    }
+
+    pub(crate) fn width(
+        &mut self,
+        width: &'t Option<Width>,
+        representation: Representation,
+    ) -> Result<Option<Ending>, AllocError>
+        ensures fewer { Lightens (Work.Width width.entry representation) self.old result self.new }
+        ensures does { Does (λ env. resumed env (Work.Width width.entry representation)) self.old result self.new }
+    {
+        match width {
+            Some(width) => self.plan(
+                Work::Value(&width.value),
+                Work::WidthTest { site: width.site },
+            ),
+            None => self.go_on(Ok(width_by_default(representation))),
+        }
+    }
+
+    pub(crate) fn width_test(&mut self, site: u32) -> Result<Option<Ending>, AllocError>
+        ensures weight { pending_weight self.new ≡ pending_weight self.old }
+        ensures does { Does (λ env. resumed env (Work.WidthTest site)) self.old result self.new }
+    {
+        let width = self.popped();
+        self.go_on(positive_width(width, site))
+    }
+
+    pub(crate) fn write(&mut self, representation: Representation) -> Result<Option<Ending>, AllocError>
+        ensures weight { pending_weight self.new ≡ pending_weight self.old }
+        ensures does { Does (λ env. resumed env (Work.Write representation)) self.old result self.new }
+    {
+        let width = self.popped();
+        let value = self.popped();
+        write_value(self.alloc, &mut self.output, representation, value, width)?;
+        Ok(None)
+    }
+
+    pub(crate) fn write_row(&mut self) -> Result<Option<Ending>, AllocError>
+        ensures weight { pending_weight self.new ≡ pending_weight self.old }
+        ensures does { Does (λ env. resumed env Work.WriteRow) self.old result self.new }
+    {
+        let width = self.popped();
+        let row = self.popped_row();
+        write_row(&mut self.output, &row, width)?;
+        Ok(None)
+    }
+
+    pub(crate) fn write_row_in(&mut self, places: usize) -> Result<Option<Ending>, AllocError>
+        ensures weight { pending_weight self.new ≡ pending_weight self.old }
+        ensures does { Does (λ env. resumed env (Work.WriteRowIn places)) self.old result self.new }
+    {
+        let row = self.popped_row();
+        write_row_in(&mut self.output, &row, places)?;
+        Ok(None)
+    }
+
+    fn line_end(&mut self, ends_line: bool) -> Result<Option<Ending>, AllocError>
+        ensures weight { pending_weight self.new ≡ pending_weight self.old }
+        ensures does { Does (λ env. line_ending ends_line) self.old result self.new }
+    {
+        if ends_line {
+            self.output.push(b'\n')?;
+        }
+        Ok(None)
+    }
+}
+
+// How many components a whole value has.
+fn length_of(value: &Whole) -> usize
+    ensures { result ≡ length_of value.now }
+{
+    match value {
+        Whole::Text { characters, .. } => characters.len(),
+        Whole::Variable { cells, .. } => *cells as usize,
+    }
+}

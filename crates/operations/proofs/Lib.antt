@@ -1,0 +1,2 @@
+mod FoundArms
+mod RowOrder

@@ -1,0 +1,64 @@
+-- What the operations of the language answer: a value, or the site of an error; the numbers and arms that a test lets
+-- through (ISO 7185:1990, 6.7.2, 6.8.3, 6.9.3).
+-- It says nothing of how they are calculated.
+use Rattle.std.specs.Prelude.{◌≡◌, ℕ, ℤ, List, [], ◌∷◌, Option, Some, None, Result, Ok, Err, Vec}
+use Rattle.std.specs.Prelude.{int_lt, if◌then◌else◌}
+use Rattle.std.specs.declared.alloc.Global.{Global}
+use Rattle.types.specs.declared.form.OrdinalRange.{OrdinalRange}
+use Rattle.typed_tree.specs.declared.tree.Direction.{Direction}
+use Rattle.typed_tree.specs.declared.tree.Direction.TheVariants.{To, DownTo}
+use Rattle.typed_tree.specs.declared.tree.RangeTest.{RangeTest}
+use Rattle.typed_tree.specs.declared.tree.Stmt.{Stmt}
+use Rattle.meaning.specs.declared.outcome.Ending.TheVariants as ending
+use Rattle.meaning.specs.declared.store.Value.{Value}
+use Rattle.meaning.specs.declared.store.Value.TheVariants.{Number}
+use Rattle.meaning.specs.Effect.{State, Action, ◌>>=◌, give, stop, require, is_in, is_positive}
+use Rattle.meaning.specs.Meaning.{is_among}
+use Rattle.meaning.specs.Counting.{has_values, next_value}
+
+-- a value, or an error at a site
+abbrev pub answered : Result Value ℕ → Action Value
+answered (Ok v) = give v
+answered (Err site) = stop (ending.Error site)
+
+-- a result is the value that an action gives, or the site of the error where it stops
+abbrev pub Answers : Action Value → Result Value ℕ → Type 0
+Answers action result = (s : State) → action s ≡ answered result s
+
+-- a number in a range, or the site of its test
+abbrev pub number_tested : RangeTest → ℤ → Result ℤ ℕ
+number_tested fits n = if is_in fits.range (Number n) then Ok n else Err fits.site
+
+-- two bounds, the first tested first
+abbrev pub both_bounds : Result ℤ ℕ → Result ℤ ℕ → Result (Option (ℤ × ℤ)) ℕ
+both_bounds (Err site) last = Err site
+both_bounds (Ok first) (Err site) = Err site
+both_bounds (Ok first) (Ok last) = Ok (Some (first, last))
+
+-- the bounds of a for, if they leave any value between them
+abbrev pub bounds_tested : Direction → RangeTest → Value → RangeTest → Value → Result (Option (ℤ × ℤ)) ℕ
+bounds_tested direction first_fits (Number first) last_fits (Number last) =
+    if has_values direction first last
+    then both_bounds (number_tested first_fits first) (number_tested last_fits last)
+    else Ok None
+
+-- the arm at a value of the index of a case, if any constants hold it
+abbrev pub arm_at : List (Vec ℤ Global) → List Stmt → ℤ → Option Stmt
+arm_at [] arms n = None
+arm_at (row ∷ rows) [] n = None
+arm_at (row ∷ rows) (arm ∷ arms) n = if is_among row.items n then Some arm else arm_at rows arms n
+
+-- the next value of a control variable on its way to the last one
+abbrev pub value_before : Direction → ℤ → ℤ → Option ℤ
+value_before To last n = if int_lt n last then Some (next_value To n) else None
+value_before DownTo last n = if int_lt last n then Some (next_value DownTo n) else None
+
+-- a value, if it lies in a range
+abbrev pub checked : OrdinalRange → Value → Option Value
+checked range v = if is_in range v then Some v else None
+
+-- a width, tested at a site
+abbrev pub positive : ℕ → Value → Action Value
+positive site w = do
+  _ ← require (is_positive w) site
+  give w

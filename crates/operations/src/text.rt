@@ -1,0 +1,120 @@
+ghost use Rattle.std.specs.Prelude.{◌≡◌, ◌++◌, OnOk, map, pos, replicate};
+ghost use Rattle.meaning.specs.Effect.{boolean_text, char_text, integer_text, places, row_text, string_text, text_of};
+ghost use Rattle.meaning.specs.Integers.{byte_of};
+
+use meaning::store::{Ordinal, Value};
+use std::alloc::{AllocError, Global};
+use typed_tree::tree::Representation;
+
+/// Writes a value in a width (ISO 7185:1990, 6.9.3).
+pub fn write_value(
+    alloc: Global,
+    output: &mut Vec<u8>,
+    representation: Representation,
+    value: Value,
+    width: Value,
+) -> Result<(), AllocError>
+    ensures { OnOk result (output.new.items ≡ output.old.items ++ text_of representation value width) }
+{
+    let Value::Number(number) = value;
+    let Value::Number(width) = width;
+    match representation {
+        Representation::Char => write_char(output, number, width),
+        Representation::Integer => write_integer(alloc, output, number, width),
+        Representation::Boolean => write_boolean(output, number, width),
+    }
+}
+
+/// Writes a string, by its components, in a width (ISO 7185:1990, 6.9.3.6).
+pub fn write_row(output: &mut Vec<u8>, row: &[Ordinal], width: Value) -> Result<(), AllocError>
+    ensures { OnOk result (output.new.items ≡ output.old.items ++ row_text row.now width) }
+{
+    let Value::Number(width) = width;
+    write_row_in(output, row, places_in(width))
+}
+
+/// Writes a string, by its components, in so many places: it is set right in them, or cut to its first characters.
+pub fn write_row_in(output: &mut Vec<u8>, row: &[Ordinal], places: usize) -> Result<(), AllocError>
+    ensures { OnOk result (output.new.items ≡ output.old.items ++ row_text row.now (Value.Number (pos places))) }
+{
+    if places < row.len() {
+        write_bytes(output, &row[..places])
+    } else {
+        indent(output, places - row.len())?;
+        write_bytes(output, row)
+    }
+}
+
+// Writes the characters with these numbers.
+fn write_bytes(output: &mut Vec<u8>, row: &[Ordinal]) -> Result<(), AllocError>
+    ensures { OnOk result (output.new.items ≡ output.old.items ++ map byte_of row.now) }
+{
+    for number in row {
+        output.push(number.byte())?;
+    }
+    Ok(())
+}
+
+// A character is set right in its width and never cut.
+fn write_char(output: &mut Vec<u8>, number: Ordinal, width: Ordinal) -> Result<(), AllocError>
+    ensures { OnOk result (output.new.items ≡ output.old.items ++ char_text number width) }
+{
+    indent(output, places_in(width).saturating_sub(1))?;
+    output.push(number.byte())?;
+    Ok(())
+}
+
+// An integer is set right in its width and never cut.
+fn write_integer(
+    alloc: Global,
+    output: &mut Vec<u8>,
+    number: Ordinal,
+    width: Ordinal,
+) -> Result<(), AllocError>
+    ensures { OnOk result (output.new.items ≡ output.old.items ++ integer_text number width) }
+{
+    let digits = number.number().to_string(alloc)?;
+    indent(output, places_in(width).saturating_sub(digits.len()))?;
+    output.extend_from_slice(digits.as_bytes())
+}
+
+// A Boolean is written as a string.
+fn write_boolean(output: &mut Vec<u8>, number: Ordinal, width: Ordinal) -> Result<(), AllocError>
+    ensures { OnOk result (output.new.items ≡ output.old.items ++ boolean_text number width) }
+{
+    if number.is_true() {
+        write_string(output, b"true", width)
+    } else {
+        write_string(output, b"false", width)
+    }
+}
+
+// A string is set right in its width, or cut to its first characters.
+fn write_string(output: &mut Vec<u8>, text: &[u8], width: Ordinal) -> Result<(), AllocError>
+    ensures { OnOk result (output.new.items ≡ output.old.items ++ string_text text.now width) }
+{
+    let places = places_in(width);
+    if places < text.len() {
+        output.extend_from_slice(&text[..places])
+    } else {
+        indent(output, places - text.len())?;
+        output.extend_from_slice(text)
+    }
+}
+
+// How many places a width gives.
+fn places_in(width: Ordinal) -> usize
+    ensures { result ≡ places width }
+{
+    usize::try_from(width.number()).unwrap_or(0)
+}
+
+// Writes spaces.
+fn indent(output: &mut Vec<u8>, count: usize) -> Result<(), AllocError>
+    ensures { OnOk result (output.new.items ≡ output.old.items ++ replicate count 32) }
+{
+    for _space in 0..count {
+        output.push(b' ')?;
+    }
+    Ok(())
+}
