@@ -1,5 +1,5 @@
 use Rattle.std.proofs.Common.{◌≡◌, ◌∷◌, List, ℤ, Option, Some, None, option_map, reverse, sym, ap, ◌∙◌}
-use Rattle.types.specs.declared.form.TypeForm.{TypeForm}
+use Rattle.types.specs.Forms.{Form}
 use Rattle.types.specs.Components.{components_of}
 use Rattle.interpreter.specs.declared.interpreter.Run.{Run}
 use Rattle.meaning.specs.Store.{Place}
@@ -22,7 +22,7 @@ returns-in-Some-clause-does c = λ env s agrees.
     let same : new ≡ record old { operands = new.operands } = c.push.ensures.same ∙ ap (λ (r : Run). record r { operands = new.operands }) top.same in
     let agreed = agreed_below old popped env s top.same agrees in
     let held : held_all s.store place components ≡ Some row =
-    ap (held_all s.store place) (ap (λ (l : List TypeForm). components_of l c.args.type_id) agreed.types)
+    ap (held_all s.store place) (ap (λ (l : List Form). components_of l c.args.type_id) agreed.types)
     ∙ sym (c.in_ok-row.ensures s.store agreed.store ∙ ap (λ (p : Option Place). held_all s.store p (components_of popped.types.now c.args.type_id)) top.top)
     ∙ ap (option_map items_of) c.in-Some.is in
     goes_on_to env old new s works (OfRow row ∷ below_top (operands_of old)) _ (agreed_below old new env s same agrees)
@@ -40,7 +40,7 @@ returns-clause-does c = λ env s agrees.
     let works = reverse old.pending.items in
     let agreed = agreed_below old popped env s top.same agrees in
     let held : held_all s.store place components ≡ None =
-    ap (held_all s.store place) (ap (λ (l : List TypeForm). components_of l c.args.type_id) agreed.types)
+    ap (held_all s.store place) (ap (λ (l : List Form). components_of l c.args.type_id) agreed.types)
     ∙ sym (c.in_ok-row.ensures s.store agreed.store ∙ ap (λ (p : Option Place). held_all s.store p (components_of popped.types.now c.args.type_id)) top.top)
     ∙ ap (option_map items_of) c.in-None.is in
     stops_below old popped env s _ _ top.same

@@ -1,6 +1,6 @@
 use Rattle.std.proofs.Common.{◌≡◌, ◌+◌, ◌∷◌, ◌<◌, ◌≤◌, [], drop, length, List, ℤ, option_map, slice_index_or, get_or, arith, subst, sym, ap, ◌∙◌}
 use Rattle.std.proofs.lemmas.List.{drop_all}
-use Rattle.types.specs.declared.form.TypeForm.{TypeForm}
+use Rattle.types.specs.Forms.{Form}
 use Rattle.types.specs.Components.{components_of}
 use Rattle.types.proofs.Laid.{length_components}
 use Rattle.meaning.specs.declared.store.Value.TheVariants.{Number}
@@ -25,7 +25,7 @@ loop-component-preserved c =
     let here_too : i < length c.args.row.now = omega (arith, c.in-Some.ensures.lookup) in
     let found : number ≡ get_or c.args.row.now i number = c.in-Some.ensures.lookup.1 in
     let here = c.in_ok-part.ensures
-    ∙ ap (λ (l : List TypeForm). part place (slice_index_or (components_of l c.args.type_id) i [])) (ap (λ (r : Run). r.types.now) now.invariant.0) in (
+    ∙ ap (λ (l : List Form). part place (slice_index_or (components_of l c.args.type_id) i [])) (ap (λ (r : Run). r.types.now) now.invariant.0) in (
       c.keep.ensures.same ∙ ap (λ (r : Run). record r { store = new.store }) now.invariant.0,
       λ s agrees.
           let before = now.invariant.1 s agrees in (

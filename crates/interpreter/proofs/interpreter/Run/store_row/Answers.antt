@@ -1,5 +1,5 @@
 use Rattle.std.proofs.Common.{◌≡◌, List, ℤ, Option, reverse, subst, sym, ap, ◌∙◌}
-use Rattle.types.specs.declared.form.TypeForm.{TypeForm}
+use Rattle.types.specs.Forms.{Form}
 use Rattle.types.specs.Components.{components_of}
 use Rattle.interpreter.specs.declared.interpreter.Run.{Run}
 use Rattle.meaning.specs.Store.{Place}
@@ -27,7 +27,7 @@ returns-clause-does c = λ env s agrees.
     let moved : Agrees env (record popped { store = new.store }) after = record {
       visible = agreed.visible;
       types = agreed.types;
-      store = subst (λ (l : List TypeForm). StoreAgrees new.store (kept_all s.store place (components_of l c.args.type_id) row)) (sym agreed.types)
+      store = subst (λ (l : List Form). StoreAgrees new.store (kept_all s.store place (components_of l c.args.type_id) row)) (sym agreed.types)
           (subst (λ (l : List ℤ). StoreAgrees new.store (kept_all s.store place (components_of popped.types.now c.args.type_id) l))
           (c.deref.ensures.value ∙ top.top)
           (subst (λ (p : Option Place). StoreAgrees new.store (kept_all s.store p (components_of popped.types.now c.args.type_id) c.deref.result.now))
