@@ -31,7 +31,8 @@ module _ (denoters : List TypeDenoter) (before : List (List ℕ)) where
   pub denoter_next : (i : ℕ) (denoter : TypeDenoter) (keys : List (List ℕ)) → i < length denoters → denoter ≡ get_or denoters i denoter
       → AreNamesFrom i keys → AreNamesFrom (i + 1) (keys ++ all_folded (denoter_names denoter))
   denoter_next i denoter keys within is left =
-      left ∙ ap (λ l. keys ++ all_folded l) (next_names denoters i denoter within is) ∙ folded_both keys (denoter_names denoter) (names_in (drop (i + 1) denoters))
+      left ∙ ap (λ l. keys ++ all_folded l) (next_names denoters i denoter within is)
+      ∙ folded_both keys (denoter_names denoter) (names_in (drop (i + 1) denoters))
 
   -- all are met
   pub denoters_end : (i : ℕ) (keys : List (List ℕ)) → length denoters ≤ i → AreNamesFrom i keys → before ++ all_folded (names_in denoters) ≡ keys

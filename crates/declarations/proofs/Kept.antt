@@ -36,7 +36,8 @@ use Rattle.typing.specs.Steps.{told, fits, value_of, pass, find, declare, added,
 use Rattle.typing.specs.Strings.{string_characters, string_type, string_constant}
 use Rattle.typing.specs.Constants.{as_constant, as_ordinal, behind_sign, unsigned_constant, constant, ordinal_constant}
 use Rattle.typing.specs.Denoters.{named_type, type_of_name, constants_from, enumeration, between, subrange, denoted_type}
-use Rattle.typing.specs.Denoters.{WrittenDenoter, written_denoter, denoter_step, index_type, index_types, arrays, array, named_fields, grouped_fields, record_type}
+use Rattle.typing.specs.Denoters.{WrittenDenoter, written_denoter, denoter_step, index_type, index_types, arrays, array}
+use Rattle.typing.specs.Denoters.{named_fields, grouped_fields, record_type}
 use Rattle.typing.specs.Typing.{definition, type_definition, parameter_of_program, variable, group}
 use Rattle.declarations.specs.Known.{AreKnown, AreKnownDefinitions, AreKnownTypes, AreKnownGroups}
 

@@ -1,6 +1,6 @@
 -- Type denoters: how their typing goes on from that of their parts.
-use Rattle.std.proofs.Common.{◌≡◌, ℕ, ◌+◌, ◌<◌, ◌≤◌, Bool, List, [], ◌∷◌, ◌++◌, map, length, drop, get_or, Ok, Err, Vec, inl, inr, refl, sym, ap, ap₂, subst, ◌∙◌}
-use Rattle.std.proofs.Common.{append_assoc, append-nil, min, Box, ◌⊎◌, arith}
+use Rattle.std.proofs.Common.{◌≡◌, ℕ, ◌+◌, ◌<◌, ◌≤◌, Bool, List, [], ◌∷◌, ◌++◌, map, length, drop, get_or, Ok, Err, Vec, inl, inr, refl, sym}
+use Rattle.std.proofs.Common.{ap, ap₂, subst, ◌∙◌, append_assoc, append-nil, min, Box, ◌⊎◌, arith}
 use Rattle.std.proofs.lemmas.Bool.{cases_lt}
 use Rattle.std.specs.declared.alloc.Global.{Global}
 use Rattle.std.proofs.lemmas.List.{drop_more, at_drop_all}
@@ -258,7 +258,8 @@ module _ (names : List Name) (d : TypeDenoter) (packed : Bool) (place : Place) (
   fields_stop why (inr stops) = inr (record_goes ∙ ap behind_fields stops)
 
   -- it goes on behind them
-  pub record_goes_on : (fields : List FieldForm) (new : Passed) → grouped_fields names [] (fields_of kept (map written_denoter row)) now ≡ Ok (after fields [] new)
+  pub record_goes_on : (fields : List FieldForm) (new : Passed)
+      → grouped_fields names [] (fields_of kept (map written_denoter row)) now ≡ Ok (after fields [] new)
       → denoted_type names d old ≡ add_type place (Record packed fields) new
   record_goes_on fields new goes =
       record_goes ∙ ap behind_fields goes ∙ behind_nothing (behind_marks [] (add_type place (Record packed fields) new))

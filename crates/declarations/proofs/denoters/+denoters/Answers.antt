@@ -46,8 +46,8 @@ denoted_type-denoted_type-requires t c =
     let parts = ap denoter_names it.is ∙ names_of_array it.packed it.place it.indexes it.element in
     let known = others_known old.regions (names_in it.indexes.items) element (subst (λ names. AreKnown names old.regions) parts c.requires.known) in
     let still = names_stay (pass it.place) (pass_keeps it.place) tt [] old between c.pass.ensures element known in
-    let last = names_stay (index_types names it.place (map written_denoter indexes)) (types_keep names it.place indexes) c.in_ok-indexes-in-Array.indexes.items []
-    between new c.in_ok-indexes-in-Array.ensures element still in
+    let last = names_stay (index_types names it.place (map written_denoter indexes)) (types_keep names it.place indexes)
+    c.in_ok-indexes-in-Array.indexes.items [] between new c.in_ok-indexes-in-Array.ensures element still in
     (search (rules, the_lemmas), subst (λ d. AreKnown (denoter_names d) new.regions) (sym c.deref-in-Array-2.ensures) last)
 
 -- its index types stop
