@@ -1,9 +1,8 @@
-use Rattle.std.proofs.Common.{rules, Err, ◌⊎◌, ◌≡◌, ◌+◌, ◌≤◌, List, [], ◌∷◌, ◌++◌, drop, length, map, min, ap, ap₂, subst, sym, ◌∙◌, length-append, arith}
+use Rattle.std.proofs.Common.{rules, Err, ◌⊎◌, ◌≡◌, ◌+◌, ◌≤◌, [], ◌∷◌, ◌++◌, drop, length, map, min, ap, ap₂, subst, sym, ◌∙◌, length-append, arith}
 use Rattle.std.proofs.lemmas.Slice.Zip.{zip_turn, zip_end}
 use denote.Param.Weighed.{most, at_most}
 use Rattle.syntax_tree.specs.declared.TypeDenoter.{size-TypeDenoter, the_lemmas}
 use Rattle.types.specs.Forms.{field_form}
-use Rattle.types.specs.declared.form.TypeId.{TypeId}
 use Rattle.typed_tree.specs.declared.fault.TypeFault.TheVariants.{Memory}
 use Rattle.typing.specs.Denoters.{arrays, denoted_type, index_type, index_types, named_fields, written_denoter}
 use Rattle.typing.specs.Names.{denoter_names}
@@ -109,8 +108,9 @@ index_types-loop-denoter-preserved t c =
     let passes = c.in_ok-index_type.ensures in
     let next = types_next written_denoter names place denoters old i denoter here.ids.items here.typer c.loop-denoter-test.true c.denoter-item.is
     here.invariant.left c.in_ok-index_type.field-0 new passes in
+    let ids : here.ids.items ++ c.in_ok-index_type.field-0 ∷ [] ≡ c.push.new.self.items = search (rules, c.in_ok-push.ensures.items) in
     record {
-      left = subst (λ ids. AreTypesFrom written_denoter names place denoters old (i + 1) ids new) (sym {A = List TypeId} c.in_ok-push.ensures.items) next;
+      left = subst (λ ids. AreTypesFrom written_denoter names place denoters old (i + 1) ids new) ids next;
       known = names_stay (index_type names place (written_denoter denoter)) (index_keeps names place denoter) c.in_ok-index_type.field-0 [] here.typer new
           passes rest (others_known here.typer.regions (denoter_names denoter) rest known);
     }
