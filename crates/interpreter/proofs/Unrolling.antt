@@ -34,7 +34,7 @@ use Rattle.meaning.specs.declared.store.Value.TheVariants.{Number}
 use Rattle.interpreter.specs.declared.work.Work.{Work}
 use Rattle.interpreter.specs.declared.work.Work.TheVariants as work
 use Rattle.meaning.specs.Store.{Environment, Place, kept, part}
-use Rattle.meaning.specs.Effect.{State, Reply, Gives, Action, ◌>>=◌, and_then, give, require, enter, use_turn, another, looped}
+use Rattle.meaning.specs.Effect.{State, Reply, Action, ◌>>=◌, and_then, give, require, enter, use_turn, another, looped}
 use Rattle.meaning.specs.Effect.{fetch, fetch_all, store, store_all, undefine, write, is_in, number_of, row_text, text_of}
 use Rattle.meaning.specs.Meaning.{Combination, Execution, effect_step, operated, combined, in_turn, all_of}
 use Rattle.meaning.specs.Meaning.{compared, selected, accessed, whole_of, default_width, written_of, width_of, parameter_of, line_ended, is_so, turn_if, for_between, arm_of}

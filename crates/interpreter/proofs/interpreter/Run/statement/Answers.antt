@@ -1,4 +1,4 @@
-use Rattle.std.proofs.Common.{List, ◌∷◌, reverse, refl, sym, ap, ◌∙◌}
+use Rattle.std.proofs.Common.{List, reverse, refl, sym, ap, ◌∙◌}
 use Rattle.interpreter.specs.declared.work.Work.{Work}
 use Rattle.meaning.specs.Meaning.{values_of, whole_of}
 use Rattle.interpreter.specs.Pending.{giving_row, operands_of, pending_of, placing}
