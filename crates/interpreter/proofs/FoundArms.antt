@@ -1,6 +1,6 @@
 -- The arm of a case at a value of its index.
-use Rattle.std.proofs.Common.{◌≡◌, ℕ, ℤ, zero, suc, ◌+◌, ◌<◌, ◌≤◌, List, [], ◌∷◌, Bool, true, false, Option, Some, None, Result, Ok, Err, OnOk, Vec, Global}
-use Rattle.std.proofs.Common.{drop, get_or, length, map, arith, sym, ◌∙◌, ap, subst, refl, if◌then◌else◌}
+use Rattle.std.proofs.Common.{◌≡◌, ℕ, ℤ, ◌+◌, ◌<◌, ◌≤◌, List, [], ◌∷◌, Bool, true, false, Option, Some, None, Result, Ok, Err, OnOk, Vec, Global}
+use Rattle.std.proofs.Common.{map, arith, ap, subst, refl, if◌then◌else◌}
 use Rattle.std.specs.declared.alloc.AllocError.{AllocError}
 use Rattle.std.proofs.lemmas.List.Sums.{sum_by-cons}
 use Rattle.typed_tree.specs.declared.tree.Stmt.{Stmt}

@@ -23,7 +23,7 @@ use Rattle.meaning.specs.Store.{Environment, Place, held, kept, part}
 use Rattle.meaning.specs.Effect.{State, Reply, Gives, Stops, Action, ◌>>=◌, and_then, fetched, fetch, give, is_in, number_of, require, stop, store}
 use Rattle.meaning.specs.Meaning.{effect_of, is_so}
 use Rattle.operations.specs.Answers.{answered, checked, number_tested}
-use Rattle.interpreter.specs.Pending.{Resumption, InHand, OfValue, OfPlace, OfRow, Agrees, Continues, Does, EndsAs, pending_of, resumed, rest_of, operands_of}
+use Rattle.interpreter.specs.Pending.{Resumption, InHand, OfValue, Agrees, Continues, Does, EndsAs, pending_of, resumed, rest_of, operands_of}
 use Rattle.interpreter.specs.Pending.{giving, with_top, chosen, top_of, top_place, below_top, indexed}
 
 -- one more at the end of a stack is one more at its top

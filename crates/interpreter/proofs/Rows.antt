@@ -1,6 +1,6 @@
 -- The numbers of the components of a place, from one of them on.
-use Rattle.std.proofs.Common.{◌≡◌, ℕ, suc, ℤ, ◌+◌, ◌<◌, ◌≤◌, List, [], ◌∷◌, ◌++◌, drop, get_or, length, Option, Some, None, option_map, slice_index_or, slice_get}
-use Rattle.std.proofs.Common.{append-nil, append_assoc, arith, refl, sym, ap, ◌∙◌}
+use Rattle.std.proofs.Common.{◌≡◌, ℕ, suc, ℤ, ◌+◌, ◌<◌, List, [], ◌∷◌, ◌++◌, drop, get_or, length, Option, Some, None, option_map, slice_index_or}
+use Rattle.std.proofs.Common.{append_assoc, arith, refl, sym, ap, ◌∙◌}
 use Rattle.std.proofs.Math.Seq.{drop-cons}
 use Rattle.types.specs.declared.form.Step.{Step}
 use Rattle.meaning.specs.declared.outcome.Ending.TheVariants as ending

@@ -26,7 +26,8 @@ use Rattle.typed_tree.specs.declared.tree.Link.{Link}
 use Rattle.typed_tree.specs.declared.tree.Stmt.{Stmt}
 use Rattle.typed_tree.specs.declared.tree.Expr.TheVariants as expr
 use Rattle.typed_tree.specs.declared.tree.Stmt.TheVariants as stmt
-use Rattle.typed_tree.specs.declared.tree.Stmt.TheOpen.Stmt-F.{Empty as Empty-F, Assign as Assign-F, Copy as Copy-F, Write as Write-F, Compound as Compound-F, If as If-F}
+use Rattle.typed_tree.specs.declared.tree.Stmt.TheOpen.Stmt-F.{Empty as Empty-F, Assign as Assign-F, Copy as Copy-F, Write as Write-F}
+use Rattle.typed_tree.specs.declared.tree.Stmt.TheOpen.Stmt-F.{Compound as Compound-F, If as If-F}
 use Rattle.typed_tree.specs.declared.tree.Stmt.TheOpen.Stmt-F.{While as While-F, Repeat as Repeat-F, For as For-F, Case as Case-F}
 use Rattle.typed_tree.specs.declared.tree.Stmt.TheFolds.{fold-roll-Stmt}
 use Rattle.meaning.specs.declared.store.Value.{Value}
@@ -34,10 +35,11 @@ use Rattle.meaning.specs.declared.store.Value.TheVariants.{Number}
 use Rattle.interpreter.specs.declared.work.Work.{Work}
 use Rattle.interpreter.specs.declared.work.Work.TheVariants as work
 use Rattle.meaning.specs.Store.{Environment, Place, kept, part}
-use Rattle.meaning.specs.Effect.{State, Reply, Gives, Action, ◌>>=◌, and_then, give, require, enter, use_turn, another, looped}
+use Rattle.meaning.specs.Effect.{State, Reply, Action, ◌>>=◌, and_then, give, require, enter, use_turn, another, looped}
 use Rattle.meaning.specs.Effect.{fetch, fetch_all, store, store_all, undefine, write, is_in, number_of, row_text, text_of}
 use Rattle.meaning.specs.Meaning.{Combination, Execution, effect_step, operated, combined, in_turn, all_of}
-use Rattle.meaning.specs.Meaning.{compared, selected, accessed, whole_of, default_width, written_of, width_of, parameter_of, line_ended, is_so, turn_if, for_between, arm_of}
+use Rattle.meaning.specs.Meaning.{compared, selected, accessed, whole_of, default_width, written_of, width_of, parameter_of}
+use Rattle.meaning.specs.Meaning.{line_ended, is_so, turn_if, for_between, arm_of}
 use Rattle.meaning.specs.Meaning.{value_of, values_of, link_of, effect_of}
 use Rattle.operations.specs.Answers.{bounds_tested, positive, value_before}
 use Rattle.interpreter.specs.Pending.{Resumption, InHand, OfValue, OfPlace, OfRow, pending_of, resumed, chosen, further, while_rounds, repeat_rounds, counting}
@@ -380,7 +382,8 @@ does-bounds env control first_fits direction last_fits body works operands s res
 
 pub does-for-round : (env : Environment) (control : ℕ) (direction : Direction) (n last : ℤ) (body : Bor Stmt) (next : Resumption) (operands : List InHand)
     (s : State) → counting_on env control direction n last body.now next operands s ≡
-    turning env (work.Statement body) (work.Next control direction n last body) next operands (record s { store = kept s.store (env.variables control) (Number n) })
+    turning env (work.Statement body) (work.Next control direction n last body) next operands
+    (record s { store = kept s.store (env.variables control) (Number n) })
 does-for-round env control direction n last body next operands s =
     let then_rest : Unit {0} → Action (Unit {0}) = λ _. forgetting (env.variables control) next operands in
     let each = counting env control direction last body.now in

@@ -21,7 +21,6 @@ use Rattle.typed_tree.specs.declared.tree.Representation.{Representation}
 use Rattle.typed_tree.specs.declared.tree.Width.{Width}
 use Rattle.typed_tree.specs.WellFormed.{length_of}
 use Rattle.meaning.specs.declared.outcome.Ending.{Ending}
-use Rattle.meaning.specs.declared.outcome.Ending.TheVariants as ending
 use Rattle.meaning.specs.declared.store.Value.{Value}
 use Rattle.meaning.specs.declared.store.Value.TheVariants.{Number}
 use Rattle.operations.specs.Answers.{positive, value_before}
@@ -33,7 +32,7 @@ use Rattle.interpreter.specs.declared.work.Work.TheVariants as work
 use Rattle.interpreter.specs.declared.interpreter.Run.{Run}
 use Rattle.interpreter.specs.contracts.store.PlaceOrd.TheImpl.{ghosts as places}
 use Rattle.meaning.specs.Store.{Environment, Place, Store, held, kept, part, stored}
-use Rattle.meaning.specs.Effect.{State, Reply, Stops, Action, Round, ◌>>=◌, give, stop, require, enter, use_turn}
+use Rattle.meaning.specs.Effect.{State, Reply, Stops, Action, Round, ◌>>=◌, give, require, enter, use_turn}
 use Rattle.meaning.specs.Effect.{another, fetch, fetch_all, looped, number_of, store, store_all, undefine, write, is_in}
 use Rattle.meaning.specs.Effect.{row_text, text_of}
 use Rattle.meaning.specs.Meaning.{Combination, Execution, completed, ended, home_of, operated, combined, compared}

@@ -70,7 +70,8 @@ impl<'t> Run<'t, '_> {
     ) -> Result<Option<Ending>, AllocError>
         ensures weight { OnOk result (pending_weight self.new
             ≤ pending_weight self.old + weight_of_selectors rest.now indexes.now self.old.turns) }
-        ensures does { Does (λ env. selecting env (Selector.Element fits 0 ∷ rest.now) indexes.now) self.old result self.new }
+        ensures does { Does (λ env. selecting env (Selector.Element fits 0 ∷ rest.now) indexes.now)
+            self.old result self.new }
     {
         match indexes.split_first() {
             Some((index, others)) => {

@@ -174,7 +174,11 @@ impl<'t> Run<'t, '_> {
     }
 
     // What is done next, and what is done after it.
-    pub(crate) fn plan(&mut self, next: Work<'t>, later: Work<'t>) -> Result<Option<Ending>, AllocError>
+    pub(crate) fn plan(
+        &mut self,
+        next: Work<'t>,
+        later: Work<'t>,
+    ) -> Result<Option<Ending>, AllocError>
         ensures weight { OnOk result (pending_weight self.new
             ≡ pending_weight self.old + weight_of self.old.turns later.entry + weight_of self.old.turns next.entry) }
         ensures does { Does (λ env rest. resumed env next.entry (resumed env later.entry rest))
@@ -202,7 +206,11 @@ impl<'t> Run<'t, '_> {
     }
 
     // A turn, and what is done in it; with none left the run ends.
-    pub(crate) fn turn(&mut self, next: Work<'t>, later: Work<'t>) -> Result<Option<Ending>, AllocError>
+    pub(crate) fn turn(
+        &mut self,
+        next: Work<'t>,
+        later: Work<'t>,
+    ) -> Result<Option<Ending>, AllocError>
         ensures weight { OnOk result (pending_weight self.new
             ≤ pending_weight self.old + turn_weight self.old.turns next.entry later.entry) }
         ensures does { Does (λ env. turning env next.entry later.entry) self.old result self.new }

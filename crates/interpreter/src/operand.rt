@@ -55,10 +55,7 @@ impl Operand {
 // The stack of operands. Each piece of work that takes one follows work that left it.
 impl Run<'_, '_> {
     // Goes on with a value, or stops at the site of its error.
-    pub(crate) fn go_on(
-        &mut self,
-        value: Result<Value, u32>,
-    ) -> Result<Option<Ending>, AllocError>
+    pub(crate) fn go_on(&mut self, value: Result<Value, u32>) -> Result<Option<Ending>, AllocError>
         ensures weight { pending_weight self.new ≡ pending_weight self.old }
         ensures does { Does (λ env. giving (answered value)) self.old result self.new }
     {

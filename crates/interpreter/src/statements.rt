@@ -21,7 +21,10 @@ use typed_tree::tree::{
 
 // The steps of statements.
 impl<'t> Run<'t, '_> {
-    pub(crate) fn statements(&mut self, statements: &'t [Stmt]) -> Result<Option<Ending>, AllocError>
+    pub(crate) fn statements(
+        &mut self,
+        statements: &'t [Stmt],
+    ) -> Result<Option<Ending>, AllocError>
         ensures fewer { Lightens (Work.Statements statements.entry) self.old result self.new }
         ensures does { Does (λ env. resumed env (Work.Statements statements.entry)) self.old result self.new }
     {
@@ -158,10 +161,7 @@ impl<'t> Run<'t, '_> {
             + while_weight (weight_of_expression condition.now) (weight_of_statement body.now) self.old.turns) }
         ensures does { Does (λ env. whiling env condition.now body.now) self.old result self.new }
     {
-        self.plan(
-            Work::Value(condition),
-            Work::WhileTurn { condition, body },
-        )
+        self.plan(Work::Value(condition), Work::WhileTurn { condition, body })
     }
 
     pub(crate) fn while_turn(
@@ -332,7 +332,10 @@ impl<'t> Run<'t, '_> {
         }
     }
 
-    pub(crate) fn parameter(&mut self, parameter: &'t WriteParameter) -> Result<Option<Ending>, AllocError>
+    pub(crate) fn parameter(
+        &mut self,
+        parameter: &'t WriteParameter,
+    ) -> Result<Option<Ending>, AllocError>
         ensures fewer { Lightens (Work.Parameter parameter.entry) self.old result self.new }
         ensures does { Does (λ env. resumed env (Work.Parameter parameter.entry)) self.old result self.new }
     {
@@ -417,7 +420,10 @@ impl<'t> Run<'t, '_> {
         self.go_on(positive_width(width, site))
     }
 
-    pub(crate) fn write(&mut self, representation: Representation) -> Result<Option<Ending>, AllocError>
+    pub(crate) fn write(
+        &mut self,
+        representation: Representation,
+    ) -> Result<Option<Ending>, AllocError>
         ensures weight { pending_weight self.new ≡ pending_weight self.old }
         ensures does { Does (λ env. resumed env (Work.Write representation)) self.old result self.new }
     {

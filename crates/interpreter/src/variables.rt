@@ -110,8 +110,8 @@ impl Run<'_, '_> {
         component: u32,
     ) -> Result<Option<Place>, AllocError>
         requires inside { component < cells_of self.now.types.now type_id }
-        ensures { IfOk result (λ found. option_map place_seen found
-            ≡ part (option_map place_seen place.now) (slice_index_or (components_of self.now.types.now type_id) component [])) }
+        ensures { IfOk result (λ found. option_map place_seen found ≡ part (option_map place_seen place.now)
+            (slice_index_or (components_of self.now.types.now type_id) component [])) }
     {
         let Some(place) = place else {
             return Ok(None);

@@ -113,8 +113,8 @@ order_of (a ∷ row) (b ∷ other) = if int_lt a b then negsuc 0 else (if int_lt
 abbrev pub compared : Relation → List ℤ → List ℤ → Value
 compared r row other = Number (truth (relates r (order_of row other) (pos 0)))
 
--- the place of the component to which selectors lead from a place: each index is evaluated and tested at once, from left
--- to right (6.5.3); an index that isn't there leads to no place
+-- the place of the component to which selectors lead from a place: each index is evaluated and tested at once, from
+-- left to right (6.5.3); an index that isn't there leads to no place
 abbrev pub selected : List Selector → List Evaluation → Environment → Option Place → Action (Option Place)
 selected [] indexes env place = give place
 selected (Field position offset ∷ selectors) indexes env place =

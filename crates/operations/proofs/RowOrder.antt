@@ -1,5 +1,6 @@
 -- Rows of numbers: which of two comes first, and how one is cut to so many places.
-use Rattle.std.proofs.Common.{◌≡◌, ℕ, zero, suc, ℤ, pos, negsuc, ◌<◌, ◌≤◌, ◌-◌, ◌++◌, List, [], ◌∷◌, drop, length, map, replicate, take, arith, refl, sym, ap, ◌∙◌}
+use Rattle.std.proofs.Common.{◌≡◌, ℕ, zero, suc, ℤ, pos, negsuc, ◌<◌, ◌≤◌, ◌-◌, ◌++◌, List, [], ◌∷◌, drop, length, map, replicate, take}
+use Rattle.std.proofs.Common.{arith, refl, sym, ap, ◌∙◌}
 use Rattle.std.proofs.lemmas.List.{length-map, take-map}
 use Rattle.meaning.specs.Integers.{byte_of}
 use Rattle.meaning.specs.Effect.{string_text}

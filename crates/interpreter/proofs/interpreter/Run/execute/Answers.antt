@@ -1,4 +1,4 @@
-use Rattle.std.proofs.Common.{reverse, slice_get, sym, ap, ◌∙◌, refl}
+use Rattle.std.proofs.Common.{slice_get, sym, ap, ◌∙◌, refl}
 use Rattle.std.specs.Option.{option_copied}
 use Rattle.interpreter.specs.Pending.{rest_of, operands_of}
 use Rattle.interpreter.proofs.Starting.{begins_with_block, finishes_as}

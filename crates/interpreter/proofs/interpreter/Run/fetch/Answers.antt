@@ -1,4 +1,4 @@
-use Rattle.std.proofs.Common.{◌≡◌, option_map, ap, ◌∙◌}
+use Rattle.std.proofs.Common.{ap, ◌∙◌}
 use Rattle.meaning.specs.Store.{held}
 use Rattle.meaning.specs.Effect.{fetch}
 use Rattle.interpreter.specs.Pending.{below_top, operands_of, top_place}

@@ -1,4 +1,4 @@
-use Rattle.std.proofs.Common.{Some, Option, option_map, sym, ap, subst}
+use Rattle.std.proofs.Common.{Some, Option, option_map, sym, subst}
 use Rattle.interpreter.specs.declared.store.Place.{Place as KeptPlace}
 use Rattle.meaning.specs.Store.{kept}
 use Rattle.interpreter.specs.Pending.{StoreAgrees, place_seen}

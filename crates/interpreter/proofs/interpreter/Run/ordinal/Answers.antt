@@ -1,4 +1,4 @@
-use Rattle.std.proofs.Common.{List, ◌∷◌, reverse, refl, ap, sym}
+use Rattle.std.proofs.Common.{List, ◌∷◌, refl, ap, sym}
 use Rattle.interpreter.specs.declared.work.Work.{Work}
 use Rattle.interpreter.specs.declared.work.Work.TheVariants as work
 use Rattle.interpreter.specs.Pending.{operands_of}

@@ -1,4 +1,4 @@
-use Rattle.std.proofs.Common.{List, reverse, refl, ap, sym}
+use Rattle.std.proofs.Common.{List, refl, ap, sym}
 use Rattle.interpreter.specs.declared.work.Work.{Work}
 use Rattle.meaning.specs.Meaning.{value_of}
 use Rattle.interpreter.specs.Pending.{giving, pending_of, operands_of}

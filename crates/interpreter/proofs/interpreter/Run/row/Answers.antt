@@ -1,9 +1,7 @@
-use Rattle.std.proofs.Common.{◌≡◌, ◌+◌, ◌++◌, ◌∷◌, ◌<◌, ◌≤◌, [], drop, length, List, Option, Some, None, option_map, slice_index_or, append-nil, arith, sym, ap, ◌∙◌}
+use Rattle.std.proofs.Common.{◌≡◌, ◌+◌, ◌++◌, ◌∷◌, ◌<◌, ◌≤◌, [], drop, length, Some, None, option_map, slice_index_or, append-nil, arith, sym, ap, ◌∙◌}
 use Rattle.std.proofs.lemmas.List.{drop_all}
-use Rattle.types.specs.declared.form.Step.{Step}
 use Rattle.types.specs.Components.{components_of}
 use Rattle.types.proofs.Laid.{length_components}
-use Rattle.meaning.specs.declared.store.Value.{Value}
 use Rattle.meaning.specs.Effect.{number_of}
 use Rattle.meaning.specs.Store.{held, part}
 use Rattle.interpreter.specs.Pending.{held_all, number_before, place_seen}

@@ -1,4 +1,4 @@
-use Rattle.std.proofs.Common.{◌≡◌, ◌+◌, drop, option_map}
+use Rattle.std.proofs.Common.{◌≡◌, drop, option_map}
 use Rattle.types.specs.Components.{components_of}
 use Rattle.meaning.specs.Store.{Store}
 use Rattle.interpreter.specs.Pending.{StoreAgrees, held_all, place_seen}

@@ -1,4 +1,4 @@
-use Rattle.std.proofs.Common.{List, ◌∷◌, [], reverse, refl, sym, ◌∙◌, ap}
+use Rattle.std.proofs.Common.{List, ◌∷◌, [], reverse, sym, ◌∙◌, ap}
 use Rattle.types.specs.declared.form.Step.TheVariants as step
 use Rattle.typed_tree.specs.declared.tree.Selector.{Selector}
 use Rattle.interpreter.specs.declared.work.Work.TheVariants as work

@@ -1,9 +1,10 @@
-use Rattle.std.proofs.Common.{List, ◌∷◌, reverse, refl, sym, ap, ◌∙◌}
+use Rattle.std.proofs.Common.{List, reverse, refl, sym, ap, ◌∙◌}
 use Rattle.interpreter.specs.declared.work.Work.{Work}
 use Rattle.meaning.specs.Meaning.{values_of, whole_of}
 use Rattle.interpreter.specs.Pending.{giving_row, operands_of, pending_of, placing}
 use Rattle.interpreter.proofs.Resuming.{continues_as, goes_on_to, reverse_pushed}
-use Rattle.interpreter.proofs.Unrolling.{entered, evaluated, does-Empty, does-Assign, does-Copy, does-Write, does-Compound, does-If, does-While, does-Repeat, does-For, does-Case}
+use Rattle.interpreter.proofs.Unrolling.{entered, evaluated, does-Empty, does-Assign, does-Copy, does-Write, does-Compound}
+use Rattle.interpreter.proofs.Unrolling.{does-If, does-While, does-Repeat, does-For, does-Case}
 use Rattle.interpreter.proofs.interpreter.Run.statement.Goals as goal
 
 pub returns-in-Empty-clause-does : goal.returns-in-Empty-clause-does

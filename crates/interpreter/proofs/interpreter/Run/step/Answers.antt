@@ -72,7 +72,8 @@ pub returns-in-WriteRow-clause-does : goal.returns-in-WriteRow-clause-does
 returns-in-WriteRow-clause-does c = does_as c.args.self.now c.write_row.new.self c.args.work _ c.write_row.result c.in-WriteRow.is c.write_row.ensures.does
 
 pub returns-in-WriteRowIn-clause-does : goal.returns-in-WriteRowIn-clause-does
-returns-in-WriteRowIn-clause-does c = does_as c.args.self.now c.write_row_in.new.self c.args.work _ c.write_row_in.result c.in-WriteRowIn.is c.write_row_in.ensures.does
+returns-in-WriteRowIn-clause-does c =
+    does_as c.args.self.now c.write_row_in.new.self c.args.work _ c.write_row_in.result c.in-WriteRowIn.is c.write_row_in.ensures.does
 
 pub returns-in-StoreRow-clause-does : goal.returns-in-StoreRow-clause-does
 returns-in-StoreRow-clause-does c = does_as c.args.self.now c.store_row.new.self c.args.work _ c.store_row.result c.in-StoreRow.is c.store_row.ensures.does

@@ -3,7 +3,7 @@ use Rattle.types.specs.Forms.{Form}
 use Rattle.types.specs.Components.{components_of}
 use Rattle.interpreter.specs.declared.interpreter.Run.{Run}
 use Rattle.meaning.specs.Store.{Place}
-use Rattle.meaning.specs.Effect.{State, Reply, and_then, store_all}
+use Rattle.meaning.specs.Effect.{State, Reply, and_then}
 use Rattle.interpreter.specs.Pending.{Agrees, StoreAgrees, below_top, kept_all, operands_of, pending_of, rest_of, top_place, top_row}
 use Rattle.interpreter.proofs.Resuming.{agreed_below}
 use Rattle.interpreter.proofs.Rows.{stored_all}

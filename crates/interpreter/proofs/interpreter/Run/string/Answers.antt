@@ -1,6 +1,5 @@
-use Rattle.std.proofs.Common.{List, ◌∷◌, ◌∙◌, reverse, refl, ap, sym}
+use Rattle.std.proofs.Common.{List, ◌∙◌, reverse, refl, ap, sym}
 use Rattle.interpreter.specs.declared.work.Work.{Work}
-use Rattle.interpreter.specs.declared.work.Work.TheVariants as work
 use Rattle.meaning.specs.Meaning.{values_of, whole_of}
 use Rattle.interpreter.specs.Pending.{giving_row, operands_of}
 use Rattle.interpreter.proofs.Resuming.{continues_as, reverse_pushed}

@@ -17,7 +17,8 @@ pub returns-in-Monadic-clause-does : goal.returns-in-Monadic-clause-does
 returns-in-Monadic-clause-does c = λ env s agrees.
     let old = c.args.self.now in
     continues_as env old c.plan.new.self _ _ c.plan.result
-    (does-Monadic c.in-Monadic.number c.in-Monadic.operation c.in-Monadic.operand c.args.expression.now c.in-Monadic.is c.deref-in-Monadic.result c.deref-in-Monadic.ensures env
+    (does-Monadic c.in-Monadic.number c.in-Monadic.operation c.in-Monadic.operand c.args.expression.now c.in-Monadic.is c.deref-in-Monadic.result
+    c.deref-in-Monadic.ensures env
     (reverse old.pending.items) (operands_of old) s)
     (c.plan.ensures.does env (entered c.in-Monadic.number env s) agrees)
 

@@ -13,7 +13,8 @@ returns-then-truth_of-clause-does c = λ env s agrees.
     let body = c.args.body in
     let operands = operands_of old in
     let so : is_so (top_of operands) ≡ true = ap is_so (sym c.popped.ensures.top) ∙ sym c.truth_of.ensures ∙ c.if-truth_of.true in
-    goes_on_below old c.popped.new.self c.tested_turn.new.self env s (λ env. turning_tested env (work.Statement body) condition.now (work.WhileTurn condition body)) (below_top operands)
+    goes_on_below old c.popped.new.self c.tested_turn.new.self env s
+    (λ env. turning_tested env (work.Statement body) condition.now (work.WhileTurn condition body)) (below_top operands)
     c.tested_turn.result _ c.popped.ensures.same c.popped.ensures.below
     (does-while-turn env condition body (reverse old.pending.items) operands s so)
     agrees c.tested_turn.ensures.does

@@ -1,4 +1,4 @@
-use Rattle.std.proofs.Common.{reverse, subst}
+use Rattle.std.proofs.Common.{subst}
 use Rattle.meaning.specs.declared.store.Value.{Value}
 use Rattle.operations.specs.Answers.{Answers, positive}
 use Rattle.interpreter.specs.Pending.{top_of, below_top, operands_of}
