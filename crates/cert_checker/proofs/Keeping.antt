@@ -128,7 +128,7 @@ module _ (variables : ℕ) (env : Environment) (shows : Shows variables env) (st
 -- a variable of which no more than its components changed, in each loop that lists it
 pub listed-keeps : (env : Environment) (before after : Store) (root : ℕ) (rounds : List Round) → IsKept env (root ∷ []) [] before after
     → all_list root rounds ≡ true → Keeps env rounds before after
-listed-keeps env before after root rounds kept listed round inside =
+listed-keeps env before behind root rounds kept listed round inside =
     let own = all-pass (λ (one : Round). is_among root one.changes) rounds round (is_among root round.changes) refl inside listed in
     record {
       values = λ other among steps.

@@ -14,7 +14,6 @@ use Rattle.typed_tree.specs.declared.tree.Stmt.TheViews.{roll-Stmt}
 use Rattle.typed_tree.specs.declared.tree.Stmt.TheFolds.{map-Stmt, fold-roll-Stmt, ind-Stmt}
 use Rattle.typed_tree.specs.WellFormed.{all_hold, is_well_formed_test, is_well_formed_expr, is_well_formed_parameter, is_well_formed_stmt, are_whole, is_whole}
 use Rattle.typed_tree.specs.WellFormed.{are_well_formed, is_well_formed_value, leads_to_ordinal, leads_to_whole, length_of, may_copy, stmt_is_well_formed}
-use Rattle.typed_tree.specs.WellFormed.{type_of}
 use Rattle.typed_tree.specs.declared.tree.Selector.{Selector}
 use Rattle.typed_tree.specs.declared.tree.Whole.{Whole}
 use Rattle.types.specs.declared.form.Step.{Step}
@@ -368,13 +367,13 @@ module _ (world : World) (env : Environment) (shows : Shows (variables_in world)
       → (are_well_formed world.declared world.types world.sites indexes
       && (leads_to_whole world.declared world.types world.sites type_id target.root target.selectors.items (length indexes)
       && (is_well_formed_value world.declared world.types world.sites value value_indexes
-      && may_copy world.declared world.types world.sites type_id (type_of value) (length_of value)))) ≡ true
+      && may_copy world.declared world.types world.sites type_id (length_of value)))) ≡ true
       → SoundAction world env (copied target indexes type_id value value_indexes)
       (walk.copying becomes target (flow.index_walks indexes) value (flow.index_walks value_indexes))
   copying-sound becomes target indexes type_id value value_indexes well =
       let leads = leads_to_whole world.declared world.types world.sites type_id target.root target.selectors.items (length indexes) in
       let is_value = is_well_formed_value world.declared world.types world.sites value value_indexes in
-      let may = may_copy world.declared world.types world.sites type_id (type_of value) (length_of value) in
+      let may = may_copy world.declared world.types world.sites type_id (length_of value) in
       let one = and_parts (are_well_formed world.declared world.types world.sites indexes) (leads && (is_value && may)) well in
       let two = and_parts leads (is_value && may) one.1 in
       let three = and_parts is_value may two.1 in

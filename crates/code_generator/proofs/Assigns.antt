@@ -218,7 +218,8 @@ module _ (g : Setting) where
   -- ---- whole values
 
   -- a value is copied to as many cells as it has
-  copied_cells : (target : TypeId) (cells : ℕ) → may_copy g.tree.variables.items g.tree.types (sites g) target cells ≡ true → cells_of g.tree.types target ≡ cells
+  copied_cells : (target : TypeId) (cells : ℕ) → may_copy g.tree.variables.items g.tree.types (sites g) target cells ≡ true
+      → cells_of g.tree.types target ≡ cells
   copied_cells target cells e = eqb-true (cells_of g.tree.types target) cells e
 
   -- a row gives way to the components that got it
