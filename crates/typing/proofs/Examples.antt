@@ -1,6 +1,9 @@
 -- Worked rows of the definitions of names and types.
-use Rattle.std.proofs.Common.{◌≡◌, ◌∷◌, ◌++◌, [], List, Some, None, Ok, Err, refl}
-use Rattle.std.specs.Prelude.{codes, pos, neg_ℤ, true}
+use denote.Ref.{Bor}
+use Rattle.std.specs.List.{list_any}
+use Rattle.std.specs.Cmp.Lexicographic.{pointwise}
+use Rattle.std.proofs.Common.{◌≡◌, ◌∷◌, ◌++◌, [], List, Some, None, Ok, Err, ℕ, if◌then◌else◌, nat_eq, ap, refl}
+use Rattle.std.specs.Prelude.{codes, pos, neg_ℤ, true, false}
 use Rattle.place.specs.declared.Place.{Place}
 use Rattle.scopes.specs.declared.denotation.Denotation.TheVariants as denotes
 use Rattle.scopes.specs.declared.denotation.RequiredFunction.TheVariants as function
@@ -9,15 +12,15 @@ use Rattle.syntax_tree.specs.declared.Operator.TheVariants as op
 use Rattle.syntax_tree.specs.declared.Sign.TheVariants as sign
 use Rattle.syntax_tree.specs.declared.ConstantValue.TheVariants as constant
 use Rattle.types.specs.Forms.{Form}
-use Rattle.types.specs.Forms.{Enumeration, Subrange, Array}
+use Rattle.types.specs.Forms.{FieldForm, Enumeration, Subrange, Array, Record}
 use Rattle.types.specs.declared.form.TypeId.{TypeId}
-use Rattle.types.specs.Types.{required_forms, integer, boolean, char, range_of, range}
+use Rattle.types.specs.Types.{required_forms, integer, boolean, char, range_of, range, field_of}
 use Rattle.typing.specs.Names.{folded, required_region}
-use Rattle.typing.specs.Expressions.{typed, typed_string, result_type, applied}
+use Rattle.typing.specs.Expressions.{typed, typed_whole, result_type, applied, field_named, or_not_declared}
 use Rattle.typing.specs.declared.typed.Typed.{Typed}
 use Rattle.typing.specs.Constants.{as_constant, behind_sign, constant_place}
-use Rattle.typing.specs.Statements.{fitting, own_constant}
-use Rattle.typing.specs.Denoters.{named_type, between}
+use Rattle.typing.specs.Statements.{fitting, copying, own_constant}
+use Rattle.typing.specs.Denoters.{named_type, between, named_fields}
 use Rattle.typing.specs.Steps.{value_of}
 use Rattle.typing.specs.Strings.{string_characters}
 use Rattle.syntax_tree.specs.declared.Name.{Name}
@@ -184,17 +187,17 @@ module _ (place behind : Place) where
   closes = refl
 
   -- two strings of the same length are compared, and others aren't
-  pub equally_long : result_type strings op.Less (typed_string first 2 None) (typed_string second 2 None) ≡ Some boolean
+  pub equally_long : result_type strings op.Less (typed_whole first 2 None) (typed_whole second 2 None) ≡ Some boolean
   equally_long = refl
 
-  pub longer : result_type strings op.Less (typed_string first 2 None) (typed_string third 3 None) ≡ None
+  pub longer : result_type strings op.Less (typed_whole first 2 None) (typed_whole third 3 None) ≡ None
   longer = refl
 
   -- no string is compared with a char, or added
-  pub string_and_char : result_type strings op.Equal (typed_string first 2 None) (of char) ≡ None
+  pub string_and_char : result_type strings op.Equal (typed_whole first 2 None) (of char) ≡ None
   string_and_char = refl
 
-  pub sum_of_strings : result_type strings op.Plus (typed_string first 2 None) (typed_string second 2 None) ≡ None
+  pub sum_of_strings : result_type strings op.Plus (typed_whole first 2 None) (typed_whole second 2 None) ≡ None
   sum_of_strings = refl
 
   -- the successor of an enumerated type is below its last value, and its host type's decides
@@ -219,3 +222,51 @@ module _ (place behind : Place) where
     value = constant.Number 1 behind;
   }) ≡ place
   begins_at_sign = refl
+
+-- a packed array of two integers, and a record of an integer and of such an array
+abbrev pairs : List Form
+pairs =
+    required_forms
+    ++ Subrange integer (pos 1) (pos 2) ∷ Array true (record { index = 3 }) integer
+    ∷ Record false (record { name = codes "key"; type_id = integer } ∷ record { name = codes "value"; type_id = record { index = 4 } } ∷ []) ∷ []
+
+abbrev pair : TypeId
+pair = record { index = 4 }
+
+abbrev entry : TypeId
+entry = record { index = 5 }
+
+-- a value of two cells is copied to a target of its type
+pub copied_pair : copying pairs pair (typed_whole pair 2 None) ≡ Some 2
+copied_pair = refl
+
+-- no other value of two cells, and no ordinal
+pub no_copy_of_another : copying pairs entry (typed_whole pair 2 None) ≡ None
+no_copy_of_another = refl
+
+pub no_copy_of_ordinal : copying pairs pair (of integer) ≡ None
+no_copy_of_ordinal = refl
+
+module _ (text : Bor (List ℕ)) (place : Place) where
+  abbrev name : Name
+  name = record { text = text; place = place }
+
+  -- the second field of the record lies behind one cell; small and capital letters are alike
+  pub second_field : text.now ≡ codes "Value" → field_named pairs entry name ≡ Ok (record { position = 1; offset = 1; type_id = pair })
+  second_field is = ap (λ t. or_not_declared place (field_of pairs entry (folded t))) is
+
+  -- it has no other
+  pub no_field : text.now ≡ codes "values" → field_named pairs entry name ≡ Err (fault.NotDeclared place)
+  no_field is = ap (λ t. or_not_declared place (field_of pairs entry (folded t))) is
+
+  -- an array has no fields
+  pub no_record : field_named pairs pair name ≡ Err (fault.Mismatch place)
+  no_record = refl
+
+  -- no two fields have one name
+  pub field_twice : text.now ≡ codes "KEY"
+      → named_fields (record { name = codes "key"; type_id = integer } ∷ []) char (name ∷ []) ≡ Err (fault.DeclaredTwice place)
+  field_twice is =
+      ap (λ t. if list_any (λ (field : FieldForm). pointwise nat_eq field.name (folded t)) (record { name = codes "key"; type_id = integer } ∷ [])
+      then Err (fault.DeclaredTwice place)
+      else Ok (record { name = codes "key"; type_id = integer } ∷ record { name = folded t; type_id = char } ∷ [])) is

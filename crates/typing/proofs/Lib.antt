@@ -1,4 +1,7 @@
 mod Examples
+pub mod DenoterRows
+mod NamedFields
 pub mod Rows
+pub mod Selectors
 pub mod Written
 mod SiteIds

@@ -1,6 +1,6 @@
 -- The folds of typing over syntax trees, form by form.
 use denote.Ref.{Bor}
-use Rattle.std.proofs.Common.{◌≡◌, ℕ, Bool, List, map, Option, None, Some, option_map, refl, Box, Vec, sym, ap, ◌∙◌}
+use Rattle.std.proofs.Common.{◌≡◌, ℕ, Bool, List, [], ◌++◌, map, flat_map, Option, None, Some, option_map, refl, Box, Vec, sym, ap, ◌∙◌}
 use Rattle.std.specs.declared.alloc.Global.{Global}
 use Rattle.place.specs.declared.Place.{Place}
 use Rattle.syntax_tree.specs.declared.Name.{Name}
@@ -14,15 +14,23 @@ use Rattle.syntax_tree.specs.declared.Expr.TheVariants as syntax
 use Rattle.syntax_tree.specs.declared.Expr.TheOpen as layer
 use Rattle.syntax_tree.specs.declared.Expr.TheViews.{roll-Expr, out-Link, out-Actual}
 use Rattle.syntax_tree.specs.declared.Expr.TheFolds.{map-Expr, map-Actual, fold-roll-Expr, fold_out-Link, fold_out-Actual}
-use Rattle.syntax_tree.specs.Places.{arms_of}
+use Rattle.syntax_tree.specs.Places.{arms_of, fields_of}
+use Rattle.syntax_tree.specs.declared.Selector.{Selector}
+use Rattle.syntax_tree.specs.declared.TypeDenoter.{TypeDenoter}
+use Rattle.syntax_tree.specs.declared.TypeDenoter.TheVariants as denoter
+use Rattle.syntax_tree.specs.declared.TypeDenoter.TheOpen as denoter_layer
+use Rattle.syntax_tree.specs.declared.TypeDenoter.TheFolds.{map-TypeDenoter, fold-roll-TypeDenoter}
+use Rattle.syntax_tree.specs.declared.TypeDenoter.TheViews.{roll-TypeDenoter}
 use Rattle.syntax_tree.specs.declared.Stmt.{Stmt}
 use Rattle.syntax_tree.specs.declared.Stmt.TheVariants as stmt
 use Rattle.syntax_tree.specs.declared.Stmt.TheOpen as stmt_layer
 use Rattle.syntax_tree.specs.declared.Stmt.TheFolds.{map-Stmt, fold-roll-Stmt}
 use Rattle.typing.specs.Passing.{Passing}
 use Rattle.typing.specs.Expressions.{Written, WrittenActual, WrittenLink, written, expression_step, actual_step, link_step, expression, written_link}
-use Rattle.typing.specs.Expressions.{written_actual, number, string, named, call, parenthesized, negation, signed, chain, link}
+use Rattle.typing.specs.Expressions.{written_actual, number, string, named, component, call, parenthesized, negation, signed, chain, link}
 use Rattle.typing.specs.Statements.{statement, statement_step, assignment, procedure_call, compound, choice, while_loop, repeat_loop, for_loop, case_statement}
+use Rattle.typing.specs.Denoters.{WrittenDenoter, written_denoter, denoter_step, type_of_name, enumeration, subrange, array, record_type}
+use Rattle.typing.specs.Names.{denoter_names, denoter_step as defined_step}
 use Rattle.typing.specs.Steps.{enter_as}
 use Rattle.typed_tree.specs.Look as Look
 
@@ -37,6 +45,12 @@ typing_number value place = rolled (syntax.Number value place) (layer.Number val
 
 pub typing_name : (name : Name) → expression (syntax.Name name) ≡ written name.place (named name)
 typing_name name = rolled (syntax.Name name) (layer.Name name) (syntax.rolls-Name name)
+
+pub typing_component : (name : Name) (selectors : Vec Selector Global) (indexes : Vec Expr Global)
+    → expression (syntax.Component name selectors indexes)
+    ≡ written name.place (component name selectors.items (map expression indexes.items))
+typing_component name selectors indexes =
+    rolled (syntax.Component name selectors indexes) (layer.Component name selectors indexes) (syntax.rolls-Component name selectors indexes)
 
 pub typing_string : (text : Bor (List ℕ)) (place : Place) → expression (syntax.String text place) ≡ written place (string text.now place)
 typing_string text place = rolled (syntax.String text place) (layer.String text place) (syntax.rolls-String text place)
@@ -79,16 +93,19 @@ typing_actual a =
 
 -- those of all expressions
 pub ruleset written_expressions =
-    (typing_number, typing_name, typing_string, typing_call, typing_parenthesized, typing_not, typing_signed, typing_chain)
+    (typing_number, typing_name, typing_component, typing_string, typing_call, typing_parenthesized, typing_not, typing_signed, typing_chain)
 
 -- ---- statements
 
 pub typing_empty : statement stmt.Empty ≡ enter_as Look.Empty
 typing_empty = ap statement (sym stmt.rolls-Empty) ∙ fold-roll-Stmt (Passing (Unit {0})) statement_step stmt_layer.Empty
 
-pub typing_assign : (name : Name) (becomes : Place) (value : Expr) → statement (stmt.Assign name becomes value) ≡ assignment name becomes (expression value)
-typing_assign name becomes value =
-    ap statement (sym (stmt.rolls-Assign name becomes value)) ∙ fold-roll-Stmt (Passing (Unit {0})) statement_step (stmt_layer.Assign name becomes value)
+pub typing_assign : (name : Name) (selectors : Vec Selector Global) (indexes : Vec Expr Global) (becomes : Place) (value : Expr)
+    → statement (stmt.Assign name selectors indexes becomes value)
+    ≡ assignment name selectors.items (map expression indexes.items) becomes (expression value)
+typing_assign name selectors indexes becomes value =
+    ap statement (sym (stmt.rolls-Assign name selectors indexes becomes value))
+    ∙ fold-roll-Stmt (Passing (Unit {0})) statement_step (stmt_layer.Assign name selectors indexes becomes value)
 
 pub typing_procedure_call : (name : Name) (actuals : Vec Actual Global) → statement (stmt.Call name actuals) ≡ procedure_call name actuals.items
 typing_procedure_call name actuals =
@@ -141,3 +158,69 @@ typing_case place index constants arms semicolon =
 -- those of all statements
 pub ruleset written_statements =
     (typing_empty, typing_assign, typing_procedure_call, typing_compound, typing_if, typing_while, typing_repeat, typing_for, typing_case)
+
+-- ---- denoters
+
+denoted : (d : TypeDenoter) (l : denoter_layer.TypeDenoter-F TypeDenoter) → roll-TypeDenoter l ≡ d
+    → written_denoter d ≡ denoter_step (map-TypeDenoter TypeDenoter WrittenDenoter written_denoter l)
+denoted d l is = ap written_denoter (sym is) ∙ fold-roll-TypeDenoter WrittenDenoter denoter_step l
+
+pub typing_named_type : (name : Name) → written_denoter (denoter.Name name) ≡ (λ names. type_of_name names name)
+typing_named_type name = denoted (denoter.Name name) (denoter_layer.Name name) (denoter.rolls-Name name)
+
+pub typing_enumerated : (constants : Vec Name Global) → written_denoter (denoter.Enumerated constants) ≡ (λ names. enumeration constants.items)
+typing_enumerated constants = denoted (denoter.Enumerated constants) (denoter_layer.Enumerated constants) (denoter.rolls-Enumerated constants)
+
+pub typing_subrange : (first : Constant) (place : Place) (last : Constant)
+    → written_denoter (denoter.Subrange first place last) ≡ (λ names. subrange first place last)
+typing_subrange first place last =
+    denoted (denoter.Subrange first place last) (denoter_layer.Subrange first place last) (denoter.rolls-Subrange first place last)
+
+pub typing_array : (packed : Bool) (place : Place) (indexes : Vec TypeDenoter Global) (element : Box TypeDenoter Global)
+    → written_denoter (denoter.Array packed place indexes element)
+    ≡ (λ names. array names packed place (map written_denoter indexes.items) (written_denoter element.value))
+typing_array packed place indexes element =
+    denoted (denoter.Array packed place indexes element) (denoter_layer.Array packed place indexes element)
+    (denoter.rolls-Array packed place indexes element)
+
+pub typing_record : (packed : Bool) (place : Place) (rows : Vec (Vec Name Global) Global) (denoters : Vec TypeDenoter Global) (semicolon : Bool)
+    → written_denoter (denoter.Record packed place rows denoters semicolon)
+    ≡ (λ names. record_type names packed place (fields_of rows.items (map written_denoter denoters.items)))
+typing_record packed place rows denoters semicolon =
+    denoted (denoter.Record packed place rows denoters semicolon) (denoter_layer.Record packed place rows denoters semicolon)
+    (denoter.rolls-Record packed place rows denoters semicolon)
+
+-- those of all denoters
+pub ruleset written_denoters = (typing_named_type, typing_enumerated, typing_subrange, typing_array, typing_record)
+
+-- the names that a denoter defines
+defined : (d : TypeDenoter) (l : denoter_layer.TypeDenoter-F TypeDenoter) → roll-TypeDenoter l ≡ d
+    → denoter_names d ≡ defined_step (map-TypeDenoter TypeDenoter (List Name) denoter_names l)
+defined d l is = ap denoter_names (sym is) ∙ fold-roll-TypeDenoter (List Name) defined_step l
+
+pub names_of_name : (name : Name) → denoter_names (denoter.Name name) ≡ []
+names_of_name name = defined (denoter.Name name) (denoter_layer.Name name) (denoter.rolls-Name name)
+
+pub names_of_enumerated : (constants : Vec Name Global) → denoter_names (denoter.Enumerated constants) ≡ constants.items
+names_of_enumerated constants = defined (denoter.Enumerated constants) (denoter_layer.Enumerated constants) (denoter.rolls-Enumerated constants)
+
+pub names_of_subrange : (first : Constant) (place : Place) (last : Constant) → denoter_names (denoter.Subrange first place last) ≡ []
+names_of_subrange first place last =
+    defined (denoter.Subrange first place last) (denoter_layer.Subrange first place last) (denoter.rolls-Subrange first place last)
+
+pub names_of_array : (packed : Bool) (place : Place) (indexes : Vec TypeDenoter Global) (element : Box TypeDenoter Global)
+    → denoter_names (denoter.Array packed place indexes element)
+    ≡ flat_map (λ names. names) (map denoter_names indexes.items) ++ denoter_names element.value
+names_of_array packed place indexes element =
+    defined (denoter.Array packed place indexes element) (denoter_layer.Array packed place indexes element)
+    (denoter.rolls-Array packed place indexes element)
+
+pub names_of_record : (packed : Bool) (place : Place) (rows : Vec (Vec Name Global) Global) (denoters : Vec TypeDenoter Global) (semicolon : Bool)
+    → denoter_names (denoter.Record packed place rows denoters semicolon)
+    ≡ flat_map (λ field. field.1) (fields_of rows.items (map denoter_names denoters.items))
+names_of_record packed place rows denoters semicolon =
+    defined (denoter.Record packed place rows denoters semicolon) (denoter_layer.Record packed place rows denoters semicolon)
+    (denoter.rolls-Record packed place rows denoters semicolon)
+
+-- those of all denoters
+pub ruleset names_of_denoters = (names_of_name, names_of_enumerated, names_of_subrange, names_of_array, names_of_record)

@@ -1,4 +1,5 @@
-ghost use Rattle.std.specs.Prelude.{◌≡◌};
+ghost use Rattle.std.specs.Prelude.{◌≡◌, Ok, Err, MatchResult};
+ghost use Rattle.types.specs.Forms.{form_of};
 ghost use Rattle.typing.specs.Steps.{refused, value_of};
 ghost use Rattle.typing.specs.Denoters.{named_type};
 
@@ -31,9 +32,37 @@ impl Typer {
     /// A type of its own, by its form; the rule that the form breaks is told at the place (Y1, Y2).
     #[tactic(auto, unfolding(crate::specs::Steps::add_type))]
     pub fn add_type(&mut self, place: Place, form: TypeForm) -> Result<TypeId, TypeFault>
-        ensures { Takes (step.add_type place form self.old) result self.new }
+        ensures { Takes (step.add_type place (form_of form) self.old) result self.new }
     {
         self.types.add(form).map_err(|rule| refused(rule, place))
+    }
+
+    /// An array of elements of a type, over its index types: behind the first it is one of arrays, packed as it is
+    /// (6.4.3.2). A rule that one of them breaks is told at the place (Y2).
+    #[tactic(auto, using(crate::proofs::DenoterRows::arrays_left))]
+    pub fn arrays(
+        &mut self,
+        packed: bool,
+        place: Place,
+        indexes: &[TypeId],
+        element: TypeId,
+    ) -> Result<TypeId, TypeFault>
+        ensures { Takes (spec.arrays packed place indexes.now element self.old) result self.new }
+    {
+        let mut left = indexes;
+        let mut element = element;
+        while let Some((index, before)) = left.split_last() {
+            element = self.add_type(
+                place,
+                TypeForm::Array {
+                    packed,
+                    index: *index,
+                    element,
+                },
+            )?;
+            left = before;
+        }
+        Ok(element)
     }
 
     /// The host type of a subrange; another type itself (6.4.2.4).
@@ -50,7 +79,9 @@ impl Typer {
         first: Option<(i32, TypeId)>,
         last: Option<(i32, TypeId)>,
     ) -> Result<TypeForm, TypeFault>
-        ensures { result ≡ spec.between self.now.types place first last }
+        ensures { MatchResult result
+            (λ form. spec.between self.now.types place first last ≡ Ok (form_of form))
+            (λ why. spec.between self.now.types place first last ≡ Err why) }
     {
         let (Some(first), Some(last)) = (first, last) else {
             return Err(TypeFault::Mismatch(place));

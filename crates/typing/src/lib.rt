@@ -2,8 +2,10 @@
 //! pass a program by them.
 #![tactic(auto)]
 
+mod components;
 mod constants;
 mod denoters;
+mod fields;
 mod names;
 mod operations;
 pub mod rules;
@@ -15,7 +17,8 @@ mod variables;
 
 pub use constants::constant_place;
 pub use denoters::value_of;
+pub use fields::add_fields;
 pub use names::folded;
 pub use strings::characters;
 pub use typed::Typed;
-pub use typer::{MOST_ENTRIES, MOST_SITES, Typer};
+pub use typer::{MOST_ENTRIES, MOST_SITES, MOST_VARIABLES, Typer};

@@ -1,4 +1,4 @@
-use crate::rules::{applied, fitting, representation, result_type};
+use crate::rules::{applied, copying, fitting, representation, result_type};
 use crate::typed::Typed;
 use crate::typer::Typer;
 use place::Place;
@@ -115,6 +115,13 @@ impl Typer {
         ensures { result ≡ statements.fitting self.now.types target value }
     {
         fitting(&self.types, target, value)
+    }
+
+    /// How many cells a structured value has, if it may be assigned to a target of a type (6.4.6), which has as many.
+    pub fn copying(&self, target: TypeId, value: Typed) -> Option<usize>
+        ensures { result ≡ statements.copying self.now.types target value }
+    {
+        copying(&self.types, target, value)
     }
 
     /// Whether a value is an ordinal, of an ordinal type (6.4.2).

@@ -2,8 +2,8 @@
 ghost use Rattle.std.specs.Prelude.{◌≡◌, nat_eq};
 ghost use Rattle.typing.specs.Steps.{told};
 ghost use Rattle.typing.specs.Expressions.{sign_operation, both_of, compared, result_type, function_type, as_function};
-ghost use Rattle.typing.specs.Expressions.{takes, on_range, applied};
-ghost use Rattle.typing.specs.Statements.{as_variable, as_procedure, fitting, ends_line, is_output};
+ghost use Rattle.typing.specs.Expressions.{takes, on_range, applied, as_variable};
+ghost use Rattle.typing.specs.Statements.{as_procedure, fitting, copying, ends_line, is_output};
 ghost use Rattle.typing.specs.Statements.{representation_of, way};
 
 use crate::typed::Typed;
@@ -194,6 +194,17 @@ pub fn fitting(types: &TypeTable, target: TypeId, value: Typed) -> Option<Ordina
         return None;
     }
     types.range(target)
+}
+
+/// How many cells a structured value has, if it may be assigned to a target of a type (6.4.6), which has as many.
+pub fn copying(types: &TypeTable, target: TypeId, value: Typed) -> Option<usize>
+    ensures { result ≡ copying types.now target value }
+{
+    let cells = value.length?;
+    if !types.assignable(target, value.type_id) || types.cells(target) as usize != cells {
+        return None;
+    }
+    Some(cells)
 }
 
 /// The way of a control variable (6.8.3.9).

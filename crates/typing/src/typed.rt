@@ -6,9 +6,10 @@ use types::TypeId;
 /// What an expression is.
 #[derive(Clone, Copy)]
 pub struct Typed {
-    /// The type of its value: a host type, or a string type.
+    /// The type of its value: a host type, or a structured type.
     pub type_id: TypeId,
-    /// How many characters its value has, where that is a string; none where it is an ordinal.
+    /// How many components its value has, where that is structured, as a string has so many characters; none where it
+    /// is an ordinal.
     pub length: Option<usize>,
     /// The id of its leading site.
     pub site: Option<u32>,

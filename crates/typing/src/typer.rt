@@ -18,6 +18,9 @@ use types::TypeTable;
 /// The most sites, and the most points, of a program.
 pub const MOST_SITES: usize = 1_000_000;
 
+/// The most variables of a program.
+pub const MOST_VARIABLES: usize = 1_000_000;
+
 /// The most statements and expressions of a program.
 pub const MOST_ENTRIES: u32 = 4_000_000;
 

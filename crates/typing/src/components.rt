@@ -1,0 +1,58 @@
+use crate::names::fold_into;
+use crate::typed::Typed;
+use crate::typer::Typer;
+use place::Place;
+use syntax_tree::Name;
+use typed_tree::fault::TypeFault;
+use types::{ArrayElement, RecordField, TypeForm, TypeId};
+
+impl Typer {
+    ghost use Rattle.std.specs.Prelude.{◌≡◌, ◌&&◌, is_none};
+    ghost use Rattle.types.specs.Types.{cells_of, element_of, is_compatible, is_ordinal};
+    ghost use Rattle.typing.specs.Expressions as spec;
+    ghost use Rattle.typing.specs.Outcomes.{Takes};
+    ghost use Rattle.typing.specs.Passing.{by_types};
+    ghost use Rattle.typing.specs.Steps.{or_mismatch};
+
+    /// The field of a name in a value of a type (6.5.3.3): K1 at the name where the type is no record, S3 where it has
+    /// no such field.
+    pub fn field_named(&mut self, id: TypeId, name: &Name) -> Result<RecordField, TypeFault>
+        ensures { Takes (by_types (λ types. spec.field_named types id name.now) self.old) result self.new }
+    {
+        fold_into(&mut self.key, name.text)?;
+        let Some(TypeForm::Record { .. }) = self.types.form(id) else {
+            return Err(TypeFault::Mismatch(name.place));
+        };
+        self.types
+            .field(id, &self.key)
+            .ok_or(TypeFault::NotDeclared(name.place))
+    }
+
+    /// The elements of a value of a type (6.5.3.2): K1 at the place where the type is no array.
+    pub fn element(&self, id: TypeId, place: Place) -> Result<ArrayElement, TypeFault>
+        ensures { result ≡ or_mismatch place (element_of self.now.types id) }
+    {
+        self.types.element(id).ok_or(TypeFault::Mismatch(place))
+    }
+
+    /// Whether a value may be the index of an element: an ordinal that is compatible with the index type (6.5.3.2).
+    pub fn may_index(&self, element: ArrayElement, value: Typed) -> bool
+        ensures { result ≡ (is_none value.length && is_compatible self.now.types element.index value.type_id) }
+    {
+        value.length.is_none() && self.types.compatible(element.index, value.type_id)
+    }
+
+    /// Whether a type is ordinal (6.4.2).
+    pub fn tests_ordinal(&self, id: TypeId) -> bool
+        ensures { result ≡ is_ordinal self.now.types id }
+    {
+        self.types.is_ordinal(id)
+    }
+
+    /// How many cells a variable of a type takes.
+    pub fn cells(&self, id: TypeId) -> u32
+        ensures { result ≡ cells_of self.now.types id }
+    {
+        self.types.cells(id)
+    }
+}
