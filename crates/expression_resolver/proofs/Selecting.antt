@@ -238,20 +238,21 @@ module _ (indexes : List SyntaxExpr) (s : Passed) (old new : Selection) (now : P
   none_left place joined all more =
       inr (at_drop_all (λ left. on old (select.Index place joined ∷ more) (map expression left) s) indexes (length old.indexes.items) all)
 
-  module _ (place : Place) (joined : Bool) (index : SyntaxExpr) (within : length old.indexes.items < length indexes)
-      (is : get_or indexes (length old.indexes.items) index ≡ index) where
+  -- the next index expression, which stands at n
+  module _ (place : Place) (joined : Bool) (n : ℕ) (at : n ≡ length old.indexes.items) (index other : SyntaxExpr) (within : n < length indexes)
+      (is : index ≡ get_or indexes n other) where
     abbrev behind_it : List Written
-    behind_it = map expression (drop (length old.indexes.items + 1) indexes)
+    behind_it = map expression (drop (n + 1) indexes)
 
     next_left : left_behind old indexes ≡ expression index ∷ behind_it
     next_left =
-        ap (map expression) (drop_more indexes (length old.indexes.items) index within)
-        ∙ ap (λ e. expression e ∷ behind_it) is
+        ap (λ k. map expression (drop k indexes)) (sym at) ∙ ap (map expression) (drop_more indexes n other within)
+        ∙ ap (λ e. expression e ∷ behind_it) (sym is)
 
     element_behind : IsElementBehind place (expression index) s old new now → IsOneBehind (select.Index place joined) indexes s old new now
     element_behind one =
-        let longer : length new.indexes.items ≡ length old.indexes.items + 1 =
-        ap length one.indexes ∙ length-append old.indexes.items (one.index ∷ []) in
+        let longer : length new.indexes.items ≡ n + 1 =
+        ap length one.indexes ∙ length-append old.indexes.items (one.index ∷ []) ∙ ap (λ k. k + 1) (sym at) in
         record {
           own = look_expr one.index;
           looks =
@@ -260,8 +261,8 @@ module _ (indexes : List SyntaxExpr) (s : Passed) (old new : Selection) (now : P
           goes = λ more.
               ap (λ left. on old (select.Index place joined ∷ more) left s) next_left
               ∙ one.goes joined more behind_it
-              ∙ ap (λ n. behind_marks (look_expr one.index) (on new more (map expression (drop n indexes)) now)) (sym longer);
-          counted = λ so_far. one.counted ∙ ap suc so_far ∙ omega (arith, longer);
+              ∙ ap (λ k. behind_marks (look_expr one.index) (on new more (map expression (drop k indexes)) now)) (sym longer);
+          counted = λ so_far. one.counted ∙ ap suc so_far ∙ omega (arith, longer, at);
         }
 
     pub element_selects : (result : Result (Unit {0}) TypeFault) → SelectsElement place (expression index) s old result new now

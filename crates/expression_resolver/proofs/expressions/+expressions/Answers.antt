@@ -1,5 +1,5 @@
 use Rattle.std.proofs.lemmas.Bool.Decides.{nat_tests}
-use Rattle.std.proofs.Common.{rules, ◌≡◌, ◌∷◌, length, map, refl, sym, ap, subst, ◌∙◌, arith}
+use Rattle.std.proofs.Common.{rules, ◌≡◌, ◌<◌, ◌∷◌, length, map, refl, sym, ap, subst, ◌∙◌, arith}
 use Rattle.syntax_tree.specs.declared.Expr.TheViews.{out-Link}
 use Rattle.typed_tree.specs.Look.{Begins}
 use Rattle.typing.specs.Passing.{behind_marks}
@@ -13,8 +13,8 @@ use Rattle.expression_resolver.proofs.Operands.{was_some, fits_behind}
 use Rattle.typed_tree.specs.Accesses.{index_count}
 use Rattle.typed_tree.specs.Look.{Access, look_expr}
 use Rattle.typing.proofs.Selectors.{index_passes}
-use Rattle.expression_resolver.specs.Accesses.{value, look_selection}
-use Rattle.expression_resolver.proofs.Selecting.{variable_stops, selectors_stop, component_is, elements_take_one, one_refused, one_selected, all_selected}
+use Rattle.expression_resolver.specs.Accesses.{value, look_selection, SelectsOne}
+use Rattle.expression_resolver.proofs.Selecting.{variable_stops, selectors_stop, component_is, elements_take_one, field_selects, element_selects}
 use Rattle.expression_resolver.proofs.expressions.+expressions.Goals as goal
 
 -- ---- a chain
@@ -155,3 +155,23 @@ select_element-returns t c =
       indexes = c.in_ok-push-2.ensures.items;
       counted = ap index_count c.in_ok-push.ensures.items ∙ elements_take_one made.selectors.items (record { site = site; range = e.range }) e.cells;
     }
+
+-- a selector more is a field
+pub select-returns-in-Field : goal.select-returns-in-Field
+select-returns-in-Field t c =
+    subst (λ s. SelectsOne s c.args.indexes.now c.args.typer.now c.args.selection.now c.select_field.result c.select_field.new.selection
+    c.select_field.new.typer) (sym c.in-Field.is)
+    (field_selects c.args.indexes.now c.args.typer.now c.args.selection.now c.select_field.new.selection c.select_field.new.typer
+    c.in-Field.name c.select_field.result c.select_field.ensures)
+
+-- it is an index
+pub select-returns-in-Some : goal.select-returns-in-Some
+select-returns-in-Some t c =
+    let taken = c.args.selection.now.indexes in
+    let there : c.len.result < length c.args.indexes.now = grind (arith, nat_tests, c.in-Some.ensures.lookup.0) in
+    let at : c.len.result ≡ length taken.items = grind (arith, c.len.ensures, taken.ok) in
+    subst (λ s. SelectsOne s c.args.indexes.now c.args.typer.now c.args.selection.now c.select_element.result c.select_element.new.selection
+    c.select_element.new.typer) (sym c.in-Index.is)
+    (element_selects c.args.indexes.now c.args.typer.now c.args.selection.now c.select_element.new.selection c.select_element.new.typer
+    c.in-Index.place c.in-Index.joined c.len.result at c.in-Some.index.now _ there c.in-Some.ensures.lookup.1
+    c.select_element.result c.select_element.ensures)
