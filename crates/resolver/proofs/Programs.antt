@@ -10,6 +10,7 @@ use Rattle.std.specs.Prelude.{slice_get}
 use Rattle.place.specs.Place.{ArePlacesInOrder}
 use Rattle.syntax_tree.specs.declared.Program.{Program}
 use Rattle.syntax_tree.specs.Places.{program_places}
+use Rattle.types.specs.Types.{most_cells}
 use Rattle.typed_tree.specs.declared.fault.TypeFault.{TypeFault}
 use Rattle.typed_tree.specs.declared.tree.Tree.{Tree}
 use Rattle.typed_tree.specs.declared.tree.Block.{Block}
@@ -19,15 +20,16 @@ use Rattle.typed_tree.proofs.LoopNumbers.{loop_numbers_are}
 use Rattle.typed_tree.specs.Entries.{entries_of}
 use Rattle.typed_tree.specs.Ids.{AreInOrder, AreByPlace}
 use Rattle.typed_tree.specs.Look.{Look, BlockEnds, look_stmt, look_block, tree_look, is_formed_mark}
-use Rattle.typed_tree.specs.WellFormed.{IsWellFormed}
+use Rattle.typed_tree.specs.WellFormed.{IsWellFormed, most_variables}
 use Rattle.typed_tree.proofs.Looks.{entries_are, formed_are}
 use Rattle.typing.specs.Passing.{Passed, after, and_then, behind_marks, mark}
 use Rattle.typing.specs.Outcomes.{IsFault}
 use Rattle.typing.specs.Statements.{statement, compound}
 use Rattle.typing.specs.Typing.{typing, statement_part}
 use Rattle.typing.specs.Sound.{IsTyped, IsLeft, stands}
-use Rattle.typing_laws.specs.Lawful.{BeginWithRequired, HaveScalarVariables, Lawful}
+use Rattle.typing_laws.specs.Lawful.{BeginWithRequired, Lawful}
 use Rattle.typing_laws.proofs.Programs.{typing_is_lawful}
+use Rattle.typing_laws.proofs.Tables.{cells_in}
 use Rattle.declarations.specs.Declared.{declared}
 use Rattle.resolver.specs.Made.{IsResolved}
 use Rattle.resolver.specs.Table.{row_of, rows_of, IsTableOf}
@@ -147,12 +149,8 @@ module _ (program : Program) (tree : Tree) (resolved : IsResolved program tree) 
   pub has_no_points : tree.points.items ≡ []
   has_no_points = is_left.points
 
-  pub has_types : BeginWithRequired tree.types × HaveScalarVariables tree.variables.items tree.types
-  has_types = (
-    subst BeginWithRequired (sym is_left.types) lawful.types,
-    subst (HaveScalarVariables tree.variables.items) (sym is_left.types)
-        (subst (λ variables. HaveScalarVariables variables passed.types) (sym is_left.variables) lawful.scalar),
-  )
+  pub has_types : BeginWithRequired tree.types
+  has_types = subst BeginWithRequired (sym is_left.types) lawful.types
 
   pub has_one_block : length tree.blocks.items ≡ 1
   has_one_block = ap length resolved.blocks
@@ -181,13 +179,17 @@ module _ (program : Program) (tree : Tree) (resolved : IsResolved program tree) 
 
   pub is_well_formed : IsWellFormed tree
   is_well_formed = record {
-    few_variables = subst (λ n. n ≤ 65536) (sym (ap length is_left.variables)) lawful.few_variables;
+    few_variables = subst (λ variables. length variables ≤ most_variables) (sym is_left.variables) lawful.few_variables;
+    few_cells =
+        subst (λ types. cells_in types tree.variables.items ≤ most_cells) (sym is_left.types)
+        (subst (λ variables. cells_in passed.types variables ≤ most_cells) (sym is_left.variables) lawful.few_cells);
     declared = ap (list_all (λ variable. nat_eq variable.block 0)) is_left.variables ∙ lawful.declared;
     a_block = subst (λ n. 0 < n) (sym has_one_block) (omega arith);
     blocks =
-        sym (formed_are (length tree.variables.items) (length tree.sites.items) tree)
-        ∙ ap (λ n. list_all (is_formed_mark n (length tree.sites.items)) (tree_look tree)) (ap length is_left.variables)
-        ∙ ap (λ n. list_all (is_formed_mark (length passed.variables) n) (tree_look tree)) as_many_sites
+        sym (formed_are tree.variables.items tree.types (length tree.sites.items) tree)
+        ∙ ap (λ variables. list_all (is_formed_mark variables tree.types (length tree.sites.items)) (tree_look tree)) is_left.variables
+        ∙ ap (λ types. list_all (is_formed_mark passed.variables types (length tree.sites.items)) (tree_look tree)) is_left.types
+        ∙ ap (λ n. list_all (is_formed_mark passed.variables passed.types n) (tree_look tree)) as_many_sites
         ∙ lawful.formed;
     loops = has_rows;
     in_program = resolved.is_typed.has_loops.in_program;

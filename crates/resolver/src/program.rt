@@ -10,7 +10,7 @@ ghost use Rattle.typing.specs.Outcomes.{IsFault};
 ghost use Rattle.typing.specs.Sound.{IsTyped, stands};
 ghost use Rattle.typing.specs.Typing.{typing};
 ghost use Rattle.typing.specs.declared.typer.TheConstants.{MOST_SITES};
-ghost use Rattle.typing_laws.specs.Lawful.{BeginWithRequired, HaveScalarVariables};
+ghost use Rattle.typing_laws.specs.Lawful.{BeginWithRequired};
 ghost use Rattle.resolver.specs.Made.{IsResolved};
 
 use crate::statements::compound;
@@ -47,9 +47,8 @@ pub fn resolve(alloc: Global, program: &Program) -> Result<Tree, TypeFault>
     ensures well_formed { IfOk result IsWellFormed }
     ensures points { IfOk result (λ tree. tree.points.items ≡ []) }
 
-    // Its types are the required ones, and then the program's own; that of each variable takes one cell.
-    ensures types { IfOk result (λ tree.
-        BeginWithRequired tree.types × HaveScalarVariables tree.variables.items tree.types) }
+    // Its types are the required ones, and then the program's own.
+    ensures types { IfOk result (λ tree. BeginWithRequired tree.types) }
     ensures one_block { IfOk result (λ tree. vec_len tree.blocks ≡ 1) }
 {
     typed_program(alloc, program)

@@ -1,5 +1,5 @@
 -- The law of every expression, by induction over its form.
-use Rattle.std.proofs.Common.{◌≡◌, ℕ, List, [], ◌∷◌, ◌++◌, map, Option, Some, None, Ok, refl, sym, ap, subst, ◌∙◌, append_assoc}
+use Rattle.std.proofs.Common.{◌≡◌, List, [], ◌∷◌, ◌++◌, map, Option, Some, None, Ok, refl, sym, ap, subst, ◌∙◌, append_assoc}
 use Rattle.place.specs.declared.Place.{Place}
 use Rattle.syntax_tree.specs.declared.Expr.{Expr}
 use Rattle.syntax_tree.specs.declared.Link.{Link}
@@ -9,16 +9,19 @@ use Rattle.syntax_tree.specs.declared.Expr.TheViews.{roll-Expr, roll-Link, roll-
 use Rattle.syntax_tree.specs.declared.Expr.TheFolds.{map-Expr, map-Link, map-Actual, fold-roll-Expr, fold-roll-Link, fold-roll-Actual, ind-Expr, ind-Actual}
 use Rattle.syntax_tree.specs.Places.{Places, joined_places, width_places, expr_places, actual_places, link_places, expression_step as expression_row}
 use Rattle.syntax_tree.specs.Places.{actual_step as actual_row, link_step as link_row}
+use Rattle.typed_tree.specs.declared.tree.Variable.{Variable}
 use Rattle.typing.specs.declared.typed.Typed.{Typed}
 use Rattle.typing.specs.Expressions.{Written, WrittenActual, WrittenLink, expression, written_actual, written_link, expression_step, actual_step, link_step}
 use Rattle.typing.specs.Expressions.{links, only, without_width}
 use Rattle.typing_laws.proofs.Covers.{Covers, covers_more}
 use Rattle.typing_laws.proofs.Steps.{Does, IsKnown, sited}
-use Rattle.typing_laws.proofs.Expressions.{LawfulWritten, LawfulLink, Types, number_does, string_does, named_does, parenthesized_does, negation_does}
-use Rattle.typing_laws.proofs.Expressions.{signed_does}
+use Rattle.typing_laws.proofs.Grown.{Reached}
+use Rattle.typing_laws.proofs.Leading.{LawfulWritten, LawfulLink, Types}
+use Rattle.typing_laws.proofs.Accesses.{AreLawfulRows}
+use Rattle.typing_laws.proofs.Expressions.{number_does, string_does, named_does, component_does, parenthesized_does, negation_does, signed_does}
 use Rattle.typing_laws.proofs.Operators.{link_does, links_none, links_more, chain_does, call_does}
 
-module _ (variables : ℕ) where
+module _ (variables : List Variable) where
   abbrev pub IsLawfulWidth : List Place → Option Written → Type 0
   IsLawfulWidth places None = Unit {0}
   IsLawfulWidth places (Some width) = LawfulWritten variables places width
@@ -98,16 +101,26 @@ module _ (variables : ℕ) where
   abbrev bare_links : List WithLink → List Link
   bare_links ys = map (λ (y : WithLink). y.0) ys
 
-  links_lawful : (ys : List WithLink) (now : ℕ) (t : Typed) → IsKnown t.site now
+  links_lawful : (ys : List WithLink) (now : Reached) (t : Typed) → IsKnown t.site now
       → Does variables now (Covers 2 (joined_places (map link_places (bare_links ys)))) (links t (map written_link (bare_links ys))) Types
   links_lawful [] now t known = links_none variables t known
   links_lawful (y ∷ ys) now t known =
       links_more variables t (written_link y.0) (map written_link (bare_links ys)) (link_places y.0) (joined_places (map link_places (bare_links ys))) known y.1
       (links_lawful ys)
 
+  abbrev bare_exprs : List WithExpr → List Expr
+  bare_exprs ys = map (λ (y : WithExpr). y.0) ys
+
+  rows_lawful : (ys : List WithExpr) → AreLawfulRows variables (map expr_places (bare_exprs ys)) (map expression (bare_exprs ys))
+  rows_lawful [] = tt
+  rows_lawful (y ∷ ys) = (y.1, rows_lawful ys)
+
   expression_layer : (y : layer.Expr-F WithExpr WithActual WithLink) → LawfulExpr (roll-Expr (bare y))
   expression_layer (layer.Number value place) = from_layer (layer.Number value place) (number_does variables value place)
   expression_layer (layer.Name name) = from_layer (layer.Name name) (named_does variables name)
+  expression_layer (layer.Component name selectors indexes) =
+      from_layer (bare (layer.Component name selectors indexes))
+      (component_does variables name selectors.items _ _ (rows_lawful indexes.items))
   expression_layer (layer.String text place) = from_layer (layer.String text place) (string_does variables text.now place)
   expression_layer (layer.Call name actuals) = from_layer (bare (layer.Call name actuals)) (call_does variables name _ _ (only_lawful name.place actuals.items))
   expression_layer (layer.Parenthesized place inner) =
@@ -166,3 +179,8 @@ module _ (variables : ℕ) where
       (λ x y is. subst (λ z. LawfulExpr (roll-Expr z)) is (expression_layer y))
       (λ x y is. subst (λ z. LawfulActualOf (roll-Actual z)) is (actual_layer y))
       (λ x y is. subst (λ z. LawfulLinkOf (roll-Link z)) is (link_layer y))
+
+  -- the index expressions of an access
+  pub indexes_lawful : (ws : List Expr) → AreLawfulRows variables (map expr_places ws) (map expression ws)
+  indexes_lawful [] = tt
+  indexes_lawful (w ∷ ws) = (expression_lawful w, indexes_lawful ws)

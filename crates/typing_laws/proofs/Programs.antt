@@ -1,6 +1,6 @@
 -- The law of typing: what each typed program has.
-use Rattle.std.proofs.Common.{◌≡◌, ℕ, List, [], ◌∷◌, ◌++◌, length, map, nat_eq, Ok, refl, sym, ap, subst, ◌∙◌, arith}
-use Rattle.std.specs.List.{range_with_len, list_all, flat_map, All}
+use Rattle.std.proofs.Common.{◌≡◌, List, [], ◌∷◌, ◌++◌, length, map, nat_eq, Ok, refl, sym, ap, subst, ◌∙◌, arith}
+use Rattle.std.specs.List.{range_with_len, list_all, flat_map}
 use Rattle.syntax_tree.specs.declared.Program.{Program}
 use Rattle.syntax_tree.specs.declared.Block.{Block}
 use Rattle.syntax_tree.specs.Places.{name_places, definition_places, type_definition_places, group_places, stmt_places, program_places}
@@ -11,23 +11,22 @@ use Rattle.typing.specs.Passing.{Passed, After, after, behind_marks}
 use Rattle.typing.specs.Steps.{begins}
 use Rattle.typing.specs.Statements.{statement}
 use Rattle.typing.specs.Typing.{declarations, statement_part, typing}
-use Rattle.typing_laws.specs.Lawful.{HaveScalarVariables, Lawful}
+use Rattle.typing_laws.specs.Lawful.{Lawful}
 use Rattle.typing_laws.proofs.Covers.{Covers, covers_more, covers_behind, covers_skip}
 use Rattle.typing_laws.proofs.Ordered.{covers_by_place}
-use Rattle.typing_laws.proofs.WholeRanges.{required_have}
-use Rattle.typing_laws.proofs.Cells.{TakesOne, required_take, required_later, no_texts}
-use Rattle.typing_laws.proofs.Grown.{Fine, Grown}
+use Rattle.typing_laws.proofs.Tables.{cells_in, cells_in_longer, required_lawful, no_texts}
+use Rattle.typing_laws.proofs.Grown.{Reached, Fine, Grown, reached, as_far}
 use Rattle.typing_laws.proofs.Steps.{Does, Anything, split, split_behind, last, mark_does}
 use Rattle.typing_laws.proofs.Statements.{compound_does, statements_lawful}
-use Rattle.typing_laws.proofs.Declarations.{IsReady, variables_later, declarations_keep}
+use Rattle.typing_laws.proofs.Declarations.{IsReady, declarations_keep}
 
 -- the statements of a block
-statement_part_does : (variables : ℕ) (block : Block)
-    → Does variables 0 (Covers 0 (flat_map stmt_places block.statements.items)) (statement_part block) Anything
+statement_part_does : (variables : List Variable) (least : Reached) (block : Block)
+    → Does variables least (Covers 0 (flat_map stmt_places block.statements.items)) (statement_part block) Anything
 unfolding statement_part
-statement_part_does variables block =
+statement_part_does variables least block =
     let items = block.statements.items in
-    last ((compound_does variables (flat_map stmt_places items) (map statement items) (statements_lawful variables items)).passes 0) λ _ _ _ _.
+    last ((compound_does variables (flat_map stmt_places items) (map statement items) (statements_lawful variables items)).passes least) λ _ _ _ _.
     mark_does (BlockEnds block.end) refl refl (λ n h. refl)
 
 -- the places of the statements are among those of the program
@@ -46,41 +45,33 @@ program_covers program sites has =
     (covers_behind 0 groups (statements ++ ends) sites (covers_more 0 statements ends sites has)))))
 
 -- behind the declarations
-fine_ready : (s : Passed) → IsReady s → Fine (length s.variables) s
+fine_ready : (s : Passed) → IsReady s → Fine s.variables s
 fine_ready s r = record {
   sound = r.sound;
-  whole = r.whole;
-  required = r.required;
+  lawful = r.lawful;
   texts = r.texts;
   few_sites = omega (arith, ap length r.sites);
   few_entries = omega (arith, r.entries);
 }
 
 grown_lawful : (program : Program) (s : Passed) (a : After (Unit {0})) → IsReady s
-    → Grown (length s.variables) (Covers 0 (flat_map stmt_places program.block.statements.items)) a.look s a.passed → Lawful program a
+    → Grown s.variables (Covers 0 (flat_map stmt_places program.block.statements.items)) a.look s a.passed → Lawful program a
 grown_lawful program s a r g = record {
   numbered = g.numbered ∙ ap (λ n. range_with_len n (length (entries_of_look a.look))) r.entries;
   few_entries = omega (arith, g.entered, g.few_entries);
   loops = g.looped ∙ ap (λ n. range_with_len n (length (loops_of_look a.look))) r.loops;
-  formed = ap (λ n. list_all (is_formed_mark n (length a.passed.sites)) a.look) kept ∙ g.formed (length a.passed.sites) (omega arith);
-  few_variables = omega (arith, kept, r.declared, r.room);
+  formed =
+      ap (λ variables. list_all (is_formed_mark variables a.passed.types (length a.passed.sites)) a.look) g.variables_kept
+      ∙ g.formed (reached a.passed) as_far;
+  few_variables = omega (arith, ap length g.variables_kept, r.few_variables);
+  few_cells = omega (arith, ap (cells_in a.passed.types) g.variables_kept, cells_in_longer g.longer s.variables r.have_types, r.cells, r.room);
   declared = ap (list_all (λ variable. nat_eq variable.block 0)) g.variables_kept ∙ r.by_program;
   few_sites = g.few_sites;
-  types = (required_later g.types r.required).begin;
-  scalar =
-      subst (λ variables. HaveScalarVariables variables a.passed.types) (sym g.variables_kept)
-      (cells s.variables (variables_later g.types s.variables r.one_cell));
+  types = g.lawful.begin;
   by_place = λ order.
       subst AreByPlace (sym (g.sites ∙ ap (λ l. l ++ g.added) r.sites))
       (covers_by_place (program_places program) g.added order (program_covers program g.added g.covered));
 }
-  where
-    kept : length a.passed.variables ≡ length s.variables
-    kept = ap length g.variables_kept
-
-    cells : (variables : List Variable) → All (λ variable. TakesOne a.passed.types variable.type_id) variables
-        → HaveScalarVariables variables a.passed.types
-    cells variables all = λ k d within. (all k d within).one
 
 -- what each typed program has
 pub typing_is_lawful : (program : Program) (a : After (Unit {0})) → typing program ≡ Ok a → Lawful program a
@@ -91,19 +82,19 @@ typing_is_lawful program a is =
     let y = split_behind x.0.look (statement_part program.block x.0.passed) a x.2 in
     let ready : IsReady start = record {
       sound = tt;
-      scalar = tt;
-      whole = required_have;
-      required = required_take;
+      lawful = required_lawful;
       texts = no_texts;
       sites = refl;
       entries = refl;
       loops = refl;
       by_program = refl;
-      one_cell = λ k d within. absurd (omega (arith, within));
-      declared = omega arith;
+      have_types = tt;
+      cells = refl;
+      few_variables = omega arith;
       room = omega arith;
     } in
     let declared = (declarations_keep program).keeps start x.0 x.1 ready in
-    let grown = (statement_part_does (length x.0.passed.variables) program.block).does x.0.passed y.0 y.1 (fine_ready x.0.passed declared.1) (omega arith) in
+    let part = statement_part_does x.0.passed.variables (reached x.0.passed) program.block in
+    let grown = part.does x.0.passed y.0 y.1 (fine_ready x.0.passed declared.1) as_far in
     let same : after y.0.answer y.0.look y.0.passed ≡ a = ap (λ l. after y.0.answer (l ++ y.0.look) y.0.passed) (sym declared.0) ∙ y.2 in
     subst (Lawful program) same (grown_lawful program x.0.passed y.0 declared.1 grown.0)

@@ -1,16 +1,18 @@
--- What holds of all that names denote: a constant is a whole number, a variable one of the program, and a type takes one
--- cell.
-use Rattle.std.proofs.Common.{◌≡◌, ℕ, ◌<◌, ◌≤◌, Bool, true, false, cond, nat_eq, List, [], ◌∷◌, Option, Some, None, Ok, Err, if◌then◌else◌, fold, refl, subst}
-use Rattle.std.proofs.Common.{arith}
+-- What holds of all that names denote: a constant is a whole number, a variable one of the program, of the type that it
+-- has there, and a type stands in the table.
+use Rattle.std.proofs.Common.{◌≡◌, ℕ, zero, suc, ◌<◌, Bool, true, false, cond, nat_eq, List, [], ◌∷◌, ◌++◌, Option, Some, None, Ok, Err, if◌then◌else◌, fold}
+use Rattle.std.proofs.Common.{refl, subst, arith, length, slice_get, option_map, append-nil}
 use Rattle.std.specs.Cmp.Lexicographic.{pointwise}
 use Rattle.scopes.specs.Scopes.{Region, said, decided, found, put, opened, is_defined, define}
 use Rattle.scopes.specs.declared.fault.ScopeFault.TheVariants.{DeclaredTwice}
 use Rattle.scopes.specs.declared.denotation.Denotation.{Denotation}
 use Rattle.scopes.specs.declared.denotation.Denotation.TheVariants as denotes
 use Rattle.types.specs.Forms.{Form}
+use Rattle.types.specs.declared.form.TypeId.{TypeId}
+use Rattle.typed_tree.specs.declared.tree.Variable.{Variable}
 use Rattle.typed_tree.specs.WellFormed.{is_whole}
 use Rattle.typing.specs.Names.{required_region}
-use Rattle.typing_laws.proofs.Cells.{TakesOne, AreRequired, AreLater}
+use Rattle.typing_laws.proofs.Tables.{IsLonger, stands_longer}
 
 -- ---- what holds of each thing that is denoted
 
@@ -94,68 +96,57 @@ module _ (Holds More : Denotation → Type 0) (more : (denotation : Denotation) 
   all_more [] all = tt
   all_more (region ∷ outer) all = (region_more region all.0, all_more outer all.1)
 
--- ---- whole numbers and variables
+-- ---- whole numbers, variables and types
 
--- with so many variables
-abbrev pub IsSound : ℕ → Denotation → Type 0
-IsSound variables (denotes.Constant value type_id) = is_whole value ≡ true
-IsSound variables (denotes.Text number type_id) = Unit {0}
-IsSound variables (denotes.Variable root type_id) = root < variables
-IsSound variables (denotes.Procedure procedure) = Unit {0}
-IsSound variables (denotes.Function function) = Unit {0}
-IsSound variables (denotes.TypeName type_id) = Unit {0}
-IsSound variables denotes.Output = Unit {0}
+-- the type of the variable that has a root
+abbrev pub type_of : List Variable → ℕ → Option TypeId
+type_of variables root = option_map (λ variable. variable.type_id) (slice_get variables root)
 
-abbrev pub AreSound : ℕ → List Region → Type 0
-AreSound variables = HoldsOfAll (IsSound variables)
+pub type_of_more : (variables more : List Variable) (root : ℕ) (type_id : TypeId) → type_of variables root ≡ Some type_id
+    → type_of (variables ++ more) root ≡ Some type_id
+type_of_more [] more root type_id is = absurd cc
+type_of_more (variable ∷ variables) more zero type_id is = is
+type_of_more (variable ∷ variables) more (suc root) type_id is = type_of_more variables more root type_id is
 
-pub required_sound : (variables : ℕ) → HoldsOfRegion (IsSound variables) required_region
+pub type_of_last : (variables : List Variable) (variable : Variable) → type_of (variables ++ variable ∷ []) (length variables) ≡ Some variable.type_id
+type_of_last [] variable = refl
+type_of_last (first ∷ variables) variable = type_of_last variables variable
+
+-- with these variables and types
+abbrev pub IsSound : List Variable → List Form → Denotation → Type 0
+IsSound variables types (denotes.Constant value type_id) = is_whole value ≡ true
+IsSound variables types (denotes.Text number type_id) = Unit {0}
+IsSound variables types (denotes.Variable root type_id) = (type_of variables root ≡ Some type_id) × (type_id.index < length types)
+IsSound variables types (denotes.Procedure procedure) = Unit {0}
+IsSound variables types (denotes.Function function) = Unit {0}
+IsSound variables types (denotes.TypeName type_id) = type_id.index < length types
+IsSound variables types denotes.Output = Unit {0}
+
+abbrev pub AreSound : List Variable → List Form → List Region → Type 0
+AreSound variables types = HoldsOfAll (IsSound variables types)
+
+pub required_sound : (variables : List Variable) (types : List Form) → 2 < length types → HoldsOfRegion (IsSound variables types) required_region
 unfolding required_region
-required_sound variables =
-    (tt, (tt, (tt, (refl, (refl, (refl, (tt, (tt, (tt, (tt, (tt, (tt, (tt, (tt, (tt, tt)))))))))))))))
+required_sound variables types there =
+    let integers : 0 < length types = omega (arith, there) in
+    let booleans : 1 < length types = omega (arith, there) in
+    (integers, (booleans, (there, (refl, (refl, (refl, (tt, (tt, (tt, (tt, (tt, (tt, (tt, (tt, (tt, tt)))))))))))))))
 
--- with more variables
-pub regions_more : (variables more : ℕ) → variables ≤ more → (regions : List Region) → AreSound variables regions → AreSound more regions
-regions_more variables more fewer = all_more (IsSound variables) (IsSound more) by
-  where
-    by : (denotation : Denotation) → IsSound variables denotation → IsSound more denotation
-    by (denotes.Constant value type_id) sound = sound
-    by (denotes.Text number type_id) sound = tt
-    by (denotes.Variable root type_id) sound = omega (arith, fewer, sound)
-    by (denotes.Procedure procedure) sound = tt
-    by (denotes.Function function) sound = tt
-    by (denotes.TypeName type_id) sound = tt
-    by denotes.Output sound = tt
+-- in a longer table, with more variables
+module _ (variables more : List Variable) {old new : List Form} (longer : IsLonger old new) where
+  sound_more : (denotation : Denotation) → IsSound variables old denotation → IsSound (variables ++ more) new denotation
+  sound_more (denotes.Constant value type_id) sound = sound
+  sound_more (denotes.Text number type_id) sound = tt
+  sound_more (denotes.Variable root type_id) sound = (type_of_more variables more root type_id sound.0, stands_longer longer type_id sound.1)
+  sound_more (denotes.Procedure procedure) sound = tt
+  sound_more (denotes.Function function) sound = tt
+  sound_more (denotes.TypeName type_id) sound = stands_longer longer type_id sound
+  sound_more denotes.Output sound = tt
 
--- ---- types of one cell
+  pub regions_more : (regions : List Region) → AreSound variables old regions → AreSound (variables ++ more) new regions
+  regions_more = all_more (IsSound variables old) (IsSound (variables ++ more) new) sound_more
 
-abbrev pub IsScalarType : List Form → Denotation → Type 0
-IsScalarType types (denotes.TypeName type_id) = TakesOne types type_id
-IsScalarType types (denotes.Constant value type_id) = Unit {0}
-IsScalarType types (denotes.Text number type_id) = Unit {0}
-IsScalarType types (denotes.Variable root type_id) = Unit {0}
-IsScalarType types (denotes.Procedure procedure) = Unit {0}
-IsScalarType types (denotes.Function function) = Unit {0}
-IsScalarType types denotes.Output = Unit {0}
-
--- each type that a name denotes takes one
-abbrev pub HaveScalarTypes : List Form → List Region → Type 0
-HaveScalarTypes types = HoldsOfAll (IsScalarType types)
-
-pub required_scalar : (types : List Form) → AreRequired types → HoldsOfRegion (IsScalarType types) required_region
-unfolding required_region
-required_scalar types r =
-    (r.integers, (r.booleans, (r.chars, (tt, (tt, (tt, (tt, (tt, (tt, (tt, (tt, (tt, (tt, (tt, (tt, tt)))))))))))))))
-
--- in a later table
-pub scalar_later : {old new : List Form} → AreLater old new → (regions : List Region) → HaveScalarTypes old regions → HaveScalarTypes new regions
-scalar_later {old} {new} later = all_more (IsScalarType old) (IsScalarType new) by
-  where
-    by : (denotation : Denotation) → IsScalarType old denotation → IsScalarType new denotation
-    by (denotes.TypeName type_id) one = later.kept type_id one
-    by (denotes.Constant value type_id) one = tt
-    by (denotes.Text number type_id) one = tt
-    by (denotes.Variable root type_id) one = tt
-    by (denotes.Procedure procedure) one = tt
-    by (denotes.Function function) one = tt
-    by denotes.Output one = tt
+pub regions_longer : (variables : List Variable) {old new : List Form} → IsLonger old new → (regions : List Region) → AreSound variables old regions
+    → AreSound variables new regions
+regions_longer variables {old} {new} longer regions sound =
+    subst (λ all. AreSound all new regions) (append-nil variables) (regions_more variables [] longer regions sound)

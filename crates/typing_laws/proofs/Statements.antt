@@ -1,5 +1,6 @@
 -- What statements do, form by form, and the law of every statement, by induction over its form.
-use Rattle.std.proofs.Common.{◌≡◌, ℕ, ℤ, Vec, ◌<◌, Bool, true, false, if◌then◌else◌, List, [], ◌∷◌, ◌++◌, map, Option, Some, None, Ok, refl, sym}
+use Rattle.std.proofs.Common.{◌≡◌, ℕ, ℤ, Vec, ◌<◌, ap, ◌∙◌, length, nat_eq, Bool, true, false, if◌then◌else◌, List, [], ◌∷◌, ◌++◌, map, Option, Some}
+use Rattle.std.proofs.Common.{None, Ok, refl, sym}
 use Rattle.std.proofs.Common.{subst, append_assoc, arith, is_none, option_map, ◌&&◌}
 use Rattle.std.specs.List.{flat_map}
 use Rattle.std.specs.declared.alloc.Global.{Global}
@@ -16,53 +17,51 @@ use Rattle.syntax_tree.specs.declared.Stmt.{Stmt}
 use Rattle.syntax_tree.specs.declared.Stmt.TheOpen as layer
 use Rattle.syntax_tree.specs.declared.Stmt.TheViews.{roll-Stmt}
 use Rattle.syntax_tree.specs.declared.Stmt.TheFolds.{map-Stmt, fold-roll-Stmt, ind-Stmt}
-use Rattle.syntax_tree.specs.Places.{Places, joined_places, expr_places, actual_places, stmt_places, arms_of, arm_places, constant_places}
+use Rattle.syntax_tree.specs.declared.Selector.{Selector}
+use Rattle.syntax_tree.specs.Places.{Places, selector_places, joined_places, expr_places, actual_places, stmt_places, arms_of, arm_places, constant_places}
 use Rattle.syntax_tree.specs.Places.{statement_step as statement_row}
 use Rattle.types.specs.Forms.{Form}
 use Rattle.types.specs.declared.form.TypeId.{TypeId}
 use Rattle.types.specs.declared.form.OrdinalRange.{OrdinalRange}
-use Rattle.types.specs.Types.{integer, is_assignable, is_string, range_of}
-use Rattle.scopes.specs.declared.denotation.Denotation.{Denotation}
-use Rattle.scopes.specs.declared.denotation.Denotation.TheVariants as denotes
+use Rattle.types.specs.Types.{integer, cells_of, is_assignable, is_ordinal, is_string, range_of}
 use Rattle.scopes.specs.declared.denotation.RequiredProcedure.{RequiredProcedure}
 use Rattle.typed_tree.specs.declared.site.SiteKind.{SiteKind}
 use Rattle.typed_tree.specs.declared.site.SiteKind.TheVariants as kind
 use Rattle.typed_tree.specs.declared.tree.Representation.{Representation}
 use Rattle.typed_tree.specs.Ids.{Stands}
-use Rattle.typed_tree.specs.Look.{Assign, Target, Fits, Write, Written as WrittenMark, Width, Empty, Compound, If, Then, Else, While, Do, Repeat, Until, For}
+use Rattle.typed_tree.specs.declared.tree.Selector.{Selector as TreeSelector}
+use Rattle.typed_tree.specs.declared.tree.Variable.{Variable}
+use Rattle.typed_tree.specs.Accesses.{index_count}
+use Rattle.typed_tree.specs.Look.{Access, Assign, Target, WholeTarget, Copied, Fits, Write, Written as WrittenMark, Width, Empty, Compound, If, Then}
+use Rattle.typed_tree.specs.Look.{Else, While, Do, Repeat, Until, For}
 use Rattle.typed_tree.specs.Look.{Case, Arm, Ends, Mark, WrittenString, mark_entries, mark_loops, is_formed_mark}
-use Rattle.typing.specs.Passing.{Passing, and_then, each}
+use Rattle.typing.specs.Passing.{Passing, and_then, each, mark}
 use Rattle.typing.specs.Steps.{fits, or_mismatch}
 use Rattle.typing.specs.declared.typed.Typed.{Typed}
-use Rattle.typing.specs.Expressions.{Written, WrittenActual, is_of, expression, written_actual}
-use Rattle.typing.specs.Statements.{as_variable, fitting, assignment, as_procedure, ends_line, is_output, names_file, unless_wide, is_file, written_values}
+use Rattle.typing.specs.Expressions.{Written, WrittenActual, is_of, as_variable, expression, written_actual}
+use Rattle.typing.specs.Statements.{fitting, copied_cells, copying, target_mark, target, assigned, copied, assignment, as_procedure, ends_line}
+use Rattle.typing.specs.Statements.{is_output, names_file, unless_wide, is_file, written_values}
 use Rattle.typing.specs.Statements.{has_values, representation_of, written_as, measured, width, parameter, write, procedure_call, compound, condition}
 use Rattle.typing.specs.Statements.{alternative, tested, choice, while_loop}
 use Rattle.typing.specs.Statements.{repeat_loop, way, bound, for_head, for_body, for_loop, case_arms, case_head, case_body, case_statement, statement_step}
 use Rattle.typing.specs.Statements.{statement}
-use Rattle.typing_laws.proofs.Sound.{IsSound}
+use Rattle.typing_laws.proofs.Tables.{stands_longer, cells_of_longer}
 use Rattle.typing_laws.proofs.WholeRanges.{HaveWholeRanges, IsWholeRange}
-use Rattle.typing_laws.proofs.Covers.{Covers, covers_both, covers_none, covers_behind, covers_skip, covers_lower, covers_ahead, leads_first}
-use Rattle.typing_laws.proofs.Grown.{both_true}
-use Rattle.typing_laws.proofs.Steps.{Does, Anything, Nothing, joins, quietly, last, checks, checks_types, sited, pure_does, given_does, find_does, pass_does}
+use Rattle.typing_laws.proofs.Covers.{Covers, covers_both, covers_none, covers_behind, covers_skip, covers_lower, leads_first}
+use Rattle.typing_laws.proofs.Grown.{Reached, further_still, both_true}
+use Rattle.typing_laws.proofs.Steps.{Does, Anything, Nothing, joins, quietly, last, checks, checks_types, sited, pure_does, given_does, by_types_does}
+use Rattle.typing_laws.proofs.Steps.{find_does, pass_does}
 use Rattle.typing_laws.proofs.Steps.{wants_output_does}
 use Rattle.typing_laws.proofs.Steps.{mark_does, enter_does, enter_loop_does, may_change_does, begin_control_does, end_control_does, site_does, IsKnown}
-use Rattle.typing_laws.proofs.Expressions.{IsLed, Types, lt_true, LawfulWritten, led_covers}
+use Rattle.typing_laws.proofs.Leading.{IsLed, Types, lt_true, LawfulWritten, covers_test, led_covers}
+use Rattle.typing_laws.proofs.Accesses.{LeadsTo, AreLawfulRows, leads_nowhere, leads_later, selected_does, tests_ordinal_does, tested as tested_is}
+use Rattle.typing_laws.proofs.Accesses.{ordinal_formed, whole_formed}
+use Rattle.typing_laws.proofs.Expressions.{variable_is}
 use Rattle.typing_laws.proofs.Constants.{row_does}
-use Rattle.typing_laws.proofs.Strings.{there}
-use Rattle.typing_laws.proofs.EveryExpression.{LawfulActual, IsLawfulWidth, expression_lawful, actual_lawful}
+use Rattle.typing_laws.proofs.Strings.{there, fit_is, both_and}
+use Rattle.typing_laws.proofs.EveryExpression.{LawfulActual, IsLawfulWidth, expression_lawful, actual_lawful, indexes_lawful}
 
--- ---- assignments
-
-variable_is : (variables : ℕ) (place : Place) (d : Denotation) (target : ℕ × TypeId) → as_variable place d ≡ Ok target → IsSound variables d
-    → target.0 < variables
-variable_is variables place (denotes.Variable root type_id) target is sound = let same : root ≡ target.0 = cc in subst (λ n. n < variables) same sound
-variable_is variables place (denotes.Constant value type_id) target is sound = absurd cc
-variable_is variables place (denotes.Text number type_id) target is sound = absurd cc
-variable_is variables place (denotes.TypeName type_id) target is sound = absurd cc
-variable_is variables place (denotes.Procedure procedure) target is sound = absurd cc
-variable_is variables place (denotes.Function function) target is sound = absurd cc
-variable_is variables place denotes.Output target is sound = absurd cc
+-- ---- tests
 
 fitting_whole : (place : Place) (types : List Form) → HaveWholeRanges types → (target : TypeId) (value : Typed) (range : OrdinalRange)
     → or_mismatch place (fitting types target value) ≡ Ok range → IsWholeRange range
@@ -71,6 +70,22 @@ fitting_whole place types whole target value range is = by (is_none value.length
     by : (test : Bool) → or_mismatch place (if test then range_of types target else None) ≡ Ok range → IsWholeRange range
     by true h = whole target range (there place (range_of types target) range h)
     by false h = absurd cc
+
+copying_is : (place : Place) (types : List Form) (target : TypeId) (value : Typed) (cells : ℕ) → or_mismatch place (copying types target value) ≡ Ok cells
+    → nat_eq (cells_of types target) cells ≡ true
+copying_is place types target value cells is = by value.length is
+  where
+    by : (length : Option ℕ) → or_mismatch place (copied_cells types target value length) ≡ Ok cells → nat_eq (cells_of types target) cells ≡ true
+    by None h = absurd cc
+    by (Some n) h = fits (is_assignable types target value.type_id && nat_eq (cells_of types target) n) refl h
+      where
+        fits : (test : Bool) → (is_assignable types target value.type_id && nat_eq (cells_of types target) n) ≡ test
+            → or_mismatch place (if test then Some n else None) ≡ Ok cells → nat_eq (cells_of types target) cells ≡ true
+        fits true both h =
+            let same : n ≡ cells = cc in
+            subst (λ c. nat_eq (cells_of types target) c ≡ true) same
+            (both_and (is_assignable types target value.type_id) (nat_eq (cells_of types target) n) both).1
+        fits false both h = absurd cc
 
 measured_is : (place : Place) (t : Typed) (id : ℕ) → measured place t ≡ Ok id → t.site ≡ Some id
 measured_is place t id is = by (is_of integer t) t.site is
@@ -82,49 +97,106 @@ measured_is place t id is = by (is_of integer t) t.site is
 
 -- a mark that says how a value is written is no entry
 abbrev IsForm : Mark → Type 0
-IsForm one = (mark_entries one ≡ []) × (mark_loops one ≡ []) × ((variables sites : ℕ) → is_formed_mark variables sites one ≡ true)
+IsForm one =
+    (mark_entries one ≡ []) × (mark_loops one ≡ [])
+    × ((variables : List Variable) (types : List Form) (sites : ℕ) → is_formed_mark variables types sites one ≡ true)
 
 form_is : (place : Place) (types : List Form) (t : Typed) (form : Mark) → or_mismatch place (written_as types t) ≡ Ok form → IsForm form
 form_is place types t form is = by (is_none t.length) (representation_of types t.type_id) (is_string types t.type_id) (there place (written_as types t) form is)
   where
     by : (ordinal : Bool) (representation : Option Representation) (string : Bool)
         → (if ordinal then option_map WrittenMark representation else (if string then Some WrittenString else None)) ≡ Some form → IsForm form
-    by true (Some r) string h = let same : WrittenMark r ≡ form = cc in subst IsForm same (refl, refl, λ variables sites. refl)
+    by true (Some r) string h = let same : WrittenMark r ≡ form = cc in subst IsForm same (refl, refl, λ variables types sites. refl)
     by true None string h = absurd cc
-    by false r true h = let same : WrittenString ≡ form = cc in subst IsForm same (refl, refl, λ variables sites. refl)
+    by false r true h = let same : WrittenString ≡ form = cc in subst IsForm same (refl, refl, λ variables types sites. refl)
     by false r false h = absurd cc
 
-module _ (variables : ℕ) where
+module _ (variables : List Variable) where
   pub record LawfulStatement (places : List Place) (p : Passing (Unit {0})) : Type 0 where
-    pub passes : (least : ℕ) → Does variables least (Covers 0 places) p Anything
+    pub passes : (least : Reached) → Does variables least (Covers 0 places) p Anything
 
-  typed_does : (least : ℕ) (places : List Place) (w : Written) (lead : Option SiteKind) → LawfulWritten variables places w → IsLed lead
+  typed_does : (least : Reached) (places : List Place) (w : Written) (lead : Option SiteKind) → LawfulWritten variables places w → IsLed lead
       → Does variables least (Covers 0 places) (w.typing lead) Types
   typed_does least places w lead law is = sited (covers_lower 2 0 (omega arith) places) (law.types least lead is)
 
-  assignment_does : (name : Name) (becomes : Place) (places : List Place) (value : Written) → LawfulWritten variables places value
-      → LawfulStatement (name.place ∷ becomes ∷ places) (assignment name becomes value)
+  -- ---- assignments
+
+  target_formed : {least : Reached} (root : ℕ) (selectors : List TreeSelector) (id : TypeId) (ordinal : Bool) → LeadsTo variables root selectors id least
+      → is_ordinal least.types id ≡ ordinal → Does variables least Nothing (mark (target_mark ordinal root selectors id)) Anything
+  target_formed {least} root selectors id true l is =
+      mark_does (Target root selectors (index_count selectors)) refl refl (λ n h. ordinal_formed variables root selectors id least n l is h)
+  target_formed {least} root selectors id false l is =
+      mark_does (WholeTarget root selectors (index_count selectors) id) refl refl (λ n h. whole_formed variables root selectors id least n l is h)
+
+  -- it is of a type that stands in the table
+  abbrev StandsThere : TypeId → Reached → Type 0
+  StandsThere id now = id.index < length now.types
+
+  target_does : {least : Reached} (name : Name) (selectors : List Selector) (rows : List (List Place)) (ws : List Written) → AreLawfulRows variables rows ws
+      → Does variables least (Covers 0 (selector_places selectors rows)) (target name selectors ws) StandsThere
+  unfolding target
+  target_does name selectors rows ws laws =
+      quietly (find_does name) λ d now _ sound.
+      quietly (given_does (as_variable name.place d)) λ variable _ one is.
+      let found = variable_is variables now.types name.place d variable is sound in
+      quietly (may_change_does name.place variable.0) λ _ _ two _.
+      quietly (enter_does Access (λ n. refl) (λ n. refl) (λ n m h. refl)) λ _ entered three _.
+      let stands = stands_longer (further_still one (further_still two three)).types variable.1 found.1 in
+      last (selected_does variables variable.0 [] variable.1 selectors rows ws laws (leads_nowhere variables variable.0 variable.1 entered found.0 stands))
+      λ component met _ l.
+      quietly (tests_ordinal_does variables component.1) λ ordinal next four ordered.
+      let led = leads_later variables variable.0 component.0 component.1 met next four l in
+      quietly (target_formed variable.0 component.0 component.1 ordinal led (tested_is variables next component.1 ordinal ordered.1)) λ _ _ five _.
+      pure_does component.1 (λ n h. stands_longer (further_still five h).types component.1 led.stands)
+
+  assigned_does : {least : Reached} (id : TypeId) (becomes : Place) (places : List Place) (value : Written) → LawfulWritten variables places value
+      → Does variables least (Covers 0 (becomes ∷ places)) (assigned id becomes value) Anything
+  unfolding assigned
+  assigned_does id becomes places value law =
+      led_covers variables 0 becomes places (kind.Subrange ∷ []) (omega arith, tt)
+      (joins (leads_first 0 becomes (kind.Subrange ∷ []) places) (site_does kind.Subrange becomes) λ site there _ known.
+      last (checks_types {L = λ range n. IsWholeRange range} (typed_does there places value None law tt) λ types t range sites more lawful fits _.
+      fitting_whole becomes types lawful.whole id t range fits) λ range n more whole.
+      mark_does (Fits (record { site = site; range = range })) refl refl
+      (λ m h. both_true _ _ (lt_true site m.sites (omega (arith, known, more.sites, h.sites))) whole))
+
+  copied_does : {least : Reached} (id : TypeId) (becomes : Place) (places : List Place) (value : Written) → id.index < length least.types
+      → LawfulWritten variables places value → Does variables least (Covers 0 (becomes ∷ places)) (copied id becomes value) Anything
+  unfolding copied
+  copied_does id becomes places value stands law =
+      sited (λ sites. covers_skip 0 becomes places sites)
+      (quietly (pass_does becomes) λ _ now one _.
+      last (checks_types {L = λ cells n. nat_eq (cells_of n.types id) cells ≡ true} (typed_does now places value None law tt)
+      λ types t cells sites more lawful copies _. copying_is becomes types id t cells copies) λ cells n two as_many.
+      mark_does (Copied id cells) refl refl
+      (λ m h.
+      let there = stands_longer (further_still one two).types id stands in
+      ap (λ c. nat_eq c cells) (cells_of_longer h.types id there) ∙ as_many))
+
+  value_does : {least : Reached} (ordinal : Bool) (id : TypeId) (becomes : Place) (places : List Place) (value : Written) → id.index < length least.types
+      → LawfulWritten variables places value
+      → Does variables least (Covers 0 (becomes ∷ places)) ((if ordinal then assigned else copied) id becomes value) Anything
+  value_does true id becomes places value stands law = assigned_does id becomes places value law
+  value_does false id becomes places value stands law = copied_does id becomes places value stands law
+
+  assignment_does : (name : Name) (selectors : List Selector) (rows : List (List Place)) (ws : List Written) (becomes : Place) (places : List Place)
+      (value : Written) → AreLawfulRows variables rows ws → LawfulWritten variables places value
+      → LawfulStatement (name.place ∷ (selector_places selectors rows ++ (becomes ∷ places))) (assignment name selectors ws becomes value)
   unfolding assignment
-  assignment_does name becomes places value law = record {
+  assignment_does name selectors rows ws becomes places value laws law = record {
     passes = λ least.
-        quietly (enter_does (λ n. Assign n becomes) (λ n. refl) (λ n. refl) (λ n m h. refl)) λ _ _ _ _.
-        quietly (find_does name) λ d _ _ sound.
-        quietly (given_does (as_variable name.place d)) λ target _ _ is.
-        let within = variable_is variables name.place d target is sound in
-        quietly (may_change_does name.place target.0) λ _ _ _ _.
-        quietly (enter_does (λ n. Target n target.0) (λ n. refl) (λ n. refl) (λ n m h. lt_true target.0 variables within)) λ _ now _ _.
-        sited (λ sites. covers_skip 0 name.place (becomes ∷ places) sites)
-        (led_covers variables 0 becomes places (kind.Subrange ∷ []) (omega arith, tt)
-        (joins (leads_first 0 becomes (kind.Subrange ∷ []) places) (site_does kind.Subrange becomes) λ id there _ known.
-        last (checks_types {L = λ range n. IsWholeRange range} (typed_does there places value None law tt) λ types whole t range n more fits _.
-        fitting_whole becomes types whole target.1 t range fits) λ range n more whole.
-        mark_does (Fits (record { site = id; range = range })) refl refl (λ m h. both_true _ _ (lt_true id m (omega (arith, known, more, h))) whole)));
+        sited (λ sites. covers_skip 0 name.place (selector_places selectors rows ++ (becomes ∷ places)) sites)
+        (quietly (enter_does (λ n. Assign n becomes) (λ n. refl) (λ n. refl) (λ n m h. refl)) λ _ _ _ _.
+        joins (covers_both 0 (selector_places selectors rows) (becomes ∷ places)) (target_does name selectors rows ws laws) λ id now _ stands.
+        quietly (tests_ordinal_does variables id) λ ordinal next one _.
+        value_does ordinal id becomes places value (stands_longer one.types id stands) law);
   }
 
   -- ---- what is written
 
-  names_file_does : {least : ℕ} (e : expr_layer.Expr-F Expr Actual Link) → Does variables least Nothing (names_file e) Anything
+  names_file_does : {least : Reached} (e : expr_layer.Expr-F Expr Actual Link) → Does variables least Nothing (names_file e) Anything
   names_file_does (expr_layer.Name name) = quietly (find_does name) λ d _ _ _. pure_does (is_output d) (λ n h. tt)
+  names_file_does (expr_layer.Component name selectors indexes) = pure_does false (λ n h. tt)
   names_file_does (expr_layer.Number value place) = pure_does false (λ n h. tt)
   names_file_does (expr_layer.String text place) = pure_does false (λ n h. tt)
   names_file_does (expr_layer.Call name actuals) = pure_does false (λ n h. tt)
@@ -133,11 +205,11 @@ module _ (variables : ℕ) where
   names_file_does (expr_layer.Signed s place term) = pure_does false (λ n h. tt)
   names_file_does (expr_layer.Chain first rest) = pure_does false (λ n h. tt)
 
-  unless_wide_does : {least : ℕ} (value : Expr) (w : Option Expr) → Does variables least Nothing (unless_wide value w) Anything
+  unless_wide_does : {least : Reached} (value : Expr) (w : Option Expr) → Does variables least Nothing (unless_wide value w) Anything
   unless_wide_does value None = names_file_does (out-Expr value)
   unless_wide_does value (Some w) = pure_does false (λ n h. tt)
 
-  is_file_does : {least : ℕ} (actual : Actual) → Does variables least Nothing (is_file actual) Anything
+  is_file_does : {least : Reached} (actual : Actual) → Does variables least Nothing (is_file actual) Anything
   unfolding is_file
   is_file_does actual = unless_wide_does (out-Actual actual).value (out-Actual actual).width
 
@@ -149,12 +221,12 @@ module _ (variables : ℕ) where
   among true first rest = λ sites. covers_behind 0 (actual_places first) (flat_map actual_places rest) sites
   among false first rest = λ sites has. has
 
-  written_values_do : {least : ℕ} (actuals : List Actual) → Does variables least Nothing (written_values actuals) (λ values now. AreAmong actuals values)
+  written_values_do : {least : Reached} (actuals : List Actual) → Does variables least Nothing (written_values actuals) (λ values now. AreAmong actuals values)
   unfolding written_values
   written_values_do [] = pure_does [] (λ n h sites has. has)
   written_values_do (first ∷ rest) = quietly (is_file_does first) λ file _ _ _. pure_does (if file then rest else first ∷ rest) (λ n h. among file first rest)
 
-  width_does : (least : ℕ) (places : List Place) (w : Option Written) → IsLawfulWidth variables places w
+  width_does : (least : Reached) (places : List Place) (w : Option Written) → IsLawfulWidth variables places w
       → Does variables least (Covers 0 places) (width w) Anything
   unfolding width
   width_does least places None law =
@@ -163,9 +235,9 @@ module _ (variables : ℕ) where
   width_does least places (Some w) law =
       last (checks {L = λ id n. IsKnown (Some id) n} (typed_does least places w (Some kind.Width) law (omega arith)) λ types t id n more is known.
       subst (λ z. IsKnown z n) (measured_is w.first t id is) known) λ id n more known.
-      mark_does (Width id) refl refl (λ m h. lt_true id m (omega (arith, known, h)))
+      mark_does (Width id) refl refl (λ m h. lt_true id m.sites (omega (arith, known, h.sites)))
 
-  parameter_does : (least : ℕ) (places : List Place) (a : WrittenActual) → LawfulActual variables places a
+  parameter_does : (least : Reached) (places : List Place) (a : WrittenActual) → LawfulActual variables places a
       → Does variables least (Covers 0 places) (parameter a) Anything
   unfolding parameter
   parameter_does least places a law =
@@ -173,10 +245,10 @@ module _ (variables : ℕ) where
       (joins (covers_both 0 law.of_value law.of_width)
       (checks {L = λ form n. IsForm form} (typed_does least law.of_value a.value None law.value tt) λ types t form n more is _.
       form_is a.value.first types t form is) λ form now _ is.
-      quietly (mark_does form is.0 is.1 (λ n h. is.2 variables n)) λ _ next _ _.
+      quietly (mark_does form is.0 is.1 (λ n h. is.2 variables n.types n.sites)) λ _ next _ _.
       width_does next law.of_width a.width law.width)
 
-  parameters_do : (least : ℕ) (values : List Actual)
+  parameters_do : (least : Reached) (values : List Actual)
       → Does variables least (Covers 0 (flat_map actual_places values)) (each parameter (map written_actual values)) Anything
   parameters_do least [] = pure_does tt (λ n h. tt)
   parameters_do least (value ∷ values) =
@@ -184,7 +256,7 @@ module _ (variables : ℕ) where
       (parameter_does least (actual_places value) (written_actual value) (actual_lawful variables value)) λ _ now _ _.
       parameters_do now values
 
-  write_does : (least : ℕ) (name : Name) (actuals : List Actual) (procedure : RequiredProcedure)
+  write_does : (least : Reached) (name : Name) (actuals : List Actual) (procedure : RequiredProcedure)
       → Does variables least (Covers 0 (flat_map actual_places actuals)) (write name actuals procedure) Anything
   unfolding write
   write_does least name actuals procedure =
@@ -209,7 +281,7 @@ module _ (variables : ℕ) where
   -- ---- compound statements
 
   pub compound_does : (places : List Place) (statements : List (Passing (Unit {0})))
-      → ((least : ℕ) → Does variables least (Covers 0 places) (each (λ s. s) statements) Anything) → LawfulStatement places (compound statements)
+      → ((least : Reached) → Does variables least (Covers 0 places) (each (λ s. s) statements) Anything) → LawfulStatement places (compound statements)
   unfolding compound
   compound_does places statements row = record {
     passes = λ least.
@@ -220,7 +292,7 @@ module _ (variables : ℕ) where
 
   -- ---- branches
 
-  condition_does : (least : ℕ) (places : List Place) (w : Written) → LawfulWritten variables places w
+  condition_does : (least : Reached) (places : List Place) (w : Written) → LawfulWritten variables places w
       → Does variables least (Covers 0 places) (condition w) Anything
   unfolding condition
   condition_does least places w law = checks {L = Anything} (typed_does least places w None law tt) λ types t b n more is _. tt
@@ -229,14 +301,14 @@ module _ (variables : ℕ) where
   IsLawfulAlternative places None = Unit {0}
   IsLawfulAlternative places (Some other) = LawfulStatement places other
 
-  alternative_does : (least : ℕ) (places : List Place) (other : Option (Passing (Unit {0}))) → IsLawfulAlternative places other
+  alternative_does : (least : Reached) (places : List Place) (other : Option (Passing (Unit {0}))) → IsLawfulAlternative places other
       → Does variables least (Covers 0 places) (alternative other) Anything
   unfolding alternative
   alternative_does least places None law =
       sited (λ sites none. subst (Covers 0 places) (sym none) (covers_none 0 places)) (pure_does {K = Anything} tt (λ n h. tt))
   alternative_does least places (Some other) law = quietly (mark_does Else refl refl (λ n h. refl)) λ _ now _ _. law.passes now
 
-  tested_does : (least : ℕ) (place : Place) (places : List Place) (w : Written) → LawfulWritten variables places w
+  tested_does : (least : Reached) (place : Place) (places : List Place) (w : Written) → LawfulWritten variables places w
       → Does variables least (Covers 0 (place ∷ places)) (tested place w) Anything
   unfolding tested
   tested_does least place places w law =
@@ -275,7 +347,7 @@ module _ (variables : ℕ) where
   }
 
   repeat_does : (place : Place) (inside tests : List Place) (statements : List (Passing (Unit {0}))) (w : Written)
-      → ((least : ℕ) → Does variables least (Covers 0 inside) (each (λ s. s) statements) Anything) → LawfulWritten variables tests w
+      → ((least : Reached) → Does variables least (Covers 0 inside) (each (λ s. s) statements) Anything) → LawfulWritten variables tests w
       → LawfulStatement (place ∷ (inside ++ tests)) (repeat_loop place statements w)
   unfolding repeat_loop
   repeat_does place inside tests statements w row law = record {
@@ -290,34 +362,33 @@ module _ (variables : ℕ) where
   }
 
   -- the test of a bound stands before its first token's own sites
-  bound_does : (least : ℕ) (type_id : TypeId) (places : List Place) (w : Written) → LawfulWritten variables places w
+  bound_does : (least : Reached) (type_id : TypeId) (places : List Place) (w : Written) → LawfulWritten variables places w
       → Does variables least (Covers 0 places) (bound type_id w) Anything
   unfolding bound
   bound_does least type_id places w law =
-      joins ahead (site_does kind.Subrange w.first) λ id there _ known.
-      last (checks_types {L = λ range n. IsWholeRange range} (law.types there None tt) λ types whole t range n more fits _.
-      fitting_whole w.first types whole type_id t range fits) λ range n more whole.
-      mark_does (Fits (record { site = id; range = range })) refl refl (λ m h. both_true _ _ (lt_true id m (omega (arith, known, more, h))) whole)
-    where
-      ahead : (a b : List Stands) → a ≡ (kind.Subrange, w.first) ∷ [] → Covers 2 places b → Covers 0 places (a ++ b)
-      ahead a b one has =
-          subst (λ l. Covers 0 places (l ++ b)) (sym one)
-          (subst (λ p. Covers 0 p ((kind.Subrange, w.first) ∷ b)) (sym law.begins.1)
-          (covers_ahead 0 kind.Subrange (omega arith) w.first law.begins.0 b (subst (λ p. Covers 2 p b) law.begins.1 has)))
+      joins (covers_test variables kind.Subrange (omega arith) (omega arith) places w law) (site_does kind.Subrange w.first) λ id there _ known.
+      last (checks_types {L = λ range n. IsWholeRange range} (law.types there None tt) λ types t range sites more lawful fits _.
+      fitting_whole w.first types lawful.whole type_id t range fits) λ range n more whole.
+      mark_does (Fits (record { site = id; range = range })) refl refl
+      (λ m h. both_true _ _ (lt_true id m.sites (omega (arith, known, more.sites, h.sites))) whole)
 
-  for_head_does : (least : ℕ) (place : Place) (name : Name) (firsts lasts : List Place) (first : Written) (d : SyntaxDirection) (end : Written)
+  for_head_does : (least : Reached) (place : Place) (name : Name) (firsts lasts : List Place) (first : Written) (d : SyntaxDirection) (end : Written)
       → LawfulWritten variables firsts first → LawfulWritten variables lasts end
       → Does variables least (Covers 0 (place ∷ name.place ∷ (firsts ++ lasts))) (for_head place name first d end) Anything
   unfolding for_head
   for_head_does least place name firsts lasts first d end one two =
       sited (λ sites has. covers_skip 0 place (name.place ∷ (firsts ++ lasts)) sites (covers_skip 0 name.place (firsts ++ lasts) sites has))
       (quietly (pass_does place) λ _ _ _ _.
-      quietly (find_does name) λ denotation _ _ sound.
-      quietly (given_does (as_variable name.place denotation)) λ control _ _ is.
-      let within = variable_is variables name.place denotation control is sound in
-      quietly (may_change_does name.place control.0) λ _ _ _ _.
+      quietly (find_does name) λ denotation now _ sound.
+      quietly (given_does (as_variable name.place denotation)) λ control there more is.
+      let found = variable_is variables now.types name.place denotation control is sound in
+      let led = leads_nowhere variables control.0 control.1 there found.0 (stands_longer more.types control.1 found.1) in
+      quietly (by_types_does (λ types. fits (is_ordinal types control.1) name.place (tt {0}))) λ _ tests still fit.
+      let ordinal = (fit_is (is_ordinal tests.types control.1) name.place (tt {0}) (tt {0}) fit.1).0 in
+      let seen = leads_later variables control.0 [] control.1 there tests still led in
+      quietly (may_change_does name.place control.0) λ _ _ further _.
       quietly (enter_loop_does (λ n l. For n l place control.0 (way d)) (λ n l. refl) (λ n l. refl)
-      (λ n l m h. lt_true control.0 variables within)) λ _ now _ _.
+      (λ n l m h. ordinal_formed variables control.0 [] control.1 tests m seen ordinal (further_still further h))) λ _ now _ _.
       joins (covers_both 0 firsts lasts) (bound_does now control.1 firsts first one) λ _ next _ _.
       last (bound_does next control.1 lasts end two) λ _ _ _ _.
       quietly (mark_does Do refl refl (λ n h. refl)) λ _ _ _ _.
@@ -341,18 +412,18 @@ module _ (variables : ℕ) where
 
   -- ---- cases
 
-  case_head_does : (least : ℕ) (place : Place) (places : List Place) (w : Written) → LawfulWritten variables places w
+  case_head_does : (least : Reached) (place : Place) (places : List Place) (w : Written) → LawfulWritten variables places w
       → Does variables least (Covers 0 (place ∷ places)) (case_head place w) Anything
   unfolding case_head
   case_head_does least place places w law =
       led_covers variables 0 place places (kind.Case ∷ []) (omega arith, tt)
       (joins (leads_first 0 place (kind.Case ∷ []) places) (site_does kind.Case place) λ id there _ known.
-      quietly (enter_does (λ n. Case n id) (λ n. refl) (λ n. refl) (λ n m h. lt_true id m (omega (arith, known, h)))) λ _ now _ _.
+      quietly (enter_does (λ n. Case n id) (λ n. refl) (λ n. refl) (λ n m h. lt_true id m.sites (omega (arith, known, h.sites)))) λ _ now _ _.
       checks {L = Anything} (typed_does now places w None law tt) λ types t b n more is _. tt)
 
   case_does : (place : Place) (tests inside : List Place) (w : Written) (arms : List (List Constant × Passing (Unit {0})))
       → LawfulWritten variables tests w
-      → ((least : ℕ) (type_id : TypeId) → Does variables least (Covers 0 inside) (case_arms type_id [] arms) Anything)
+      → ((least : Reached) (type_id : TypeId) → Does variables least (Covers 0 inside) (case_arms type_id [] arms) Anything)
       → LawfulStatement (place ∷ (tests ++ inside)) (case_statement place w arms)
   unfolding case_body
   case_does place tests inside w arms law row = record {
@@ -383,7 +454,7 @@ module _ (variables : ℕ) where
   abbrev bare_row : List WithStmt → List Stmt
   bare_row ys = map (λ (y : WithStmt). y.0) ys
 
-  row_lawful : (ys : List WithStmt) (least : ℕ)
+  row_lawful : (ys : List WithStmt) (least : Reached)
       → Does variables least (Covers 0 (joined_places (map stmt_places (bare_row ys)))) (each (λ s. s) (map statement (bare_row ys))) Anything
   row_lawful [] least = pure_does tt (λ n h. tt)
   row_lawful (y ∷ ys) least =
@@ -393,7 +464,7 @@ module _ (variables : ℕ) where
   abbrev arms_row : List (Vec Constant Global) → List WithStmt → List Place
   arms_row rows ys = flat_map arm_places (arms_of rows (map stmt_places (bare_row ys)))
 
-  arms_lawful : (rows : List (Vec Constant Global)) (ys : List WithStmt) (type_id : TypeId) (before : List ℤ) (least : ℕ)
+  arms_lawful : (rows : List (Vec Constant Global)) (ys : List WithStmt) (type_id : TypeId) (before : List ℤ) (least : Reached)
       → Does variables least (Covers 0 (arms_row rows ys)) (case_arms type_id before (arms_of rows (map statement (bare_row ys)))) Anything
   arms_lawful [] ys type_id before least = pure_does tt (λ n h. tt)
   arms_lawful (row ∷ rows) [] type_id before least = pure_does tt (λ n h. tt)
@@ -411,9 +482,10 @@ module _ (variables : ℕ) where
 
   statement_layer : (y : layer.Stmt-F WithStmt) → LawfulStmt (roll-Stmt (bare y))
   statement_layer layer.Empty = from_layer layer.Empty (record { passes = λ least. enter_does Empty (λ n. refl) (λ n. refl) (λ n m h. refl) })
-  statement_layer (layer.Assign name becomes value) =
-      from_layer (layer.Assign name becomes value)
-      (assignment_does name becomes (expr_places value) (expression value) (expression_lawful variables value))
+  statement_layer (layer.Assign name selectors indexes becomes value) =
+      from_layer (layer.Assign name selectors indexes becomes value)
+      (assignment_does name selectors.items (map expr_places indexes.items) (map expression indexes.items) becomes (expr_places value) (expression value)
+      (indexes_lawful variables indexes.items) (expression_lawful variables value))
   statement_layer (layer.Call name actuals) = from_layer (layer.Call name actuals) (call_does name actuals.items)
   statement_layer (layer.Compound statements) = from_layer (bare (layer.Compound statements)) (compound_does _ _ (row_lawful statements.items))
   statement_layer (layer.If place condition consequence None) =
@@ -441,7 +513,8 @@ module _ (variables : ℕ) where
   pub statement_lawful : (w : Stmt) → LawfulStmt w
   statement_lawful = ind-Stmt LawfulStmt (λ x y is. subst (λ z. LawfulStmt (roll-Stmt z)) is (statement_layer y))
 
-  pub statements_lawful : (ws : List Stmt) (least : ℕ) → Does variables least (Covers 0 (flat_map stmt_places ws)) (each (λ s. s) (map statement ws)) Anything
+  pub statements_lawful : (ws : List Stmt) (least : Reached)
+      → Does variables least (Covers 0 (flat_map stmt_places ws)) (each (λ s. s) (map statement ws)) Anything
   statements_lawful [] least = pure_does tt (λ n h. tt)
   statements_lawful (w ∷ ws) least =
       joins (covers_both 0 (stmt_places w) (flat_map stmt_places ws)) ((statement_lawful w).passes least) λ _ now _ _.

@@ -1,5 +1,5 @@
 -- What the steps of typing do, and what they do one after another.
-use Rattle.std.proofs.Common.{◌≡◌, ℕ, ◌+◌, ◌-◌, ◌<◌, ◌≤◌, Bool, true, false, nat_eq, nat_le, take, Result, List, [], ◌∷◌, ◌++◌, length, Option, Some, None, Ok}
+use Rattle.std.proofs.Common.{◌≡◌, ℕ, ◌+◌, ◌-◌, ◌<◌, Bool, true, false, nat_eq, nat_le, take, Result, List, [], ◌∷◌, ◌++◌, length, Option, Some, None, Ok}
 use Rattle.std.proofs.Common.{Err, if◌then◌else◌, get_or}
 use Rattle.std.proofs.Common.{append-nil, length-append, refl, sym, ap, subst, ◌∙◌, arith}
 use Rattle.std.specs.List.{range_with_len, list_any}
@@ -12,6 +12,7 @@ use Rattle.types.specs.Types.{host_of}
 use Rattle.scopes.specs.Scopes.{found}
 use Rattle.scopes.specs.declared.denotation.Denotation.{Denotation}
 use Rattle.scopes.specs.declared.fault.ScopeFault.{ScopeFault}
+use Rattle.typed_tree.specs.declared.tree.Variable.{Variable}
 use Rattle.typed_tree.specs.declared.fault.TypeFault.{TypeFault}
 use Rattle.typed_tree.specs.declared.fault.TypeFault.TheVariants as fault
 use Rattle.typed_tree.specs.declared.site.SiteKind.{SiteKind}
@@ -24,22 +25,21 @@ use Rattle.typing.specs.Steps.{begin_control, end_control, wants_output, host_ty
 use Rattle.typing.specs.Expressions.{behind}
 use Rattle.typing.specs.Names.{folded}
 use Rattle.typing_laws.proofs.Sound.{IsSound, found_holds}
-use Rattle.typing_laws.proofs.Cells.{AreLater, AreTexts, texts_more, the_same}
+use Rattle.typing_laws.proofs.Tables.{IsLonger, AreLawful, AreTexts, as_long, texts_more}
 use Rattle.typing_laws.proofs.Covers.{at_place}
-use Rattle.typing_laws.proofs.WholeRanges.{HaveWholeRanges}
-use Rattle.typing_laws.proofs.Grown.{Fine, Grown, fine_later, more_sites, grown_then, both_true}
+use Rattle.typing_laws.proofs.Grown.{Reached, IsFurther, Fine, Grown, reached, as_far, further, further_still, fine_later, grown_then, both_true}
 
 -- a form has grown what is known, and its answer has this
-abbrev pub Leaves : {A : Type 0} → ℕ → (List Stands → Type 0) → Passed → (A → ℕ → Type 0) → After A → Type 0
-Leaves variables Has s Answers a = Grown variables Has a.look s a.passed × Answers a.answer (length a.passed.sites)
+abbrev pub Leaves : {A : Type 0} → List Variable → (List Stands → Type 0) → Passed → (A → Reached → Type 0) → After A → Type 0
+Leaves variables Has s Answers a = Grown variables Has a.look s a.passed × Answers a.answer (reached a.passed)
 
--- from at least so many sites, its answer has this with as many sites as there are then
-pub record Does (variables least : ℕ) {A : Type 0} (Has : List Stands → Type 0) (p : Passing A) (Answers : A → ℕ → Type 0) : Type 0 where
-  pub does : (s : Passed) (a : After A) → p s ≡ Ok a → Fine variables s → least ≤ length s.sites
-      → Leaves variables Has s Answers a
+-- from at least so far on, its answer has this with as many sites and types as there are then
+pub record Does (variables : List Variable) (least : Reached) {A : Type 0} (Has : List Stands → Type 0) (p : Passing A)
+    (Answers : A → Reached → Type 0) : Type 0 where
+  pub does : (s : Passed) (a : After A) → p s ≡ Ok a → Fine variables s → IsFurther least (reached s) → Leaves variables Has s Answers a
 
-abbrev pub Anything : {A : Type 0} → A → ℕ → Type 0
-Anything answer sites = Unit {0}
+abbrev pub Anything : {A : Type 0} → A → Reached → Type 0
+Anything answer now = Unit {0}
 
 -- no site
 abbrev pub Nothing : List Stands → Type 0
@@ -69,37 +69,40 @@ below a b h = grind (arith, nat_tests)
 
 -- ---- one after another
 
-pub joins : {variables least : ℕ} {A B : Type 0} {First Second Both : List Stands → Type 0} {p : Passing A} {f : A → Passing B} {K : A → ℕ → Type 0}
-    {L : B → ℕ → Type 0}
+pub joins : {variables : List Variable} {least : Reached} {A B : Type 0} {First Second Both : List Stands → Type 0} {p : Passing A} {f : A → Passing B}
+    {K : A → Reached → Type 0} {L : B → Reached → Type 0}
     → ((a b : List Stands) → First a → Second b → Both (a ++ b)) → Does variables least First p K
-    → ((x : A) (now : ℕ) → least ≤ now → K x now → Does variables now Second (f x) L) → Does variables least Both (p >>= f) L
+    → ((x : A) (now : Reached) → IsFurther least now → K x now → Does variables now Second (f x) L) → Does variables least Both (p >>= f) L
 joins {variables} {least} {A} {B} {First} {Second} {Both} {p} {f} {K} {L} joined first rest = record {
   does = λ s b is fine h.
       let x = split (p s) (λ a. behind_marks a.look (f a.answer a.passed)) b is in
       let y = split_behind x.0.look (f x.0.answer x.0.passed) b x.2 in
       let one = first.does s x.0 x.1 fine h in
-      let now : least ≤ length x.0.passed.sites = omega (arith, more_sites one.0, h) in
-      let two = (rest x.0.answer (length x.0.passed.sites) now one.1).does x.0.passed y.0 y.1 (fine_later one.0 fine) (omega arith) in
+      let now : IsFurther least (reached x.0.passed) = further_still h (further one.0) in
+      let two = (rest x.0.answer (reached x.0.passed) now one.1).does x.0.passed y.0 y.1 (fine_later one.0 fine) as_far in
       subst (Leaves variables Both s L) y.2 (grown_then joined one.0 two.0, two.1);
 }
 
 -- a step that adds no site, and then others
-pub quietly : {variables least : ℕ} {A B : Type 0} {Has : List Stands → Type 0} {p : Passing A} {f : A → Passing B} {K : A → ℕ → Type 0} {L : B → ℕ → Type 0}
+pub quietly : {variables : List Variable} {least : Reached} {A B : Type 0} {Has : List Stands → Type 0} {p : Passing A} {f : A → Passing B}
+    {K : A → Reached → Type 0} {L : B → Reached → Type 0}
     → Does variables least Nothing p K
-    → ((x : A) (now : ℕ) → least ≤ now → K x now → Does variables now Has (f x) L) → Does variables least Has (p >>= f) L
+    → ((x : A) (now : Reached) → IsFurther least now → K x now → Does variables now Has (f x) L) → Does variables least Has (p >>= f) L
 quietly {Has = Has} first rest = joins (λ a b none has. subst (λ l. Has (l ++ b)) (sym none) has) first rest
 
 -- a step, and then others that add no site
-pub last : {variables least : ℕ} {A B : Type 0} {Has : List Stands → Type 0} {p : Passing A} {f : A → Passing B} {K : A → ℕ → Type 0} {L : B → ℕ → Type 0}
+pub last : {variables : List Variable} {least : Reached} {A B : Type 0} {Has : List Stands → Type 0} {p : Passing A} {f : A → Passing B}
+    {K : A → Reached → Type 0} {L : B → Reached → Type 0}
     → Does variables least Has p K
-    → ((x : A) (now : ℕ) → least ≤ now → K x now → Does variables now Nothing (f x) L) → Does variables least Has (p >>= f) L
+    → ((x : A) (now : Reached) → IsFurther least now → K x now → Does variables now Nothing (f x) L) → Does variables least Has (p >>= f) L
 last {Has = Has} first rest = joins (λ a b has none. subst Has (sym (append-nil a) ∙ ap (λ l. a ++ l) (sym none)) has) first rest
 
--- a form, and then a test of what it is, by a table of types
-pub checks_types : {variables least : ℕ} {A B : Type 0} {Has : List Stands → Type 0} {p : Passing A} {test : List Form → A → Checked B}
-    {K : A → ℕ → Type 0} {L : B → ℕ → Type 0}
+-- a form, and then a test of what it is, by the table of types
+pub checks_types : {variables : List Variable} {least : Reached} {A B : Type 0} {Has : List Stands → Type 0} {p : Passing A} {test : List Form → A → Checked B}
+    {K : A → Reached → Type 0} {L : B → Reached → Type 0}
     → Does variables least Has p K
-    → ((types : List Form) → HaveWholeRanges types → (x : A) (b : B) (now : ℕ) → least ≤ now → test types x ≡ Ok b → K x now → L b now)
+    → ((types : List Form) (x : A) (b : B) (sites : ℕ) → IsFurther least (record { sites = sites; types = types }) → AreLawful types → test types x ≡ Ok b
+    → K x (record { sites = sites; types = types }) → L b (record { sites = sites; types = types }))
     → Does variables least Has (p >>? test) L
 checks_types {variables} {least} {A} {B} {Has} {p} {test} {K} {L} first fits = record {
   does = λ s b is fine h.
@@ -108,19 +111,20 @@ checks_types {variables} {least} {A} {B} {Has} {p} {test} {K} {L} first fits = r
       let one = first.does s x.0 x.1 fine h in
       let same : after y.0 x.0.look x.0.passed ≡ b = cc in
       subst (Leaves variables Has s L) same
-      let whole = (fine_later one.0 fine).whole in
-      (one.0, fits x.0.passed.types whole x.0.answer y.0 (length x.0.passed.sites) (omega (arith, more_sites one.0, h)) y.1 one.1);
+      (one.0, fits x.0.passed.types x.0.answer y.0 (length x.0.passed.sites) (further_still h (further one.0)) one.0.lawful y.1 one.1);
 }
 
 -- whatever they are
-pub checks : {variables least : ℕ} {A B : Type 0} {Has : List Stands → Type 0} {p : Passing A} {test : List Form → A → Checked B}
-    {K : A → ℕ → Type 0} {L : B → ℕ → Type 0}
+pub checks : {variables : List Variable} {least : Reached} {A B : Type 0} {Has : List Stands → Type 0} {p : Passing A} {test : List Form → A → Checked B}
+    {K : A → Reached → Type 0} {L : B → Reached → Type 0}
     → Does variables least Has p K
-    → ((types : List Form) (x : A) (b : B) (now : ℕ) → least ≤ now → test types x ≡ Ok b → K x now → L b now) → Does variables least Has (p >>? test) L
-checks first fits = checks_types first (λ types whole. fits types)
+    → ((types : List Form) (x : A) (b : B) (now : Reached) → IsFurther least now → test types x ≡ Ok b → K x now → L b now)
+    → Does variables least Has (p >>? test) L
+checks first fits = checks_types first (λ types x b sites later lawful. fits types x b (record { sites = sites; types = types }) later)
 
 -- the same, with something else that holds of its sites
-pub sited : {variables least : ℕ} {A : Type 0} {Has Had : List Stands → Type 0} {p : Passing A} {K : A → ℕ → Type 0} → ((a : List Stands) → Has a → Had a)
+pub sited : {variables : List Variable} {least : Reached} {A : Type 0} {Has Had : List Stands → Type 0} {p : Passing A} {K : A → Reached → Type 0}
+    → ((a : List Stands) → Has a → Had a)
     → Does variables least Has p K → Does variables least Had p K
 sited {variables} {Has = Has} {Had = Had} has d = record {
   does = λ s a is fine h.
@@ -131,7 +135,8 @@ sited {variables} {Has = Has} {Had = Had} has d = record {
     otherwise : {look : Look} {old new : Passed} → Grown variables Has look old new → Grown variables Had look old new
     otherwise g = record {
       regions = g.regions;
-      types = g.types;
+      longer = g.longer;
+      lawful = g.lawful;
       texts = g.texts;
       variables_kept = g.variables_kept;
       added = g.added;
@@ -149,13 +154,14 @@ sited {variables} {Has = Has} {Had = Had} has d = record {
 -- ---- steps that add no site
 
 -- what is known is the same, but for the latest token
-pub grown_silent : (variables : ℕ) (s new : Passed) → new.regions ≡ s.regions → new.types ≡ s.types → new.texts ≡ s.texts
+pub grown_silent : (variables : List Variable) (s new : Passed) → new.regions ≡ s.regions → new.types ≡ s.types → new.texts ≡ s.texts
     → new.variables ≡ s.variables → new.sites ≡ s.sites
     → new.entries ≡ s.entries → new.loops ≡ s.loops → Fine variables s
     → Grown variables Nothing [] s new
 grown_silent variables s new regions types texts declared sites entries loops fine = record {
   regions = regions;
-  types = subst (AreLater s.types) (sym types) the_same;
+  longer = subst (IsLonger s.types) (sym types) as_long;
+  lawful = subst AreLawful (sym types) fine.lawful;
   texts = subst AreTexts (sym texts) fine.texts;
   variables_kept = declared;
   added = [];
@@ -170,7 +176,7 @@ grown_silent variables s new regions types texts declared sites entries loops fi
   formed = λ n h. refl;
 }
 
-pub pass_does : {variables least : ℕ} (place : Place) → Does variables least Nothing (pass place) Anything
+pub pass_does : {variables : List Variable} {least : Reached} (place : Place) → Does variables least Nothing (pass place) Anything
 unfolding pass
 pass_does {variables} place = record {
   does = λ s a is fine h.
@@ -178,14 +184,16 @@ pass_does {variables} place = record {
       subst (Leaves variables Nothing s Anything) same (grown_silent variables s (record s { latest = place }) refl refl refl refl refl refl refl fine, tt);
 }
 
-pub pure_does : {variables least : ℕ} {A : Type 0} {K : A → ℕ → Type 0} (x : A) → ((now : ℕ) → least ≤ now → K x now) → Does variables least Nothing (pure x) K
+pub pure_does : {variables : List Variable} {least : Reached} {A : Type 0} {K : A → Reached → Type 0} (x : A)
+    → ((now : Reached) → IsFurther least now → K x now) → Does variables least Nothing (pure x) K
 pure_does {variables} {least} {A} {K} x known = record {
   does = λ s a is fine h.
       let same : after x [] s ≡ a = cc in
-      subst (Leaves variables Nothing s K) same (grown_silent variables s s refl refl refl refl refl refl refl fine, known (length s.sites) h);
+      subst (Leaves variables Nothing s K) same (grown_silent variables s s refl refl refl refl refl refl refl fine, known (reached s) h);
 }
 
-pub given_does : {variables least : ℕ} {A : Type 0} (checked : Checked A) → Does variables least Nothing (given checked) (λ x now. checked ≡ Ok x)
+pub given_does : {variables : List Variable} {least : Reached} {A : Type 0} (checked : Checked A)
+    → Does variables least Nothing (given checked) (λ x now. checked ≡ Ok x)
 given_does {variables} {least} {A} checked = record {
   does = λ s a is fine h.
       let x = split checked (λ b. Ok (after b [] s)) a is in
@@ -193,30 +201,31 @@ given_does {variables} {least} {A} checked = record {
       subst (Leaves variables Nothing s (λ x now. checked ≡ Ok x)) same (grown_silent variables s s refl refl refl refl refl refl refl fine, x.1);
 }
 
-pub by_types_does : {variables least : ℕ} {A : Type 0} (test : List Form → Checked A)
-    → Does variables least Nothing (by_types test) (λ x now. (types : List Form) × (test types ≡ Ok x))
+pub by_types_does : {variables : List Variable} {least : Reached} {A : Type 0} (test : List Form → Checked A)
+    → Does variables least Nothing (by_types test) (λ x now. AreLawful now.types × (test now.types ≡ Ok x))
 by_types_does {variables} {least} {A} test = record {
   does = λ s a is fine h.
       let x = split (test s.types) (λ b. Ok (after b [] s)) a is in
       let same : after x.0 [] s ≡ a = cc in
-      subst (Leaves variables Nothing s (λ x now. (types : List Form) × (test types ≡ Ok x))) same
-      (grown_silent variables s s refl refl refl refl refl refl refl fine, (s.types, x.1));
+      subst (Leaves variables Nothing s (λ x now. AreLawful now.types × (test now.types ≡ Ok x))) same
+      (grown_silent variables s s refl refl refl refl refl refl refl fine, (fine.lawful, x.1));
 }
 
-pub fail_does : {variables least : ℕ} {A : Type 0} {Has : List Stands → Type 0} {K : A → ℕ → Type 0} (why : TypeFault)
+pub fail_does : {variables : List Variable} {least : Reached} {A : Type 0} {Has : List Stands → Type 0} {K : A → Reached → Type 0} (why : TypeFault)
     → Does variables least Has (fail {A = A} why) K
 fail_does why = record { does = λ s a is fine h. absurd cc }
 
 -- a name denotes what is sound
-pub find_does : {variables least : ℕ} (name : Name) → Does variables least Nothing (find name) (λ denotation now. IsSound variables denotation)
+pub find_does : {variables : List Variable} {least : Reached} (name : Name)
+    → Does variables least Nothing (find name) (λ denotation now. IsSound variables now.types denotation)
 unfolding find
 find_does {variables} name = record {
   does = λ s a is fine h.
       let text = folded name.text.now in
       let x = split (told name.place (found s.regions text)) (λ denotation. Ok (after denotation [] (record s { latest = name.place }))) a is in
       let same : after x.0 [] (record s { latest = name.place }) ≡ a = cc in
-      let there = found_holds (IsSound variables) s.regions text x.0 fine.sound (by (found s.regions text) x.0 x.1) in
-      subst (Leaves variables Nothing s (λ denotation now. IsSound variables denotation)) same
+      let there = found_holds (IsSound variables s.types) s.regions text x.0 fine.sound (by (found s.regions text) x.0 x.1) in
+      subst (Leaves variables Nothing s (λ denotation now. IsSound variables now.types denotation)) same
       (grown_silent variables s (record s { latest = name.place }) refl refl refl refl refl refl refl fine, there);
 }
   where
@@ -224,7 +233,7 @@ find_does {variables} name = record {
     by (Ok d) e is = let same : d ≡ e = cc in ap Ok same
     by (Err why) e is = absurd cc
 
-pub wants_output_does : {variables least : ℕ} (place : Place) → Does variables least Nothing (wants_output place) Anything
+pub wants_output_does : {variables : List Variable} {least : Reached} (place : Place) → Does variables least Nothing (wants_output place) Anything
 unfolding wants_output
 wants_output_does {variables} place = record {
   does = λ s a is fine h.
@@ -235,7 +244,8 @@ wants_output_does {variables} place = record {
 -- ---- marks
 
 -- no entry, but well formed
-pub mark_does : {variables least : ℕ} (one : Mark) → mark_entries one ≡ [] → mark_loops one ≡ [] → ((n : ℕ) → least ≤ n → is_formed_mark variables n one ≡ true)
+pub mark_does : {variables : List Variable} {least : Reached} (one : Mark) → mark_entries one ≡ [] → mark_loops one ≡ []
+    → ((n : Reached) → IsFurther least n → is_formed_mark variables n.types n.sites one ≡ true)
     → Does variables least Nothing (mark one) Anything
 mark_does {variables} {least} one none no_loop formed = record {
   does = λ s a is fine h.
@@ -244,7 +254,8 @@ mark_does {variables} {least} one none no_loop formed = record {
       let loops_counted : length (mark_loops one ++ []) ≡ 0 = ap (λ (l : List ℕ). length (l ++ [])) no_loop in
       let g : Grown variables Nothing (one ∷ []) s s = record {
         regions = refl;
-        types = the_same;
+        longer = as_long;
+        lawful = fine.lawful;
         texts = fine.texts;
         variables_kept = refl;
         added = [];
@@ -256,14 +267,16 @@ mark_does {variables} {least} one none no_loop formed = record {
         few_entries = fine.few_entries;
         looped = subst (λ (l : List ℕ). l ++ [] ≡ range_with_len s.loops (length (l ++ []))) (sym no_loop) refl;
         begun = omega (arith, loops_counted);
-        formed = λ n more. both_true _ true (formed n (omega (arith, more, h))) refl;
+        formed = λ n more. both_true _ true (formed n (further_still h more)) refl;
       } in
       subst (Leaves variables Nothing s Anything) same (g, tt);
 }
 
 -- an entry, with the next number
-pub enter_does : {variables least : ℕ} (marked : ℕ → Mark) → ((k : ℕ) → mark_entries (marked k) ≡ k ∷ []) → ((k : ℕ) → mark_loops (marked k) ≡ [])
-    → ((k n : ℕ) → least ≤ n → is_formed_mark variables n (marked k) ≡ true) → Does variables least Nothing (enter_as marked) Anything
+pub enter_does : {variables : List Variable} {least : Reached} (marked : ℕ → Mark) → ((k : ℕ) → mark_entries (marked k) ≡ k ∷ [])
+    → ((k : ℕ) → mark_loops (marked k) ≡ [])
+    → ((k : ℕ) (n : Reached) → IsFurther least n → is_formed_mark variables n.types n.sites (marked k) ≡ true)
+    → Does variables least Nothing (enter_as marked) Anything
 unfolding enter
 enter_does {variables} {least} marked one no_loop formed = record {
   does = λ s a is fine h.
@@ -277,7 +290,8 @@ enter_does {variables} {least} marked one no_loop formed = record {
       let loops_counted : length (mark_loops (marked number) ++ []) ≡ 0 = ap (λ (l : List ℕ). length (l ++ [])) (no_loop number) in
       let g : Grown variables Nothing (marked number ∷ []) s new = record {
         regions = refl;
-        types = the_same;
+        longer = as_long;
+        lawful = fine.lawful;
         texts = fine.texts;
         variables_kept = refl;
         added = [];
@@ -289,7 +303,7 @@ enter_does {variables} {least} marked one no_loop formed = record {
         few_entries = omega (arith, below most_entries s.entries y.0);
         looped = subst (λ (l : List ℕ). l ++ [] ≡ range_with_len s.loops (length (l ++ []))) (sym (no_loop number)) refl;
         begun = omega (arith, loops_counted);
-        formed = λ n more. both_true _ true (formed number n (omega (arith, more, h))) refl;
+        formed = λ n more. both_true _ true (formed number n (further_still h more)) refl;
       } in
       subst (Leaves variables Nothing s Anything) same (g, tt);
 }
@@ -302,15 +316,16 @@ enter_does {variables} {least} marked one no_loop formed = record {
         cc
 
 -- a loop, with the next two numbers
-pub enter_loop_does : {variables least : ℕ} (marked : ℕ → ℕ → Mark) → ((k l : ℕ) → mark_entries (marked k l) ≡ k ∷ [])
-    → ((k l : ℕ) → mark_loops (marked k l) ≡ l ∷ []) → ((k l n : ℕ) → least ≤ n → is_formed_mark variables n (marked k l) ≡ true)
+pub enter_loop_does : {variables : List Variable} {least : Reached} (marked : ℕ → ℕ → Mark) → ((k l : ℕ) → mark_entries (marked k l) ≡ k ∷ [])
+    → ((k l : ℕ) → mark_loops (marked k l) ≡ l ∷ [])
+    → ((k l : ℕ) (n : Reached) → IsFurther least n → is_formed_mark variables n.types n.sites (marked k l) ≡ true)
     → Does variables least Nothing (enter_loop marked) Anything
 unfolding begin_loop enter
 enter_loop_does {variables} {least} marked one loop formed = record {
   does = λ s a is fine h. by s a fine h (nat_le most_entries s.entries) refl is;
 }
   where
-    by : (s : Passed) (a : After (Unit {0})) → Fine variables s → least ≤ length s.sites → (test : Bool) → nat_le most_entries s.entries ≡ test
+    by : (s : Passed) (a : After (Unit {0})) → Fine variables s → IsFurther least (reached s) → (test : Bool) → nat_le most_entries s.entries ≡ test
         → and_then (and_then (if test then Err (fault.TooMany s.latest) else Ok (after s.entries [] (record s { entries = s.entries + 1 })))
         (λ b. behind_marks {A = ℕ × ℕ} b.look ((number_loop >>= (λ l. pure {A = ℕ × ℕ} (b.answer, l))) b.passed)))
         (λ b. behind_marks b.look (mark (marked b.answer.0 b.answer.1) b.passed)) ≡ Ok a
@@ -324,7 +339,8 @@ enter_loop_does {variables} {least} marked one loop formed = record {
         let loops_counted : length (mark_loops made ++ []) ≡ 1 = ap (λ (l : List ℕ). length (l ++ [])) (loop s.entries s.loops) in
         let g : Grown variables Nothing (made ∷ []) s new = record {
           regions = refl;
-          types = the_same;
+          longer = as_long;
+          lawful = fine.lawful;
           texts = fine.texts;
           variables_kept = refl;
           added = [];
@@ -336,13 +352,13 @@ enter_loop_does {variables} {least} marked one loop formed = record {
           few_entries = omega (arith, below most_entries s.entries test);
           looped = subst (λ (l : List ℕ). l ++ [] ≡ range_with_len s.loops (length (l ++ []))) (sym (loop s.entries s.loops)) refl;
           begun = omega (arith, loops_counted);
-          formed = λ n more. both_true _ true (formed s.entries s.loops n (omega (arith, more, h))) refl;
+          formed = λ n more. both_true _ true (formed s.entries s.loops n (further_still h more)) refl;
         } in
         subst (Leaves variables Nothing s Anything) same (g, tt)
 
 -- ---- control variables
 
-pub may_change_does : {variables least : ℕ} (place : Place) (root : ℕ) → Does variables least Nothing (may_change place root) Anything
+pub may_change_does : {variables : List Variable} {least : Reached} (place : Place) (root : ℕ) → Does variables least Nothing (may_change place root) Anything
 unfolding may_change
 may_change_does {variables} place root = record {
   does = λ s a is fine h.
@@ -350,7 +366,7 @@ may_change_does {variables} place root = record {
       subst (Leaves variables Nothing s Anything) x.1 (grown_silent variables s s refl refl refl refl refl refl refl fine, tt);
 }
 
-pub begin_control_does : {variables least : ℕ} (root : ℕ) → Does variables least Nothing (begin_control root) Anything
+pub begin_control_does : {variables : List Variable} {least : Reached} (root : ℕ) → Does variables least Nothing (begin_control root) Anything
 unfolding begin_control
 begin_control_does {variables} root = record {
   does = λ s a is fine h.
@@ -359,7 +375,7 @@ begin_control_does {variables} root = record {
       subst (Leaves variables Nothing s Anything) same (grown_silent variables s new refl refl refl refl refl refl refl fine, tt);
 }
 
-pub end_control_does : {variables least : ℕ} → Does variables least Nothing end_control Anything
+pub end_control_does : {variables : List Variable} {least : Reached} → Does variables least Nothing end_control Anything
 unfolding end_control
 end_control_does {variables} = record {
   does = λ s a is fine h.
@@ -368,7 +384,7 @@ end_control_does {variables} = record {
       subst (Leaves variables Nothing s Anything) same (grown_silent variables s new refl refl refl refl refl refl refl fine, tt);
 }
 
-pub host_type_does : {variables least : ℕ} (id : TypeId) → Does variables least Nothing (host_type id) Anything
+pub host_type_does : {variables : List Variable} {least : Reached} (id : TypeId) → Does variables least Nothing (host_type id) Anything
 unfolding host_type
 host_type_does {variables} {least} id = record {
   does = λ s a is fine h.
@@ -378,7 +394,8 @@ host_type_does {variables} {least} id = record {
 
 -- ---- texts
 
-pub text_at_does : {variables least : ℕ} (number : ℕ) → Does variables least Nothing (text_at number) (λ text now. are_characters text ≡ true)
+pub text_at_does : {variables : List Variable} {least : Reached} (number : ℕ)
+    → Does variables least Nothing (text_at number) (λ text now. are_characters text ≡ true)
 unfolding text_at
 text_at_does {variables} {least} number = record {
   does = λ s a is fine h.
@@ -387,7 +404,8 @@ text_at_does {variables} {least} number = record {
       (grown_silent variables s s refl refl refl refl refl refl refl fine, fine.texts number);
 }
 
-pub keep_text_does : {variables least : ℕ} (text : List ℕ) → are_characters text ≡ true → Does variables least Nothing (keep_text text) Anything
+pub keep_text_does : {variables : List Variable} {least : Reached} (text : List ℕ) → are_characters text ≡ true
+    → Does variables least Nothing (keep_text text) Anything
 unfolding keep_text
 keep_text_does {variables} {least} text is_text = record {
   does = λ s a is fine h.
@@ -395,7 +413,8 @@ keep_text_does {variables} {least} text is_text = record {
       let same : after (length s.texts) [] new ≡ a = cc in
       let g : Grown variables Nothing [] s new = record {
         regions = refl;
-        types = the_same;
+        longer = as_long;
+        lawful = fine.lawful;
         texts = texts_more s.texts text fine.texts is_text;
         variables_kept = refl;
         added = [];
@@ -414,8 +433,8 @@ keep_text_does {variables} {least} text is_text = record {
 
 -- ---- sites
 
-pub site_does : {variables least : ℕ} (kind : SiteKind) (place : Place)
-    → Does variables least (λ added. added ≡ (kind, place) ∷ []) (site kind place) (λ id now. id < now)
+pub site_does : {variables : List Variable} {least : Reached} (kind : SiteKind) (place : Place)
+    → Does variables least (λ added. added ≡ (kind, place) ∷ []) (site kind place) (λ id now. id < now.sites)
 unfolding site
 site_does {variables} {least} kind place = record {
   does = λ s a is fine h.
@@ -424,7 +443,8 @@ site_does {variables} {least} kind place = record {
       let counted = length-append s.sites ((kind, place) ∷ []) in
       let g : Grown variables (λ added. added ≡ (kind, place) ∷ []) [] s new = record {
         regions = refl;
-        types = the_same;
+        longer = as_long;
+        lawful = fine.lawful;
         texts = fine.texts;
         variables_kept = refl;
         added = (kind, place) ∷ [];
@@ -438,7 +458,7 @@ site_does {variables} {least} kind place = record {
         begun = omega arith;
         formed = λ n more. refl;
       } in
-      subst (Leaves variables (λ added. added ≡ (kind, place) ∷ []) s (λ id now. id < now)) y.1 (g, omega (arith, counted));
+      subst (Leaves variables (λ added. added ≡ (kind, place) ∷ []) s (λ id now. id < now.sites)) y.1 (g, omega (arith, counted));
 }
 
 -- the kinds of the leading site
@@ -446,12 +466,12 @@ abbrev pub led : Option SiteKind → List SiteKind
 led None = []
 led (Some kind) = kind ∷ []
 
-abbrev pub IsKnown : Option ℕ → ℕ → Type 0
-IsKnown None sites = Unit {0}
-IsKnown (Some id) sites = id < sites
+abbrev pub IsKnown : Option ℕ → Reached → Type 0
+IsKnown None now = Unit {0}
+IsKnown (Some id) now = id < now.sites
 
-pub behind_does : {variables least : ℕ} (lead : Option SiteKind) (place : Place)
+pub behind_does : {variables : List Variable} {least : Reached} (lead : Option SiteKind) (place : Place)
     → Does variables least (λ added. added ≡ at_place place (led lead)) (behind lead place) IsKnown
 unfolding behind
 behind_does None place = pure_does None (λ now more. tt)
-behind_does (Some kind) place = last (site_does kind place) (λ id now more known. pure_does (Some id) (λ n h. omega (arith, h, known)))
+behind_does (Some kind) place = last (site_does kind place) (λ id now more known. pure_does (Some id) (λ n h. omega (arith, h.sites, known)))

@@ -1,6 +1,6 @@
 -- What strings do: a string has at most as many characters as a type has cells, and its type leaves all others as they are.
-use Rattle.std.proofs.Common.{◌≡◌, ℕ, ℤ, ◌*◌, Bool, true, false, ◌&&◌, not, nat_le, nat_lt, List, [], ◌∷◌, ◌++◌, length, Option, Some, None}
-use Rattle.std.proofs.Common.{Result, Ok, Err, if◌then◌else◌, ok_or, pos, refl, sym, ap, ap₂, subst, ◌∙◌, arith, slice_get, append-nil, append_assoc}
+use Rattle.std.proofs.Common.{◌≡◌, ℕ, ℤ, ◌*◌, ◌≤◌, Bool, true, false, ◌&&◌, not, nat_le, List, [], ◌∷◌, ◌++◌, length, Option, Some, None}
+use Rattle.std.proofs.Common.{Result, Ok, Err, pos, refl, sym, ap, ap₂, subst, ◌∙◌, arith, slice_get, append-nil, append_assoc}
 use Rattle.std.specs.Prelude.{◌==◌, ◌-ℤ◌, ◌+ℤ◌}
 use Rattle.std.specs.List.{list_all}
 use Rattle.std.specs.Option.{option_and_then}
@@ -11,19 +11,18 @@ use Rattle.types.specs.Forms.{Form}
 use Rattle.types.specs.Forms.{Subrange, Array}
 use Rattle.types.specs.declared.form.TypeId.{TypeId}
 use Rattle.types.specs.declared.refusal.TypeRefusal.{TypeRefusal}
-use Rattle.types.specs.declared.refusal.TypeRefusal.TheVariants.{TooManyCells}
-use Rattle.types.specs.Types.{integer, char, natural, few, admitted_cells, numbered, counted, cells_at, values_at, index_values, form_range}
+use Rattle.types.specs.Types.{integer, char, natural, admitted_cells, numbered, counted, cells_at, values_at, index_values, form_range, most_cells}
 use Rattle.types.proofs.Counts.{values_counted}
 use Rattle.scopes.specs.declared.denotation.Denotation.TheVariants as denotes
+use Rattle.typed_tree.specs.declared.tree.Variable.{Variable}
 use Rattle.typed_tree.specs.WellFormed.{is_character, is_whole}
 use Rattle.typing.specs.Passing.{Passed, Checked, After, Passing, and_then, after, given, behind_marks, pure, ◌>>=◌}
 use Rattle.typing.specs.Steps.{fits, or_mismatch, value_of, added, add_type, keep_text}
 use Rattle.typing.specs.Strings.{characters, string_characters, string_type, string_constant}
 use Rattle.typing.proofs.Rows.{behind_nothing}
-use Rattle.typing_laws.proofs.WholeRanges.{whole_more}
-use Rattle.typing_laws.proofs.Cells.{TakesOne, AreLater, takes_more}
+use Rattle.typing_laws.proofs.Tables.{IsLonger, AreLawful, admitted_few, char_cell, lawful_more}
 use Rattle.typing_laws.proofs.Sound.{IsSound}
-use Rattle.typing_laws.proofs.Grown.{Grown, both_true}
+use Rattle.typing_laws.proofs.Grown.{Reached, Grown, both_true}
 use Rattle.typing_laws.proofs.Steps.{Does, Nothing, Leaves, split, quietly, pure_does, keep_text_does}
 
 -- ---- tests
@@ -92,13 +91,6 @@ type_added place form s a is = by (admitted_cells s.types form) refl is
 
 -- ---- the type of a string
 
-few_is : (m cells : ℕ) → ok_or (few m) TooManyCells ≡ Ok cells → nat_le m 65536 ≡ true
-few_is m cells is = by (nat_lt 65536 m) refl is
-  where
-    by : (test : Bool) → nat_lt 65536 m ≡ test → ok_or (if test then None else Some m) TooManyCells ≡ Ok cells → nat_le m 65536 ≡ true
-    by true h e = absurd cc
-    by false h e = grind (arith, nat_tests)
-
 from_one : (n : ℕ) → natural (pos n -ℤ pos 1 +ℤ pos 1) ≡ n
 from_one n = let same : pos n -ℤ pos 1 +ℤ pos 1 ≡ pos n = omega (arith, ints) in ap natural same
 
@@ -107,28 +99,32 @@ at_end [] form = refl
 at_end (first ∷ types) form = at_end types form
 
 -- an array over the subrange before it, which goes from 1 to its length
-few_components : (types : List Form) (n cells : ℕ) → TakesOne types char
+few_components : (types : List Form) (n cells : ℕ) → AreLawful (types ++ Subrange integer (pos 1) (pos n) ∷ [])
     → admitted_cells (types ++ Subrange integer (pos 1) (pos n) ∷ []) (Array true (record { index = length types }) char) ≡ Ok cells
     → nat_le n 65536 ≡ true
-few_components types n cells one is =
+few_components types n cells are is =
     let form = Subrange integer (pos 1) (pos n) in
     let index : TypeId = record { index = length types } in
     let entries = counted (types ++ form ∷ []) in
     let values : values_at entries index ≡ n =
     values_counted (types ++ form ∷ []) index ∙ ap (λ found. index_values (option_and_then form_range found)) (at_end types form) ∙ from_one n in
     let once : n * 1 ≡ n = omega arith in
-    subst (λ m. nat_le m 65536 ≡ true) (ap₂ (λ a b. a * b) values (takes_more types form char one).one ∙ once)
-    (few_is (values_at entries index * cells_at entries char) cells is)
+    let all : values_at entries index * cells_at entries char ≡ n = ap₂ (λ a b. a * b) values (char_cell (types ++ form ∷ []) are.begin) ∙ once in
+    le_true n (subst (λ m. m ≤ most_cells) all (admitted_few (types ++ form ∷ []) (Array true index char) cells is))
+  where
+    le_true : (m : ℕ) → m ≤ most_cells → nat_le m 65536 ≡ true
+    le_true m h = grind (arith, nat_tests)
 
 -- a string type is new, and leaves all other types
 pub record IsStringType (n : ℕ) (s : Passed) (a : After TypeId) : Type 0 where
   pub same : after a.answer [] (record s { types = a.passed.types }) ≡ a
-  pub later : AreLater s.types a.passed.types
+  pub longer : IsLonger s.types a.passed.types
+  pub lawful : AreLawful a.passed.types
   pub few : nat_le n 65536 ≡ true
 
-pub string_type_is : (place : Place) (n : ℕ) (s : Passed) (a : After TypeId) → TakesOne s.types char → string_type place n s ≡ Ok a → IsStringType n s a
+pub string_type_is : (place : Place) (n : ℕ) (s : Passed) (a : After TypeId) → AreLawful s.types → string_type place n s ≡ Ok a → IsStringType n s a
 unfolding string_type
-string_type_is place n s a one is =
+string_type_is place n s a are is =
     let form : ℤ → Form = λ last. Subrange integer (pos 1) last in
     let array : Form = Array true (next_type s) char in
     let x = given_then (value_of n place) (λ last. add_type place (form last) >>= (λ index. add_type place (Array true index char))) s a is in
@@ -137,26 +133,24 @@ string_type_is place n s a one is =
     subst (λ last. (add_type place (form last) >>= (λ index. add_type place (Array true index char))) s ≡ Ok a) (sym fit.1) x.2 in
     let y = add_type_then place (form (pos n)) (λ index. add_type place (Array true index char)) s a rest in
     let z = type_added place array (with_form (form (pos n)) s) a y.2 in
+    let one = lawful_more s.types (form (pos n)) y.0 are fit.0 y.1 in
     subst (IsStringType n s) z.2 (record {
       same = refl;
-      later = record {
-        added = form (pos n) ∷ array ∷ [];
-        types = append_assoc s.types (form (pos n) ∷ []) (array ∷ []);
-        whole = λ whole. whole_more (s.types ++ form (pos n) ∷ []) array (whole_more s.types (form (pos n)) whole fit.0) tt;
-        kept = λ id takes. takes_more (s.types ++ form (pos n) ∷ []) array id (takes_more s.types (form (pos n)) id takes);
-      };
+      longer = record { more = form (pos n) ∷ array ∷ []; types = append_assoc s.types (form (pos n) ∷ []) (array ∷ []) };
+      lawful = lawful_more (s.types ++ form (pos n) ∷ []) array z.0 one tt z.1;
       few = few_components s.types n z.0 one z.1;
     })
 
-module _ {variables least : ℕ} where
+module _ {variables : List Variable} {least : Reached} where
   pub string_type_does : (place : Place) (n : ℕ) → Does variables least Nothing (string_type place n) (λ id now. nat_le n 65536 ≡ true)
   string_type_does place n = record {
     does = λ s a is fine h.
-        let made = string_type_is place n s a fine.required.chars is in
+        let made = string_type_is place n s a fine.lawful is in
         let new : Passed = record s { types = a.passed.types } in
         let g : Grown variables Nothing [] s new = record {
           regions = refl;
-          types = made.later;
+          longer = made.longer;
+          lawful = made.lawful;
           texts = fine.texts;
           variables_kept = refl;
           added = [];
@@ -179,18 +173,18 @@ module _ {variables least : ℕ} where
 pub char_whole : (c : ℕ) → list_all is_character (c ∷ []) ≡ true → is_whole (pos c) ≡ true
 char_whole c is = grind (arith, nat_tests)
 
-module _ {variables least : ℕ} where
+module _ {variables : List Variable} {least : Reached} where
   -- two or more characters
   text_does : (place : Place) (cs : List ℕ) → list_all is_character cs ≡ true
       → Does variables least Nothing (string_type place (length cs) >>= (λ type_id. keep_text cs >>= (λ number. pure (denotes.Text number type_id))))
-      (λ d now. IsSound variables d)
+      (λ d now. IsSound variables now.types d)
   text_does place cs all =
       quietly (string_type_does place (length cs)) λ type_id _ _ few.
       quietly (keep_text_does cs (both_true _ _ few all)) λ number _ _ _.
       pure_does (denotes.Text number type_id) (λ n h. tt)
 
   pub string_constant_does : (place : Place) (cs : List ℕ) → list_all is_character cs ≡ true
-      → Does variables least Nothing (string_constant place cs) (λ d now. IsSound variables d)
+      → Does variables least Nothing (string_constant place cs) (λ d now. IsSound variables now.types d)
   unfolding string_constant
   string_constant_does place [] all = text_does place [] all
   string_constant_does place (c ∷ []) all = pure_does (denotes.Constant (pos c) char) (λ n h. char_whole c all)

@@ -4,8 +4,7 @@ use Rattle.std.specs.Option.{option_and_then}
 use Rattle.types.specs.Forms.{Form}
 use Rattle.types.specs.declared.form.TypeId.{TypeId}
 use Rattle.types.specs.declared.form.OrdinalRange.{OrdinalRange}
-use Rattle.types.specs.declared.table.Entry.{Entry}
-use Rattle.types.specs.Types.{form_cells, form_range, range_of, required_forms}
+use Rattle.types.specs.Types.{form_range, range_of, required_forms}
 use Rattle.typed_tree.specs.WellFormed.{is_whole}
 
 abbrev pub IsWholeRange : OrdinalRange → Type 0
@@ -44,10 +43,8 @@ one_more [] form all one (suc n) = tt
 one_more (first ∷ types) form all one zero = all zero
 one_more (first ∷ types) form all one (suc n) = one_more types form (λ k. all (suc k)) one n
 
+pub if_whole : (types : List Form) → HaveWholeRanges types → (id : TypeId) → IfWhole (range_of types id)
+if_whole types whole id = whole_at types whole id.index
+
 pub whole_more : (types : List Form) (form : Form) → HaveWholeRanges types → IfWhole (form_range form) → HaveWholeRanges (types ++ form ∷ [])
 whole_more types form whole one id range is = subst IfWhole is (one_more types form (whole_at types whole) one id.index)
-
--- a form that takes one cell, and has whole values
-pub record IsScalar (form : Form) : Type 0 where
-  pub one : (before : List Entry) → form_cells before form ≡ 1
-  pub whole : IfWhole (form_range form)

@@ -5,7 +5,7 @@
 ghost use Rattle.typing_laws.specs.Lawful.{TypedProgramsAreLawful};
 
 /// Each typed program has its entries numbered in the order of the text, well formed forms, few enough entries,
-/// variables and sites, the required types before its own, variables of one cell each, and its sites by place.
+/// variables, cells of variables and sites, the required types before its own, and its sites by place.
 pub fn typed_programs_are_lawful()
     ensures { TypedProgramsAreLawful }
 {}
