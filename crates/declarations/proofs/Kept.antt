@@ -1,6 +1,7 @@
 -- A name that is known stays known while declarations are passed.
 use Rattle.std.proofs.Common.{◌≡◌, ℕ, ◌+◌, ◌-◌, ℤ, pos, nat_le, length, Bool, true, false, if◌then◌else◌, List, [], ◌∷◌, ◌++◌, slice_index_or, Result, Ok, Err}
-use Rattle.std.proofs.Common.{IfOk, codes, nat_eq, nat_lt}
+use Rattle.std.proofs.Common.{IfOk, codes, nat_eq, nat_lt, map, Vec, refl, sym, ap, subst}
+use Rattle.std.specs.declared.alloc.Global.{Global}
 use Rattle.std.specs.Cmp.Lexicographic.{pointwise}
 use Rattle.std.proofs.lemmas.Result.{IfOk-at_ok}
 use Rattle.place.specs.declared.Place.{Place}
@@ -11,12 +12,16 @@ use Rattle.syntax_tree.specs.declared.ConstantValue.{ConstantValue}
 use Rattle.syntax_tree.specs.declared.ConstantValue.TheVariants as written
 use Rattle.syntax_tree.specs.declared.TypeDefinition.{TypeDefinition}
 use Rattle.syntax_tree.specs.declared.TypeDenoter.{TypeDenoter}
-use Rattle.syntax_tree.specs.declared.TypeDenoter.TheVariants as denoter
+use Rattle.syntax_tree.specs.declared.TypeDenoter.TheOpen.{TypeDenoter-F}
+use Rattle.syntax_tree.specs.declared.TypeDenoter.TheOpen as layer
+use Rattle.syntax_tree.specs.declared.TypeDenoter.TheViews.{roll-TypeDenoter}
+use Rattle.syntax_tree.specs.declared.TypeDenoter.TheFolds.{map-TypeDenoter, fold-roll-TypeDenoter, ind-TypeDenoter}
+use Rattle.syntax_tree.specs.Places.{fields_of}
 use Rattle.syntax_tree.specs.declared.VariableGroup.{VariableGroup}
 use Rattle.types.specs.Forms.{Form}
-use Rattle.types.specs.Forms.{Enumeration, Subrange, Array}
+use Rattle.types.specs.Forms.{FieldForm, Enumeration, Subrange, Array, Record}
 use Rattle.types.specs.declared.form.TypeId.{TypeId}
-use Rattle.types.specs.Types.{integer, char, admitted, cells_of, most_cells}
+use Rattle.types.specs.Types.{integer, char, admitted, cells_of, is_ordinal, most_cells}
 use Rattle.scopes.specs.Scopes.{Region, Knows, found, define}
 use Rattle.scopes.specs.declared.denotation.Denotation.{Denotation}
 use Rattle.scopes.specs.declared.denotation.Denotation.TheVariants as denotes
@@ -24,12 +29,15 @@ use Rattle.scopes.specs.declared.fault.ScopeFault.{ScopeFault}
 use Rattle.scopes.proofs.Known.{define_keeps}
 use Rattle.typed_tree.specs.declared.fault.TypeFault.TheVariants as fault
 use Rattle.typed_tree.specs.Look.{Look}
+use Rattle.typed_tree.specs.WellFormed.{most_variables}
 use Rattle.typing.specs.Names.{folded, group_names, type_names}
 use Rattle.typing.specs.Passing.{Passed, Checked, After, Passing, after, and_then, behind_marks, given, pure, each, ◌>>=◌, ◌>>◌, ◌>>?◌}
 use Rattle.typing.specs.Steps.{told, fits, value_of, pass, find, declare, added, add_type, keep_text, latest, give_output, next_root, reserve}
 use Rattle.typing.specs.Strings.{string_characters, string_type, string_constant}
 use Rattle.typing.specs.Constants.{as_constant, as_ordinal, behind_sign, unsigned_constant, constant, ordinal_constant}
 use Rattle.typing.specs.Denoters.{named_type, type_of_name, constants_from, enumeration, between, subrange, denoted_type}
+use Rattle.typing.specs.Denoters.{WrittenDenoter, written_denoter, denoter_step, index_type, index_types, arrays, array}
+use Rattle.typing.specs.Denoters.{named_fields, grouped_fields, record_type}
 use Rattle.typing.specs.Typing.{definition, type_definition, parameter_of_program, variable, group}
 use Rattle.declarations.specs.Known.{AreKnown, AreKnownDefinitions, AreKnownTypes, AreKnownGroups}
 
@@ -158,6 +166,14 @@ reserve_keeps place type_id old name known = by (nat_lt most_cells (old.cells + 
     by true = tt
     by false = known
 
+next_root_keeps : (place : Place) → Keeps (next_root place)
+unfolding next_root
+next_root_keeps place old name known = by (nat_le most_variables (length old.variables))
+  where
+    by : (b : Bool) → Leaves {A = ℕ} name (if b then Err (fault.TooMany place) else Ok (after (length old.variables) [] old))
+    by true = tt
+    by false = known
+
 pub parameter_keeps : (name : Name) → Keeps (parameter_of_program name)
 unfolding parameter_of_program give_output
 parameter_keeps name = by (pointwise nat_eq (folded name.text.now) (codes "output"))
@@ -167,9 +183,9 @@ parameter_keeps name = by (pointwise nat_eq (folded name.text.now) (codes "outpu
     by false = λ old other known. tt
 
 pub variable_keeps : (type_id : TypeId) (name : Name) → Keeps (variable type_id name)
-unfolding variable next_root
+unfolding variable
 variable_keeps type_id name =
-    then_keeps next_root (λ root. declare name (denotes.Variable root type_id) >> reserve name.place type_id) (λ old other known. known)
+    then_keeps (next_root name.place) (λ root. declare name (denotes.Variable root type_id) >> reserve name.place type_id) (next_root_keeps name.place)
     (λ root. then_keeps (declare name (denotes.Variable root type_id)) (λ _. reserve name.place type_id)
     (declare_keeps name (denotes.Variable root type_id)) (λ _. reserve_keeps name.place type_id))
 
@@ -220,11 +236,103 @@ subrange_keeps first place last =
     (checks_keep (ordinal_constant last) (λ types l. between types place f l) (ordinal_keeps last)) λ form.
     add_type_keeps place form
 
+pub pass_keeps : (place : Place) → Keeps (pass place)
+unfolding pass
+pass_keeps place old name known = known
+
+-- ---- denoters, by induction over their form
+
+abbrev DenoterKeeps : TypeDenoter → Type 0
+DenoterKeeps d = (names : List Name) → Keeps (written_denoter d names)
+
+abbrev KeptDenoter : Type 0
+KeptDenoter = (d : TypeDenoter) × DenoterKeeps d
+
+abbrev bare : TypeDenoter-F KeptDenoter → TypeDenoter-F TypeDenoter
+bare = map-TypeDenoter KeptDenoter TypeDenoter (λ d. d.0)
+
+abbrev all_written : List KeptDenoter → List WrittenDenoter
+all_written ds = map written_denoter (map (λ (d : KeptDenoter). d.0) ds)
+
+index_type_keeps : (names : List Name) (place : Place) (d : KeptDenoter) → Keeps (index_type names place (written_denoter d.0))
+unfolding index_type
+index_type_keeps names place d = checks_keep (written_denoter d.0 names) (λ types id. fits (is_ordinal types id) place id) (d.1 names)
+
+index_types_keep : (names : List Name) (place : Place) (ds : List KeptDenoter) → Keeps (index_types names place (all_written ds))
+index_types_keep names place [] = λ old name known. known
+index_types_keep names place (d ∷ ds) =
+    then_keeps (index_type names place (written_denoter d.0)) (λ id. index_types names place (all_written ds) >>= (λ ids. pure (id ∷ ids)))
+    (index_type_keeps names place d) λ id.
+    then_keeps (index_types names place (all_written ds)) (λ ids. pure (id ∷ ids)) (index_types_keep names place ds) (λ ids old name known. known)
+
+arrays_keep : (packed : Bool) (place : Place) (ids : List TypeId) (element : TypeId) → Keeps (arrays packed place ids element)
+arrays_keep packed place [] element = λ old name known. known
+arrays_keep packed place (id ∷ ids) element =
+    then_keeps (arrays packed place ids element) (λ inner. add_type place (Array packed id inner)) (arrays_keep packed place ids element)
+    (λ inner. add_type_keeps place (Array packed id inner))
+
+array_keeps : (names : List Name) (packed : Bool) (place : Place) (indexes : List KeptDenoter) (element : KeptDenoter)
+    → Keeps (array names packed place (all_written indexes) (written_denoter element.0))
+unfolding array
+array_keeps names packed place indexes element =
+    then_keeps (pass place)
+    (λ _. index_types names place (all_written indexes) >>= (λ ids. written_denoter element.0 names >>= (λ inner. arrays packed place ids inner)))
+    (pass_keeps place) λ _.
+    then_keeps (index_types names place (all_written indexes)) (λ ids. written_denoter element.0 names >>= (λ inner. arrays packed place ids inner))
+    (index_types_keep names place indexes) λ ids.
+    then_keeps (written_denoter element.0 names) (λ inner. arrays packed place ids inner) (element.1 names) (λ inner. arrays_keep packed place ids inner)
+
+groups_keep : (names : List Name) (fields : List FieldForm) (rows : List (Vec Name Global)) (ds : List KeptDenoter)
+    → Keeps (grouped_fields names fields (fields_of rows (all_written ds)))
+groups_keep names fields [] ds = λ old name known. known
+groups_keep names fields (row ∷ rows) [] = λ old name known. known
+groups_keep names fields (row ∷ rows) (d ∷ ds) =
+    then_keeps (written_denoter d.0 names)
+    (λ id. given (named_fields fields id row.items) >>= (λ more. grouped_fields names more (fields_of rows (all_written ds)))) (d.1 names) λ id.
+    then_keeps (given (named_fields fields id row.items)) (λ more. grouped_fields names more (fields_of rows (all_written ds)))
+    (given_keeps (named_fields fields id row.items)) (λ more. groups_keep names more rows ds)
+
+record_keeps : (names : List Name) (packed : Bool) (place : Place) (rows : List (Vec Name Global)) (ds : List KeptDenoter)
+    → Keeps (record_type names packed place (fields_of rows (all_written ds)))
+unfolding record_type
+record_keeps names packed place rows ds =
+    then_keeps (pass place) (λ _. grouped_fields names [] (fields_of rows (all_written ds)) >>= (λ fields. add_type place (Record packed fields)))
+    (pass_keeps place) λ _.
+    then_keeps (grouped_fields names [] (fields_of rows (all_written ds))) (λ fields. add_type place (Record packed fields))
+    (groups_keep names [] rows ds) (λ fields. add_type_keeps place (Record packed fields))
+
+rolled : (l : TypeDenoter-F TypeDenoter)
+    → ((names : List Name) → Keeps (denoter_step (map-TypeDenoter TypeDenoter WrittenDenoter written_denoter l) names)) → DenoterKeeps (roll-TypeDenoter l)
+rolled l keeps names = subst (λ (w : WrittenDenoter). Keeps (w names)) (sym (fold-roll-TypeDenoter WrittenDenoter denoter_step l)) (keeps names)
+
+layer_keeps : (l : TypeDenoter-F KeptDenoter) → DenoterKeeps (roll-TypeDenoter (bare l))
+layer_keeps (layer.Name name) = rolled (layer.Name name) (λ names. type_of_name_keeps names name)
+layer_keeps (layer.Enumerated constants) = rolled (layer.Enumerated constants) (λ names. enumeration_keeps constants.items)
+layer_keeps (layer.Subrange first place last) = rolled (layer.Subrange first place last) (λ names. subrange_keeps first place last)
+layer_keeps (layer.Array packed place indexes element) =
+    rolled (bare (layer.Array packed place indexes element)) (λ names. array_keeps names packed place indexes.items element.value)
+layer_keeps (layer.Record packed place rows ds semicolon) =
+    rolled (bare (layer.Record packed place rows ds semicolon)) (λ names. record_keeps names packed place rows.items ds.items)
+
 pub denoted_type_keeps : (names : List Name) (denoter : TypeDenoter) → Keeps (denoted_type names denoter)
-unfolding denoted_type
-denoted_type_keeps names (denoter.Name name) = type_of_name_keeps names name
-denoted_type_keeps names (denoter.Enumerated constants) = enumeration_keeps constants.items
-denoted_type_keeps names (denoter.Subrange first place last) = subrange_keeps first place last
+denoted_type_keeps names denoter =
+    ind-TypeDenoter DenoterKeeps (λ x l is. subst (λ z. DenoterKeeps (roll-TypeDenoter z)) is (layer_keeps l)) denoter names
+
+pub index_keeps : (names : List Name) (place : Place) (d : TypeDenoter) → Keeps (index_type names place (written_denoter d))
+index_keeps names place d = index_type_keeps names place (d, λ ns. denoted_type_keeps ns d)
+
+-- those of denoters one after another
+kept : List TypeDenoter → List KeptDenoter
+kept [] = []
+kept (d ∷ ds) = (d, λ names. denoted_type_keeps names d) ∷ kept ds
+
+kept_are : (ds : List TypeDenoter) → map (λ (d : KeptDenoter). d.0) (kept ds) ≡ ds
+unfolding kept
+kept_are [] = refl
+kept_are (d ∷ ds) = ap (λ l. d ∷ l) (kept_are ds)
+
+pub types_keep : (names : List Name) (place : Place) (ds : List TypeDenoter) → Keeps (index_types names place (map written_denoter ds))
+types_keep names place ds = subst (λ l. Keeps (index_types names place (map written_denoter l))) (kept_are ds) (index_types_keep names place (kept ds))
 
 pub type_definition_keeps : (d : TypeDefinition) → Keeps (type_definition d)
 unfolding type_definition

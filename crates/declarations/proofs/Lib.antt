@@ -1,3 +1,4 @@
+mod Defined
 mod Kept
 mod Opened
 mod Parts

@@ -1,12 +1,15 @@
 -- The names whose definitions are to come (ISO 7185:1990, 6.2.2): the region of their block lists them from the start.
 -- It says nothing of what they denote.
-use Rattle.std.specs.Prelude.{List, All}
+use Rattle.std.specs.Prelude.{List, Vec, All, map, flat_map}
+use Rattle.std.specs.declared.alloc.Global.{Global}
 use Rattle.syntax_tree.specs.declared.ConstantDefinition.{ConstantDefinition}
 use Rattle.syntax_tree.specs.declared.Name.{Name}
 use Rattle.syntax_tree.specs.declared.TypeDefinition.{TypeDefinition}
+use Rattle.syntax_tree.specs.declared.TypeDenoter.{TypeDenoter}
 use Rattle.syntax_tree.specs.declared.VariableGroup.{VariableGroup}
+use Rattle.syntax_tree.specs.Places.{fields_of}
 use Rattle.scopes.specs.Scopes.{Region, Knows}
-use Rattle.typing.specs.Names.{folded, group_names, type_names}
+use Rattle.typing.specs.Names.{folded, denoter_names, group_names, type_names}
 
 -- the innermost region lists each of these names
 abbrev pub AreKnown : List Name → List Region → Type 0
@@ -23,3 +26,11 @@ AreKnownTypes definitions regions = All (λ d. AreKnown (type_names d) regions) 
 -- the innermost region lists each name of these groups
 abbrev pub AreKnownGroups : List VariableGroup → List Region → Type 0
 AreKnownGroups groups regions = All (λ group. AreKnown (group_names group) regions) groups
+
+-- the names that denoters define
+abbrev pub names_in : List TypeDenoter → List Name
+names_in denoters = flat_map (λ names. names) (map denoter_names denoters)
+
+-- those that the denoters of groups of fields define
+abbrev pub names_in_groups : List (Vec Name Global) → List TypeDenoter → List Name
+names_in_groups rows denoters = flat_map (λ field. field.1) (fields_of rows (map denoter_names denoters))

@@ -1,17 +1,21 @@
+ghost use Rattle.std.specs.Prelude.{[], ◌++◌, map};
+ghost use Rattle.syntax_tree.specs.Places.{fields_of};
+ghost use Rattle.types.specs.Forms.{field_form};
 ghost use Rattle.typing.specs.Denoters as spec;
 ghost use Rattle.typing.specs.Names.{denoter_names};
-ghost use Rattle.typing.specs.Outcomes.{Takes};
-ghost use Rattle.declarations.specs.Known.{AreKnown};
+ghost use Rattle.typing.specs.Outcomes.{Takes, Makes};
+ghost use Rattle.declarations.specs.Known.{AreKnown, names_in, names_in_groups};
 
 use place::Place;
 use scopes::Denotation;
 use syntax_tree::{Constant, Name, TypeDenoter};
 use typed_tree::fault::TypeFault;
-use types::{TypeForm, TypeId};
-use typing::{Typer, value_of};
+use types::{Field, TypeForm, TypeId};
+use typing::{Typer, add_fields, value_of};
 
 /// The type that a denoter denotes, where variables of these names get it (6.4.1).
-#[tactic(auto, unfolding(typing::specs::Denoters::denoted_type))]
+#[cycle(denoters)]
+#[tactic(auto, using(typing::proofs::Written::written_denoters))]
 pub(crate) fn denoted_type(
     typer: &mut Typer,
     names: &[Name],
@@ -28,7 +32,89 @@ pub(crate) fn denoted_type(
             between,
             last,
         } => subrange(typer, first, *between, last),
+        TypeDenoter::Array {
+            packed,
+            place,
+            indexes,
+            element,
+        } => {
+            typer.pass(*place);
+            let indexes = index_types(typer, names, *place, indexes)?;
+            let element = denoted_type(typer, names, element)?;
+            typer.arrays(*packed, *place, &indexes, element)
+        }
+        TypeDenoter::Record {
+            packed,
+            place,
+            names: rows,
+            denoters,
+            ..
+        } => {
+            typer.pass(*place);
+            let fields = grouped_fields(typer, names, rows, denoters)?;
+            let packed = *packed;
+            typer.add_type(*place, TypeForm::Record { packed, fields })
+        }
     }
+}
+
+// The index types of an array, in their order.
+#[cycle(denoters)]
+fn index_types(
+    typer: &mut Typer,
+    names: &[Name],
+    place: Place,
+    denoters: &[TypeDenoter],
+) -> Result<Vec<TypeId>, TypeFault>
+    requires known { AreKnown (names_in denoters.now) typer.old.regions }
+    ensures { Makes (λ ids. ids.items) (λ ids. [])
+        (spec.index_types names.now place (map spec.written_denoter denoters.now) typer.old) result typer.new }
+{
+    let mut ids = Vec::with_capacity(typer.alloc, denoters.len())?;
+    for denoter in denoters {
+        ids.push(index_type(typer, names, place, denoter)?)?;
+    }
+    Ok(ids)
+}
+
+// An index type: K1 at the array's word where it is not ordinal.
+#[cycle(denoters)]
+#[tactic(auto, unfolding(typing::specs::Denoters::index_type))]
+fn index_type(
+    typer: &mut Typer,
+    names: &[Name],
+    place: Place,
+    denoter: &TypeDenoter,
+) -> Result<TypeId, TypeFault>
+    requires known { AreKnown (denoter_names denoter.now) typer.old.regions }
+    ensures { Takes (spec.index_type names.now place (spec.written_denoter denoter.now) typer.old) result typer.new }
+{
+    let id = denoted_type(typer, names, denoter)?;
+    if !typer.tests_ordinal(id) {
+        return Err(TypeFault::Mismatch(place));
+    }
+    Ok(id)
+}
+
+// The fields of a record, group by group: of each its type, and then its names.
+#[cycle(denoters)]
+fn grouped_fields(
+    typer: &mut Typer,
+    names: &[Name],
+    rows: &[Vec<Name>],
+    denoters: &[TypeDenoter],
+) -> Result<Vec<Field>, TypeFault>
+    requires known { AreKnown (names_in_groups rows.now denoters.now) typer.old.regions }
+    ensures { Makes (λ fields. map field_form fields.items) (λ fields. [])
+        (spec.grouped_fields names.now [] (fields_of rows.now (map spec.written_denoter denoters.now)) typer.old) result
+        typer.new }
+{
+    let mut fields = Vec::new(typer.alloc);
+    for (row, denoter) in rows.iter().zip(denoters) {
+        let type_id = denoted_type(typer, names, denoter)?;
+        add_fields(typer.alloc, &mut fields, type_id, row)?;
+    }
+    Ok(fields)
 }
 
 // An enumerated type: its constants count from 0 (6.4.2.3).

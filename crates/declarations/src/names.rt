@@ -2,6 +2,7 @@ ghost use Rattle.std.specs.Prelude.{◌≡◌, ◌++◌, OnOk, IfOk, flat_map};
 ghost use Rattle.typing.specs.Names.{all_folded};
 ghost use Rattle.typing.specs.Names as spec;
 ghost use Rattle.declarations.specs.Declared.{texts};
+ghost use Rattle.declarations.specs.Known.{names_in, names_in_groups};
 
 use std::alloc::{AllocError, Global};
 use syntax_tree::{Name, Program, TypeDefinition, TypeDenoter, VariableGroup};
@@ -55,6 +56,8 @@ fn fold_groups(
 }
 
 // Those that a denoter defines.
+#[cycle(denoters)]
+#[tactic(auto, using(typing::proofs::Written::names_of_denoters))]
 fn fold_denoter(
     alloc: Global,
     denoter: &TypeDenoter,
@@ -64,9 +67,54 @@ fn fold_denoter(
         (texts keys.new.items ≡ texts keys.old.items ++ all_folded (spec.denoter_names denoter.now)) }
 {
     match denoter {
-        TypeDenoter::Enumerated { constants } => fold_names(alloc, constants, keys),
         TypeDenoter::Name(_) | TypeDenoter::Subrange { .. } => Ok(()),
+        TypeDenoter::Enumerated { constants } => fold_names(alloc, constants, keys),
+        TypeDenoter::Array {
+            indexes,
+            element,
+            ..
+        } => {
+            fold_denoters(alloc, indexes, keys)?;
+            fold_denoter(alloc, element, keys)
+        }
+        TypeDenoter::Record {
+            names,
+            denoters,
+            ..
+        } => fold_fields(alloc, names, denoters, keys),
     }
+}
+
+// Those of these denoters.
+#[cycle(denoters)]
+fn fold_denoters(
+    alloc: Global,
+    denoters: &[TypeDenoter],
+    keys: &mut Vec<Vec<u8>>,
+) -> Result<(), AllocError>
+    ensures { OnOk result (texts keys.new.items ≡ texts keys.old.items ++ all_folded (names_in denoters.now)) }
+{
+    for denoter in denoters {
+        fold_denoter(alloc, denoter, keys)?;
+    }
+    Ok(())
+}
+
+// Those of the denoters of groups of fields.
+#[cycle(denoters)]
+fn fold_fields(
+    alloc: Global,
+    rows: &[Vec<Name>],
+    denoters: &[TypeDenoter],
+    keys: &mut Vec<Vec<u8>>,
+) -> Result<(), AllocError>
+    ensures { OnOk result
+        (texts keys.new.items ≡ texts keys.old.items ++ all_folded (names_in_groups rows.now denoters.now)) }
+{
+    for (_, denoter) in rows.iter().zip(denoters) {
+        fold_denoter(alloc, denoter, keys)?;
+    }
+    Ok(())
 }
 
 // These names.

@@ -1,18 +1,24 @@
 -- Type denoters: how their typing goes on from that of their parts.
-use Rattle.std.proofs.Common.{◌≡◌, ℕ, ◌+◌, ◌<◌, ◌≤◌, Bool, List, [], ◌∷◌, ◌++◌, map, length, drop, get_or, Ok, Err, Vec, inl, inr, refl, sym, ap, ap₂, subst, ◌∙◌}
-use Rattle.std.proofs.Common.{append_assoc, append-nil}
+use Rattle.std.proofs.Common.{◌≡◌, ℕ, ◌+◌, ◌<◌, ◌≤◌, Bool, List, [], ◌∷◌, ◌++◌, map, length, drop, get_or, Ok, Err, Vec, inl, inr, refl, sym}
+use Rattle.std.proofs.Common.{ap, ap₂, subst, ◌∙◌, append_assoc, append-nil, min, Box, ◌⊎◌, arith}
+use Rattle.std.proofs.lemmas.Bool.{cases_lt}
 use Rattle.std.specs.declared.alloc.Global.{Global}
 use Rattle.std.proofs.lemmas.List.{drop_more, at_drop_all}
 use Rattle.place.specs.declared.Place.{Place}
 use Rattle.syntax_tree.specs.declared.Name.{Name}
 use Rattle.syntax_tree.specs.Places.{fields_of}
-use Rattle.types.specs.Forms.{FieldForm, Array}
+use Rattle.syntax_tree.specs.declared.TypeDenoter.{TypeDenoter}
+use Rattle.syntax_tree.specs.declared.TypeDenoter.TheVariants as denoter
+use Rattle.types.specs.Forms.{FieldForm, Array, Record}
 use Rattle.types.specs.declared.form.TypeId.{TypeId}
 use Rattle.typed_tree.specs.declared.fault.TypeFault.{TypeFault}
-use Rattle.typing.specs.Denoters.{WrittenDenoter, arrays, index_type, index_types, named_fields, grouped_fields}
+use Rattle.typed_tree.specs.declared.fault.TypeFault.TheVariants.{Memory}
+use Rattle.typing.specs.Denoters.{WrittenDenoter, written_denoter, denoted_type, array, arrays, index_type, index_types, named_fields, grouped_fields}
+use Rattle.typing.specs.Denoters.{record_type}
 use Rattle.typing.specs.Outcomes.{IsFault}
 use Rattle.typing.specs.Passing.{Passed, Checked, After, after, and_then, behind_marks, given, ◌>>=◌}
-use Rattle.typing.specs.Steps.{add_type}
+use Rattle.typing.specs.Steps.{add_type, pass}
+use Rattle.typing.proofs.Written.{typing_array, typing_record}
 use Rattle.typing.proofs.Rows.{behind_nothing}
 
 -- ---- arrays, from the last index on
@@ -108,6 +114,14 @@ module _ {A : Type 0} (written : A → WrittenDenoter) (names : List Name) (plac
 
 -- ---- groups of fields
 
+-- past as many as there are of both, one has no more
+pub past_one : (i first second : ℕ) → i ≡ min first second → (first ≤ i) ⊎ (second ≤ i)
+past_one i first second is = by (cases_lt first second)
+  where
+    by : (first < second) ⊎ (second ≤ first) → (first ≤ i) ⊎ (second ≤ i)
+    by (inl less) = inl (omega (arith, is, less))
+    by (inr more) = inr (omega (arith, is, more))
+
 no_denoters : {A : Type 0} (rows : List (Vec Name Global)) → fields_of {A = A} rows [] ≡ []
 no_denoters [] = refl
 no_denoters (row ∷ rows) = refl
@@ -158,22 +172,95 @@ module _ {A : Type 0} (written : A → WrittenDenoter) (names : List Name) (rows
           ∙ behind_nothing (grouped_fields names more (groups_from (i + 1)) new)
 
       -- its names are refused
-      pub group_names_stop : (why : TypeFault) → named_fields fields id row.items ≡ Err why
-          → grouped_fields names [] (fields_of rows (map written forms)) old ≡ Err why
-      group_names_stop why twice =
+      pub group_names_stop : (why : TypeFault) → (why ≡ Memory) ⊎ (named_fields fields id row.items ≡ Err why)
+          → IsFault (grouped_fields names [] (fields_of rows (map written forms)) old) why
+      group_names_stop why (inl memory) = inl memory
+      group_names_stop why (inr twice) = inr (
           names_go
           ∙ ap (λ c. behind_marks [] (and_then (and_then c (λ more. Ok (after more [] new)))
-          (λ a. behind_marks a.look (grouped_fields names a.answer (groups_from (i + 1)) a.passed)))) twice
+          (λ a. behind_marks a.look (grouped_fields names a.answer (groups_from (i + 1)) a.passed)))) twice)
 
-  -- all rows are passed
-  pub rows_end : (i : ℕ) (fields : List FieldForm) (now : Passed) → length rows ≤ i → AreGroupsFrom i fields now
+  -- all are passed
+  pub groups_end : (i : ℕ) (fields : List FieldForm) (now : Passed) → i ≡ min (length rows) (length forms) → AreGroupsFrom i fields now
       → grouped_fields names [] (fields_of rows (map written forms)) old ≡ Ok (after fields [] now)
-  rows_end i fields now all left =
-      left ∙ at_drop_all (λ rs. grouped_fields names fields (fields_of rs (map written (drop i forms))) now) rows i all
+  groups_end i fields now all left = by (past_one i (length rows) (length forms) all)
+    where
+      by : (length rows ≤ i) ⊎ (length forms ≤ i) → grouped_fields names [] (fields_of rows (map written forms)) old ≡ Ok (after fields [] now)
+      by (inl past) = left ∙ at_drop_all (λ rs. grouped_fields names fields (fields_of rs (map written (drop i forms))) now) rows i past
+      by (inr past) =
+          left ∙ at_drop_all (λ fs. grouped_fields names fields (fields_of (drop i rows) (map written fs)) now) forms i past
+          ∙ ap (λ groups. grouped_fields names fields groups now) (no_denoters (drop i rows))
 
-  -- all denoters are passed
-  pub groups_end : (i : ℕ) (fields : List FieldForm) (now : Passed) → length forms ≤ i → AreGroupsFrom i fields now
-      → grouped_fields names [] (fields_of rows (map written forms)) old ≡ Ok (after fields [] now)
-  groups_end i fields now all left =
-      left ∙ at_drop_all (λ fs. grouped_fields names fields (fields_of (drop i rows) (map written fs)) now) forms i all
-      ∙ ap (λ groups. grouped_fields names fields groups now) (no_denoters (drop i rows))
+-- ---- an array, as it is written
+
+module _ (names : List Name) (d : TypeDenoter) (packed : Bool) (place : Place) (indexes : Vec TypeDenoter Global) (element : Box TypeDenoter Global)
+    (is : d ≡ denoter.Array packed place indexes element) (row : List TypeDenoter) (row_is : row ≡ indexes.items) (old now : Passed)
+    (passes : pass place old ≡ Ok (after tt [] now)) where
+  abbrev behind_indexes : Checked (After (List TypeId)) → Checked (After TypeId)
+  behind_indexes outcome =
+      behind_marks [] (and_then outcome (λ a. behind_marks a.look
+      ((written_denoter element.value names >>= (λ inner. arrays packed place a.answer inner)) a.passed)))
+
+  array_goes : denoted_type names d old ≡ behind_indexes (index_types names place (map written_denoter row) now)
+  unfolding array
+  array_goes =
+      ap (λ w. written_denoter w names old) is ∙ ap (λ w. w names old) (typing_array packed place indexes element)
+      ∙ ap (λ r. and_then r (λ a. behind_marks a.look ((index_types names place (map written_denoter indexes.items)
+      >>= (λ ids. written_denoter element.value names >>= (λ inner. arrays packed place ids inner))) a.passed))) passes
+      ∙ ap (λ l. behind_indexes (index_types names place (map written_denoter l) now)) (sym row_is)
+
+  -- its index types stop
+  pub indexes_stop : (why : TypeFault) → IsFault (index_types names place (map written_denoter row) now) why → IsFault (denoted_type names d old) why
+  indexes_stop why (inl memory) = inl memory
+  indexes_stop why (inr stops) = inr (array_goes ∙ ap behind_indexes stops)
+
+  module _ (ids : List TypeId) (there : Passed) (types : index_types names place (map written_denoter row) now ≡ Ok (after ids [] there))
+      (inner : TypeDenoter) (inner_is : inner ≡ element.value) where
+    abbrev behind_element : Checked (After TypeId) → Checked (After TypeId)
+    behind_element outcome = and_then outcome (λ a. behind_marks a.look (arrays packed place ids a.answer a.passed))
+
+    element_goes : denoted_type names d old ≡ behind_element (denoted_type names inner there)
+    element_goes =
+        array_goes ∙ ap behind_indexes types ∙ behind_nothing (behind_marks [] (behind_element (denoted_type names element.value there)))
+        ∙ behind_nothing (behind_element (denoted_type names element.value there))
+        ∙ ap (λ e. behind_element (denoted_type names e there)) (sym inner_is)
+
+    -- the type of its elements stops
+    pub element_stops : (why : TypeFault) → IsFault (denoted_type names inner there) why → IsFault (denoted_type names d old) why
+    element_stops why (inl memory) = inl memory
+    element_stops why (inr stops) = inr (element_goes ∙ ap behind_element stops)
+
+    -- it goes on behind them
+    pub array_goes_on : (id : TypeId) (new : Passed) → denoted_type names inner there ≡ Ok (after id [] new)
+        → denoted_type names d old ≡ arrays packed place ids id new
+    array_goes_on id new goes = element_goes ∙ ap behind_element goes ∙ behind_nothing (arrays packed place ids id new)
+
+-- ---- a record, as it is written
+
+module _ (names : List Name) (d : TypeDenoter) (packed : Bool) (place : Place) (rows : Vec (Vec Name Global) Global) (denoters : Vec TypeDenoter Global)
+    (semicolon : Bool) (is : d ≡ denoter.Record packed place rows denoters semicolon) (kept : List (Vec Name Global)) (kept_is : kept ≡ rows.items)
+    (row : List TypeDenoter) (row_is : row ≡ denoters.items) (old now : Passed) (passes : pass place old ≡ Ok (after tt [] now)) where
+  abbrev behind_fields : Checked (After (List FieldForm)) → Checked (After TypeId)
+  behind_fields outcome = behind_marks [] (and_then outcome (λ a. behind_marks a.look (add_type place (Record packed a.answer) a.passed)))
+
+  record_goes : denoted_type names d old ≡ behind_fields (grouped_fields names [] (fields_of kept (map written_denoter row)) now)
+  unfolding record_type
+  record_goes =
+      ap (λ w. written_denoter w names old) is ∙ ap (λ w. w names old) (typing_record packed place rows denoters semicolon)
+      ∙ ap (λ r. and_then r (λ a. behind_marks a.look ((grouped_fields names [] (fields_of rows.items (map written_denoter denoters.items))
+      >>= (λ fields. add_type place (Record packed fields))) a.passed))) passes
+      ∙ ap₂ (λ rs ds. behind_fields (grouped_fields names [] (fields_of rs (map written_denoter ds)) now)) (sym kept_is) (sym row_is)
+
+  -- its fields stop
+  pub fields_stop : (why : TypeFault) → IsFault (grouped_fields names [] (fields_of kept (map written_denoter row)) now) why
+      → IsFault (denoted_type names d old) why
+  fields_stop why (inl memory) = inl memory
+  fields_stop why (inr stops) = inr (record_goes ∙ ap behind_fields stops)
+
+  -- it goes on behind them
+  pub record_goes_on : (fields : List FieldForm) (new : Passed)
+      → grouped_fields names [] (fields_of kept (map written_denoter row)) now ≡ Ok (after fields [] new)
+      → denoted_type names d old ≡ add_type place (Record packed fields) new
+  record_goes_on fields new goes =
+      record_goes ∙ ap behind_fields goes ∙ behind_nothing (behind_marks [] (add_type place (Record packed fields) new))
+      ∙ behind_nothing (add_type place (Record packed fields) new)

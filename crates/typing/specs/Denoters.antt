@@ -1,6 +1,6 @@
--- The typing of type denoters (ISO 7185:1990, 6.4.1 to 6.4.3): of each the first rule that it breaks, or the type that
--- it denotes. A name denotes the type that it names, and every other denoter a type of its own. The parts of an array or
--- a record come in the order of the text, and then the rules of its own, which are told at its word.
+-- The typing of type denoters (ISO 7185:1990, 6.4.1 to 6.4.3): of each the first rule that it breaks, or the type
+-- that it denotes. A name denotes the type that it names, and every other denoter a type of its own. The parts of an
+-- array or a record come in the order of the text, and then the rules of its own, which are told at its word.
 -- It says nothing of where they stand.
 use Rattle.std.specs.Prelude.{ℕ, ◌+◌, ◌-◌, ◌&&◌, ℤ, Bool, List, [], ◌∷◌, ◌++◌, length, Option, Some, Result, Ok, Err}
 use Rattle.std.specs.Prelude.{if◌then◌else◌, nat_eq}

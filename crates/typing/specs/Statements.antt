@@ -45,8 +45,8 @@ use Rattle.typed_tree.specs.declared.tree.Representation.{Representation}
 use Rattle.typed_tree.specs.declared.tree.Representation.TheVariants as representation
 use Rattle.typed_tree.specs.declared.tree.Selector.{Selector as TreeSelector}
 use Rattle.typed_tree.specs.Accesses.{index_count}
-use Rattle.typed_tree.specs.Look.{Mark, Access, Assign, Target, WholeTarget, Copied, Fits, Write, Written as WrittenMark}
-use Rattle.typed_tree.specs.Look.{WrittenString, Width}
+use Rattle.typed_tree.specs.Look.{Mark, Access, Assign, Target, WholeTarget, Copied, Fits, Write}
+use Rattle.typed_tree.specs.Look.{Written as WrittenMark, WrittenString, Width}
 use Rattle.typed_tree.specs.Look.{Empty, Compound, If, Then, Else, While, Do, Repeat, Until, For, Case, Arm, Ends}
 use Rattle.typing.specs.Passing.{Checked, Passing, and_then, pure, given, by_types, mark, each, ◌>>=◌, ◌>>◌, ◌>>?◌}
 use Rattle.typing.specs.Steps.{fits, or_mismatch, pass, enter_as, enter_loop, site, find, may_change, begin_control}
