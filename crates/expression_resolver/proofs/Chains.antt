@@ -240,9 +240,11 @@ module _ (place : Place) (first : TypedExpr) (left : Typed) (same : left ≡ typ
               (ap (λ b. b || nat_eq (length (map written_link rest)) 1) is_long ∙ ap (λ n. nat_eq n 1) (length-map rest written_link)
               ∙ ap (λ l. nat_eq (length l) 1) (all ∙ ap (λ l. written ∷ l) none)))
               ∙ ap (λ v. Ok (after (typed relation.type_id left.site) ((Begins ∷ look_value v) ++ (look_behind left.length relation ++ (Ends ∷ []))) there)) is
-              ∙ ap (λ n. Ok (after (typed relation.type_id left.site) (Begins ∷ (look_whole value indexes.items ++ (look_behind n relation ++ (Ends ∷ [])))) there))
+              ∙ ap (λ n. Ok (after (typed relation.type_id left.site)
+              (Begins ∷ (look_whole value indexes.items ++ (look_behind n relation ++ (Ends ∷ [])))) there))
               (ap (λ t. t.length) (same ∙ as_long))
               ∙ ap₂ (λ v i. Ok (after (typed relation.type_id left.site)
-              (Begins ∷ (look_whole v i.items ++ (look_behind (Some (length_of v)) relation ++ (Ends ∷ [])))) there)) (sym same_value) (sym same_indexes)
+              (Begins ∷ (look_whole v i.items ++ (look_behind (Some (length_of v)) relation ++ (Ends ∷ [])))) there))
+              (sym same_value) (sym same_indexes)
               ∙ ap₂ (λ t look. Ok (after t look there)) (sym comparison_of.is) (sym comparison_of.looks)
               ∙ ap (λ n. Ok (after (typed_of made) (look_value made.value) n)) still

@@ -1,6 +1,6 @@
 -- Accesses: how their typing goes on from that of a variable, of its selectors and of its value.
 use Rattle.std.proofs.Common.{◌≡◌, ℕ, suc, ◌+◌, ◌<◌, ◌≤◌, Bool, true, false, List, [], ◌∷◌, ◌++◌, map, length, drop, get_or, Option, Ok, Err, Result}
-use Rattle.std.proofs.Common.{inl, inr, refl, sym, ap, ap₂, subst, ◌∙◌, if◌then◌else◌, Vec, append-nil, length-append, arith, Some}
+use Rattle.std.proofs.Common.{inl, inr, refl, sym, ap, ap₂, subst, ◌∙◌, if◌then◌else◌, Vec, append-nil, length-append, arith}
 use Rattle.std.specs.Prelude.{flat_map}
 use Rattle.std.specs.declared.alloc.Global.{Global}
 use Rattle.std.proofs.lemmas.List.{drop_more, at_drop_all}
@@ -34,13 +34,12 @@ use Rattle.typing.specs.Passing.{Passed, Passing, Checked, After, after, and_the
 use Rattle.typing.specs.Steps.{site, enter_as, host_type}
 use Rattle.typing.specs.Expressions.{Written, behind, selected, accessed, tests_ordinal, ordinal_value, whole_value, typed, typed_whole, expression}
 use Rattle.typing.specs.Outcomes.{IsFault}
-use Rattle.typing.proofs.Rows.{behind_nothing, behind_both, behind_fault}
+use Rattle.typing.proofs.Rows.{behind_nothing, behind_both}
 use Rattle.typing.proofs.Selectors.{IsSelectedFrom, selectors_begin, selector_next, selector_stops, selectors_end}
 use Rattle.expression_resolver.specs.declared.typed.Entered.{Entered}
 use Rattle.expression_resolver.specs.declared.typed.Selection.{Selection}
-use Rattle.expression_resolver.specs.declared.typed.TypedExpr.{TypedExpr}
-use Rattle.expression_resolver.specs.declared.typed.Value.TheVariants.{Ordinal, Whole as WholeOf}
-use Rattle.expression_resolver.specs.Made.{typed_of, look_value}
+use Rattle.expression_resolver.specs.declared.typed.Value.TheVariants.{Whole as WholeOf}
+use Rattle.expression_resolver.specs.Made.{look_value}
 use Rattle.expression_resolver.specs.Accesses.{begun, value, valued, look_selection, left_behind, on, IsCounted, IsNothing, IsFieldBehind, IsElementBehind}
 use Rattle.expression_resolver.specs.Accesses.{IsOneBehind, SelectsField, SelectsElement, SelectsOne}
 

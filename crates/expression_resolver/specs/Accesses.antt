@@ -1,5 +1,5 @@
--- How accesses are made: a variable as it is entered, the selectors behind it with their index expressions, and the value
--- of what is selected. It says nothing of what typing answers.
+-- How accesses are made: a variable as it is entered, the selectors behind it with their index expressions, and the
+-- value of what is selected. It says nothing of what typing answers.
 use Rattle.std.specs.Prelude.{◌≡◌, ℕ, suc, Bool, List, [], ◌∷◌, ◌++◌, flat_map, length, map, drop, Result}
 use Rattle.std.specs.Prelude.{if◌then◌else◌, Ok, Err, Option}
 use Rattle.place.specs.declared.Place.{Place}
@@ -81,7 +81,8 @@ SelectsField name s old (Err why) new now =
     (more : List Selector) → (left : List Written) → IsFault (on old (select.Field name ∷ more) left s) why
 
 -- an element is selected by an index: typing goes on behind it
-pub record IsElementBehind (place : Place) (w : Written) (s : Passed) (old new : Selection) (now : Passed) : Type 0 where
+pub record IsElementBehind (place : Place) (w : Written) (s : Passed) (old new : Selection) (now : Passed)
+    : Type 0 where
   pub index : Expr
   pub goes : (joined : Bool) → (more : List Selector) → (left : List Written)
       → on old (select.Index place joined ∷ more) (w ∷ left) s ≡ behind_marks (look_expr index) (on new more left now)
@@ -105,7 +106,8 @@ pub record IsOneBehind (selector : Selector) (indexes : List SyntaxExpr) (s : Pa
   pub own : Look
   pub looks : look_selection new ≡ look_selection old ++ own
   pub goes : (more : List Selector)
-      → on old (selector ∷ more) (left_behind old indexes) s ≡ behind_marks own (on new more (left_behind new indexes) now)
+      → on old (selector ∷ more) (left_behind old indexes) s
+      ≡ behind_marks own (on new more (left_behind new indexes) now)
   pub counted : IsCounted old → IsCounted new
 
 abbrev pub SelectsOne

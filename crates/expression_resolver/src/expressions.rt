@@ -254,7 +254,8 @@ fn select_element(
     written: &syntax::Expr,
     selection: &mut Selection,
 ) -> Result<(), TypeFault>
-    ensures { SelectsElement place (spec.expression written.now) typer.old selection.old result selection.new typer.new }
+    ensures { SelectsElement place (spec.expression written.now) typer.old selection.old result selection.new
+        typer.new }
 {
     typer.pass(place);
     let element = typer.element(selection.type_id, place)?;

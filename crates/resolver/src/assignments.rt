@@ -17,6 +17,7 @@ use typing::Typer;
 use typing::rules::as_variable;
 
 /// An assignment: the target is accessed first, and then comes the value (6.8.2.2).
+#[tactic(auto, unfolding(typing::specs::Statements::assignment))]
 pub(crate) fn assignment(
     typer: &mut Typer,
     name: &syntax::Name,
@@ -37,7 +38,11 @@ pub(crate) fn assignment(
 }
 
 // What is accessed left of `:=`: a variable that may be changed, or a component of it.
-#[tactic(auto, unfolding(typing::specs::Statements::target, typing::specs::Expressions::tests_ordinal))]
+#[tactic(
+    auto,
+    using(crate::proofs::Targets::look_reached),
+    unfolding(typing::specs::Statements::target, typing::specs::Expressions::tests_ordinal)
+)]
 fn target(
     typer: &mut Typer,
     name: &syntax::Name,
@@ -145,9 +150,9 @@ fn copied(
 {
     typer.pass(becomes);
     let made = expression(typer, written, None)?;
-    if typer.copying(type_id, made.typed()).is_none() {
-        return Err(TypeFault::Mismatch(becomes));
-    }
+    typer
+        .copying(type_id, made.typed())
+        .ok_or(TypeFault::Mismatch(becomes))?;
     match made.value {
         Value::Whole { value, indexes } => Ok((value, indexes)),
         Value::Ordinal(_) => Err(TypeFault::Mismatch(becomes)),

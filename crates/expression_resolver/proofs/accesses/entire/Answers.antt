@@ -1,4 +1,4 @@
-use Rattle.std.proofs.Common.{rules, ◌≡◌, [], ◌∷◌, refl, sym, ap, ◌∙◌}
+use Rattle.std.proofs.Common.{rules, [], ◌∷◌, refl, sym, ap, ◌∙◌}
 use Rattle.typed_tree.specs.Look.{Access}
 use Rattle.typing.specs.Expressions.{accessed}
 use Rattle.typing.specs.Outcomes.{IsFault}

@@ -1,4 +1,4 @@
-use Rattle.std.proofs.Common.{◌≡◌, refl, sym, ap, ◌∙◌}
+use Rattle.std.proofs.Common.{refl, sym, ap, ◌∙◌}
 use Rattle.typed_tree.specs.Accesses.{index_count}
 use Rattle.typing.specs.Expressions.{selected}
 use Rattle.typing.proofs.Selectors.{field_passes}

@@ -58,7 +58,8 @@ behind_first-returns-in_ok-rest-in-Ordinal t c =
 
 pub behind_first-returns-in_default : goal.behind_first-returns-in_default
 behind_first-returns-in_default t c =
-    string_alone c.args.place c.args.first c.typed-left.result c.typed-left.ensures c.args.rest.now c.args.typer.now c.in-Whole.value c.in-Whole.indexes c.in-Whole.is
+    string_alone c.args.place c.args.first c.typed-left.result c.typed-left.ensures c.args.rest.now c.args.typer.now
+    c.in-Whole.value c.in-Whole.indexes c.in-Whole.is
     c.in_default.ensures.cases
 
 pub behind_first-returns-in_err-relation-in-Whole : goal.behind_first-returns-in_err-relation-in-Whole
@@ -67,7 +68,8 @@ behind_first-returns-in_err-relation-in-Whole t c =
     let why = c.in_err-relation-in-Whole.field-0.0 in
     let stops : IsFault (behind_marks (Begins ∷ look_value first.value)
     (operators c.args.place (typed_of first) (map written_link c.args.rest.now) c.args.typer.now)) why =
-    string_stops c.args.place first c.typed-left.result c.typed-left.ensures c.args.rest.now c.args.typer.now c.in-Whole.value c.in-Whole.indexes c.in-Whole.is
+    string_stops c.args.place first c.typed-left.result c.typed-left.ensures c.args.rest.now c.args.typer.now
+    c.in-Whole.value c.in-Whole.indexes c.in-Whole.is
     c.in-Some.written.now c.in-Some.more.now c.in-Some.ensures.cases.0 why c.in_err-relation-in-Whole.ensures.made in
     search rules
 
@@ -77,7 +79,8 @@ behind_first-returns-in_err-links-in-Whole t c =
     let why = c.in_err-links-in-Whole.field-0.0 in
     let stops : IsFault (behind_marks (Begins ∷ look_value first.value)
     (operators c.args.place (typed_of first) (map written_link c.args.rest.now) c.args.typer.now)) why =
-    more_stop c.args.place first c.typed-left.result c.typed-left.ensures c.args.rest.now c.args.typer.now c.in-Whole.value c.in-Whole.indexes c.in-Whole.is
+    more_stop c.args.place first c.typed-left.result c.typed-left.ensures c.args.rest.now c.args.typer.now
+    c.in-Whole.value c.in-Whole.indexes c.in-Whole.is
     c.in-Some.written.now c.in-Some.more.now c.in-Some.ensures.cases.0 c.in_ok-relation-in-Whole.relation c.link.new.typer
     c.in_ok-relation-in-Whole.ensures.made why c.in_err-links-in-Whole.ensures in
     search rules
@@ -85,14 +88,16 @@ behind_first-returns-in_err-links-in-Whole t c =
 pub behind_first-returns-then-not-is_empty : goal.behind_first-returns-then-not-is_empty
 behind_first-returns-then-not-is_empty t c =
     let several : ¬ (length c.in-Some.more.now ≡ 0) = grind (arith, nat_tests, c.if-not-is_empty.true, c.is_empty.ensures) in
-    more_refused c.args.place c.args.first c.typed-left.result c.typed-left.ensures c.args.rest.now c.args.typer.now c.in-Whole.value c.in-Whole.indexes c.in-Whole.is
+    more_refused c.args.place c.args.first c.typed-left.result c.typed-left.ensures c.args.rest.now c.args.typer.now
+    c.in-Whole.value c.in-Whole.indexes c.in-Whole.is
     c.in-Some.written.now c.in-Some.more.now c.in-Some.ensures.cases.0 c.in_ok-relation-in-Whole.relation c.link.new.typer
     c.in_ok-relation-in-Whole.ensures.made c.in_ok-links-in-Whole.field-0 c.links-in-Whole.new.typer c.in_ok-links-in-Whole.ensures several
 
 pub behind_first-returns-else-not-is_empty : goal.behind_first-returns-else-not-is_empty
 behind_first-returns-else-not-is_empty t c =
     let none : length c.in-Some.more.now ≡ 0 = grind (arith, nat_tests, c.if-not-is_empty.false, c.is_empty.ensures) in
-    string_made c.args.place c.args.first c.typed-left.result c.typed-left.ensures c.args.rest.now c.args.typer.now c.in-Whole.value c.in-Whole.indexes c.in-Whole.is
+    string_made c.args.place c.args.first c.typed-left.result c.typed-left.ensures c.args.rest.now c.args.typer.now
+    c.in-Whole.value c.in-Whole.indexes c.in-Whole.is
     c.in-Some.written.now c.in-Some.more.now c.in-Some.ensures.cases.0 c.in_ok-relation-in-Whole.relation c.link.new.typer
     c.in_ok-relation-in-Whole.ensures.made c.in_ok-links-in-Whole.field-0 c.links-in-Whole.new.typer c.in_ok-links-in-Whole.ensures
     _ _ c.comparison.result (nothing c.in-Some.more.now none) c.in-Whole.value-is c.in-Whole.indexes-is c.comparison.ensures
