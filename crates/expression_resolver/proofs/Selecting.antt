@@ -281,12 +281,12 @@ module _ (type_id : TypeId) (selectors : List Selector) (indexes : List SyntaxEx
   -- none is made yet
   pub none_selected : (made : Selection) → IsNothing type_id made → AreSelectedFrom 0 made old
   none_selected made none = (
-      selectors_begin expression type_id selectors indexes old
-      ∙ ap (λ taken. behind_marks (flat_map look_expr taken)
-      (selected [] type_id selectors (map expression (drop (length taken) indexes)) old)) (sym none.indexes)
-      ∙ ap₂ (λ ones id. behind_marks (look_selection made) (selected ones id selectors (left_behind made indexes) old))
-      (sym none.selectors) (sym none.is_of),
-      ap index_count none.selectors ∙ ap length (sym none.indexes),
+    selectors_begin expression type_id selectors indexes old
+        ∙ ap (λ taken. behind_marks (flat_map look_expr taken)
+        (selected [] type_id selectors (map expression (drop (length taken) indexes)) old)) (sym none.indexes)
+        ∙ ap₂ (λ ones id. behind_marks (look_selection made) (selected ones id selectors (left_behind made indexes) old))
+        (sym none.selectors) (sym none.is_of),
+    ap index_count none.selectors ∙ ap length (sym none.indexes),
   )
 
   module _ (i : ℕ) (made : Selection) (now : Passed) (so_far : AreSelectedFrom i made now)
@@ -294,12 +294,12 @@ module _ (type_id : TypeId) (selectors : List Selector) (indexes : List SyntaxEx
     -- the next one is made
     pub one_selected : (new : Selection) (there : Passed) → IsOneBehind selector indexes now made new there → AreSelectedFrom (i + 1) new there
     one_selected new there one = (
-        selector_next expression type_id selectors indexes old i (drop (length made.indexes.items) indexes) made.selectors.items made.type_id
-        (look_selection made) now so_far.0 selector within is (drop (length new.indexes.items) indexes) new.selectors.items new.type_id one.own there
-        (one.goes (drop (i + 1) selectors))
-        ∙ ap (λ look. behind_marks look (selected new.selectors.items new.type_id (drop (i + 1) selectors) (left_behind new indexes) there))
-        (sym one.looks),
-        one.counted so_far.1,
+      selector_next expression type_id selectors indexes old i (drop (length made.indexes.items) indexes) made.selectors.items made.type_id
+          (look_selection made) now so_far.0 selector within is (drop (length new.indexes.items) indexes) new.selectors.items new.type_id one.own there
+          (one.goes (drop (i + 1) selectors))
+          ∙ ap (λ look. behind_marks look (selected new.selectors.items new.type_id (drop (i + 1) selectors) (left_behind new indexes) there))
+          (sym one.looks),
+      one.counted so_far.1,
     )
 
     -- it is refused

@@ -1,6 +1,7 @@
-ghost use Rattle.std.specs.Prelude.{◌≡◌, None, MatchResult, is_none, true, false};
+ghost use Rattle.std.specs.Prelude.{◌≡◌, None, Some, MatchResult, is_none, true, false};
 ghost use Rattle.typed_tree.specs.declared.fault.TypeFault.TheVariants.{Mismatch};
-ghost use Rattle.typed_tree.specs.Look.{look_expr};
+ghost use Rattle.typed_tree.specs.Look.{look_expr, look_whole};
+ghost use Rattle.typed_tree.specs.WellFormed.{length_of};
 ghost use Rattle.typing.specs.Expressions.{is_of};
 ghost use Rattle.expression_resolver.specs.Made.{typed_of, look_value, value_length};
 
@@ -66,6 +67,19 @@ impl TypedExpr {
         match self.value {
             Value::Ordinal(made) => Ok(made),
             Value::Whole { .. } => Err(TypeFault::Mismatch(place)),
+        }
+    }
+
+    /// The structured value that it is, with its index expressions: K1 at the place where it is an ordinal.
+    pub fn whole(self, place: Place) -> Result<(Whole, Vec<Expr>), TypeFault>
+        ensures { MatchResult result
+            (λ made. (value_length self.value ≡ Some (length_of made.0))
+            × (look_value self.value ≡ look_whole made.0 made.1.items))
+            (λ why. (is_none (value_length self.value) ≡ true) × (why ≡ Mismatch place)) }
+    {
+        match self.value {
+            Value::Ordinal(_) => Err(TypeFault::Mismatch(place)),
+            Value::Whole { value, indexes } => Ok((value, indexes)),
         }
     }
 

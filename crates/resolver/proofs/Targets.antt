@@ -10,16 +10,18 @@ use Rattle.syntax_tree.specs.declared.Selector.{Selector}
 use Rattle.types.specs.Forms.{Form}
 use Rattle.types.specs.declared.form.TypeId.{TypeId}
 use Rattle.types.specs.Types.{is_ordinal, is_assignable, cells_of}
+use Rattle.scopes.specs.declared.denotation.Denotation.{Denotation}
 use Rattle.typed_tree.specs.declared.fault.TypeFault.{TypeFault}
 use Rattle.typed_tree.specs.declared.tree.Access.{Access as VariableAccess}
 use Rattle.typed_tree.specs.declared.tree.Expr.{Expr}
+use Rattle.typed_tree.specs.declared.tree.Selector.{Selector as TreeSelector}
 use Rattle.typed_tree.specs.Look.{Look, Mark, Access, Assign, look_expr, look_access}
 use Rattle.typing.specs.declared.typed.Typed.{Typed}
-use Rattle.typing.specs.Expressions.{Written, tests_ordinal}
+use Rattle.typing.specs.Expressions.{Written, as_variable, selected, tests_ordinal}
 use Rattle.typing.specs.Outcomes.{IsFault}
-use Rattle.typing.specs.Passing.{Passed, Passing, after, and_then, behind_marks, mark, ◌>>=◌}
-use Rattle.typing.specs.Statements.{assignment, target, assigned, copied, copying, copied_cells}
-use Rattle.typing.specs.Steps.{enter}
+use Rattle.typing.specs.Passing.{Passed, Passing, after, and_then, behind_marks, given, mark, pure, ◌>>=◌, ◌>>◌}
+use Rattle.typing.specs.Statements.{assignment, target, target_mark, assigned, copied, copying, copied_cells}
+use Rattle.typing.specs.Steps.{enter, enter_as, find, may_change}
 use Rattle.typing.proofs.Rows.{behind_nothing, behind_both}
 
 -- an access, by the index expressions as they are made
@@ -62,6 +64,51 @@ module _ (name : Name) (selectors : List Selector) (indexes : List Written) (bec
       ∙ behind_both (Assign number becomes ∷ []) (look (is_ordinal now.types id)) (by_type id now)
       ∙ ap (λ o. behind_marks (Assign number becomes ∷ look o) (behind_marks [] ((if o then assigned else copied) id becomes value now))) is
       ∙ ap (behind_marks (Assign number becomes ∷ look ordinal)) (behind_nothing ((if ordinal then assigned else copied) id becomes value now))
+
+-- ---- targets
+
+module _ (name : Name) (selectors : List Selector) (indexes : List Written) where
+  abbrev behind_component : ℕ → List TreeSelector × TypeId → Passing TypeId
+  behind_component root component =
+      tests_ordinal component.1 >>= (λ ordinal. mark (target_mark ordinal root component.0 component.1) >> pure component.1)
+
+  abbrev behind_entry : ℕ × TypeId → Passing TypeId
+  behind_entry variable = selected [] variable.1 selectors indexes >>= behind_component variable.0
+
+  abbrev behind_variable : ℕ × TypeId → Passing TypeId
+  behind_variable variable = may_change name.place variable.0 >> (enter_as Access >> behind_entry variable)
+
+  abbrev behind_name : Denotation → Passing TypeId
+  behind_name d = given (as_variable name.place d) >>= behind_variable
+
+  module _ (d : Denotation) (variable : ℕ × TypeId) (number : ℕ) (old first second third : Passed) where
+    behind_steps : find name old ≡ Ok (after d [] first) → as_variable name.place d ≡ Ok variable
+        → may_change name.place variable.0 first ≡ Ok (after tt [] second) → enter second ≡ Ok (after number [] third)
+        → target name selectors indexes old
+        ≡ behind_marks [] (behind_marks [] (behind_marks [] (behind_marks (Access number ∷ []) (behind_entry variable third))))
+    unfolding target
+    behind_steps finds is may enters =
+        ap (λ r. and_then r (λ a. behind_marks a.look (behind_name a.answer a.passed))) finds
+        ∙ ap (λ r. behind_marks [] (and_then (and_then r (λ a. Ok (after a [] first)))
+        (λ a. behind_marks a.look (behind_variable a.answer a.passed)))) is
+        ∙ ap (λ r. behind_marks [] (behind_marks [] (and_then r
+        (λ a. behind_marks a.look ((enter_as Access >> behind_entry variable) a.passed))))) may
+        ∙ ap (λ r. behind_marks [] (behind_marks [] (behind_marks [] (and_then (and_then r
+        (λ a. behind_marks a.look (mark (Access a.answer) a.passed))) (λ a. behind_marks a.look (behind_entry variable a.passed)))))) enters
+
+    -- a component is selected
+    pub target_is : find name old ≡ Ok (after d [] first) → as_variable name.place d ≡ Ok variable
+        → may_change name.place variable.0 first ≡ Ok (after tt [] second) → enter second ≡ Ok (after number [] third)
+        → (component : List TreeSelector × TypeId) → (look : Look) → (now : Passed)
+        → selected [] variable.1 selectors indexes third ≡ Ok (after component look now)
+        → target name selectors indexes old
+        ≡ Ok (after component.1 (Access number
+        ∷ (look ++ (target_mark (is_ordinal now.types component.1) variable.0 component.0 component.1 ∷ []))) now)
+    unfolding tests_ordinal
+    target_is finds is may enters component look now passes =
+        behind_steps finds is may enters
+        ∙ ap (λ r. behind_marks [] (behind_marks [] (behind_marks [] (behind_marks (Access number ∷ [])
+        (and_then r (λ a. behind_marks a.look (behind_component variable.0 a.answer a.passed))))))) passes
 
 -- ---- copies
 

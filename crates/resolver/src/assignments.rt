@@ -6,7 +6,7 @@ ghost use Rattle.typing.specs.Statements as spec;
 ghost use Rattle.resolver.specs.Made.{MakesStmt, MakesFitted, MakesTarget, MakesCopied, IsCounted, look_target};
 
 use crate::typed::{Fitted, Target};
-use expression_resolver::{Value, expression, selected};
+use expression_resolver::{expression, selected};
 use place::Place;
 use syntax_tree as syntax;
 use typed_tree::fault::TypeFault;
@@ -38,11 +38,7 @@ pub(crate) fn assignment(
 }
 
 // What is accessed left of `:=`: a variable that may be changed, or a component of it.
-#[tactic(
-    auto,
-    using(crate::proofs::Targets::look_reached),
-    unfolding(typing::specs::Statements::target, typing::specs::Expressions::tests_ordinal)
-)]
+#[tactic(auto, unfolding(typing::specs::Statements::target))]
 fn target(
     typer: &mut Typer,
     name: &syntax::Name,
@@ -139,7 +135,7 @@ pub(crate) fn assigned(
 }
 
 // A value that is copied to a structured target of a type, with its index expressions.
-#[tactic(auto, unfolding(typing::specs::Statements::copied))]
+#[tactic(auto, using(crate::proofs::Targets::all_cells), unfolding(typing::specs::Statements::copied))]
 fn copied(
     typer: &mut Typer,
     type_id: TypeId,
@@ -153,8 +149,5 @@ fn copied(
     typer
         .copying(type_id, made.typed())
         .ok_or(TypeFault::Mismatch(becomes))?;
-    match made.value {
-        Value::Whole { value, indexes } => Ok((value, indexes)),
-        Value::Ordinal(_) => Err(TypeFault::Mismatch(becomes)),
-    }
+    made.whole(becomes)
 }

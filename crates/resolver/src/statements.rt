@@ -13,7 +13,7 @@ ghost use Rattle.resolver.specs.Made.{IsWrittenAs};
 
 use crate::assignments::{assigned, assignment};
 use crate::cases::{case_head, case_row};
-use crate::typed::{Fitted, CaseHead, ForHead, Rows};
+use crate::typed::{CaseHead, Fitted, ForHead, Rows};
 use expression_resolver::{TypedExpr, Value, expression, first_place};
 use indexmap::IndexSet;
 use place::Place;
