@@ -1,5 +1,5 @@
 -- Assignments: how their typing goes on from that of their targets, and how targets look.
-use Rattle.std.proofs.Common.{◌≡◌, ℕ, Bool, List, [], ◌∷◌, ◌++◌, length, map, Option, Some, None, Ok, inl, inr, refl, sym, ap, ◌∙◌, if◌then◌else◌, Vec}
+use Rattle.std.proofs.Common.{◌≡◌, ℕ, Bool, List, [], ◌∷◌, ◌++◌, Some, None, Ok, inl, inr, sym, ap, ◌∙◌, if◌then◌else◌, Vec}
 use Rattle.std.proofs.Common.{true, false, nat_eq, ◌&&◌}
 use Rattle.std.specs.Prelude.{flat_map}
 use Rattle.std.specs.declared.alloc.Global.{Global}
