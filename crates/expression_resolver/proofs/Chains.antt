@@ -23,7 +23,7 @@ use Rattle.typing.specs.Passing.{Passed, Checked, After, after, and_then, behind
 use Rattle.typing.specs.Steps.{fits}
 use Rattle.typing.specs.Outcomes.{IsFault}
 use Rattle.typing.specs.Expressions.{Written, WrittenLink, expression, written_link, written_actual, chain, links, only, without_width, typed}
-use Rattle.typing.specs.Expressions.{typed_string}
+use Rattle.typing.specs.Expressions.{typed_whole}
 use Rattle.typing.proofs.Rows.{behind_both, behind_fault}
 use Rattle.typing.proofs.Written.{typing_chain, typing_actual}
 use Rattle.expression_resolver.specs.declared.typed.Value.TheVariants.{Ordinal, Whole as WholeOf}
@@ -167,8 +167,8 @@ module _ (place : Place) (first : TypedExpr) (left : Typed) (same : left ≡ typ
 
   -- ---- a string, and the operator behind it
 
-  module _ (value : Whole) (is : first.value ≡ WholeOf value) where
-    as_long : typed_of first ≡ typed_string first.type_id (length_of value) first.site
+  module _ (value : Whole) (indexes : Vec Expr Global) (is : first.value ≡ WholeOf value indexes) where
+    as_long : typed_of first ≡ typed_whole first.type_id (length_of value) first.site
     as_long = ap (λ v. record { type_id = first.type_id; length = value_length v; site = first.site }) is
 
     is_long : is_none (typed_of first).length ≡ false
@@ -224,9 +224,10 @@ module _ (place : Place) (first : TypedExpr) (left : Typed) (same : left ≡ typ
               (too_many (λ one. several (omega (arith, one, ap length all))))))
 
           -- it is alone
-          pub string_made : (moved : Whole) (made : TypedExpr) → more ≡ [] → moved ≡ value → IsComparisonOf moved left.site relation made
+          pub string_made : (moved : Whole) (taken : Vec Expr Global) (made : TypedExpr) → more ≡ [] → moved ≡ value → taken ≡ indexes
+              → IsComparisonOf moved taken left.site relation made
               → goes ≡ Ok (after (typed_of made) (look_value made.value) new)
-          string_made moved made none same_value comparison_of =
+          string_made moved taken made none same_value same_indexes comparison_of =
               let nothing : ◌≡◌ {A = Checked (After Typed)} (Ok (after (typed relation.type_id left.site) [] there))
               (Ok (after (typed rows.type_id left.site) (flat_map look_link rows.links.items) new)) =
               sym (ap (λ l. links (typed relation.type_id left.site) (map written_link l) there) none) ∙ others in
@@ -239,9 +240,11 @@ module _ (place : Place) (first : TypedExpr) (left : Typed) (same : left ≡ typ
               (ap (λ b. b || nat_eq (length (map written_link rest)) 1) is_long ∙ ap (λ n. nat_eq n 1) (length-map rest written_link)
               ∙ ap (λ l. nat_eq (length l) 1) (all ∙ ap (λ l. written ∷ l) none)))
               ∙ ap (λ v. Ok (after (typed relation.type_id left.site) ((Begins ∷ look_value v) ++ (look_behind left.length relation ++ (Ends ∷ []))) there)) is
-              ∙ ap (λ n. Ok (after (typed relation.type_id left.site) (Begins ∷ (look_whole value ++ (look_behind n relation ++ (Ends ∷ [])))) there))
+              ∙ ap (λ n. Ok (after (typed relation.type_id left.site)
+              (Begins ∷ (look_whole value indexes.items ++ (look_behind n relation ++ (Ends ∷ [])))) there))
               (ap (λ t. t.length) (same ∙ as_long))
-              ∙ ap (λ v. Ok (after (typed relation.type_id left.site)
-              (Begins ∷ (look_whole v ++ (look_behind (Some (length_of v)) relation ++ (Ends ∷ [])))) there)) (sym same_value)
+              ∙ ap₂ (λ v i. Ok (after (typed relation.type_id left.site)
+              (Begins ∷ (look_whole v i.items ++ (look_behind (Some (length_of v)) relation ++ (Ends ∷ [])))) there))
+              (sym same_value) (sym same_indexes)
               ∙ ap₂ (λ t look. Ok (after t look there)) (sym comparison_of.is) (sym comparison_of.looks)
               ∙ ap (λ n. Ok (after (typed_of made) (look_value made.value) n)) still

@@ -1,2 +1,3 @@
 mod Chains
 mod Operands
+mod Selecting

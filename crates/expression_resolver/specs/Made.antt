@@ -1,7 +1,8 @@
 -- How the answers are what typing says of expressions: what is made of a form has the type, the length and the leading
 -- site that typing answers, and looks so. It says nothing of what typing answers.
 use Rattle.std.specs.Prelude.{◌≡◌, ℕ, Bool, true, false, ◌||◌, List, [], ◌∷◌, ◌++◌, flat_map, length, nat_eq, Result}
-use Rattle.std.specs.Prelude.{Option, Some, None, is_none}
+use Rattle.std.specs.Prelude.{Option, Some, None, is_none, Vec}
+use Rattle.std.specs.declared.alloc.Global.{Global}
 use Rattle.place.specs.declared.Place.{Place}
 use Rattle.syntax_tree.specs.declared.Actual.{Actual}
 use Rattle.syntax_tree.specs.declared.Expr.{Expr as SyntaxExpr}
@@ -27,12 +28,12 @@ use Rattle.expression_resolver.specs.declared.typed.TypedLinks.{TypedLinks}
 -- how what stands for a value looks
 abbrev pub look_value : Value → Look
 look_value (Ordinal value) = look_expr value
-look_value (WholeOf value) = look_whole value
+look_value (WholeOf value indexes) = look_whole value indexes.items
 
--- how many characters it has, where it is a string
+-- how many components it has, where it is structured
 abbrev pub value_length : Value → Option ℕ
 value_length (Ordinal value) = None
-value_length (WholeOf value) = Some (length_of value)
+value_length (WholeOf value indexes) = Some (length_of value)
 
 -- what an expression is
 abbrev pub typed_of : TypedExpr → Typed
@@ -88,10 +89,11 @@ pub record IsChainOf (first : Expr) (site : Option ℕ) (rest : TypedLinks) (mad
       ≡ Begins ∷ (look_expr first ++ (flat_map look_link rest.links.items ++ (Ends ∷ [])))
   pub is : typed_of made ≡ typed rest.type_id site
 
--- the relation of a first string, with this leading site, and the one behind it
-pub record IsComparisonOf (left : Whole) (site : Option ℕ) (relation : TypedLink) (made : TypedExpr) : Type 0 where
+-- the relation of a first string, with these index expressions and this leading site, and the one behind it
+pub record IsComparisonOf (left : Whole) (indexes : Vec Expr Global) (site : Option ℕ) (relation : TypedLink)
+    (made : TypedExpr) : Type 0 where
   pub looks : look_value made.value
-      ≡ Begins ∷ (look_whole left ++ (look_behind (Some (length_of left)) relation ++ (Ends ∷ [])))
+      ≡ Begins ∷ (look_whole left indexes.items ++ (look_behind (Some (length_of left)) relation ++ (Ends ∷ [])))
   pub is : typed_of made ≡ typed relation.type_id site
 
 -- the value of the only actual

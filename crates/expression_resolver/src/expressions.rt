@@ -1,20 +1,22 @@
-ghost use Rattle.std.specs.Prelude.{◌≡◌, ◌∷◌, Ok, Err, IfOk, MatchResult, map};
+ghost use Rattle.std.specs.Prelude.{◌≡◌, [], ◌∷◌, Ok, Err, IfOk, MatchResult, map};
 ghost use Rattle.typed_tree.specs.Look.{Begins};
 ghost use Rattle.typing.specs.Passing.{behind_marks};
 ghost use Rattle.typing.specs.Expressions as spec;
 ghost use Rattle.expression_resolver.specs.Made.{typed_of, look_value, operators};
 ghost use Rattle.expression_resolver.specs.Made.{MakesTyped, MakesLink, MakesLinks, IsLinkBehind, IsOnly};
+ghost use Rattle.expression_resolver.specs.Accesses.{MakesSelection, MakesIndex, SelectsElement, SelectsOne, IsCounted};
 
+use crate::accesses::{accessed_value, enter, entire, select_field, text_value};
 use crate::operators::{chain, comparison, in_chain, monadic};
-use crate::typed::{TypedExpr, TypedLink, TypedLinks, Value};
+use crate::typed::{Selection, TypedExpr, TypedLink, TypedLinks, Value};
 use place::Place;
 use scopes::Denotation;
 use syntax_tree as syntax;
 use typed_tree::fault::TypeFault;
 use typed_tree::site::SiteKind;
-use typed_tree::tree::{Access, Expr, Monadic, Whole};
-use types::{TypeId, TypeTable};
-use typing::rules::{as_function, sign_operation};
+use typed_tree::tree::{Expr, Monadic, RangeTest, Selector};
+use types::{ArrayElement, TypeId, TypeTable};
+use typing::rules::{as_function, as_variable, sign_operation};
 use typing::{Typed, Typer, characters};
 
 /// An expression, by the kind of its leading site.
@@ -30,6 +32,11 @@ pub fn expression(
     match written {
         syntax::Expr::Number { value, place } => number(typer, *value, *place, lead),
         syntax::Expr::Name(name) => named(typer, name, lead),
+        syntax::Expr::Component {
+            name,
+            selectors,
+            indexes,
+        } => component(typer, name, selectors, indexes, lead),
         syntax::Expr::String { text, place } => string(typer, text, *place, lead),
         syntax::Expr::Call { name, actuals } => call(typer, name, actuals, lead),
         syntax::Expr::Parenthesized { open, inner } => parenthesized(typer, *open, inner, lead),
@@ -104,7 +111,7 @@ fn spelled(
     let type_id = typer.string_type(place, characters.len())?;
     let number = typer.enter()?;
     Ok(TypedExpr {
-        value: Value::Whole(Whole::Text { number, characters }),
+        value: text_value(typer.alloc, number, characters),
         type_id,
         site,
     })
@@ -123,8 +130,8 @@ fn named(
     denoted(typer, denotation, name.place, lead)
 }
 
-// What a name denotes, as an expression: a constant, or a variable, whose value is of the host type (6.7.1).
-#[tactic(auto, unfolding(typing::specs::Expressions::denoted, typing::specs::Steps::host_type))]
+// What a name denotes, as an expression: a constant, or a variable.
+#[tactic(auto, unfolding(typing::specs::Expressions::denoted))]
 fn denoted(
     typer: &mut Typer,
     denotation: Denotation,
@@ -148,29 +155,137 @@ fn denoted(
             let characters = typer.text_at(number)?;
             let number = typer.enter()?;
             Ok(TypedExpr {
-                value: Value::Whole(Whole::Text { number, characters }),
+                value: text_value(typer.alloc, number, characters),
                 type_id,
                 site,
             })
         }
-        Denotation::Variable { root, type_id } => {
-            let defined = typer.site(SiteKind::UndefinedVariable, place)?;
-            let site = typer.behind(lead, place)?;
-            let access = Access {
-                number: typer.enter()?,
-                root,
-            };
-            Ok(TypedExpr {
-                value: Value::Ordinal(Expr::Variable { access, defined }),
-                type_id: typer.host(type_id),
-                site,
-            })
-        }
+        Denotation::Variable { root, type_id } => entire(typer, root, type_id, place, lead),
         Denotation::Procedure(_) | Denotation::Function(_) => {
             Err(TypeFault::WrongParameters(place))
         }
         Denotation::TypeName(_) | Denotation::Output => Err(TypeFault::Mismatch(place)),
     }
+}
+
+// A component of a variable (6.5.1, 6.5.3).
+#[cycle(expressions)]
+#[tactic(auto, unfolding(typing::specs::Expressions::component))]
+fn component(
+    typer: &mut Typer,
+    name: &syntax::Name,
+    selectors: &[syntax::Selector],
+    indexes: &[syntax::Expr],
+    lead: Option<SiteKind>,
+) -> Result<TypedExpr, TypeFault>
+    ensures { MakesTyped (spec.component name.now selectors.now (map spec.expression indexes.now) lead typer.old) result
+        typer.new }
+{
+    let denotation = typer.find(name)?;
+    let (root, type_id) = as_variable(name.place, denotation)?;
+    accessed(typer, root, type_id, selectors, indexes, name.place, lead)
+}
+
+// A component of a variable of a root and a type, at the place of its name.
+#[cycle(expressions)]
+fn accessed(
+    typer: &mut Typer,
+    root: u32,
+    type_id: TypeId,
+    selectors: &[syntax::Selector],
+    indexes: &[syntax::Expr],
+    place: Place,
+    lead: Option<SiteKind>,
+) -> Result<TypedExpr, TypeFault>
+    ensures { MakesTyped (spec.accessed root type_id selectors.now (map spec.expression indexes.now) place lead
+        typer.old) result typer.new }
+{
+    let entered = enter(typer, root, place, lead)?;
+    let selection = selected(typer, type_id, selectors, indexes)?;
+    Ok(accessed_value(typer, entered, selection))
+}
+
+/// The selectors of an access, from a value of a type, with their index expressions (6.5.3): K1 where one is none of
+/// the type before it, S3 at a name that is no field.
+#[cycle(expressions)]
+pub fn selected(
+    typer: &mut Typer,
+    type_id: TypeId,
+    selectors: &[syntax::Selector],
+    indexes: &[syntax::Expr],
+) -> Result<Selection, TypeFault>
+    ensures made { MakesSelection (spec.selected [] type_id selectors.now (map spec.expression indexes.now) typer.old)
+        result typer.new }
+    ensures counted { IfOk result IsCounted }
+{
+    let mut selection = Selection::nothing(typer.alloc, type_id);
+    for selector in selectors {
+        select(typer, selector, indexes, &mut selection)?;
+    }
+    Ok(selection)
+}
+
+// One selector more: an index takes the next index expression.
+#[cycle(expressions)]
+fn select(
+    typer: &mut Typer,
+    selector: &syntax::Selector,
+    indexes: &[syntax::Expr],
+    selection: &mut Selection,
+) -> Result<(), TypeFault>
+    ensures { SelectsOne selector.now indexes.now typer.old selection.old result selection.new typer.new }
+{
+    match selector {
+        syntax::Selector::Field(name) => select_field(typer, name, selection),
+        syntax::Selector::Index { place, .. } => {
+            let Some(index) = indexes.get(selection.indexes.len()) else {
+                return Err(TypeFault::Mismatch(*place));
+            };
+            select_element(typer, *place, index, selection)
+        }
+    }
+}
+
+// An element of what was selected so far, by its index (6.5.3.2).
+#[cycle(expressions)]
+fn select_element(
+    typer: &mut Typer,
+    place: Place,
+    written: &syntax::Expr,
+    selection: &mut Selection,
+) -> Result<(), TypeFault>
+    ensures { SelectsElement place (spec.expression written.now) typer.old selection.old result selection.new
+        typer.new }
+{
+    typer.pass(place);
+    let element = typer.element(selection.type_id, place)?;
+    let (site, index) = index(typer, element, written)?;
+    let range = element.range;
+    let fits = RangeTest { site, range };
+    let cells = element.cells;
+    selection.selectors.push(Selector::Element { fits, cells })?;
+    selection.indexes.push(index)?;
+    selection.type_id = element.type_id;
+    Ok(())
+}
+
+// An index of elements, by the id of its site, which stands before those of its first token.
+#[cycle(expressions)]
+#[tactic(auto, unfolding(typing::specs::Expressions::index))]
+fn index(
+    typer: &mut Typer,
+    element: ArrayElement,
+    written: &syntax::Expr,
+) -> Result<(u32, Expr), TypeFault>
+    ensures { MakesIndex (spec.index element (spec.expression written.now) typer.old) result typer.new }
+{
+    let place = first_place(written);
+    let site = typer.site(SiteKind::Index, place)?;
+    let made = expression(typer, written, None)?;
+    if !typer.may_index(element, made.typed()) {
+        return Err(TypeFault::Mismatch(place));
+    }
+    Ok((site, made.ordinal(place)?))
 }
 
 #[cycle(expressions)]
@@ -252,7 +367,7 @@ fn behind_first(
             let rest = links(typer, left.type_id, left.site, rest)?;
             chain(typer.alloc, value, left.site, rest)
         }
-        Value::Whole(value) => {
+        Value::Whole { value, indexes } => {
             let Some((written, more)) = rest.split_first() else {
                 return Err(TypeFault::Mismatch(place));
             };
@@ -262,7 +377,7 @@ fn behind_first(
             if !more.is_empty() {
                 return Err(TypeFault::Mismatch(place));
             }
-            Ok(comparison(value, left.site, relation))
+            Ok(comparison(value, indexes, left.site, relation))
         }
     }
 }
@@ -372,7 +487,9 @@ pub fn first_place(written: &syntax::Expr) -> Place
         | syntax::Expr::String { place, .. }
         | syntax::Expr::Not { place, .. }
         | syntax::Expr::Signed { place, .. } => *place,
-        syntax::Expr::Name(name) | syntax::Expr::Call { name, .. } => name.place,
+        syntax::Expr::Name(name)
+        | syntax::Expr::Component { name, .. }
+        | syntax::Expr::Call { name, .. } => name.place,
         syntax::Expr::Parenthesized { open, .. } => *open,
         syntax::Expr::Chain { first, .. } => first_place(first),
     }

@@ -1,9 +1,10 @@
 //! Makes the typed expressions of a program, or tells the first rule that one breaks (ISO 7185:1990, 6.7).
 #![tactic(auto)]
 
+mod accesses;
 mod expressions;
 mod operators;
 mod typed;
 
-pub use expressions::{expression, first_place};
-pub use typed::{TypedExpr, Value};
+pub use expressions::{expression, first_place, selected};
+pub use typed::{Selection, TypedExpr, Value};

@@ -47,7 +47,7 @@ pub(crate) fn in_chain(made: TypedLink) -> Link
             operation,
             operand,
         },
-        Value::Whole(_) => unreachable!(),
+        Value::Whole { .. } => unreachable!(),
     }
 }
 
@@ -71,11 +71,16 @@ pub(crate) fn chain(
     })
 }
 
-/// The relation of two strings.
+/// The relation of two strings, of which the left one has these index expressions.
 #[tactic(auto, using(typed_tree::proofs::Looks::look_compare))]
-pub(crate) fn comparison(left: Whole, site: Option<u32>, made: TypedLink) -> TypedExpr
+pub(crate) fn comparison(
+    left: Whole,
+    left_indexes: Vec<Expr>,
+    site: Option<u32>,
+    made: TypedLink,
+) -> TypedExpr
     requires strings { IsRelationOfStrings made }
-    ensures { IsComparisonOf left site made result }
+    ensures { IsComparisonOf left left_indexes site made result }
 {
     let TypedLink {
         number,
@@ -84,12 +89,20 @@ pub(crate) fn comparison(left: Whole, site: Option<u32>, made: TypedLink) -> Typ
         type_id,
     } = made;
     match (operation, operand) {
-        (Dyadic::Relation(relation), Value::Whole(right)) => TypedExpr {
+        (
+            Dyadic::Relation(relation),
+            Value::Whole {
+                value: right,
+                indexes: right_indexes,
+            },
+        ) => TypedExpr {
             value: Value::Ordinal(Expr::Compare {
                 number,
                 relation,
                 left,
+                left_indexes,
                 right,
+                right_indexes,
             }),
             type_id,
             site,

@@ -1,30 +1,39 @@
-ghost use Rattle.std.specs.Prelude.{◌≡◌, None, MatchResult, is_none, true, false};
+ghost use Rattle.std.specs.Prelude.{◌≡◌, None, Some, MatchResult, is_none, true, false};
 ghost use Rattle.typed_tree.specs.declared.fault.TypeFault.TheVariants.{Mismatch};
-ghost use Rattle.typed_tree.specs.Look.{look_expr};
+ghost use Rattle.typed_tree.specs.Look.{look_expr, look_whole};
+ghost use Rattle.typed_tree.specs.WellFormed.{length_of};
 ghost use Rattle.typing.specs.Expressions.{is_of};
 ghost use Rattle.expression_resolver.specs.Made.{typed_of, look_value, value_length};
 
 use place::Place;
 use typed_tree::fault::TypeFault;
-use typed_tree::tree::{Dyadic, Expr, Link, Whole};
+use typed_tree::tree::{Dyadic, Expr, Link, Selector, Whole};
 use types::TypeId;
 use typing::Typed;
 
-/// What stands for the value of an expression: an ordinal, or a value of a string type (ISO 7185:1990, 6.4.3.2).
+/// What stands for the value of an expression: an ordinal, or a value of a structured type (ISO 7185:1990, 6.4.3), with
+/// its index expressions.
 #[derive(Drop)]
 pub enum Value {
     Ordinal(Expr),
-    Whole(Whole),
+    Whole { value: Whole, indexes: Vec<Expr> },
 }
 
 impl Value {
-    // How many characters it has, where it is a string.
+    // How many components it has, where it is structured.
     fn length(&self) -> Option<usize>
         ensures { result ≡ value_length self.now }
     {
         match self {
             Value::Ordinal(_) => None,
-            Value::Whole(Whole::Text { characters, .. }) => Some(characters.len()),
+            Value::Whole {
+                value: Whole::Text { characters, .. },
+                ..
+            } => Some(characters.len()),
+            Value::Whole {
+                value: Whole::Variable { cells, .. },
+                ..
+            } => Some(*cells as usize),
         }
     }
 }
@@ -49,7 +58,7 @@ impl TypedExpr {
         }
     }
 
-    /// The ordinal that it is: K1 at the place where it is a string.
+    /// The ordinal that it is: K1 at the place where it is structured.
     pub fn ordinal(self, place: Place) -> Result<Expr, TypeFault>
         ensures { MatchResult result
             (λ made. (is_none (value_length self.value) ≡ true) × (look_value self.value ≡ look_expr made))
@@ -57,7 +66,20 @@ impl TypedExpr {
     {
         match self.value {
             Value::Ordinal(made) => Ok(made),
-            Value::Whole(_) => Err(TypeFault::Mismatch(place)),
+            Value::Whole { .. } => Err(TypeFault::Mismatch(place)),
+        }
+    }
+
+    /// The structured value that it is, with its index expressions: K1 at the place where it is an ordinal.
+    pub fn whole(self, place: Place) -> Result<(Whole, Vec<Expr>), TypeFault>
+        ensures { MatchResult result
+            (λ made. (value_length self.value ≡ Some (length_of made.0))
+            × (look_value self.value ≡ look_whole made.0 made.1.items))
+            (λ why. (is_none (value_length self.value) ≡ true) × (why ≡ Mismatch place)) }
+    {
+        match self.value {
+            Value::Ordinal(_) => Err(TypeFault::Mismatch(place)),
+            Value::Whole { value, indexes } => Ok((value, indexes)),
         }
     }
 
@@ -88,4 +110,25 @@ pub(crate) struct TypedLink {
 pub(crate) struct TypedLinks {
     pub(crate) links: Vec<Link>,
     pub(crate) type_id: TypeId,
+}
+
+/// The selectors of an access with their index expressions, and the type of the component to which they lead
+/// (6.5.3).
+#[derive(Drop)]
+pub struct Selection {
+    pub selectors: Vec<Selector>,
+    pub indexes: Vec<Expr>,
+    pub type_id: TypeId,
+}
+
+/// A variable that is entered in an expression, before its selectors.
+#[derive(Clone, Copy)]
+pub(crate) struct Entered {
+    pub(crate) number: u32,
+    /// The root number of the variable.
+    pub(crate) root: u32,
+    /// The site of its test (undefined variable).
+    pub(crate) defined: u32,
+    /// The id of the leading site.
+    pub(crate) site: Option<u32>,
 }

@@ -4,3 +4,4 @@ mod Files
 mod MadeRows
 mod Programs
 mod Tables
+mod Targets

@@ -1,6 +1,7 @@
 -- How the resolver's answers are what typing says of statements: what is made of a form looks so. It says nothing of
 -- what typing answers.
-use Rattle.std.specs.Prelude.{◌≡◌, ℕ, ℤ, List, [], ◌∷◌, ◌++◌, flat_map, Result, Ok, Err, Option, Some, None, Vec}
+use Rattle.std.specs.Prelude.{◌≡◌, ℕ, ℤ, Bool, List, [], ◌∷◌, ◌++◌, flat_map, length, Result, Ok, Err, Option, Some}
+use Rattle.std.specs.Prelude.{None, Vec}
 use Rattle.std.specs.Borrow.{Bor}
 use Rattle.std.specs.declared.alloc.Global.{Global}
 use Rattle.std.specs.declared.boxed.Box.{Box}
@@ -14,15 +15,21 @@ use Rattle.typed_tree.specs.declared.tree.Stmt.{Stmt}
 use Rattle.typed_tree.specs.declared.tree.WriteParameter.{WriteParameter}
 use Rattle.typed_tree.specs.declared.tree.Width.{Width}
 use Rattle.typed_tree.specs.declared.tree.Written.{Written}
+use Rattle.typed_tree.specs.declared.tree.Whole.{Whole}
 use Rattle.types.specs.declared.form.TypeId.{TypeId}
+use Rattle.types.specs.Types.{is_ordinal}
 use Rattle.typed_tree.specs.Look.{Look, Mark, Fits, If, Then, Else, Do, For, Case, look_expr, look_stmt}
-use Rattle.typed_tree.specs.Look.{look_written, look_parameter, look_width}
+use Rattle.typed_tree.specs.Look.{Copied, look_access, look_whole, look_written, look_parameter, look_width}
+use Rattle.typed_tree.specs.WellFormed.{length_of}
+use Rattle.typed_tree.specs.Accesses.{index_count}
 use Rattle.typing.specs.Passing.{Passed, Checked, After, after}
 use Rattle.typing.specs.Outcomes.{IsFault, Makes}
 use Rattle.typing.specs.Sound.{IsTyped}
-use Rattle.resolver.specs.declared.typed.Bound.{Bound}
+use Rattle.typing.specs.Statements.{target_mark}
+use Rattle.resolver.specs.declared.typed.Fitted.{Fitted}
 use Rattle.resolver.specs.declared.typed.ForHead.{ForHead}
 use Rattle.resolver.specs.declared.typed.CaseHead.{CaseHead}
+use Rattle.resolver.specs.declared.typed.Target.{Target}
 use Rattle.resolver.specs.declared.typed.Rows.{Rows}
 
 -- a statement
@@ -41,19 +48,41 @@ MakesCondition = Makes (λ made. tt) look_expr
 abbrev pub MakesTested : Checked (After (Unit {0})) → Result (ℕ × Expr) TypeFault → Passed → Type 0
 MakesTested = Makes (λ made. tt) (λ made. If made.0 ∷ (look_expr made.1 ++ (Then ∷ [])))
 
--- how a bound of a for looks, with its test
-abbrev pub look_bound : Bound → Look
-look_bound bound = look_expr bound.value ++ (Fits bound.fits ∷ [])
+-- how an ordinal looks with its test
+abbrev pub look_fitted : Fitted → Look
+look_fitted made = look_expr made.value ++ (Fits made.fits ∷ [])
 
--- a bound of a for
-abbrev pub MakesBound : Checked (After (Unit {0})) → Result Bound TypeFault → Passed → Type 0
-MakesBound = Makes (λ made. tt) look_bound
+-- a bound of a for, or what is assigned to an ordinal
+abbrev pub MakesFitted : Checked (After (Unit {0})) → Result Fitted TypeFault → Passed → Type 0
+MakesFitted = Makes (λ made. tt) look_fitted
+
+-- there are as many index expressions as the selectors of what is accessed take
+abbrev pub IsCounted : Target → Type 0
+IsCounted target = index_count target.access.selectors.items ≡ length target.indexes.items
+
+-- how what is accessed left of `:=` looks, an ordinal or not
+abbrev pub look_target : Bool → Target → Look
+look_target ordinal target =
+    look_access target.access target.indexes.items
+    (target_mark ordinal target.access.root target.access.selectors.items target.type_id)
+
+-- what is accessed left of `:=`, by its type
+abbrev pub MakesTarget : Checked (After TypeId) → Result Target TypeFault → Passed → Type 0
+MakesTarget outcome (Ok made) new =
+    (outcome ≡ Ok (after made.type_id (look_target (is_ordinal new.types made.type_id) made) new)) × IsCounted made
+MakesTarget outcome (Err why) new = IsFault outcome why
+
+-- what is copied to a structured target of a type
+abbrev pub MakesCopied
+    : TypeId → Checked (After (Unit {0})) → Result (Whole × Vec Expr Global) TypeFault → Passed → Type 0
+MakesCopied type_id =
+    Makes (λ made. tt) (λ made. look_whole made.0 made.1.items ++ (Copied type_id (length_of made.0) ∷ []))
 
 -- how a for looks as far as its `do`
 abbrev pub for_head_look : ForHead → Look
 for_head_look head =
     For head.number head.loop_number head.place head.control head.direction
-    ∷ (look_bound head.first ++ (look_bound head.last ++ (Do ∷ [])))
+    ∷ (look_fitted head.first ++ (look_fitted head.last ++ (Do ∷ [])))
 
 -- a for as far as its `do`, by the root of its control variable
 abbrev pub MakesForHead : Checked (After ℕ) → Result ForHead TypeFault → Passed → Type 0

@@ -2,6 +2,7 @@
 //! and 6.4 to 6.10).
 #![tactic(auto)]
 
+mod assignments;
 mod cases;
 mod program;
 mod statements;

@@ -7,12 +7,13 @@ ghost use Rattle.typing.specs.Statements as spec;
 ghost use Rattle.typing.specs.Outcomes.{Takes};
 ghost use Rattle.expression_resolver.specs.Made.{typed_of, look_value};
 ghost use Rattle.resolver.specs.Made.{MakesStmt, MakesStmts, MakesBoxed, MakesAlternative, MakesCondition, MakesTested};
-ghost use Rattle.resolver.specs.Made.{MakesBound, MakesForHead, for_head_look, MakesParameter, MakesParameters};
+ghost use Rattle.resolver.specs.Made.{MakesFitted, MakesForHead, for_head_look, MakesParameter, MakesParameters};
 ghost use Rattle.resolver.specs.Made.{MakesWidth, MakesOwnWidth, MakesValues, MakesCaseHead, case_head_look};
 ghost use Rattle.resolver.specs.Made.{IsWrittenAs};
 
+use crate::assignments::{assigned, assignment};
 use crate::cases::{case_head, case_row};
-use crate::typed::{Bound, CaseHead, ForHead, Rows};
+use crate::typed::{CaseHead, Fitted, ForHead, Rows};
 use expression_resolver::{TypedExpr, Value, expression, first_place};
 use indexmap::IndexSet;
 use place::Place;
@@ -20,7 +21,7 @@ use scopes::RequiredProcedure;
 use syntax_tree as syntax;
 use typed_tree::fault::TypeFault;
 use typed_tree::site::SiteKind;
-use typed_tree::tree::{Access, Expr, RangeTest, Stmt, Width, WriteParameter, Written};
+use typed_tree::tree::{Expr, Stmt, Width, WriteParameter, Written};
 use types::{TypeId, TypeTable};
 use typing::Typer;
 use typing::rules::{as_procedure, as_variable, ends_line, is_output, way};
@@ -37,9 +38,11 @@ pub(crate) fn statement(typer: &mut Typer, written: &syntax::Stmt) -> Result<Stm
         }),
         syntax::Stmt::Assign {
             name,
+            selectors,
+            indexes,
             becomes,
             value,
-        } => assignment(typer, name, *becomes, value),
+        } => assignment(typer, name, selectors, indexes, *becomes, value),
         syntax::Stmt::Call { name, actuals } => procedure_call(typer, name, actuals),
         syntax::Stmt::Compound { statements } => compound(typer, statements),
         syntax::Stmt::If {
@@ -248,6 +251,9 @@ fn for_head(
     typer.pass(place);
     let denotation = typer.find(variable)?;
     let (control, type_id) = as_variable(variable.place, denotation)?;
+    if !typer.tests_ordinal(type_id) {
+        return Err(TypeFault::Mismatch(variable.place));
+    }
     typer.may_change(variable.place, control)?;
     let (number, loop_number) = typer.enter_loop()?;
     Ok(ForHead {
@@ -262,20 +268,11 @@ fn for_head(
 }
 
 // A bound of a for: the site of its test stands before those of its first token.
-#[tactic(auto, unfolding(typing::specs::Statements::bound))]
-fn bound(typer: &mut Typer, type_id: TypeId, written: &syntax::Expr) -> Result<Bound, TypeFault>
-    ensures { MakesBound (spec.bound type_id (expression written.now) typer.old) result typer.new }
+#[tactic(auto, unfolding(typing::specs::Statements::bound, typing::specs::Statements::assigned))]
+fn bound(typer: &mut Typer, type_id: TypeId, written: &syntax::Expr) -> Result<Fitted, TypeFault>
+    ensures { MakesFitted (spec.bound type_id (expression written.now) typer.old) result typer.new }
 {
-    let place = first_place(written);
-    let site = typer.site(SiteKind::Subrange, place)?;
-    let value = expression(typer, written, None)?;
-    let range = typer
-        .fitting(type_id, value.typed())
-        .ok_or(TypeFault::Mismatch(place))?;
-    Ok(Bound {
-        value: value.ordinal(place)?,
-        fits: RangeTest { site, range },
-    })
+    assigned(typer, type_id, first_place(written), written)
 }
 
 // A condition, which is Boolean.
@@ -309,38 +306,6 @@ fn boxed(typer: &mut Typer, written: &syntax::Stmt) -> Result<Box<Stmt>, TypeFau
 {
     let made = statement(typer, written)?;
     Ok(Box::new(typer.alloc, made)?)
-}
-
-// The variable is accessed first, then comes the value, then its test (6.8.2.2).
-#[tactic(auto, using(typed_tree::proofs::Looks::look_assign), unfolding(typing::specs::Statements::assignment))]
-fn assignment(
-    typer: &mut Typer,
-    name: &syntax::Name,
-    becomes: Place,
-    value: &syntax::Expr,
-) -> Result<Stmt, TypeFault>
-    ensures { MakesStmt (spec.assignment name.now becomes (expression value.now) typer.old) result typer.new }
-{
-    let number = typer.enter()?;
-    let denotation = typer.find(name)?;
-    let (root, type_id) = as_variable(name.place, denotation)?;
-    typer.may_change(name.place, root)?;
-    let target = Access {
-        number: typer.enter()?,
-        root,
-    };
-    let site = typer.site(SiteKind::Subrange, becomes)?;
-    let value = expression(typer, value, None)?;
-    let range = typer
-        .fitting(type_id, value.typed())
-        .ok_or(TypeFault::Mismatch(becomes))?;
-    Ok(Stmt::Assign {
-        number,
-        becomes,
-        target,
-        fits: RangeTest { site, range },
-        value: value.ordinal(becomes)?,
-    })
 }
 
 // The call of a procedure.
@@ -468,11 +433,11 @@ fn written_value(typer: &Typer, made: TypedExpr, place: Place) -> Result<Written
                 representation,
             })
         }
-        Value::Whole(value) => {
+        Value::Whole { value, indexes } => {
             if !typer.is_string(type_id) {
                 return Err(TypeFault::Mismatch(place));
             }
-            Ok(Written::String { value })
+            Ok(Written::String { value, indexes })
         }
     }
 }

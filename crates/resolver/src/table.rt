@@ -35,7 +35,7 @@ fn meet(met: &mut Met, statement: &Stmt) -> Result<(), AllocError>
     ensures { OnOk result (seen met.new ≡ meets (inside_of statement.now) (seen met.old)) }
 {
     match statement {
-        Stmt::Empty { .. } | Stmt::Assign { .. } | Stmt::Write { .. } => Ok(()),
+        Stmt::Empty { .. } | Stmt::Assign { .. } | Stmt::Copy { .. } | Stmt::Write { .. } => Ok(()),
         Stmt::Compound { statements, .. } => meet_all(met, statements),
         Stmt::If {
             consequence,

@@ -1,11 +1,11 @@
 use indexmap::IndexSet;
 use place::Place;
-use typed_tree::tree::{Direction, Expr, RangeTest};
+use typed_tree::tree::{Access, Direction, Expr, RangeTest};
 use types::TypeId;
 
-/// A bound of a for, and its test.
+/// An ordinal with its test: a bound of a for, or what is assigned.
 #[derive(Drop)]
-pub(crate) struct Bound {
+pub(crate) struct Fitted {
     pub(crate) value: Expr,
     pub(crate) fits: RangeTest,
 }
@@ -18,9 +18,9 @@ pub(crate) struct ForHead {
     pub(crate) place: Place,
     /// The root number of the control variable.
     pub(crate) control: u32,
-    pub(crate) first: Bound,
+    pub(crate) first: Fitted,
     pub(crate) direction: Direction,
-    pub(crate) last: Bound,
+    pub(crate) last: Fitted,
 }
 
 /// A case as far as its `of`.
@@ -37,4 +37,12 @@ pub(crate) struct CaseHead {
 pub(crate) struct Rows {
     pub(crate) rows: Vec<Vec<i32>>,
     pub(crate) seen: IndexSet<i32>,
+}
+
+/// What is accessed left of `:=`, with its index expressions and its type.
+#[derive(Drop)]
+pub(crate) struct Target {
+    pub(crate) access: Access,
+    pub(crate) indexes: Vec<Expr>,
+    pub(crate) type_id: TypeId,
 }

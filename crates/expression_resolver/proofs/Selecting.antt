@@ -1,0 +1,317 @@
+-- Accesses: how their typing goes on from that of a variable, of its selectors and of its value.
+use Rattle.std.proofs.Common.{◌≡◌, ℕ, suc, ◌+◌, ◌<◌, ◌≤◌, Bool, true, false, List, [], ◌∷◌, ◌++◌, map, length, drop, get_or, Option, Ok, Err, Result}
+use Rattle.std.proofs.Common.{inl, inr, refl, sym, ap, ap₂, subst, ◌∙◌, if◌then◌else◌, Vec, append-nil, length-append, arith}
+use Rattle.std.specs.Prelude.{flat_map}
+use Rattle.std.specs.declared.alloc.Global.{Global}
+use Rattle.std.proofs.lemmas.List.{drop_more, at_drop_all}
+use Rattle.std.proofs.lemmas.List.Folds.{flat_map-map}
+use Rattle.std.proofs.lemmas.Grind.{flat_map-append}
+use Rattle.std.proofs.lemmas.List.{length-map}
+use Rattle.place.specs.declared.Place.{Place}
+use Rattle.syntax_tree.specs.declared.Name.{Name}
+use Rattle.syntax_tree.specs.declared.Expr.{Expr as SyntaxExpr}
+use Rattle.syntax_tree.specs.declared.Selector.{Selector}
+use Rattle.syntax_tree.specs.declared.Selector.TheVariants as select
+use Rattle.types.specs.declared.form.TypeId.{TypeId}
+use Rattle.types.specs.Types.{is_ordinal, host_of, cells_of}
+use Rattle.typed_tree.specs.declared.fault.TypeFault.{TypeFault}
+use Rattle.typed_tree.specs.declared.fault.TypeFault.TheVariants as fault
+use Rattle.typed_tree.specs.declared.site.SiteKind.{SiteKind}
+use Rattle.typed_tree.specs.declared.site.SiteKind.TheVariants as kind
+use Rattle.typed_tree.specs.declared.tree.Access.{Access as VariableAccess}
+use Rattle.typed_tree.specs.declared.tree.Expr.{Expr}
+use Rattle.typed_tree.specs.declared.tree.Expr.TheVariants as form
+use Rattle.typed_tree.specs.declared.tree.Whole.TheVariants as whole
+use Rattle.typed_tree.specs.declared.tree.RangeTest.{RangeTest}
+use Rattle.typed_tree.specs.declared.tree.Selector.{Selector as TreeSelector}
+use Rattle.typed_tree.specs.declared.tree.Selector.TheVariants as tree
+use Rattle.typed_tree.specs.Accesses.{index_count}
+use Rattle.typed_tree.specs.Entries.{joined}
+use Rattle.typed_tree.specs.Look.{Look, Mark, Access, Value, WholeValue, look_expr, look_access}
+use Rattle.typed_tree.proofs.Looks.{look_variable}
+use Rattle.typing.specs.declared.typed.Typed.{Typed}
+use Rattle.typing.specs.Passing.{Passed, Passing, Checked, After, after, and_then, behind_marks, pure, ◌>>=◌, ◌>>◌}
+use Rattle.typing.specs.Steps.{site, enter_as, host_type}
+use Rattle.typing.specs.Expressions.{Written, behind, selected, accessed, tests_ordinal, ordinal_value, whole_value, typed, typed_whole, expression}
+use Rattle.typing.specs.Outcomes.{IsFault}
+use Rattle.typing.proofs.Rows.{behind_nothing, behind_both}
+use Rattle.typing.proofs.Selectors.{IsSelectedFrom, selectors_begin, selector_next, selector_stops, selectors_end}
+use Rattle.expression_resolver.specs.declared.typed.Entered.{Entered}
+use Rattle.expression_resolver.specs.declared.typed.Selection.{Selection}
+use Rattle.expression_resolver.specs.declared.typed.Value.TheVariants.{Whole as WholeOf}
+use Rattle.expression_resolver.specs.Made.{look_value}
+use Rattle.expression_resolver.specs.Accesses.{begun, value, valued, look_selection, left_behind, on, IsCounted, IsNothing, IsFieldBehind, IsElementBehind}
+use Rattle.expression_resolver.specs.Accesses.{IsOneBehind, SelectsField, SelectsElement, SelectsOne}
+
+-- ---- forms that are passed one after another
+
+module _ {A B C : Type 0} (f : A → Passing B) (g : B → Passing C) where
+  both_at : (look : Look) (outcome : Checked (After B))
+      → and_then (behind_marks look outcome) (λ b. behind_marks b.look (g b.answer b.passed))
+      ≡ behind_marks look (and_then outcome (λ b. behind_marks b.look (g b.answer b.passed)))
+  both_at look (Ok b) = sym (behind_both look b.look (g b.answer b.passed))
+  both_at look (Err why) = refl
+
+  first_at : (outcome : Checked (After A))
+      → and_then (and_then outcome (λ a. behind_marks a.look (f a.answer a.passed))) (λ b. behind_marks b.look (g b.answer b.passed))
+      ≡ and_then outcome (λ a. behind_marks a.look (and_then (f a.answer a.passed) (λ b. behind_marks b.look (g b.answer b.passed))))
+  first_at (Ok a) = both_at a.look (f a.answer a.passed)
+  first_at (Err why) = refl
+
+  -- the first two, or the last two
+  in_pairs : (p : Passing A) (s : Passed) → ((p >>= f) >>= g) s ≡ (p >>= (λ a. f a >>= g)) s
+  in_pairs p s = first_at (p s)
+
+module _ {A B : Type 0} (f g : A → Passing B) (same : (a : A) → (s : Passed) → f a s ≡ g a s) where
+  same_at : (outcome : Checked (After A))
+      → and_then outcome (λ a. behind_marks a.look (f a.answer a.passed)) ≡ and_then outcome (λ a. behind_marks a.look (g a.answer a.passed))
+  same_at (Ok a) = ap (behind_marks a.look) (same a.answer a.passed)
+  same_at (Err why) = refl
+
+  -- the same behind the first one
+  same_behind : (p : Passing A) (s : Passed) → (p >>= f) s ≡ (p >>= g) s
+  same_behind p s = same_at (p s)
+
+-- ---- a variable
+
+module _ (root : ℕ) (type_id : TypeId) (selectors : List Selector) (indexes : List Written) (place : Place) (lead : Option SiteKind) (old : Passed) where
+  abbrev rest : ℕ × Option ℕ → Passing Typed
+  rest sites = selected [] type_id selectors indexes >>= value root sites
+
+  entered_first : accessed root type_id selectors indexes place lead old ≡ (begun place lead >>= rest) old
+  unfolding accessed begun value
+  entered_first = sym (
+      in_pairs (λ defined. behind lead place >>= (λ id. enter_as Access >> pure (defined, id))) rest (site kind.UndefinedVariable place) old
+      ∙ same_behind (λ defined. (behind lead place >>= (λ id. enter_as Access >> pure (defined, id))) >>= rest)
+      (λ defined. behind lead place >>= (λ id. enter_as Access >> rest (defined, id)))
+      (λ defined s. in_pairs (λ id. enter_as Access >> pure (defined, id)) rest (behind lead place) s
+      ∙ same_behind (λ id. (enter_as Access >> pure (defined, id)) >>= rest) (λ id. enter_as Access >> rest (defined, id))
+      (λ id t. in_pairs (λ _. pure (defined, id)) rest (enter_as Access) t
+      ∙ same_behind (λ _. pure (defined, id) >>= rest) (λ _. rest (defined, id)) (λ _ u. behind_nothing (rest (defined, id) u)) (enter_as Access) t)
+      (behind lead place) s)
+      (site kind.UndefinedVariable place) old)
+
+  -- it can't be entered
+  pub variable_stops : (why : TypeFault) → IsFault (begun place lead old) why → IsFault (accessed root type_id selectors indexes place lead old) why
+  variable_stops why (inl memory) = inl memory
+  variable_stops why (inr stops) = inr (
+      entered_first ∙ ap (λ r. and_then r (λ a. behind_marks a.look (rest a.answer a.passed))) stops)
+
+  module _ (sites : ℕ × Option ℕ) (number : ℕ) (there : Passed) (enters : begun place lead old ≡ Ok (after sites (Access number ∷ []) there)) where
+    behind_variable : accessed root type_id selectors indexes place lead old ≡ behind_marks (Access number ∷ []) (rest sites there)
+    behind_variable = entered_first ∙ ap (λ r. and_then r (λ a. behind_marks a.look (rest a.answer a.passed))) enters
+
+    -- one of its selectors is refused
+    pub selectors_stop : (why : TypeFault) → IsFault (selected [] type_id selectors indexes there) why
+        → IsFault (accessed root type_id selectors indexes place lead old) why
+    selectors_stop why (inl memory) = inl memory
+    selectors_stop why (inr stops) = inr (
+        behind_variable
+        ∙ ap (λ r. behind_marks (Access number ∷ []) (and_then r (λ a. behind_marks a.look (value root sites a.answer a.passed)))) stops)
+
+    -- its component is selected
+    pub component_is : (component : List TreeSelector × TypeId) (look : Look) (now : Passed)
+        → selected [] type_id selectors indexes there ≡ Ok (after component look now)
+        → accessed root type_id selectors indexes place lead old ≡ behind_marks (Access number ∷ look) (value root sites component now)
+    component_is component look now passes =
+        behind_variable
+        ∙ ap (λ r. behind_marks (Access number ∷ []) (and_then r (λ a. behind_marks a.look (value root sites a.answer a.passed)))) passes
+        ∙ behind_both (Access number ∷ []) look (value root sites component now)
+
+-- ---- values
+
+-- an access, as it is made
+look_made : (access : VariableAccess) (indexes : Vec Expr Global) (does : Mark)
+    → look_access access indexes.items does ≡ Access access.number ∷ (flat_map look_expr indexes.items ++ (does ∷ []))
+look_made access indexes does =
+    ap (λ rows. Access access.number ∷ (rows ++ (does ∷ []))) (flat_map-map (λ (row : Look). row) look_expr indexes.items)
+
+module _ (entered : Entered) (made : Selection) (s : Passed) where
+  by_ordinal : (ordinal : Bool) → is_ordinal s.types made.type_id ≡ ordinal
+      → valued entered made s
+      ≡ behind_marks (Access entered.number ∷ look_selection made)
+      ((if ordinal then ordinal_value else whole_value) entered.root made.selectors.items made.type_id entered.defined entered.site s)
+  unfolding value tests_ordinal
+  by_ordinal ordinal is =
+      ap (λ b. behind_marks (Access entered.number ∷ look_selection made)
+      (behind_marks [] ((if b then ordinal_value else whole_value) entered.root made.selectors.items made.type_id entered.defined entered.site s))) is
+      ∙ ap (behind_marks (Access entered.number ∷ look_selection made))
+      (behind_nothing ((if ordinal then ordinal_value else whole_value) entered.root made.selectors.items made.type_id entered.defined entered.site s))
+
+  pub ordinal_is : is_ordinal s.types made.type_id ≡ true
+      → valued entered made s
+      ≡ Ok (after (typed (host_of s.types made.type_id) entered.site)
+      (Access entered.number ∷ (look_selection made
+      ++ (Value entered.root made.selectors.items (index_count made.selectors.items) entered.defined ∷ []))) s)
+  unfolding ordinal_value host_type
+  ordinal_is is = by_ordinal true is
+
+  pub whole_is : is_ordinal s.types made.type_id ≡ false
+      → valued entered made s
+      ≡ Ok (after (typed_whole made.type_id (cells_of s.types made.type_id) entered.site)
+      (Access entered.number ∷ (look_selection made
+      ++ (WholeValue entered.root made.selectors.items (index_count made.selectors.items) made.type_id (cells_of s.types made.type_id) entered.defined
+      ∷ []))) s)
+  unfolding whole_value
+  whole_is is = by_ordinal false is
+
+  -- how it is made
+  abbrev made_access : VariableAccess
+  made_access = record { number = entered.number; root = entered.root; selectors = made.selectors }
+
+  module _ (counted : IsCounted made) where
+    pub ordinal_made : (host : TypeId) → is_ordinal s.types made.type_id ≡ true → host ≡ host_of s.types made.type_id
+        → valued entered made s
+        ≡ Ok (after (typed host entered.site) (look_expr (form.Variable made_access made.indexes entered.defined)) s)
+    ordinal_made host is same =
+        ordinal_is is
+        ∙ ap (λ id. Ok (after (typed id entered.site)
+        (Access entered.number ∷ (look_selection made
+        ++ (Value entered.root made.selectors.items (index_count made.selectors.items) entered.defined ∷ []))) s)) (sym same)
+        ∙ ap (λ count. Ok (after (typed host entered.site)
+        (Access entered.number ∷ (look_selection made ++ (Value entered.root made.selectors.items count entered.defined ∷ []))) s)) counted
+        ∙ ap (λ look. Ok (after (typed host entered.site) look s))
+        (sym (look_variable made_access made.indexes entered.defined
+        ∙ look_made made_access made.indexes (Value entered.root made.selectors.items (length made.indexes.items) entered.defined)))
+
+    pub whole_made : (cells : ℕ) → is_ordinal s.types made.type_id ≡ false → cells ≡ cells_of s.types made.type_id
+        → valued entered made s
+        ≡ Ok (after (typed_whole made.type_id cells entered.site)
+        (look_value (WholeOf (whole.Variable made_access made.type_id cells entered.defined) made.indexes)) s)
+    whole_made cells is same =
+        whole_is is
+        ∙ ap (λ n. Ok (after (typed_whole made.type_id n entered.site)
+        (Access entered.number ∷ (look_selection made
+        ++ (WholeValue entered.root made.selectors.items (index_count made.selectors.items) made.type_id n entered.defined ∷ []))) s)) (sym same)
+        ∙ ap (λ count. Ok (after (typed_whole made.type_id cells entered.site)
+        (Access entered.number ∷ (look_selection made
+        ++ (WholeValue entered.root made.selectors.items count made.type_id cells entered.defined ∷ []))) s))
+        (counted ∙ sym (length-map made.indexes.items look_expr))
+        ∙ ap (λ look. Ok (after (typed_whole made.type_id cells entered.site) look s))
+        (sym (look_made made_access made.indexes
+        (WholeValue entered.root made.selectors.items (length (map look_expr made.indexes.items)) made.type_id cells entered.defined)))
+
+-- nothing was selected
+pub nothing_valued : (entered : Entered) (made : Selection) (type_id : TypeId) (s : Passed) → IsNothing type_id made
+    → behind_marks (Access entered.number ∷ []) (value entered.root (entered.defined, entered.site) ([], type_id) s) ≡ valued entered made s
+nothing_valued entered made type_id s none =
+    ap (λ indexes. behind_marks (Access entered.number ∷ flat_map look_expr indexes)
+    (value entered.root (entered.defined, entered.site) ([], type_id) s)) (sym none.indexes)
+    ∙ ap₂ (λ selectors id. behind_marks (Access entered.number ∷ look_selection made)
+    (value entered.root (entered.defined, entered.site) (selectors, id) s)) (sym none.selectors) (sym none.is_of)
+
+-- ---- selectors
+
+pub fields_take_none : (made : List TreeSelector) (position offset : ℕ) → index_count (made ++ tree.Field position offset ∷ []) ≡ index_count made
+fields_take_none [] position offset = refl
+fields_take_none (tree.Element fits cells ∷ made) position offset = ap suc (fields_take_none made position offset)
+fields_take_none (tree.Field at before ∷ made) position offset = fields_take_none made position offset
+
+pub elements_take_one : (made : List TreeSelector) (fits : RangeTest) (cells : ℕ)
+    → index_count (made ++ tree.Element fits cells ∷ []) ≡ suc (index_count made)
+elements_take_one [] fits cells = refl
+elements_take_one (tree.Element other before ∷ made) fits cells = ap suc (elements_take_one made fits cells)
+elements_take_one (tree.Field at before ∷ made) fits cells = elements_take_one made fits cells
+
+-- one selector more
+module _ (indexes : List SyntaxExpr) (s : Passed) (old new : Selection) (now : Passed) where
+  field_behind : (name : Name) → IsFieldBehind name s old new now → IsOneBehind (select.Field name) indexes s old new now
+  field_behind name one = record {
+    own = [];
+    looks = ap (flat_map look_expr) one.indexes ∙ sym (append-nil (look_selection old));
+    goes = λ more.
+        one.goes more (left_behind old indexes)
+        ∙ ap (λ taken. on new more (map expression (drop (length taken) indexes)) now) (sym one.indexes)
+        ∙ sym (behind_nothing (on new more (left_behind new indexes) now));
+    counted = λ so_far. one.counted ∙ so_far ∙ ap length (sym one.indexes);
+  }
+
+  pub field_selects : (name : Name) (result : Result (Unit {0}) TypeFault)
+      → SelectsField name s old result new now → SelectsOne (select.Field name) indexes s old result new now
+  field_selects name (Ok _) one = field_behind name one
+  field_selects name (Err why) stops = λ more. stops more (left_behind old indexes)
+
+  -- there is no index expression more
+  pub none_left : (place : Place) (joined : Bool) → length indexes ≤ length old.indexes.items
+      → (more : List Selector) → IsFault (on old (select.Index place joined ∷ more) (left_behind old indexes) s) (fault.Mismatch place)
+  none_left place joined all more =
+      inr (at_drop_all (λ left. on old (select.Index place joined ∷ more) (map expression left) s) indexes (length old.indexes.items) all)
+
+  -- the next index expression, which stands at n
+  module _ (place : Place) (joined : Bool) (n : ℕ) (at : n ≡ length old.indexes.items) (index other : SyntaxExpr) (within : n < length indexes)
+      (is : index ≡ get_or indexes n other) where
+    abbrev behind_it : List Written
+    behind_it = map expression (drop (n + 1) indexes)
+
+    next_left : left_behind old indexes ≡ expression index ∷ behind_it
+    next_left =
+        ap (λ k. map expression (drop k indexes)) (sym at) ∙ ap (map expression) (drop_more indexes n other within)
+        ∙ ap (λ e. expression e ∷ behind_it) (sym is)
+
+    element_behind : IsElementBehind place (expression index) s old new now → IsOneBehind (select.Index place joined) indexes s old new now
+    element_behind one =
+        let longer : length new.indexes.items ≡ n + 1 =
+        ap length one.indexes ∙ length-append old.indexes.items (one.index ∷ []) ∙ ap (λ k. k + 1) (sym at) in
+        record {
+          own = look_expr one.index;
+          looks =
+              ap (flat_map look_expr) one.indexes ∙ flat_map-append look_expr old.indexes.items (one.index ∷ [])
+              ∙ ap (λ look. look_selection old ++ look) (append-nil (look_expr one.index));
+          goes = λ more.
+              ap (λ left. on old (select.Index place joined ∷ more) left s) next_left
+              ∙ one.goes joined more behind_it
+              ∙ ap (λ k. behind_marks (look_expr one.index) (on new more (map expression (drop k indexes)) now)) (sym longer);
+          counted = λ so_far. one.counted ∙ ap suc so_far ∙ omega (arith, longer, at);
+        }
+
+    pub element_selects : (result : Result (Unit {0}) TypeFault) → SelectsElement place (expression index) s old result new now
+        → SelectsOne (select.Index place joined) indexes s old result new now
+    element_selects (Ok _) one = element_behind one
+    element_selects (Err why) stops = λ more.
+        subst (λ left. IsFault (on old (select.Index place joined ∷ more) left s) why) (sym next_left) (stops joined more behind_it)
+
+-- selectors of which the first ones are made
+module _ (type_id : TypeId) (selectors : List Selector) (indexes : List SyntaxExpr) (old : Passed) where
+  abbrev pub AreSelectedFrom : ℕ → Selection → Passed → Type 0
+  AreSelectedFrom i made now =
+      IsSelectedFrom expression type_id selectors indexes old i (drop (length made.indexes.items) indexes) made.selectors.items made.type_id
+      (look_selection made) now
+      × IsCounted made
+
+  -- none is made yet
+  pub none_selected : (made : Selection) → IsNothing type_id made → AreSelectedFrom 0 made old
+  none_selected made none = (
+    selectors_begin expression type_id selectors indexes old
+        ∙ ap (λ taken. behind_marks (flat_map look_expr taken)
+        (selected [] type_id selectors (map expression (drop (length taken) indexes)) old)) (sym none.indexes)
+        ∙ ap₂ (λ ones id. behind_marks (look_selection made) (selected ones id selectors (left_behind made indexes) old))
+        (sym none.selectors) (sym none.is_of),
+    ap index_count none.selectors ∙ ap length (sym none.indexes),
+  )
+
+  module _ (i : ℕ) (made : Selection) (now : Passed) (so_far : AreSelectedFrom i made now)
+      (selector : Selector) (within : i < length selectors) (is : selector ≡ get_or selectors i selector) where
+    -- the next one is made
+    pub one_selected : (new : Selection) (there : Passed) → IsOneBehind selector indexes now made new there → AreSelectedFrom (i + 1) new there
+    one_selected new there one = (
+      selector_next expression type_id selectors indexes old i (drop (length made.indexes.items) indexes) made.selectors.items made.type_id
+          (look_selection made) now so_far.0 selector within is (drop (length new.indexes.items) indexes) new.selectors.items new.type_id one.own there
+          (one.goes (drop (i + 1) selectors))
+          ∙ ap (λ look. behind_marks look (selected new.selectors.items new.type_id (drop (i + 1) selectors) (left_behind new indexes) there))
+          (sym one.looks),
+      one.counted so_far.1,
+    )
+
+    -- it is refused
+    pub one_refused : (why : TypeFault) → ((more : List Selector) → IsFault (on made (selector ∷ more) (left_behind made indexes) now) why)
+        → IsFault (selected [] type_id selectors (map expression indexes) old) why
+    one_refused why stops =
+        selector_stops expression type_id selectors indexes old i (drop (length made.indexes.items) indexes) made.selectors.items made.type_id
+        (look_selection made) now so_far.0 selector within is why (stops (drop (i + 1) selectors))
+
+  -- all are made
+  pub all_selected : (i : ℕ) (made : Selection) (now : Passed) → AreSelectedFrom i made now → length selectors ≤ i
+      → selected [] type_id selectors (map expression indexes) old ≡ Ok (after (made.selectors.items, made.type_id) (look_selection made) now)
+  all_selected i made now so_far all =
+      selectors_end expression type_id selectors indexes old i (drop (length made.indexes.items) indexes) made.selectors.items made.type_id
+      (look_selection made) now so_far.0 all
