@@ -1,0 +1,2 @@
+//! The leaves of a program's structured variables (ISO 7185:1990, 6.4.3), one row each.
+#![tactic(auto)]
