@@ -69,6 +69,12 @@ pub counts_more : (types : List Form) (n : ℕ) (form : Form) → slice_get type
     → leaf_counts (take (suc n) types) ≡ leaf_counts (take n types) ++ form_count (leaf_counts (take n types)) form ∷ []
 counts_more types n form is = ap leaf_counts (take_one types n form is) ∙ counts_push (take n types) form
 
+pub all_taken : {A : Type 0} (items : List A) (n : ℕ) → slice_get items n ≡ None → take n items ≡ items
+all_taken [] zero is = refl
+all_taken [] (suc n) is = refl
+all_taken (x ∷ items) zero is = absurd (none-some x (sym is))
+all_taken (x ∷ items) (suc n) is = ap (λ l. x ∷ l) (all_taken items n is)
+
 -- the fields that a program keeps
 pub kept_fields_counted : (counts : List ℕ) (fields : List Field)
     → sum_by (λ field. count_at counts field.type_id) fields ≡ sum_by (λ field. count_at counts field.type_id) (map field_form fields)

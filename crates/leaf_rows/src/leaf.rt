@@ -129,6 +129,7 @@ pub(crate) fn count_at(counts: &[u32], id: TypeId) -> u32
 }
 
 // Those of a form, if 32 bits hold their number.
+#[tactic(auto, using(crate::proofs::Counted::kept_fields_counted))]
 fn form_count(counts: &[u32], form: &TypeForm) -> Option<u32>
     ensures { IfSome result (λ count. count ≡ form_count counts.now (form_of form.now)) }
 {

@@ -185,6 +185,7 @@ impl<'a> Rows<'a> {
     }
 
     // The elements of an array.
+    #[tactic(auto, using(crate::proofs::Counted::array_counted))]
     fn elements(&self, part: Option<Part>) -> Option<Part>
         requires { end_of self.now.types part < 2 ^ 32 }
         ensures part { result ≡ next_part self.now.types part Elements }
@@ -202,6 +203,7 @@ impl<'a> Rows<'a> {
     }
 
     // The field at a place from 0 in its record.
+    #[tactic(auto, using(crate::proofs::Counted::record_counted, crate::proofs::Variables::next_ends))]
     fn field(&self, part: Option<Part>, position: usize) -> Option<Part>
         requires { end_of self.now.types part < 2 ^ 32 }
         ensures part { result ≡ next_part self.now.types part (FieldAt position) }
