@@ -5,3 +5,4 @@ pub mod Given
 pub mod Joins
 pub mod Changed
 pub mod Looped
+pub mod Stored

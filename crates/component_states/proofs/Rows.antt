@@ -47,6 +47,15 @@ with_range-defined known row other range =
     ap (λ (s : RowState). s.is_defined) both.1 ∙ ap (λ (r : ℕ). (row_at known r).is_defined) both.0)
     (set-at known.rows row other state)
 
+-- that a row is defined leaves the ranges as they were
+pub with_defined-range : (known : Components) (row other : ℕ) → (row_at (with_defined row known) other).range ≡ (row_at known other).range
+with_defined-range known row other =
+    let state : RowState = record (row_at known row) { is_defined = true } in
+    ⊎_elim (λ kept. ap (λ (s : RowState). s.range) kept)
+    (λ (both : (row ≡ other) × (get_or (set known.rows row state) other no_row ≡ state)).
+    ap (λ (s : RowState). s.range) both.1 ∙ ap (λ (r : ℕ). (row_at known r).range) both.0)
+    (set-at known.rows row other state)
+
 module _ (rows : List Parts) (moment : Moment) where
   -- what is known of a row holds
   pub record RowHolds (row : ℕ) (state : RowState) : Type 0 where

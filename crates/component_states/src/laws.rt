@@ -1,5 +1,5 @@
 //! What holds of components at the moments of a run. Each law is the contract of a function that does nothing.
-ghost use Rattle.component_states.specs.Laws.{BoundsHold, ChangesHold, GivenHolds, HeadsHold, JoinHolds};
+ghost use Rattle.component_states.specs.Laws.{BoundsHold, ChangesHold, GivenHolds, HeadsHold, JoinHolds, StoresHold};
 
 /// Where two ways meet, what is known behind them holds, whichever was taken.
 pub fn join_holds()
@@ -24,4 +24,9 @@ pub fn bounds_hold()
 /// What is known of components at the head of a loop holds after any turns, if the claims of the certificate do.
 pub fn heads_hold()
     ensures { HeadsHold }
+{}
+
+/// After values were stored to components, what is known of components behind the stores holds.
+pub fn stores_hold()
+    ensures { StoresHold }
 {}
