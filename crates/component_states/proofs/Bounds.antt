@@ -6,12 +6,12 @@ use Rattle.domain.specs.Facts.{Bound, Number, Plus}
 use Rattle.meaning.specs.Integers.{is_integer_number}
 use Rattle.meaning.specs.Store.{Environment, Store}
 use Rattle.abstract_state.specs.State as variables
-use Rattle.abstract_state.specs.State.{Dead, Live}
+use Rattle.abstract_state.specs.State.{Dead, Live, at_most}
 use Rattle.abstract_state.specs.Holds.{Moment, HasNumber, IsBound}
 use Rattle.abstract_state.specs.Knows as entire
 use Rattle.abstract_state.specs.Knows.{moment}
 use Rattle.abstract_state.proofs.Given.{defined-number, le-holds, same-number}
-use Rattle.component_states.specs.Components.{at_most, has_value, is_next, moved_bound, some_at_least, some_at_most}
+use Rattle.component_states.specs.Components.{has_value, is_next, moved_bound, some_at_least, some_at_most}
 
 pub some-if : (test : Bool) (one other : Bound) → cond test (Some one) None ≡ Some other → one ≡ other
 some-if true one other is = cc

@@ -5,13 +5,13 @@ use Rattle.std.proofs.lemmas.Int.{ints}
 use Rattle.std.proofs.lemmas.Bool.{and_parts, eqb-true, or_cases}
 use Rattle.meaning.specs.Store.{Environment, Store}
 use Rattle.abstract_state.specs.State as variables
-use Rattle.abstract_state.specs.State.{Dead, Live}
+use Rattle.abstract_state.specs.State.{Dead, Live, at_most}
 use Rattle.abstract_state.specs.Holds.{IsBound}
 use Rattle.abstract_state.specs.Knows as entire
 use Rattle.abstract_state.specs.Knows.{moment}
 use Rattle.abstract_state.proofs.Ranged.{included-in}
 use Rattle.leaf_rows.specs.Rows.{Parts}
-use Rattle.component_states.specs.Components.{ComponentFact, Components, Defined, Range, Stretch, Stretched, at_most, covers, gives, gives_stretch}
+use Rattle.component_states.specs.Components.{ComponentFact, Components, Defined, Range, Stretch, Stretched, covers, gives, gives_stretch}
 use Rattle.component_states.specs.Components.{has_value, is_empty, row_at}
 use Rattle.component_states.specs.Holds.{AreDefined, ComponentsHold, Holds, StretchHolds}
 use Rattle.component_states.specs.Laws.{GivenHolds}
