@@ -1,8 +1,3 @@
-pub mod Entered
+pub mod Forms
 pub mod Held
-pub mod Keeping
-pub mod Sound
-pub mod SoundAccesses
-pub mod SoundExpressions
-pub mod SoundOperations
 pub mod Steps

@@ -1,5 +1,5 @@
 use Rattle.std.proofs.Common.{ap, sym, ◌∙◌}
-use Rattle.expression_checker.specs.Walk.{give, index_walks, value_walk, whole_walk, written_walk}
+use Rattle.expression_checker.specs.Walk.{give, index_pieces, value_walk, whole_walk, written_walk}
 use Rattle.expression_checker.proofs.Steps.{goes-as, stopped-as}
 use Rattle.expression_checker.proofs.flow.Flow.written.Goals as goal
 
@@ -12,6 +12,6 @@ returns-in_err-expression-in-Ordinal c =
 pub returns-in-String : goal.returns-in-String
 returns-in-String c =
     let it = c.in-String in
-    goes-as (written_walk c.args.value.now) (whole_walk it.value (index_walks c.deref.result.now)) c.args.self.now c.whole_value.new.self
+    goes-as (written_walk c.args.value.now) (whole_walk it.value (index_pieces c.deref.result.now)) c.args.self.now c.whole_value.new.self
     c.args.visits.now c.whole_value.new.visits c.whole_value.result
-    (ap written_walk it.is ∙ ap (λ items. whole_walk it.value (index_walks items)) (sym c.deref.ensures.value)) c.whole_value.ensures
+    (ap written_walk it.is ∙ ap (λ items. whole_walk it.value (index_pieces items)) (sym c.deref.ensures.value)) c.whole_value.ensures
