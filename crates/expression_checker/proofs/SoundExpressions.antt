@@ -58,10 +58,10 @@ entered-sound world env shows R number action walking one =
 
 module _ (world : World) (env : Environment) (shows : Shows (variables_in world) env) where
   abbrev well_expr : Expr → Bool
-  well_expr = is_well_formed_expr world.declared world.types world.sites
+  well_expr = is_well_formed_expr (declared_in world) (types_in world) world.sites
 
   abbrev well_link : Link → Bool
-  well_link = is_well_formed_link world.declared world.types world.sites
+  well_link = is_well_formed_link (declared_in world) (types_in world) world.sites
 
   -- ---- expressions
 
@@ -99,13 +99,13 @@ module _ (world : World) (env : Environment) (shows : Shows (variables_in world)
   -- a layer of an expression, of which the parts are sound
   abbrev ExprLayer : Expr-F Expr Link → Type 0
   ExprLayer x =
-      SoundValue (expr_is_well_formed world.declared world.types world.sites (map-Expr Expr Link Bool Bool well_expr well_link x))
+      SoundValue (expr_is_well_formed (declared_in world) (types_in world) world.sites (map-Expr Expr Link Bool Bool well_expr well_link x))
       (meaning.value_step (map-Expr Expr Link Evaluation meaning.Combination value_of link_of x))
       (walk.value_step (map-Expr Expr Link (Walking Known) walk.Combination value_walk link_walk x))
 
   abbrev LinkLayer : Link-F Expr Link → Type 0
   LinkLayer x =
-      SoundLink (link_is_well_formed world.declared world.types world.sites (map-Link Expr Link Bool Bool well_expr well_link x))
+      SoundLink (link_is_well_formed (declared_in world) (types_in world) world.sites (map-Link Expr Link Bool Bool well_expr well_link x))
       (meaning.link_step (map-Link Expr Link Evaluation meaning.Combination value_of link_of x))
       (walk.link_step (map-Link Expr Link (Walking Known) walk.Combination value_walk link_walk x))
 
@@ -121,14 +121,14 @@ module _ (world : World) (env : Environment) (shows : Shows (variables_in world)
   many-mapped f parts = length-map (map (λ (e : ProvedExpr). e.0) parts) f
 
   variable-sound : (access : Access) (evaluations : List Evaluation) (walks : List (Walking Known)) (site : ℕ) → AllSound world env evaluations walks
-      → leads_to_ordinal world.declared world.types world.sites access.root access.selectors.items (length evaluations) ≡ true → site < world.sites
+      → leads_to_ordinal (declared_in world) (types_in world) world.sites access.root access.selectors.items (length evaluations) ≡ true → site < world.sites
       → Sound world env IsKnown (effect.◌>>=◌ (accessed access evaluations env) (λ place. fetch place site)) (walk.variable_walk access walks site)
   variable-sound access evaluations walks site all well below =
       let selectors = access.selectors.items in
-      let wanted = is_ordinal world.types in
-      let count = leads-count world.declared world.types world.sites wanted access.root selectors (length evaluations) well in
-      let tests = leads-tests world.declared world.types world.sites wanted access.root selectors (length evaluations) well in
-      let within = leads-within world.declared world.types world.sites wanted access.root selectors (length evaluations) well in
+      let wanted = is_ordinal (types_in world) in
+      let count = leads-count (declared_in world) (types_in world) world.sites wanted access.root selectors (length evaluations) well in
+      let tests = leads-tests (declared_in world) (types_in world) world.sites wanted access.root selectors (length evaluations) well in
+      let within = leads-within (declared_in world) (types_in world) world.sites wanted access.root selectors (length evaluations) well in
       sound-then world env (λ (done : Unit {0}) place. Reaches env access.root (length selectors) place) IsKnown (accessed access evaluations env)
       (λ place. fetch place site) (walk.access_walk access walks) (λ done. walk.value_use access.root selectors site)
       (reached-sound world env shows access evaluations walks all count tests)
@@ -137,14 +137,14 @@ module _ (world : World) (env : Environment) (shows : Shows (variables_in world)
   -- the index expressions that count, and the whole value
   whole-sound : (value : Whole) (indexes : List ProvedExpr)
       → all_hold (whole_indexes value (map well_expr (map (λ e. e.0) indexes))) ≡ true
-      → is_well_formed_whole world.declared world.types world.sites value (length (map (λ e. e.0) indexes)) ≡ true
+      → is_well_formed_whole (declared_in world) (types_in world) world.sites value (length (map (λ e. e.0) indexes)) ≡ true
       → Sound world env RowOfIntegers (meaning.whole_of value (map value_of (map (λ e. e.0) indexes)) env)
       (walk.whole_walk value (map value_walk (map (λ e. e.0) indexes)))
   whole-sound (Text number text) indexes counted well = whole-good world env shows (Text number text) [] [] tt well
   whole-sound (VariableOf access type_id cells defined) indexes counted well =
       whole-good world env shows (VariableOf access type_id cells defined) (map value_of (map (λ (e : ProvedExpr). e.0) indexes))
       (map value_walk (map (λ (e : ProvedExpr). e.0) indexes)) (proved-indexes indexes counted)
-      (subst (λ (n : ℕ). is_well_formed_whole world.declared world.types world.sites (VariableOf access type_id cells defined) n ≡ true)
+      (subst (λ (n : ℕ). is_well_formed_whole (declared_in world) (types_in world) world.sites (VariableOf access type_id cells defined) n ≡ true)
       (sym (many-mapped value_of indexes)) well)
 
   value-layer : (y : Expr-F ProvedExpr ProvedLink) → ExprLayer (map-Expr ProvedExpr ProvedLink Expr Link (λ e. e.0) (λ l. l.0) y)
@@ -153,7 +153,7 @@ module _ (world : World) (env : Environment) (shows : Shows (variables_in world)
       (given-sound world env (record { first = value; last = value }) value (constant-in value))
   value-layer (Variable access indexes defined) well =
       let expressions = map (λ (e : ProvedExpr). e.0) indexes.items in
-      let leads = leads_to_ordinal world.declared world.types world.sites access.root access.selectors.items in
+      let leads = leads_to_ordinal (declared_in world) (types_in world) world.sites access.root access.selectors.items in
       let counted = all_hold (map well_expr expressions) in
       let many = length (map well_expr expressions) in
       let parts = and_parts counted (leads many && nat_lt defined world.sites) well in
@@ -162,7 +162,7 @@ module _ (world : World) (env : Environment) (shows : Shows (variables_in world)
       (subst (λ (n : ℕ). leads n ≡ true) (many-mapped well_expr indexes.items ∙ sym (many-mapped value_of indexes.items)) both.0)
       (ltb-true defined world.sites both.1)
   value-layer (MonadicOf number operation operand) well =
-      let parts = and_parts (monadic_is_well_formed world.declared world.types world.sites operation) (well_expr operand.value.0) well in
+      let parts = and_parts (monadic_is_well_formed (declared_in world) (types_in world) world.sites operation) (well_expr operand.value.0) well in
       entered-sound world env shows IsKnown number (effect.◌>>=◌ (value_of operand.value.0 env) (meaning.operated operation))
       (walk.◌>>=◌ (value_walk operand.value.0) (walk.operated operation))
       (sound-then world env IsKnown IsKnown (value_of operand.value.0 env) (meaning.operated operation) (value_walk operand.value.0) (walk.operated operation)
@@ -180,7 +180,7 @@ module _ (world : World) (env : Environment) (shows : Shows (variables_in world)
       let right_values = map value_of right_expressions in
       let left_walks = map value_walk left_expressions in
       let right_walks = map value_walk right_expressions in
-      let is_well = is_well_formed_whole world.declared world.types world.sites in
+      let is_well = is_well_formed_whole (declared_in world) (types_in world) world.sites in
       let left_counted = all_hold (whole_indexes left (map well_expr left_expressions)) in
       let right_counted = all_hold (whole_indexes right (map well_expr right_expressions)) in
       let left_well = is_well left (length (map well_expr left_expressions)) in
@@ -211,7 +211,7 @@ module _ (world : World) (env : Environment) (shows : Shows (variables_in world)
       let right = y.operand.0 in
       let meant = meaning.combined y.operation v in
       let walked = walk.combined y.operation known in
-      let parts = and_parts (dyadic_is_well_formed world.declared world.types world.sites y.operation) (well_expr right) well in
+      let parts = and_parts (dyadic_is_well_formed (declared_in world) (types_in world) world.sites y.operation) (well_expr right) well in
       entered-sound world env shows IsKnown y.number (effect.◌>>=◌ (value_of right env) meant) (walk.◌>>=◌ (value_walk right) walked)
       (sound-then world env IsKnown IsKnown (value_of right env) meant (value_walk right) walked
       (y.operand.1 parts.1) (λ k w is. combined-sound world env y.operation known k v w parts.0 inside is))
@@ -232,14 +232,14 @@ module _ (world : World) (env : Environment) (shows : Shows (variables_in world)
   rolled-expr : (x : Expr-F Expr Link) → ExprLayer x → ValueIsSound (roll-Expr x)
   rolled-expr x =
       along-value
-      (fold-roll-Expr Bool Bool (expr_is_well_formed world.declared world.types world.sites) (link_is_well_formed world.declared world.types world.sites) x)
+      (fold-roll-Expr Bool Bool (expr_is_well_formed (declared_in world) (types_in world) world.sites) (link_is_well_formed (declared_in world) (types_in world) world.sites) x)
       (fold-roll-Expr Evaluation meaning.Combination meaning.value_step meaning.link_step x)
       (fold-roll-Expr (Walking Known) walk.Combination walk.value_step walk.link_step x)
 
   rolled-link : (x : Link-F Expr Link) → LinkLayer x → LinkIsSound (roll-Link x)
   rolled-link x =
       along-link
-      (fold-roll-Link Bool Bool (expr_is_well_formed world.declared world.types world.sites) (link_is_well_formed world.declared world.types world.sites) x)
+      (fold-roll-Link Bool Bool (expr_is_well_formed (declared_in world) (types_in world) world.sites) (link_is_well_formed (declared_in world) (types_in world) world.sites) x)
       (fold-roll-Link Evaluation meaning.Combination meaning.value_step meaning.link_step x)
       (fold-roll-Link (Walking Known) walk.Combination walk.value_step walk.link_step x)
 
@@ -257,32 +257,32 @@ module _ (world : World) (env : Environment) (shows : Shows (variables_in world)
 
   -- ---- accesses and whole values
 
-  all-indexes : (indexes : List Expr) → are_well_formed world.declared world.types world.sites indexes ≡ true
+  all-indexes : (indexes : List Expr) → are_well_formed (declared_in world) (types_in world) world.sites indexes ≡ true
       → AllSound world env (values_of indexes) (walk.index_walks indexes)
   all-indexes [] well = tt
   all-indexes (index ∷ indexes) well =
-      let both = and_parts (well_expr index) (are_well_formed world.declared world.types world.sites indexes) well in
+      let both = and_parts (well_expr index) (are_well_formed (declared_in world) (types_in world) world.sites indexes) well in
       (value-sound index both.0, all-indexes indexes both.1)
 
   -- an access, which leads to what is wanted
-  pub access-sound : (access : Access) (indexes : List Expr) (wanted : TypeId → Bool) → are_well_formed world.declared world.types world.sites indexes ≡ true
-      → leads_to world.declared world.types world.sites wanted access.root access.selectors.items (length indexes) ≡ true
+  pub access-sound : (access : Access) (indexes : List Expr) (wanted : TypeId → Bool) → are_well_formed (declared_in world) (types_in world) world.sites indexes ≡ true
+      → leads_to (declared_in world) (types_in world) world.sites wanted access.root access.selectors.items (length indexes) ≡ true
       → Sound world env (λ (done : Unit {0}) place. Reaches env access.root (length access.selectors.items) place)
       (accessed access (values_of indexes) env) (walk.access_walk access (walk.index_walks indexes))
   access-sound access indexes wanted well leads =
       let selectors = access.selectors.items in
       reached-sound world env shows access (values_of indexes) (walk.index_walks indexes) (all-indexes indexes well)
-      (length-map indexes value_of ∙ leads-count world.declared world.types world.sites wanted access.root selectors (length indexes) leads)
-      (leads-tests world.declared world.types world.sites wanted access.root selectors (length indexes) leads)
+      (length-map indexes value_of ∙ leads-count (declared_in world) (types_in world) world.sites wanted access.root selectors (length indexes) leads)
+      (leads-tests (declared_in world) (types_in world) world.sites wanted access.root selectors (length indexes) leads)
 
-  pub whole_value-sound : (value : Whole) (indexes : List Expr) → is_well_formed_value world.declared world.types world.sites value indexes ≡ true
+  pub whole_value-sound : (value : Whole) (indexes : List Expr) → is_well_formed_value (declared_in world) (types_in world) world.sites value indexes ≡ true
       → Sound world env RowOfIntegers (meaning.whole_of value (values_of indexes) env) (walk.whole_walk value (walk.index_walks indexes))
   whole_value-sound (Text number text) indexes well =
       whole-good world env shows (Text number text) [] [] tt
-      (and_parts true (is_well_formed_whole world.declared world.types world.sites (Text number text) (length indexes)) well).1
+      (and_parts true (is_well_formed_whole (declared_in world) (types_in world) world.sites (Text number text) (length indexes)) well).1
   whole_value-sound (VariableOf access type_id cells defined) indexes well =
-      let is_well = is_well_formed_whole world.declared world.types world.sites (VariableOf access type_id cells defined) in
-      let both = and_parts (are_well_formed world.declared world.types world.sites indexes) (is_well (length indexes)) well in
+      let is_well = is_well_formed_whole (declared_in world) (types_in world) world.sites (VariableOf access type_id cells defined) in
+      let both = and_parts (are_well_formed (declared_in world) (types_in world) world.sites indexes) (is_well (length indexes)) well in
       whole-good world env shows (VariableOf access type_id cells defined) (values_of indexes) (walk.index_walks indexes) (all-indexes indexes both.0)
       (subst (λ (n : ℕ). is_well n ≡ true) (sym (length-map indexes value_of)) both.1)
 
@@ -297,7 +297,7 @@ module _ (world : World) (env : Environment) (shows : Shows (variables_in world)
       (positive-sound world env site range w (ltb-true site world.sites below) inside)
       (λ passed tested passes. sound-give {B = Unit {0}} world env Any_value w tt tt)
 
-  width-sound : (width : Option Width) (default : ℤ) → is_well_formed_width world.declared world.types world.sites width ≡ true
+  width-sound : (width : Option Width) (default : ℤ) → is_well_formed_width (declared_in world) (types_in world) world.sites width ≡ true
       → Sound {B = Unit {0}} world env Any_value (width_of width default env) (width_walk width)
   width-sound None default well = sound-give {B = Unit {0}} world env Any_value (Number default) tt tt
   width-sound (Some width) default well =
@@ -307,8 +307,8 @@ module _ (world : World) (env : Environment) (shows : Shows (variables_in world)
       (value-sound width.value parts.1) (λ known w inside. width-tested width.site known w parts.0 inside)
 
   -- a value that is written, and its width
-  written-sound : (value : Written) (width : Option Width) → is_well_formed_written world.declared world.types world.sites value ≡ true
-      → is_well_formed_width world.declared world.types world.sites width ≡ true
+  written-sound : (value : Written) (width : Option Width) → is_well_formed_written (declared_in world) (types_in world) world.sites value ≡ true
+      → is_well_formed_width (declared_in world) (types_in world) world.sites width ≡ true
       → SoundAction world env (written_of value width env) (walk.◌>>=◌ (walk.written_walk value) (λ done. width_walk width))
   written-sound (written.Ordinal value representation) width well wide =
       let default = meaning.default_width representation in
@@ -326,9 +326,9 @@ module _ (world : World) (env : Environment) (shows : Shows (variables_in world)
       (λ done row tie. sound-written world env Any_value (row_text row) (width_of width default env) (width_walk width)
       (width-sound width default wide))
 
-  pub parameter-sound : (parameter : WriteParameter) → is_well_formed_parameter world.declared world.types world.sites parameter ≡ true
+  pub parameter-sound : (parameter : WriteParameter) → is_well_formed_parameter (declared_in world) (types_in world) world.sites parameter ≡ true
       → SoundAction world env (parameter_of parameter env) (parameter_walk parameter)
   parameter-sound parameter well =
-      let parts = and_parts (is_well_formed_written world.declared world.types world.sites parameter.value)
-      (is_well_formed_width world.declared world.types world.sites parameter.width) well in
+      let parts = and_parts (is_well_formed_written (declared_in world) (types_in world) world.sites parameter.value)
+      (is_well_formed_width (declared_in world) (types_in world) world.sites parameter.width) well in
       written-sound parameter.value parameter.width parts.0 parts.1
