@@ -1,6 +1,7 @@
 -- What an access reaches of the rows of components, and what is known of the values there.
 use Rattle.std.proofs.Common.{◌≡◌, ℕ, ℤ, pos, ◌≤ℤ◌, true, List, [], ◌∷◌, ◌++◌, length, map, Option, Some, None}
 use Rattle.std.specs.Prelude.{Contains, slice_get, slice_index_or}
+use Rattle.std.specs.List.{All}
 use Rattle.types.specs.Components.{components_of}
 use Rattle.types.specs.Forms.{Form}
 use Rattle.types.specs.declared.form.OrdinalRange.{OrdinalRange}
@@ -18,6 +19,7 @@ use Rattle.domain.specs.Facts.{Bound}
 use Rattle.domain.specs.Interval.{HasMember, Interval}
 use Rattle.meaning.specs.Store.{Environment, Place, Store, part}
 use Rattle.abstract_state.specs.Holds.{IsBound}
+use Rattle.abstract_state.specs.State.{integer}
 use Rattle.abstract_state.specs.Knows.{moment}
 use Rattle.leaf_rows.specs.Leaves.{Leaf, is_named, leaves_of}
 use Rattle.leaf_rows.specs.Rows.{all_parts, first_index, index_at, is_structured, no_parts, rows_accessed, rows_of}
@@ -60,6 +62,9 @@ pub record Leads (env : Environment) (root : ℕ) (selectors : List Selector) (s
 
 -- ---- whole values
 
+abbrev pub AreIntegers : List ℤ → Type 0
+AreIntegers row = All (HasMember integer) row
+
 -- the number of each component of a type lies in the range of the leaf that names it
 abbrev pub LieIn : List Form → TypeId → List Interval → List ℤ → Type 0
 LieIn types id ranges numbers =
@@ -70,9 +75,13 @@ LieIn types id ranges numbers =
 -- the numbers of a whole value, by the ranges that are known
 abbrev pub AreOf : List Form → Whole → List Interval → List ℤ → Type 0
 AreOf types (Text number text) ranges numbers =
-    (numbers ≡ map pos text.items) × (ranges ≡ text_range text.items ∷ []) × ((n : ℤ) → Contains numbers n → HasMember (text_range text.items) n)
+    (numbers ≡ map pos text.items) × (ranges ≡ text_range text.items ∷ []) × All (HasMember (text_range text.items)) numbers
 AreOf types (VariableOf access type_id cells defined) ranges numbers =
     (length numbers ≡ length (components_of types type_id)) × LieIn types type_id ranges numbers
+
+pub record IsWhole (types : List Form) (value : Whole) (ranges : List Interval) (numbers : List ℤ) : Type 0 where
+  pub integers : AreIntegers numbers
+  pub told : AreOf types value ranges numbers
 
 -- ---- rows
 
