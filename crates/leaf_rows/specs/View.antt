@@ -1,0 +1,8 @@
+-- Spans of rows as the definitions see them.
+use Rattle.std.specs.Prelude.{ℕ, List}
+use Rattle.std.specs.List.{range_with_len}
+use Rattle.leaf_rows.specs.declared.Span.{Span}
+
+-- the numbers of its rows
+abbrev pub numbers : Span → List ℕ
+numbers span = range_with_len span.first span.count
