@@ -1,6 +1,8 @@
 -- How many leaves types have, and those of parts of a type.
 use Rattle.std.proofs.Common.{◌≡◌, ⊎_elim, ℕ, zero, suc, ◌+◌, ◌<◌, ◌≤◌, Bool, true, false, cond, ltb, List, [], ◌∷◌, ◌++◌, length, map, take, sum_by}
 use Rattle.std.proofs.Common.{Option, Some, None, refl, sym, ap, ◌∙◌, append_assoc, append-nil, arith}
+use Rattle.std.proofs.Common.{Vec}
+use Rattle.std.specs.declared.alloc.Global.{Global}
 use Rattle.std.proofs.lemmas.Bool.{cases_lt, le-ltb, lt-ltb}
 use Rattle.std.proofs.lemmas.List.{length-append, length-map, map-append}
 use Rattle.std.proofs.lemmas.List.Sums.{fold-append, sum_by-cons}
@@ -9,9 +11,11 @@ use Rattle.std.specs.Option.{option_map, option_and_then}
 use Rattle.std.specs.Prelude.{flat_map, slice_get}
 use Rattle.types.specs.Forms.{FieldForm, Form, field_form, form_of}
 use Rattle.types.specs.Forms.{Integer, Boolean, Char, Enumeration, Subrange, Array, Record}
-use Rattle.types.specs.Types.{form_at, range_of}
+use Rattle.types.specs.Types.{form_at, form_range, range_of}
 use Rattle.types.specs.declared.form.Field.{Field}
 use Rattle.types.specs.declared.form.OrdinalRange.{OrdinalRange}
+use Rattle.types.specs.declared.form.TypeForm.{TypeForm}
+use Rattle.types.specs.declared.form.TypeForm.TheVariants as kept
 use Rattle.types.specs.declared.form.TypeId.{TypeId}
 use Rattle.leaf_rows.specs.declared.leaf.Way.{Way}
 use Rattle.leaf_rows.specs.declared.leaf.Way.TheVariants.{Direct, Indexed}
@@ -69,6 +73,24 @@ pub counts_more : (types : List Form) (n : ℕ) (form : Form) → slice_get type
     → leaf_counts (take (suc n) types) ≡ leaf_counts (take n types) ++ form_count (leaf_counts (take n types)) form ∷ []
 counts_more types n form is = ap leaf_counts (take_one types n form is) ∙ counts_push (take n types) form
 
+pub all_taken : {A : Type 0} (items : List A) (n : ℕ) → slice_get items n ≡ None → take n items ≡ items
+all_taken [] zero is = refl
+all_taken [] (suc n) is = refl
+all_taken (x ∷ items) zero is = absurd (none-some x (sym is))
+all_taken (x ∷ items) (suc n) is = ap (λ l. x ∷ l) (all_taken items n is)
+
+-- the types so far, and one more
+pub counts_step : (types : List Form) (counts new : List ℕ) (form : Form) (count : ℕ) → counts ≡ leaf_counts (take (length counts) types)
+    → slice_get types (length counts) ≡ Some form → count ≡ form_count counts form → new ≡ counts ++ count ∷ []
+    → new ≡ leaf_counts (take (length new) types)
+counts_step types counts new form count so_far is counted pushed =
+    let longer = length-append counts (count ∷ []) in
+    let same = ap length pushed in
+    let e : suc (length counts) ≡ length new = omega (arith, longer, same) in
+    pushed ∙ ap (λ n. counts ++ n ∷ []) (counted ∙ ap (λ l. form_count l form) so_far)
+    ∙ ap (λ l. l ++ form_count (leaf_counts (take (length counts) types)) form ∷ []) so_far
+    ∙ sym (counts_more types (length counts) form is) ∙ ap (λ n. leaf_counts (take n types)) e
+
 -- the fields that a program keeps
 pub kept_fields_counted : (counts : List ℕ) (fields : List Field)
     → sum_by (λ field. count_at counts field.type_id) fields ≡ sum_by (λ field. count_at counts field.type_id) (map field_form fields)
@@ -108,6 +130,20 @@ pub record_counted : (types : List Form) (id : TypeId) (packed : Bool) (fields :
     → count_at (leaf_counts types) id ≡ sum_by (λ field. part_count (leaf_counts types) (own_type id field.type_id)) fields
 record_counted types id packed fields is =
     type_counted types id ∙ ap length (leaves_of_form types id (Record packed fields) is) ∙ fields_of_parts types id 0 fields
+
+kept_parts : (types : List Form) (id : TypeId) (fields : List Field)
+    → sum_by (λ field. part_count (leaf_counts types) (own_type id field.type_id)) (map field_form fields)
+    ≡ sum_by (λ field. part_count (leaf_counts types) (own_type id field.type_id)) fields
+kept_parts types id [] = refl
+kept_parts types id (field ∷ fields) =
+    sum_by-cons (λ field. part_count (leaf_counts types) (own_type id field.type_id)) (field_form field) (map field_form fields)
+    ∙ ap (λ n. part_count (leaf_counts types) (own_type id field.type_id) + n) (kept_parts types id fields)
+    ∙ sym (sum_by-cons (λ field. part_count (leaf_counts types) (own_type id field.type_id)) field fields)
+
+pub kept_record_counted : (types : List Form) (id : TypeId) (packed : Bool) (fields : List Field)
+    → form_at types id ≡ Some (Record packed (map field_form fields))
+    → count_at (leaf_counts types) id ≡ sum_by (λ field. part_count (leaf_counts types) (own_type id field.type_id)) fields
+kept_record_counted types id packed fields is = record_counted types id packed (map field_form fields) is ∙ kept_parts types id fields
 
 pub array_counted : (types : List Form) (id : TypeId) (packed : Bool) (index element : TypeId) → form_at types id ≡ Some (Array packed index element)
     → count_at (leaf_counts types) id ≡ part_count (leaf_counts types) (own_type id element)
@@ -173,3 +209,20 @@ array_ranges types id way packed index element is =
     ∙ ranges_of_elements way (range_at (leafed_before types id) index) (leaves_at (leafed_before types id) element)
     ∙ ap (λ range. map (ranges_on (way_behind way range)) (leaves_at (leafed_before types id) element)) (values_of_part types id index)
     ∙ ap (map (ranges_on (way_behind way (option_and_then (range_of types) (own_type id index))))) (part_before types id element)
+
+module _ (types : List Form) (way : Way) (id : TypeId) where
+  pub none_ranges : form_at types id ≡ None → map (ranges_on way) (leaves_of types id) ≡ ranges_on way (scalar None) ∷ []
+  none_ranges is = ap (map (ranges_on way)) (leaves_of_none types id is)
+
+  -- a form that is neither an array nor a record
+  pub scalar_ranges : (form : TypeForm) → form_at types id ≡ Some (form_of form)
+      → ((packed : Bool) (index element : TypeId) → form ≡ kept.Array packed index element → ⊥)
+      → ((packed : Bool) (fields : Vec Field Global) → form ≡ kept.Record packed fields → ⊥)
+      → map (ranges_on way) (leaves_of types id) ≡ ranges_on way (scalar (form_range (form_of form))) ∷ []
+  scalar_ranges kept.Integer is no_array no_record = ap (map (ranges_on way)) (leaves_of_form types id Integer is)
+  scalar_ranges kept.Boolean is no_array no_record = ap (map (ranges_on way)) (leaves_of_form types id Boolean is)
+  scalar_ranges kept.Char is no_array no_record = ap (map (ranges_on way)) (leaves_of_form types id Char is)
+  scalar_ranges (kept.Enumeration last) is no_array no_record = ap (map (ranges_on way)) (leaves_of_form types id (Enumeration last) is)
+  scalar_ranges (kept.Subrange host first last) is no_array no_record = ap (map (ranges_on way)) (leaves_of_form types id (Subrange host first last) is)
+  scalar_ranges (kept.Array packed index element) is no_array no_record = absurd (no_array packed index element refl)
+  scalar_ranges (kept.Record packed fields) is no_array no_record = absurd (no_record packed fields refl)

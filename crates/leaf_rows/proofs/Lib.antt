@@ -1,3 +1,4 @@
 pub mod Leafed
 pub mod Under
 pub mod Counted
+pub mod Variables

@@ -1,5 +1,5 @@
-ghost use Rattle.std.specs.Prelude.{◌≡◌, ◌++◌, ◌∷◌, [], IfOk, IfSome, OnOk, map, sum_by};
-ghost use Rattle.types.specs.Forms.{form_of};
+ghost use Rattle.std.specs.Prelude.{◌≡◌, ◌++◌, ◌∷◌, [], IfOk, OnOk, false, map};
+ghost use Rattle.types.specs.Forms.{Record, field_form, form_of};
 ghost use Rattle.types.specs.Types.{range_of};
 ghost use Rattle.std.specs.Option.{option_and_then};
 ghost use Rattle.leaf_rows.specs.Leaves.{scalar};
@@ -63,19 +63,21 @@ pub(crate) fn add_leaves(
     let Some(id) = part else {
         return add_row(way.scalar(None), rows);
     };
-    match types.form(id) {
-        None => add_row(way.scalar(None), rows),
-        Some(TypeForm::Array { index, element, .. }) => {
+    let Some(form) = types.form(id) else {
+        return add_row(way.scalar(None), rows);
+    };
+    match form {
+        TypeForm::Array { index, element, .. } => {
             let range = part_range(types, own_type(id, *index));
             add_leaves(types, own_type(id, *element), way.behind(range), rows)
         }
-        Some(TypeForm::Record { fields, .. }) => {
+        TypeForm::Record { fields, .. } => {
             for field in fields {
                 add_leaves(types, own_type(id, field.type_id), way, rows)?;
             }
             Ok(())
         }
-        Some(form) => add_row(way.scalar(form.range()), rows),
+        _ => add_row(way.scalar(form.range()), rows),
     }
 }
 
@@ -112,7 +114,7 @@ pub(crate) fn leaf_counts(alloc: Global, types: &TypeTable) -> Result<Vec<u32>, 
     while let Some(form) = types.form(TypeId {
         index: counts.len(),
     }) {
-        let count = form_count(&counts, form).ok_or(AllocError)?;
+        let count = form_count(&counts, form)?;
         counts.push(count)?;
     }
     Ok(counts)
@@ -129,22 +131,25 @@ pub(crate) fn count_at(counts: &[u32], id: TypeId) -> u32
 }
 
 // Those of a form, if 32 bits hold their number.
-fn form_count(counts: &[u32], form: &TypeForm) -> Option<u32>
-    ensures { IfSome result (λ count. count ≡ form_count counts.now (form_of form.now)) }
+fn form_count(counts: &[u32], form: &TypeForm) -> Result<u32, AllocError>
+    ensures { IfOk result (λ count. count ≡ form_count counts.now (form_of form.now)) }
 {
     match form {
-        TypeForm::Array { element, .. } => Some(count_at(counts, *element)),
+        TypeForm::Array { element, .. } => Ok(count_at(counts, *element)),
         TypeForm::Record { fields, .. } => fields_count(counts, fields),
-        _ => Some(1),
+        _ => Ok(1),
     }
 }
 
-fn fields_count(counts: &[u32], fields: &[Field]) -> Option<u32>
-    ensures { IfSome result (λ count. count ≡ sum_by (λ field. count_at counts.now field.type_id) fields.now) }
+#[tactic(auto, using(crate::proofs::Counted::kept_fields_counted))]
+fn fields_count(counts: &[u32], fields: &[Field]) -> Result<u32, AllocError>
+    ensures { IfOk result (λ count. count ≡ form_count counts.now (Record false (map field_form fields.now))) }
 {
     let mut all: u32 = 0;
     for field in fields {
-        all = all.checked_add(count_at(counts, field.type_id))?;
+        all = all
+            .checked_add(count_at(counts, field.type_id))
+            .ok_or(AllocError)?;
     }
-    Some(all)
+    Ok(all)
 }

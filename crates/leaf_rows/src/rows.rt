@@ -185,6 +185,7 @@ impl<'a> Rows<'a> {
     }
 
     // The elements of an array.
+    #[tactic(auto, using(crate::proofs::Counted::array_counted))]
     fn elements(&self, part: Option<Part>) -> Option<Part>
         requires { end_of self.now.types part < 2 ^ 32 }
         ensures part { result ≡ next_part self.now.types part Elements }
