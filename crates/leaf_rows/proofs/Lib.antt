@@ -2,3 +2,4 @@ pub mod Leafed
 pub mod Under
 pub mod Counted
 pub mod Variables
+pub mod Naming

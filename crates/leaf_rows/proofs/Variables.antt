@@ -1,5 +1,5 @@
 -- The rows of variables one behind another, and those under a part of one of them.
-use Rattle.std.proofs.Common.{◌≡◌, ⊎_elim, ℕ, zero, suc, ◌+◌, ◌<◌, ◌≤◌, Bool, true, false, ◌&&◌, cond, eqb, ltb, List, [], ◌∷◌, ◌++◌, length, map, sum_by}
+use Rattle.std.proofs.Common.{◌≡◌, ⊎_elim, ℕ, zero, suc, ◌+◌, ◌<◌, ◌≤◌, ◌^◌, Bool, true, false, ◌&&◌, cond, eqb, List, [], ◌∷◌, ◌++◌, length, map, sum_by}
 use Rattle.std.proofs.Common.{Option, Some, None, refl, sym, ap, subst, ◌∙◌, append_assoc, append-nil, arith}
 use Rattle.std.proofs.lemmas.Bool.{eq-eqb, eqb-true}
 use Rattle.std.proofs.lemmas.List.{length-append, length-map, map-append}
@@ -19,7 +19,7 @@ use Rattle.leaf_rows.specs.declared.part.Part.{Part}
 use Rattle.leaf_rows.specs.declared.leaf.RowRanges.{RowRanges}
 use Rattle.leaf_rows.specs.Leaves.{Leaf, LeafStep, Elements, FieldAt, begins, behind_elements, fields_leaves, leaves_at, leaves_of, range_at, scalar}
 use Rattle.leaf_rows.specs.Rows.{Row, is_structured, rows_of, rows_under, is_under, numbers_where, rows_from, variable_rows}
-use Rattle.leaf_rows.specs.View.{count_at, end_of, field_part, firsts_from, form_part, leaf_counts, next_part, own_type, part_count, part_leaves, part_rows}
+use Rattle.leaf_rows.specs.View.{AreKept, count_at, end_of, field_part, firsts_from, form_part, leaf_counts, next_part, own_type, part_by, part_count, part_leaves, part_rows}
 use Rattle.leaf_rows.specs.View.{ranges_of, rows_count, typed_part, variable_part, variable_ranges}
 use Rattle.leaf_rows.proofs.Leafed.{leafed_before, leaves_of_form, leaves_of_none}
 use Rattle.leaf_rows.proofs.Counted.{array_counted, part_before, part_counted, record_counted, type_counted}
@@ -142,26 +142,11 @@ module _ (types : List Form) where
       ∙ under_variable (suc from) root steps (number + rows_count types variable) variables
 
   -- a variable by the tables
-  pub by_tables : (first : ℕ) (variables : List Variable) (root : ℕ) (variable : Variable) (own : ℕ) → slice_get variables root ≡ Some variable
-      → slice_get (firsts_from types first variables) root ≡ Some own
-      → variable_part types first variables root
-      ≡ cond (is_structured types variable.type_id) (Some (record { first = own; type_id = Some variable.type_id })) None
-  by_tables first [] root variable own is at = absurd (none-some variable is)
-  by_tables first (v ∷ variables) zero variable own is at =
-      ap (λ (x : Variable). cond (is_structured types x.type_id) (Some (record { first = first; type_id = Some x.type_id })) None) (same_Some v variable is)
-      ∙ ap (λ n. cond (is_structured types variable.type_id) (Some (record { first = n; type_id = Some variable.type_id })) None) (same_Some first own at)
-  by_tables first (v ∷ variables) (suc root) variable own is at = by_tables (first + rows_count types v) variables root variable own is at
-
-  pub no_variable : (first : ℕ) (variables : List Variable) (root : ℕ) → slice_get variables root ≡ None → variable_part types first variables root ≡ None
-  no_variable first [] root is = refl
-  no_variable first (v ∷ variables) zero is = absurd (none-some v (sym is))
-  no_variable first (v ∷ variables) (suc root) is = no_variable (first + rows_count types v) variables root is
-
-  pub no_first : (first : ℕ) (variables : List Variable) (root : ℕ) → slice_get (firsts_from types first variables) root ≡ None
-      → variable_part types first variables root ≡ None
-  no_first first [] root is = refl
-  no_first first (v ∷ variables) zero is = absurd (none-some first (sym is))
-  no_first first (v ∷ variables) (suc root) is = no_first (first + rows_count types v) variables root is
+  pub by_tables : (first : ℕ) (variables : List Variable) (root : ℕ)
+      → variable_part types first variables root ≡ part_by types (slice_get variables root) (slice_get (firsts_from types first variables) root)
+  by_tables first [] root = refl
+  by_tables first (variable ∷ variables) zero = refl
+  by_tables first (variable ∷ variables) (suc root) = by_tables (first + rows_count types variable) variables root
 
   -- a variable ends within the rows
   pub variable_ends : (from first : ℕ) (variables : List Variable) (root : ℕ)
@@ -264,7 +249,7 @@ module _ (types : List Form) where
 
   -- ---- a part ends within the whole
 
-  field_ends : (id : TypeId) (first : ℕ) (fields : List FieldForm) (n : ℕ)
+  pub field_ends : (id : TypeId) (first : ℕ) (fields : List FieldForm) (n : ℕ)
       → end_of types (field_part (leaf_counts types) id first fields n)
       ≤ first + sum_by (λ field. part_count (leaf_counts types) (own_type id field.type_id)) fields
   field_ends id first [] n = omega arith
@@ -341,3 +326,16 @@ under_of tree root steps =
 -- the rows of a variable end with those of the program
 pub ends_of : (tree : Tree) (root : ℕ) → end_of tree.types (variable_part tree.types 0 tree.variables.items root) ≤ length (rows_of tree)
 ends_of tree root = let ends = variable_ends tree.types 0 0 tree.variables.items root in omega (arith, ends)
+
+pub ends_kept : (tree : Tree) (counts firsts : List ℕ) (rows : List RowRanges) → AreKept tree counts firsts rows → (root : ℕ)
+    → end_of tree.types (variable_part tree.types 0 tree.variables.items root) < 2 ^ 32
+ends_kept tree counts firsts rows kept root =
+    let ends = ends_of tree root in
+    let same = ap length kept.rows_are ∙ length-map (rows_of tree) (λ row. ranges_of row.leaf) in
+    omega (arith, ends, same, kept.few)
+
+-- a variable is found in the tables
+pub found_kept : (tree : Tree) (counts firsts : List ℕ) (rows : List RowRanges) → AreKept tree counts firsts rows → (root : ℕ)
+    → part_by tree.types (slice_get tree.variables.items root) (slice_get firsts root) ≡ variable_part tree.types 0 tree.variables.items root
+found_kept tree counts firsts rows kept root =
+    ap (λ l. part_by tree.types (slice_get tree.variables.items root) (slice_get l root)) kept.firsts_are ∙ sym (by_tables tree.types 0 tree.variables.items root)

@@ -110,6 +110,15 @@ variable_part types first (variable ∷ variables) zero =
 variable_part types first (variable ∷ variables) (suc root) =
     variable_part types (first + rows_count types variable) variables root
 
+-- the same by what tables have at its number
+abbrev pub part_by : List Form → Option Variable → Option ℕ → Option Part
+part_by types None first = None
+part_by types (Some variable) None = None
+part_by types (Some variable) (Some first) =
+    if is_structured types variable.type_id
+    then Some (record { first = first; type_id = Some variable.type_id })
+    else None
+
 -- a field of a record, the first row of which is given
 abbrev pub field_part : List ℕ → TypeId → ℕ → List FieldForm → ℕ → Option Part
 field_part counts id first [] position = None

@@ -1,10 +1,10 @@
-ghost use Rattle.std.specs.Prelude.{◌≡◌, ◌<◌, ◌^◌, ◌++◌, [], IfOk, OnOk, length};
+ghost use Rattle.std.specs.Prelude.{◌≡◌, ◌<◌, ◌^◌, ◌++◌, [], IfOk, OnOk, length, slice_get};
 ghost use Rattle.typed_tree.specs.declared.tree.Tree.{Tree};
 ghost use Rattle.certificate.specs.Contents.{said_path};
 ghost use Rattle.leaf_rows.specs.Leaves.{Elements, FieldAt};
 ghost use Rattle.leaf_rows.specs.Rows.{index_at, is_structured, leaf_step, part_named, rows_accessed, rows_of, rows_under};
 ghost use Rattle.leaf_rows.specs.Rows.{values_at};
-ghost use Rattle.leaf_rows.specs.View.{AreKept, IsAnswerOf, end_of, next_part, numbers, part_rows};
+ghost use Rattle.leaf_rows.specs.View.{AreKept, IsAnswerOf, end_of, next_part, numbers, part_by, part_rows};
 ghost use Rattle.leaf_rows.specs.View.{variable_part, variable_ranges};
 
 use crate::leaf::{RowRanges, Way, add_leaves, leaf_counts, own_type};
@@ -125,7 +125,7 @@ impl<'a> Rows<'a> {
         ensures { IsAnswerOf self.now path.now.root (part_named self.now (said_path path.now)) result }
     {
         let types = &self.tree.types;
-        let mut type_id = self.tree.variables.get(path.root as usize)?.type_id;
+        let mut type_id = variable_at(&self.tree.variables, path.root)?.type_id;
         let mut part = self.variable(path.root);
         for step in &path.steps {
             match step {
@@ -160,16 +160,11 @@ impl<'a> Rows<'a> {
         ensures part { result ≡ variable_part self.now.types 0 self.now.variables.items root }
         ensures fits { end_of self.now.types result < 2 ^ 32 }
     {
-        let variable = self.tree.variables.get(root as usize)?;
-        let first = *self.firsts.get(root as usize)?;
-        if is_structured(&self.tree.types, variable.type_id) {
-            Some(Part {
-                first,
-                type_id: Some(variable.type_id),
-            })
-        } else {
-            None
-        }
+        variable_part(
+            &self.tree.types,
+            variable_at(&self.tree.variables, root),
+            first_at(&self.firsts, root),
+        )
     }
 
     // What a selector selects.
@@ -243,9 +238,44 @@ fn is_structured(types: &TypeTable, id: TypeId) -> bool
     )
 }
 
+// The variable of a number.
+fn variable_at(variables: &[Variable], root: u32) -> Option<Variable>
+    ensures { result ≡ slice_get variables.now root }
+{
+    variables.get(root as usize).copied()
+}
+
+// Where its rows begin.
+fn first_at(firsts: &[u32], root: u32) -> Option<u32>
+    ensures { result ≡ slice_get firsts.now root }
+{
+    firsts.get(root as usize).copied()
+}
+
+// A variable, if it is structured, by its first row.
+fn variable_part(
+    types: &TypeTable,
+    variable: Option<Variable>,
+    first: Option<u32>,
+) -> Option<Part>
+    ensures { result ≡ part_by types.now variable first }
+{
+    let variable = variable?;
+    let first = first?;
+    if is_structured(types, variable.type_id) {
+        Some(Part {
+            first,
+            type_id: Some(variable.type_id),
+        })
+    } else {
+        None
+    }
+}
+
 // The number of a row behind so many, if 32 bits hold it: more fit no memory.
 fn row_number(rows: usize) -> Result<u32, AllocError>
-    ensures { IfOk result (λ number. number ≡ rows) }
+    ensures number { IfOk result (λ number. number ≡ rows) }
+    ensures few { OnOk result (rows < 2 ^ 32) }
 {
     if rows > u32::MAX as usize {
         return Err(AllocError);
