@@ -3,7 +3,7 @@
 -- what that means for a run.
 use Rattle.std.specs.Prelude.{ℕ, ℤ, pos, neg_ℤ, ◌+ℤ◌, Bool, true, false, not, ◌&&◌, ◌||◌, List, [], ◌∷◌, ◌++◌, Option}
 use Rattle.std.specs.Prelude.{Some, None, if◌then◌else◌, filter, map, nat_eq, replicate, slice_index_or, slice_set}
-use Rattle.std.specs.List.{filter_map, list_all, list_any}
+use Rattle.std.specs.List.{filter_map, list_any}
 use Rattle.std.specs.Ordering.{int_eq}
 use Rattle.domain.specs.Interval.{Interval, common, is_included, joined, vacant}
 use Rattle.domain.specs.Facts.{Bound, Number, Plus}
@@ -228,7 +228,7 @@ with_element state row index known =
     if gives_stretch state known (at_index row index) then known
     else record known {
       stretches = with_stretches (or_alone row index (filter_map (longer_in state row index) known.stretches))
-                  (filter (λ stretch. is_none (longer_in state row index stretch)) known.stretches);
+          (filter (λ stretch. is_none (longer_in state row index stretch)) known.stretches);
     }
 
 abbrev pub with_some_element : variables.State → ℕ → Option Bound → Components → Components

@@ -1,6 +1,6 @@
 -- What a checker knows at a point of a program: of the variables, and of the components of those that are structured
 -- (ISO 7185:1990, 6.5.1). It does not say how that comes about, nor what it means for a run.
-use Rattle.std.specs.Prelude.{ℕ, ℤ, Bool, true, false, ◌||◌, List, [], ◌∷◌, Option, Some, None, if◌then◌else◌, filter}
+use Rattle.std.specs.Prelude.{ℕ, Bool, false, ◌||◌, List, Option, Some, None, if◌then◌else◌, filter}
 use Rattle.std.specs.List.{list_all}
 use Rattle.types.specs.declared.form.OrdinalRange.{OrdinalRange}
 use Rattle.domain.specs.Interval.{Interval}
@@ -95,7 +95,7 @@ abbrev pub joined_components : State → State → Components
 joined_components one other = record {
   rows = components.joined_rows one.components.rows other.components.rows;
   stretches = with_stretches (given_stretches one other.components.stretches)
-              (given_stretches other one.components.stretches);
+      (given_stretches other one.components.stretches);
 }
 
 -- what is known behind two ways that meet; one that no run takes adds nothing
