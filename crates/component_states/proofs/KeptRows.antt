@@ -1,6 +1,6 @@
 -- Rows of components in lists.
-use Rattle.std.proofs.Common.{arith, ◌≡◌, ◌∙◌, sym, ap, ap₂, refl, ℕ, zero, suc, ◌+◌, ◌<◌, ◌≤◌, max, List, [], ◌∷◌, ◌++◌, length, map, replicate, set, get_or, drop}
-use Rattle.std.proofs.Common.{append_assoc, append-nil}
+use Rattle.std.proofs.Common.{arith, ◌≡◌, ◌∙◌, sym, ap, ap₂, refl, ℕ, zero, suc, ◌+◌, ◌<◌, ◌≤◌, max, List, [], ◌∷◌, ◌++◌, length}
+use Rattle.std.proofs.Common.{append_assoc, append-nil, map, replicate, set, get_or, drop}
 use Rattle.std.proofs.lemmas.List.{length-map, map-append, drop_all}
 use Rattle.component_states.specs.declared.row_list.Row.{Row}
 use Rattle.component_states.specs.Components.{RowState, joined_row, joined_rows, no_row}

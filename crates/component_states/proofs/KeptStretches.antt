@@ -57,8 +57,8 @@ pub record ChangedUpTo (change : Stretch → Option Stretch) (old stretches : Li
 pub changed-none : (change : Stretch → Option Stretch) (old : List KeptStretch) → ChangedUpTo change old old 0 0
 changed-none change old = record { count = refl; fewer = omega arith; done = refl; left = refl }
 
-module _ (change : Stretch → Option Stretch) (old stretches : List KeptStretch) (kept i : ℕ) (own : KeptStretch) (so_far : ChangedUpTo change old stretches kept i)
-    (inside : i < length stretches) (own_is : get_or stretches i own ≡ own) where
+module _ (change : Stretch → Option Stretch) (old stretches : List KeptStretch) (kept i : ℕ) (own : KeptStretch)
+    (so_far : ChangedUpTo change old stretches kept i) (inside : i < length stretches) (own_is : get_or stretches i own ≡ own) where
   rest-are : own ∷ drop (suc i) stretches ≡ get_or old i own ∷ drop (suc i) old
   rest-are =
       ap (λ (o : KeptStretch). o ∷ drop (suc i) stretches) (sym own_is) ∙ sym (drop-cons stretches i own inside) ∙ so_far.left
@@ -108,8 +108,8 @@ module _ (change : Stretch → Option Stretch) (old stretches : List KeptStretch
     left = drop-set-lt (i + 1) stretches kept stretch (omega (arith, so_far.fewer)) ∙ later;
   }
 
-pub changed-next : (change : Stretch → Option Stretch) (old stretches new : List KeptStretch) (kept count i : ℕ) (own : KeptStretch) (stretch : Option KeptStretch)
-    → ChangedUpTo change old stretches kept i → i < length stretches → get_or stretches i own ≡ own → said_some stretch ≡ change (said_stretch own)
+pub changed-next : (change : Stretch → Option Stretch) (old stretches new : List KeptStretch) (kept count i : ℕ) (own : KeptStretch)
+    (stretch : Option KeptStretch) → ChangedUpTo change old stretches kept i → i < length stretches → get_or stretches i own ≡ own → said_some stretch ≡ change (said_stretch own)
     → IsKept stretch stretches kept new count → ChangedUpTo change old new count (i + 1)
 changed-next change old stretches new kept count i own None so_far inside own_is is (new_is, count_is) =
     subst (λ (k : ℕ). ChangedUpTo change old new k (i + 1)) (sym count_is)

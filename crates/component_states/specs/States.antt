@@ -9,8 +9,8 @@ use Rattle.abstract_state.specs.State as variables
 use Rattle.abstract_state.specs.State.{Dead, Live}
 use Rattle.component_states.specs.Components as components
 use Rattle.component_states.specs.Components.{ComponentFact, Components, Defined, Index, Reach, Stretch, Stretched}
-use Rattle.component_states.specs.Components.{Entire, At, Inside, at_index, between, bound_with, gives_stretch, no_values}
-use Rattle.component_states.specs.Components.{with_stretches}
+use Rattle.component_states.specs.Components.{Entire, At, Inside, at_index, between, bound_with, gives_stretch}
+use Rattle.component_states.specs.Components.{no_values, with_stretches}
 
 -- what is known of variables, and what of components
 pub record State : Type 0 where

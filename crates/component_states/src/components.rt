@@ -1,9 +1,11 @@
-ghost use Rattle.std.specs.Prelude.{◌≡◌, IfOk, filter, map};
+ghost use Rattle.std.specs.Prelude.{◌≡◌, IfOk, filter, map, slice_index_or};
 ghost use Rattle.domain.specs.Facts.{said_bound};
+ghost use Rattle.domain.specs.Interval.{vacant};
 ghost use Rattle.abstract_state.specs.View.{said_form, viewed};
-ghost use Rattle.component_states.specs.Components.{all_changed, changed, gives, gives_stretch, no_values, replaced};
-ghost use Rattle.component_states.specs.Components.{row_at, stored, with_claim, with_claims, with_defined, with_element};
-ghost use Rattle.component_states.specs.Components.{with_joined, with_range, with_row, with_some_element};
+ghost use Rattle.component_states.specs.Components.{all_changed, changed, gives, gives_stretch, head, no_values};
+ghost use Rattle.component_states.specs.Components.{replaced, row_at, stored, with_claim, with_claims, with_defined};
+ghost use Rattle.component_states.specs.Components.{with_element, with_joined, with_range, with_row, with_some_element};
+ghost use Rattle.component_states.specs.Components.{with_touched};
 ghost use Rattle.component_states.specs.View.{said_component, said_reach, said_row, said_stretch, viewed_components};
 
 use crate::facts::{ComponentFact, Reach, Stretch};
@@ -54,6 +56,16 @@ impl Components {
     {
         let is_defined = self.row(row).is_defined;
         self.set_row(row, Row { range, is_defined });
+    }
+
+    /// Each of several rows may have other values of its range; these stand by the numbers of rows.
+    pub(crate) fn touch_all(&mut self, limits: &[Interval], rows: &[u32])
+        ensures { viewed_components self.new ≡ with_touched
+            (λ row. slice_index_or limits.now row vacant) rows.now (viewed_components self.old) }
+    {
+        for row in rows {
+            self.set_range(*row, limit(limits, *row));
+        }
     }
 
     /// Each component of a row is defined from here on.
@@ -128,6 +140,22 @@ impl Components {
             self.claim(fact)?;
         }
         Ok(())
+    }
+
+    /// What is known at the head of a loop: what any number of turns leaves, and the claims of a certificate.
+    pub(crate) fn head(
+        &mut self,
+        limits: &[Interval],
+        roots: &[u32],
+        rows: &[u32],
+        claims: &[ComponentFact],
+    ) -> Result<(), AllocError>
+        ensures { IfOk result (λ _. viewed_components self.new ≡ head (λ row. slice_index_or limits.now row vacant)
+            roots.now rows.now (map said_component claims.now) (viewed_components self.old)) }
+    {
+        self.change_all(roots);
+        self.touch_all(limits, rows);
+        self.claim_all(claims)
     }
 
     /// Whether a fact is given, by what is known of variables.
@@ -255,5 +283,15 @@ impl Components {
         stretches::insert_all(&mut held, &more)?;
         self.stretches = held;
         Ok(())
+    }
+}
+
+/// The limits of a row.
+fn limit(limits: &[Interval], row: u32) -> Interval
+    ensures { result ≡ slice_index_or limits.now row vacant }
+{
+    match limits.get(row as usize) {
+        Some(range) => *range,
+        None => Interval::EMPTY,
     }
 }

@@ -4,6 +4,7 @@
 mod bound_rules;
 mod components;
 mod facts;
+pub mod laws;
 mod row_list;
 mod state;
 mod stretches;

@@ -1,9 +1,10 @@
-ghost use Rattle.std.specs.Prelude.{◌≡◌, IfOk, None, map};
+ghost use Rattle.std.specs.Prelude.{◌≡◌, IfOk, None, map, slice_index_or};
+ghost use Rattle.domain.specs.Interval.{vacant};
 ghost use Rattle.abstract_state.specs.Changes.{assigned};
 ghost use Rattle.abstract_state.specs.Loops.{replaced as replaced_variable, with_undefined};
 ghost use Rattle.abstract_state.specs.View.{said_form};
-ghost use Rattle.component_states.specs.Components.{all_changed, changed, replaced, row_at, stored, with_claim};
-ghost use Rattle.component_states.specs.Components.{with_claims, with_defined, with_range};
+ghost use Rattle.component_states.specs.Components.{all_changed, changed, head, replaced, row_at, stored, with_claim};
+ghost use Rattle.component_states.specs.Components.{with_claims, with_defined, with_range, with_touched};
 ghost use Rattle.component_states.specs.States.{all_of_row, dead, gives_component, gives_components, gives_form};
 ghost use Rattle.component_states.specs.States.{gives_index, gives_reached, gives_some, is_dead, joined_components};
 ghost use Rattle.component_states.specs.States.{joined_states, over_bound, over_change, over_components, range_stretch};
@@ -116,6 +117,31 @@ impl State {
             (λ _. viewed self.new ≡ over_components (λ _. replaced root (said_form own)) (viewed self.old)) }
     {
         self.components.replace(alloc, root, own)
+    }
+
+    /// What is known of components at the head of a loop: what any number of turns leaves, and the claims of a
+    /// certificate. Turns give touched variables and rows other values, those of rows within the limits, which stand by
+    /// the numbers of rows.
+    pub fn head(
+        &mut self,
+        limits: &[Interval],
+        roots: &[u32],
+        rows: &[u32],
+        claims: &[ComponentFact],
+    ) -> Result<(), AllocError>
+        ensures { IfOk result (λ _. viewed self.new ≡ over_components
+            (λ _. head (λ row. slice_index_or limits.now row vacant) roots.now rows.now (map said_component claims.now))
+            (viewed self.old)) }
+    {
+        self.components.head(limits, roots, rows, claims)
+    }
+
+    /// Each of several rows may have other values within its limits, which stand by the numbers of rows.
+    pub fn touch_rows(&mut self, limits: &[Interval], rows: &[u32])
+        ensures { viewed self.new ≡ over_components
+            (λ _. with_touched (λ row. slice_index_or limits.now row vacant) rows.now) (viewed self.old) }
+    {
+        self.components.touch_all(limits, rows);
     }
 
     /// What is left of what is known of components where each of several variables may have another value.

@@ -10,5 +10,6 @@ loop-i-preserved c =
     let stretches = c.args.stretches.now in
     let i = c.loop-i.i in
     let stretch = get_or stretches i no_stretch in
-    become-more (with_bounds (bound_in_place c.args.root (said_form c.args.own))) stretches i stretch c.in_place-stretch.result c.loop-i.more.items c.push.new.stretches.items
+    become-more (with_bounds (bound_in_place c.args.root (said_form c.args.own))) stretches i stretch c.in_place-stretch.result
+    c.loop-i.more.items c.push.new.stretches.items
     c.loop-i-test.true (get_or_default stretches i stretch no_stretch c.loop-i-test.true) c.in_place-stretch.ensures c.loop-i.invariant c.in_ok-push.ensures

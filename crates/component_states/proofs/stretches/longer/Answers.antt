@@ -11,5 +11,6 @@ loop-i-preserved c =
     let stretches = c.args.stretches.now in
     let i = c.loop-i.i in
     let stretch = get_or stretches i no_stretch in
-    become-more (longer_in (viewed c.args.state.now) c.args.row (said_bound c.args.index)) stretches i stretch c.longer_in-stretch.result c.loop-i.more.items c.push.new.stretches.items
+    become-more (longer_in (viewed c.args.state.now) c.args.row (said_bound c.args.index)) stretches i stretch c.longer_in-stretch.result
+    c.loop-i.more.items c.push.new.stretches.items
     c.loop-i-test.true (get_or_default stretches i stretch no_stretch c.loop-i-test.true) c.longer_in-stretch.ensures c.loop-i.invariant c.in_ok-push.ensures

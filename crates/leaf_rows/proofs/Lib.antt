@@ -1,0 +1,2 @@
+pub mod Leafed
+pub mod Under
