@@ -109,7 +109,8 @@ module _ (change : Stretch → Option Stretch) (old stretches : List KeptStretch
   }
 
 pub changed-next : (change : Stretch → Option Stretch) (old stretches new : List KeptStretch) (kept count i : ℕ) (own : KeptStretch)
-    (stretch : Option KeptStretch) → ChangedUpTo change old stretches kept i → i < length stretches → get_or stretches i own ≡ own → said_some stretch ≡ change (said_stretch own)
+    (stretch : Option KeptStretch) → ChangedUpTo change old stretches kept i → i < length stretches → get_or stretches i own ≡ own
+    → said_some stretch ≡ change (said_stretch own)
     → IsKept stretch stretches kept new count → ChangedUpTo change old new count (i + 1)
 changed-next change old stretches new kept count i own None so_far inside own_is is (new_is, count_is) =
     subst (λ (k : ℕ). ChangedUpTo change old new k (i + 1)) (sym count_is)
