@@ -25,12 +25,11 @@ use Rattle.typed_tree.specs.Entries.{entries_of_written, index_entries}
 use Rattle.abstract_state.specs.declared.known.Known.{Known}
 use Rattle.abstract_state.specs.declared.known.Known.TheVariants.{Ordinal}
 use Rattle.expression_checker.specs.Visits.{Visits, all_counted, counted}
-use Rattle.component_states.specs.Components.{Index, Reach, Entire}
+use Rattle.component_states.specs.Components.{Reach, Entire}
 use Rattle.component_states.specs.States.{State}
-use Rattle.types.specs.declared.form.TypeId.{TypeId}
 use Rattle.abstract_state.specs.Forms.{bound_of}
 use Rattle.expression_checker.specs.Walk.{Context, Joint, Linked, Piece, Walking, Combination, numbers_of, operated, combined, width_test, piece_step, link_step, piece_of, joint_of, value_walk}
-use Rattle.expression_checker.specs.Walk.{access_walk, behind_next, deeper, index_test, index_pieces, indexes_walk, link_walk, next_test, range_in, value_use, whole_use, whole_walk}
+use Rattle.expression_checker.specs.Walk.{access_walk, behind_next, deeper, index_test, index_pieces, indexes_walk, link_walk, next_test, value_use, whole_walk}
 use Rattle.expression_checker.specs.Walk.{width_walk}
 use Rattle.expression_checker.specs.Walk.{written_walk, parameter_walk, in_turn}
 

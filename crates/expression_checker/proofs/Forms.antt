@@ -6,8 +6,8 @@ use Rattle.typed_tree.specs.declared.tree.Expr.TheOpen.{Expr-F, Link-F}
 use Rattle.typed_tree.specs.declared.tree.Expr.TheOpen.Expr-F.{Constant, Variable, Monadic as MonadicOf, Chain, Compare}
 use Rattle.typed_tree.specs.declared.tree.Expr.TheFolds.{map-Expr, map-Link, fold-roll-Expr, fold-roll-Link, ind-Expr}
 use Rattle.abstract_state.specs.Conditions.{Condition, Conjunct, condition_of, condition_step, conjunct_of, link_condition, operand_of}
-use Rattle.abstract_state.specs.Forms.{Form, Operand, chain_form, sign_form}
-use Rattle.expression_checker.specs.Walk.{Joint, Piece, form_step, joint_of, link_step, piece_of, piece_step}
+use Rattle.abstract_state.specs.Forms.{chain_form, sign_form}
+use Rattle.expression_checker.specs.Walk.{Joint, Piece, joint_of, link_step, piece_of, piece_step}
 
 abbrev FormedExpr : Type 0
 FormedExpr = (e : Expr) × ((piece_of e).form ≡ (condition_of e).form)
@@ -25,7 +25,7 @@ operands-same (link ∷ links) =
 form-parts : (y : Expr-F FormedExpr FormedLink)
     → (piece_step (map-Expr Expr Link Piece Joint piece_of joint_of (map-Expr FormedExpr FormedLink Expr Link (λ e. e.0) (λ l. l.0) y))).form
     ≡ (condition_step
-      (map-Expr Expr Link Condition Conjunct condition_of conjunct_of (map-Expr FormedExpr FormedLink Expr Link (λ e. e.0) (λ l. l.0) y))).form
+    (map-Expr Expr Link Condition Conjunct condition_of conjunct_of (map-Expr FormedExpr FormedLink Expr Link (λ e. e.0) (λ l. l.0) y))).form
 form-parts (Constant number value) = refl
 form-parts (Variable access indexes defined) = refl
 form-parts (MonadicOf number operation operand) = ap (λ form. sign_form form operation) operand.value.1
@@ -37,7 +37,7 @@ form-parts (Compare number relation left left_indexes right right_indexes) = ref
 link-parts : (y : Link-F FormedExpr FormedLink)
     → (link_step (map-Link Expr Link Piece Joint piece_of joint_of (map-Link FormedExpr FormedLink Expr Link (λ e. e.0) (λ l. l.0) y))).operand
     ≡ operand_of (link_condition
-      (map-Link Expr Link Condition Conjunct condition_of conjunct_of (map-Link FormedExpr FormedLink Expr Link (λ e. e.0) (λ l. l.0) y)))
+    (map-Link Expr Link Condition Conjunct condition_of conjunct_of (map-Link FormedExpr FormedLink Expr Link (λ e. e.0) (λ l. l.0) y)))
 link-parts y = ap (λ form. record { operation = y.operation; form = form }) y.operand.1
 
 -- by induction on the expression

@@ -1,11 +1,5 @@
 pub mod Entered
 pub mod Forms
 pub mod Held
-pub mod Keeping
 pub mod RowUses
-pub mod Sound
-pub mod SoundAccesses
-pub mod SoundExpressions
-pub mod SoundOperations
-pub mod SoundRows
 pub mod Steps

@@ -12,7 +12,6 @@ use Rattle.typed_tree.specs.declared.tree.Expr.{Expr}
 use Rattle.typed_tree.specs.declared.tree.Link.{Link}
 use Rattle.typed_tree.specs.declared.tree.Expr.TheVariants as expr
 use Rattle.typed_tree.specs.declared.tree.Expr.TheFolds.{the_lemmas}
-use Rattle.typed_tree.specs.declared.tree.Tree.{Tree}
 use Rattle.std.specs.declared.boxed.Box.{Box}
 use Rattle.std.specs.declared.vec.Vec.{Vec}
 use Rattle.std.specs.declared.alloc.Global.{Global}
@@ -30,7 +29,6 @@ use Rattle.component_states.specs.View.{viewed}
 use Rattle.component_states.specs.Components.{Index, Reach}
 use Rattle.component_states.specs.States.{State, over_variables}
 use Rattle.domain.specs.Interval.{Interval, between}
-use Rattle.domain.specs.Facts.{Bound}
 use Rattle.std.proofs.lemmas.Int.{ints}
 use Rattle.expression_checker.specs.Visits.{Visits, all_counted, counted}
 use Rattle.expression_checker.specs.Walk.{Breach, Context, Linked, Walked, Walking, IsBreachOf, use_of, tested, positive, within, width_test, fitting, ◌>>=◌}
@@ -140,7 +138,12 @@ module _ {A B : Type 0} (context : Context) (first : Walking A) (next : A → Wa
 -- a piece that only gives its value
 pub flows-give : {A : Type 0} (context : Context) (value : A) (old : Flow) (visits : Visits) → Flows context (give value) old visits old visits value
 flows-give context value old visits = record {
-  rows_are = refl; value_is = refl; state_is = refl; open_is = sym (append-nil old.open_ids.items); visits_are = refl; unbroken = refl
+  rows_are = refl;
+  value_is = refl;
+  state_is = refl;
+  open_is = sym (append-nil old.open_ids.items);
+  visits_are = refl;
+  unbroken = refl;
 }
 
 -- the first breach of a piece is that of it and the next
@@ -366,7 +369,7 @@ index-step selectors behind items i index reach next fits known range old valued
     one two three =
     let rest = λ (left : List Selector). behind_walk left index (drop (i + 1) items) reach in
     let deep : next ≡ deeper (index_at index range) reach =
-        next_is ∙ ap (λ form. deeper (record { form = form; range = range }) reach) (sym (ap bound_of (form-same index))) in
+    next_is ∙ ap (λ form. deeper (record { form = form; range = range }) reach) (sym (ap bound_of (form-same index))) in
     goes-as (indexes_walk selectors (index_pieces (drop i items)) reach) (value_walk index >>= λ known. (index_test fits known >>= rest behind)) old new
     before after result
     (index-cut selectors items i index reach inside is

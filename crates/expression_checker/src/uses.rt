@@ -30,7 +30,7 @@ impl<'a> Flow<'a> {
     ) -> Result<Known, CheckFault>
         ensures { (visits : Visits)
             → Goes (value_use access.now.root access.now.selectors.items (said_reach reach.now) defined)
-                self.old visits result self.new visits }
+            self.old visits result self.new visits }
     {
         if access.selectors.is_empty() {
             self.entire(access.root, defined)
@@ -78,7 +78,7 @@ impl<'a> Flow<'a> {
     ) -> Result<Vec<Interval>, CheckFault>
         ensures { (visits : Visits)
             → Goes (whole_use type_id access.now.root access.now.selectors.items (said_reach reach.now) defined)
-                self.old visits (seen said_ranges result) self.new visits }
+            self.old visits (seen said_ranges result) self.new visits }
     {
         let rows = self.rows.accessed(access.root, &access.selectors);
         let ranges = ranges_of(*self.open_ids.allocator(), &self.state, rows)?;
@@ -101,10 +101,7 @@ impl<'a> Flow<'a> {
             ≡ is_covered self.now.rows.now (viewed self.now.state) (said_reach reach.now) (numbers span) }
     {
         for row in span.first..span.end() {
-            if !self
-                .state
-                .gives_reached(*reach, self.rows.index(row), row)
-            {
+            if !self.state.gives_reached(*reach, self.rows.index(row), row) {
                 return false;
             }
         }

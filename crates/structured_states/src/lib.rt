@@ -1,8 +1,2 @@
-//! What the checker knows in structured statements: of the loops round a point, of a control
-//! variable on its way, and in the arms of a case.
+//! What the checker knows in structured statements.
 #![tactic(auto)]
-
-pub mod cases;
-mod kept_claims;
-pub mod rounds;
-pub mod ways;

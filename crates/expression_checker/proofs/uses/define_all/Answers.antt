@@ -1,4 +1,4 @@
-use Rattle.std.proofs.Common.{◌≡◌, ◌∙◌, sym, ap, ◌+◌}
+use Rattle.std.proofs.Common.{◌∙◌, sym, ap, ◌+◌}
 use Rattle.component_states.specs.View.{viewed}
 use Rattle.expression_checker.specs.Walk.{all_defined}
 use Rattle.expression_checker.proofs.RowUses.{from-first, rows-cut, rows-past, rows_from}

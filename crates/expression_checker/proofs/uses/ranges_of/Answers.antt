@@ -1,4 +1,4 @@
-use Rattle.std.proofs.Common.{◌≡◌, ◌∙◌, sym, ap, ◌+◌, List, [], ◌∷◌, ◌++◌, append_assoc, append-nil}
+use Rattle.std.proofs.Common.{◌∙◌, sym, ap, ◌+◌, [], ◌∷◌, ◌++◌, append_assoc, append-nil}
 use Rattle.domain.specs.Interval.{Interval}
 use Rattle.component_states.specs.Components.{row_at}
 use Rattle.component_states.specs.View.{viewed}

@@ -1,4 +1,4 @@
-use Rattle.std.proofs.Common.{◌≡◌, ◌∙◌, sym, ap, ℕ, ◌+◌, Bool, true, false, List}
+use Rattle.std.proofs.Common.{◌∙◌, sym, ap, ◌+◌, true, false}
 use Rattle.component_states.specs.States.{gives_reached}
 use Rattle.component_states.specs.View.{said_reach, viewed}
 use Rattle.expression_checker.specs.Walk.{is_covered}

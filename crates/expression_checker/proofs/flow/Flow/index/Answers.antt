@@ -1,5 +1,4 @@
-use Rattle.std.proofs.Common.{ap, refl, sym, ◌∙◌, Ok}
-use Rattle.abstract_state.specs.declared.known.Known.TheVariants.{Ordinal}
+use Rattle.std.proofs.Common.{ap, sym, ◌∙◌, Ok}
 use Rattle.expression_checker.specs.Walk.{fitting, give, index_test, range_in}
 use Rattle.expression_checker.proofs.Steps.{goes-as, goes-give, range-in, stopped-as, tested-goes}
 use Rattle.expression_checker.proofs.flow.Flow.index.Goals as goal
