@@ -15,6 +15,9 @@ use Rattle.types.specs.declared.form.Step.{Step}
 use Rattle.types.specs.declared.form.Step.TheVariants as step
 use Rattle.types.specs.Components.{components_of}
 use Rattle.types.specs.Types.{is_ordinal, is_same}
+use Rattle.types.proofs.Scalars.{ordinal_component}
+use Rattle.std.specs.declared.alloc.Global.{Global}
+use Rattle.std.specs.declared.vec.Vec.{Vec}
 use Rattle.typed_tree.specs.declared.tree.Access.{Access}
 use Rattle.typed_tree.specs.declared.tree.RangeTest.{RangeTest}
 use Rattle.typed_tree.specs.declared.tree.Selector.{Selector}
@@ -24,7 +27,7 @@ use Rattle.typed_tree.specs.declared.tree.Whole.{Whole}
 use Rattle.typed_tree.specs.declared.tree.Whole.TheVariants.{Text, Variable as VariableOf}
 use Rattle.typed_tree.specs.Accesses as accesses
 use Rattle.typed_tree.specs.Accesses.{index_count, is_type, led}
-use Rattle.typed_tree.specs.WellFormed.{is_character, is_value_of, is_well_formed_selector, is_well_formed_whole, is_whole, leads_to}
+use Rattle.typed_tree.specs.WellFormed.{are_characters, is_character, is_value_of, is_well_formed_selector, is_well_formed_whole, is_whole, leads_to}
 use Rattle.typed_tree.specs.WellFormed.{leads_to_whole}
 use Rattle.domain.specs.Interval.{HasMember}
 use Rattle.meaning.specs.declared.outcome.Ending.TheVariants.{Error}
@@ -57,7 +60,7 @@ use Rattle.expression_checker.specs.Walk.{Context, Piece, Walking, access_walk, 
 use Rattle.expression_checker.specs.Walk.{range_in, ranges_of, text_range, value_use, whole_walk, with_used}
 use Rattle.expression_checker.proofs.Keeping.{InTypes, Keeps, keeps-itself}
 use Rattle.expression_checker.proofs.Sound.{World, variables_in, Any_value, Good, IsForetold, IsPartOf, Leaves, Sound, SoundFrom, Stands, alive, declared_in, errs-here}
-use Rattle.expression_checker.proofs.Sound.{false-true, good-give, good-then, good-weaker, nothing-new, open-here, sound-enter, sound-give, sound-given, sound-here}
+use Rattle.expression_checker.proofs.Sound.{false-true, good-give, good-then, good-weaker, nothing-new, open-here, sound-enter, sound-give, sound-given, sound-anywhere, sound-here}
 use Rattle.expression_checker.proofs.Sound.{nonempty-stands, parts_in, sound-named, sound-still, sound-then, sound-use, stands-as, types_in}
 use Rattle.expression_checker.proofs.SoundOperations.{IsKnownOf, fitting-sound}
 use Rattle.expression_checker.proofs.SoundRows.{AreIntegers, IsIndexOn, IsReachedBy, IsWhole, Leads, LieIn, Matches, RowsAre, covered-row, first-behind}
@@ -555,3 +558,106 @@ module _ (world : World) (env : Environment) (shows : Shows (variables_in world)
           kept = subst (λ (store : Store). Keeps env context.rounds s.store store) (sym read.0) (keeps-itself env context.rounds s.store);
         })
         (all-good place place_is s.store stands.typed components s refl (whole-open context state s.store reached part stands))
+
+  -- ---- what is accessed
+
+  abbrev access_type : ℕ → List Selector → Option TypeId
+  access_type root selectors = accesses.accessed (declared_in world) (types_in world) root selectors
+
+  -- the use of a component
+  component-sound : (root : ℕ) (selectors : List Selector) (id : TypeId) → access_type root selectors ≡ Some id → is_ordinal (types_in world) id ≡ true
+      → (selectors ≡ [] → ⊥) → (site : ℕ) → site < world.sites → (store : Store) (reach : Reach) (place : Option Place)
+      → Leads env root selectors store reach place
+      → SoundFrom world env store IsKnown (fetch place site) (walk.component_use root selectors reach site)
+  component-sound root selectors id of_type ordinal some site below store reach place leads context state s same unbroken walked stands =
+      let walking = walk.component_use root selectors reach site in
+      let scalar = ordinal_component (types_in world) id ordinal in
+      let reached : IsReachedBy env s.store selectors leads.way reach =
+      subst (λ (x : Store). IsReachedBy env x selectors leads.way reach) (sym same) leads.reached in
+      let place_is : part place [] ≡ place = part-none place in
+      in-program world context (λ (c : Context). IsPartOf world (walking c state)
+      → Good world (IsForetold world env IsKnown context (walking c state) s.store) s.visited (fetch place site s)) stands.tree_is
+      (λ inside_walked.
+      subst (λ (found : Option Value). Good world (IsForetold world env IsKnown context (walking (inside context) state) s.store) s.visited
+      (effect.fetched found site s)) (sym (held-at s.store root leads.way [] place leads.place_is) ∙ ap (held s.store) place_is)
+      (rows-good root selectors id (rows-are world.tree root selectors id of_type) site below reach leads.way leads.matches scalar
+      (λ none. absurd (some none)) context state s reached inside_walked stands (value_at (moment env s.store) root (leads.way ++ [])) refl)) walked
+
+  some-selector : (selector : Selector) (selectors : List Selector) → selector ∷ selectors ≡ [] → ⊥
+  some-selector selector selectors is = cc
+
+  -- the value of what is accessed
+  pub used-sound : (root : ℕ) (selectors : List Selector) (site : ℕ) → is_type (is_ordinal (types_in world)) (access_type root selectors) ≡ true
+      → root < variables_in world → site < world.sites → (store : Store) (reach : Reach) (place : Option Place) → Leads env root selectors store reach place
+      → SoundFrom world env store IsKnown (fetch place site) (value_use root selectors reach site)
+  used-sound root [] site typed within below store reach place leads =
+      let entire : place ≡ env.variables root = leads.place_is ∙ ap (part (env.variables root)) (no-way leads.way leads.matches)
+      ∙ part-none (env.variables root) in
+      subst (λ (p : Option Place). SoundFrom world env store IsKnown (fetch p site) (walk.use_of root site)) (sym entire)
+      (sound-here world env store IsKnown (fetch (env.variables root) site) (walk.use_of root site) (sound-use world env shows root site within below))
+  used-sound root (selector ∷ selectors) site typed within below store reach place leads =
+      let id = type-of (is_ordinal (types_in world)) (access_type root (selector ∷ selectors)) typed in
+      component-sound root (selector ∷ selectors) id.0 id.1 id.2 (some-selector selector selectors) site below store reach place leads
+
+  -- the components of a whole value
+  components-sound : (root : ℕ) (selectors : List Selector) (id : TypeId) → access_type root selectors ≡ Some id → (site : ℕ) → site < world.sites
+      → (value : Whole) → ((ranges : List Interval) (numbers : List ℤ) → AreIntegers numbers → length numbers ≡ length (components_of (types_in world) id)
+      → LieIn (types_in world) id ranges numbers → IsWhole (types_in world) value ranges numbers)
+      → (store : Store) (reach : Reach) (place : Option Place) → Leads env root selectors store reach place
+      → SoundFrom world env store (IsWhole (types_in world) value) (fetch_all place (components_of env.types id) site)
+      (walk.whole_use id root selectors reach site)
+  components-sound root selectors id of_type site below value so store reach place leads context state s same unbroken part stands =
+      let R = IsWhole (types_in world) value in
+      let walking = walk.whole_use id root selectors reach site in
+      let reached : IsReachedBy env s.store selectors leads.way reach =
+      subst (λ (x : Store). IsReachedBy env x selectors leads.way reach) (sym same) leads.reached in
+      subst (λ (types : List Form). Good world (IsForetold world env R context (walking context state) s.store) s.visited
+      (fetch_all place (components_of types id) site s)) (sym stands.types_are)
+      (in-program world context (λ (c : Context). IsPartOf world (walking c state)
+      → Good world (IsForetold world env R context (walking c state) s.store) s.visited (fetch_all place (components_of (types_in world) id) site s))
+      stands.tree_is
+      (λ part. whole-good root selectors id (rows-are world.tree root selectors id of_type) site below reach leads.way leads.matches value so place
+      leads.place_is context state s reached part stands) part)
+
+  -- a whole value: a string, or what is accessed
+  pub string-sound : (number : ℕ) (text : Vec ℕ Global) → are_characters text.items ≡ true
+      → Sound world env (IsWhole (types_in world) (Text number text)) (whole_of (Text number text) [] env) (whole_walk (Text number text) [])
+  string-sound number text well =
+      let parts = and_parts (nat_le (length text.items) 65536) (list_all is_character text.items) well in
+      let R = IsWhole (types_in world) (Text number text) in
+      sound-then world env Any_value R (effect.enter number env) (λ done. effect.give (map pos text.items)) (walk.enter number)
+      (λ done. walk.give (text_range text.items ∷ [])) (sound-enter world env shows number)
+      (λ b a tie. sound-give world env R (map pos text.items) (text_range text.items ∷ [])
+      (record { integers = characters-integers text.items parts.1; told = (refl, refl, text-in text.items) }))
+
+  pub stored-sound : (access : Access) (type_id : TypeId) (cells defined : ℕ) (evaluations : List Evaluation) (pieces : List Piece)
+      → AllSound world env evaluations pieces → Leaves (accessed access evaluations env)
+      → is_well_formed_whole (declared_in world) (types_in world) world.sites (VariableOf access type_id cells defined) (length evaluations) ≡ true
+      → Sound world env (IsWhole (types_in world) (VariableOf access type_id cells defined))
+      (whole_of (VariableOf access type_id cells defined) evaluations env) (whole_walk (VariableOf access type_id cells defined) pieces)
+  stored-sound access type_id cells defined evaluations pieces all leaves well =
+      let value : Whole = VariableOf access type_id cells defined in
+      let selectors = access.selectors.items in
+      let n = length evaluations in
+      let leads_there = leads_to_whole (declared_in world) (types_in world) world.sites type_id access.root selectors n in
+      let sized = is_value_of (declared_in world) (types_in world) world.sites type_id cells in
+      let parts = and_parts leads_there (sized && nat_lt defined world.sites) well in
+      let site = and_parts sized (nat_lt defined world.sites) parts.1 in
+      let wanted = λ (id : TypeId). is_same id type_id && not (is_ordinal (types_in world) id) in
+      let found = type-of wanted (access_type access.root selectors)
+      (leads-type (declared_in world) (types_in world) world.sites wanted access.root selectors n parts.0) in
+      let same = same-type found.0 type_id (and_parts (is_same found.0 type_id) (not (is_ordinal (types_in world) found.0)) found.2).0 in
+      let R = IsWhole (types_in world) value in
+      let action = accessed access evaluations env in
+      let next = λ (place : Option Place). fetch_all place (components_of env.types type_id) defined in
+      let walking = access_walk access pieces in
+      let walk_next = λ (reach : Reach). walk.whole_use type_id access.root selectors reach defined in
+      sound-anywhere world env R (effect.◌>>=◌ action next) (walk.◌>>=◌ walking walk_next)
+      (λ store.
+      sound-still world env store (Leads env access.root selectors store) R action next walking walk_next
+      (reached-sound access evaluations pieces all
+      (leads-count (declared_in world) (types_in world) world.sites wanted access.root selectors n parts.0)
+      (leads-tests (declared_in world) (types_in world) world.sites wanted access.root selectors n parts.0) store) leaves
+      (λ reach place s t is from leads.
+      components-sound access.root selectors type_id (found.1 ∙ ap (λ (id : TypeId). Some id) same) defined (ltb-true defined world.sites site.1) value
+      (λ ranges numbers integers many lie. record { integers = integers; told = (many, lie) }) store reach place leads))
