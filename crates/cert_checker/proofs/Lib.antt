@@ -1,11 +1,4 @@
 pub mod Among
-pub mod Entered
-pub mod Keeping
-pub mod SoundCase
-pub mod SoundFor
-pub mod SoundForms
-pub mod SoundLoops
-pub mod SoundProgram
 pub mod Steps
 pub mod StepsCase
 pub mod StepsFor

@@ -1,6 +1,6 @@
 -- What facts of components and states say of a moment of a run (ISO 7185:1990, 6.5.1). It does not say that a run keeps
 -- them.
-use Rattle.std.specs.Prelude.{◌≡◌, ℕ, ℤ, ◌<◌, ◌≤ℤ◌, ◌×◌, true, false, List, Option, Some, None, length, slice_index_or}
+use Rattle.std.specs.Prelude.{◌≡◌, ℕ, ℤ, ◌<◌, ◌≤ℤ◌, true, false, List, Option, Some, None, length, slice_index_or}
 use Rattle.std.specs.Prelude.{Contains}
 use Rattle.types.specs.declared.form.Step.{Step}
 use Rattle.meaning.specs.declared.store.Value.{Value}

@@ -1,57 +1,15 @@
 -- What the checker did over an expression, from what it did over the parts of it.
-use Rattle.std.proofs.Common.{rules, ◌≡◌, ◌≤◌, Bool, Option, Some, Result, Ok, Err, ℕ, ℤ, ◌+◌, List, [], ◌∷◌, ◌++◌, length, map, refl, sym, ap, ◌∙◌}
-use Rattle.std.proofs.Common.{subst, append_assoc, append-nil, ◌<◌, get_or, drop}
-use Rattle.std.specs.Result.{IsErr, IsErrAnd}
-use Rattle.typed_tree.specs.declared.tree.Access.{Access}
-use Rattle.typed_tree.specs.declared.tree.Selector.{Selector}
-use Rattle.typed_tree.specs.declared.tree.RangeTest.{RangeTest}
-use Rattle.typed_tree.specs.declared.tree.Monadic.{Monadic}
-use Rattle.typed_tree.specs.declared.tree.Relation.{Relation}
-use Rattle.typed_tree.specs.declared.tree.Whole.{Whole}
-use Rattle.typed_tree.specs.declared.tree.Expr.{Expr}
-use Rattle.typed_tree.specs.declared.tree.Link.{Link}
-use Rattle.typed_tree.specs.declared.tree.Expr.TheVariants as expr
-use Rattle.typed_tree.specs.declared.tree.Expr.TheFolds.{the_lemmas}
-use Rattle.std.specs.declared.boxed.Box.{Box}
-use Rattle.std.specs.declared.vec.Vec.{Vec}
-use Rattle.std.specs.declared.alloc.Global.{Global}
+use Rattle.std.proofs.Common.{rules, ◌≡◌, Some, Result, Ok, Err, ℕ, List, [], ◌∷◌, ◌++◌, map, refl, sym, ap, ◌∙◌}
+use Rattle.std.proofs.Common.{subst, append_assoc, append-nil}
 use Rattle.expression_checker.specs.declared.fault.CheckFault.{CheckFault}
 use Rattle.expression_checker.specs.declared.fault.CheckFault.TheVariants.{Memory, Foreign, Broken}
 use Rattle.expression_checker.specs.declared.flow.Flow.{Flow}
-use Rattle.abstract_state.specs.declared.known.Known.{Known}
-use Rattle.abstract_state.specs.declared.known.Known.TheVariants.{Ordinal}
-use Rattle.abstract_state.specs.declared.state.State.{State as Kept}
-use Rattle.abstract_state.specs.View.{viewed}
-use Rattle.abstract_state.specs.State.{State, Dead, Live, is_defined, limits_of, range_of, with_defined}
-use Rattle.domain.specs.Interval.{Interval, between}
-use Rattle.std.proofs.lemmas.Int.{ints}
+use Rattle.component_states.specs.View.{viewed}
+use Rattle.component_states.specs.States.{State}
 use Rattle.expression_checker.specs.Visits.{Visits, all_counted, counted}
-use Rattle.expression_checker.specs.Walk.{Breach, Context, Linked, Walked, Walking, IsBreachOf, use_of, tested, positive, within, width_test, fitting, ◌>>=◌}
-use Rattle.expression_checker.specs.Walk.{behind_next, give, index_test, index_walks, indexes_walk, next_test, related_walk, variable_walk, whole_walk}
-use Rattle.expression_checker.specs.Walk.{ordinal, enter, first_breach, operated, combined, in_turn, value_walk, link_walk, numbers_of}
-use Rattle.expression_checker.specs.View.{Flows, Goes}
-use Rattle.structured_states.proofs.Claims.{item-cut, drop-past}
-
--- ---- the walk, form by form
-
-pub value-Constant : (number : ℕ) (value : ℤ)
-    → value_walk (expr.Constant number value) ≡ (enter number >>= λ _. ordinal (record { first = value; last = value }))
-value-Constant number value = search (rules, the_lemmas)
-
-pub value-Monadic : (number : ℕ) (operation : Monadic) (operand : Box Expr Global)
-    → value_walk (expr.Monadic number operation operand) ≡ (enter number >>= λ _. (value_walk operand.value >>= operated operation))
-value-Monadic number operation operand = search (rules, the_lemmas)
-
-pub value-Chain : (first : Box Expr Global) (rest : Vec Link Global)
-    → value_walk (expr.Chain first rest) ≡ (value_walk first.value >>= in_turn (map link_walk rest.items))
-value-Chain first rest = search (rules, the_lemmas)
-
-pub link-walks : (link : Link) → link_walk link ≡ (λ (left : Known). enter link.number >>= λ _. (value_walk link.operand >>= combined link.operation left))
-link-walks link = search (rules, the_lemmas)
-
--- a range of one number
-pub one-number : (n : ℤ) → between n n ≡ record { first = n; last = n }
-one-number n = search (rules, ints)
+use Rattle.expression_checker.specs.Walk.{Breach, Context, Linked, Walked, Walking, IsBreachOf, ◌>>=◌}
+use Rattle.expression_checker.specs.Walk.{give, first_breach, numbers_of}
+use Rattle.expression_checker.specs.View.{Flows}
 
 -- ---- rules that are broken
 
@@ -100,6 +58,7 @@ module _ {A B : Type 0} (context : Context) (first : Walking A) (next : A → Wa
   pub flows-then : (new : Flow) (after : Visits) (b : B) → Flows context (next a) mid between new after b
       → Flows context (first >>= next) old before new after b
   flows-then new after b two = record {
+    rows_are = two.rows_are ∙ one.rows_are;
     value_is = two.value_is ∙ ap (λ w. w.value) then-same;
     state_is = two.state_is ∙ ap (λ w. w.after) then-same;
     open_is = two.open_is ∙ ap (λ ids. ids ++ then.open_ids) one.open_is ∙ ap (λ w. (old.open_ids.items ++ was.open_ids) ++ w.open_ids) then-same
@@ -114,10 +73,15 @@ module _ {A B : Type 0} (context : Context) (first : Walking A) (next : A → Wa
   pub breach-later : (fault : CheckFault) → IsBreachOf then fault → IsBreachOf ((first >>= next) context (viewed old.state)) fault
   breach-later fault is = breach-same then ((first >>= next) context (viewed old.state)) fault both-broken is
 
+  -- the tree is that of the flow's rows still
+  pub tree-same : context.tree ≡ old.rows.now → context.tree ≡ mid.rows.now
+  tree-same is = is ∙ sym (ap (λ rows. rows.now) one.rows_are)
+
 -- a piece that only gives its value
 pub flows-give : {A : Type 0} (context : Context) (value : A) (old : Flow) (visits : Visits) → Flows context (give value) old visits old visits value
-flows-give context value old visits =
-    record { value_is = refl; state_is = refl; open_is = sym (append-nil old.open_ids.items); visits_are = refl; unbroken = refl }
+flows-give context value old visits = record {
+  rows_are = refl; value_is = refl; state_is = refl; open_is = sym (append-nil old.open_ids.items); visits_are = refl; unbroken = refl
+}
 
 -- the first breach of a piece is that of it and the next
 pub breach-first : {A B : Type 0} (context : Context) (first : Walking A) (next : A → Walking B) (state : State) (fault : CheckFault)
@@ -126,233 +90,3 @@ breach-first {A} context first next state fault is =
     let was : Walked A = first context state in
     breach-stays was (next was.value context was.after) fault ((first >>= next) context state) refl is
 
--- ---- the same in every context
-
--- the first piece was walked over: what the checker did over the next is what it did over both
-pub goes-then : {A B : Type 0} (first : Walking A) (next : A → Walking B)
-    (old mid new : Flow) (before between after : Visits) (a : A) (result : Result B CheckFault)
-    → Goes first old before (Ok a) mid between → Goes (next a) mid between result new after → Goes (first >>= next) old before result new after
-goes-then first next old mid new before between after a (Ok b) one two =
-    λ context. flows-then context first next old mid before between a (one context) new after b (two context)
-goes-then first next old mid new before between after a (Err fault) one two =
-    λ context. breach-later context first next old mid before between a (one context) fault (two context)
-
--- the checker gave up over the first piece: so it does over both
-pub goes-stopped : {A B : Type 0} (first : Walking A) (next : A → Walking B) (old new : Flow) (before after : Visits) (fault : CheckFault)
-    → ((context : Context) → IsBreachOf (first context (viewed old.state)) fault) → Goes (first >>= next) old before (Err fault) new after
-goes-stopped first next old new before after fault is = λ context. breach-first context first next (viewed old.state) fault (is context)
-
--- a piece that only gives its value
-pub goes-give : {A : Type 0} (value : A) (old : Flow) (visits : Visits) → Goes (give value) old visits (Ok value) old visits
-goes-give value old visits = λ context. flows-give context value old visits
-
--- by what a walk is
-pub goes-as : {A : Type 0} (walk form : Walking A) (old new : Flow) (before after : Visits) (result : Result A CheckFault) → walk ≡ form
-    → Goes form old before result new after → Goes walk old before result new after
-goes-as walk form old new before after result is goes = subst (λ w. Goes w old before result new after) (sym is) goes
-
--- by the fault that is handed on
-pub given-up : {A : Type 0} (walk : Walking A) (old new : Flow) (before after : Visits) (fault : CheckFault) (result : Result A CheckFault)
-    → IsErr result × IsErrAnd result (λ e. e ≡ fault)
-    → Goes walk old before (Err fault) new after → Goes walk old before result new after
-given-up walk old new before after fault (Ok a) is goes = absurd is.1
-given-up {A} walk old new before after fault (Err other) is goes =
-    subst (λ f. Goes {A = A} walk old before (Err f) new after) (sym is.1) goes
-
--- the checker gave up over the first piece of a walk, and handed the fault on
-pub stopped-as : {A B : Type 0} (walk : Walking B) (first : Walking A) (next : A → Walking B)
-    (old new : Flow) (before after : Visits) (fault : CheckFault) (result : Result B CheckFault)
-    → walk ≡ (first >>= next) → IsErr result × IsErrAnd result (λ e. e ≡ fault)
-    → ((context : Context) → IsBreachOf (first context (viewed old.state)) fault)
-    → Goes walk old before result new after
-stopped-as walk first next old new before after fault result is left stopped =
-    given-up walk old new before after fault result left
-    (goes-as walk (first >>= next) old new before after (Err fault) is (goes-stopped first next old new before after fault stopped))
-
--- ---- the operators of a chain, from one of them on
-
-turn-cut : (items : List Link) (i : ℕ) (link : Link) (left : Known) → i < length items → link ≡ get_or items i link
-    → in_turn (map link_walk (drop i items)) left ≡ (link_walk link left >>= in_turn (map link_walk (drop (i + 1) items)))
-turn-cut items i link left inside is = ap (λ links. in_turn (map link_walk links) left) (item-cut items i link inside is)
-
-pub turn-step : (items : List Link) (i : ℕ) (link : Link) (left value : Known) (old mid new : Flow) (before between after : Visits)
-    (result : Result Known CheckFault)
-    → i < length items → link ≡ get_or items i link → Goes (link_walk link left) old before (Ok value) mid between
-    → Goes (in_turn (map link_walk (drop (i + 1) items)) value) mid between result new after
-    → Goes (in_turn (map link_walk (drop i items)) left) old before result new after
-turn-step items i link left value old mid new before between after result inside is one two =
-    goes-as (in_turn (map link_walk (drop i items)) left) (link_walk link left >>= in_turn (map link_walk (drop (i + 1) items))) old new before after
-    result (turn-cut items i link left inside is)
-    (goes-then (link_walk link left) (in_turn (map link_walk (drop (i + 1) items))) old mid new before between after value result one two)
-
-pub turn-stopped : (items : List Link) (i : ℕ) (link : Link) (left : Known) (old new : Flow) (before after : Visits) (fault : CheckFault)
-    → i < length items → link ≡ get_or items i link → ((context : Context) → IsBreachOf (link_walk link left context (viewed old.state)) fault)
-    → Goes (in_turn (map link_walk (drop i items)) left) old before (Err fault) new after
-turn-stopped items i link left old new before after fault inside is one =
-    goes-as (in_turn (map link_walk (drop i items)) left) (link_walk link left >>= in_turn (map link_walk (drop (i + 1) items))) old new before after
-    (Err fault) (turn-cut items i link left inside is)
-    (goes-stopped (link_walk link left) (in_turn (map link_walk (drop (i + 1) items))) old new before after fault one)
-
-pub turn-end : (items : List Link) (i : ℕ) (left : Known) (old : Flow) (visits : Visits) → length items ≤ i
-    → Goes (in_turn (map link_walk (drop i items)) left) old visits (Ok left) old visits
-turn-end items i left old visits past =
-    subst (λ links. Goes (in_turn (map link_walk links) left) old visits (Ok left) old visits) (sym (drop-past items i past)) (goes-give left old visits)
-
--- ---- the use of a variable
-
--- a use is a test of whether the variable is defined, in the state in which it is
-use-same : (root site : ℕ) (context : Context) (state : State)
-    → (use_of root site context state).open_ids ≡ (tested (is_defined state root) site (range_of state root) context (with_defined root state)).open_ids
-use-same root site context Dead = refl
-use-same root site context (Live facts) = search rules
-
-pub use-goes : (root site : ℕ) (closed : Bool) (range value : Interval) (old new : Flow) (state : Kept) (before after : Visits)
-    → closed ≡ is_defined (viewed old.state) root → range ≡ range_of (viewed old.state) root → viewed state ≡ with_defined root (viewed old.state)
-    → Goes (tested closed site range) (record old { state = state }) before (Ok value) new after
-    → Goes (use_of root site) old before (Ok (Ordinal value)) new after
-use-goes root site closed range value old new state before after closed_is range_is state_is done = λ context.
-    let was : State = viewed old.state in
-    let same : tested closed site range context (viewed state) ≡ tested (is_defined was root) site (range_of was root) context
-    (with_defined root was) =
-    ap (λ c. tested c site range context (viewed state)) closed_is
-    ∙ ap (λ r. tested (is_defined was root) site r context (viewed state)) range_is
-    ∙ ap (tested (is_defined was root) site (range_of was root) context) state_is in
-    let one = done context in
-    record {
-      value_is = ap Ordinal (one.value_is ∙ ap (λ w. w.value) same);
-      state_is = one.state_is ∙ ap (λ w. w.after) same;
-      open_is = one.open_is ∙ ap (λ w. old.open_ids.items ++ w.open_ids) same
-          ∙ ap (λ ids. old.open_ids.items ++ ids) (sym (use-same root site context was));
-      visits_are = one.visits_are;
-      unbroken = refl;
-    }
-
-pub use-stopped : (root site : ℕ) (old new : Flow) (before after : Visits) (closed : Bool) (range : Interval) (state : Kept) (fault : CheckFault)
-    → ((context : Context) → IsBreachOf (tested closed site range context (viewed state)) fault) → Goes (use_of root site) old before (Err fault) new after
-use-stopped root site old new before after closed range state fault is = λ context.
-    breach-same (tested closed site range context (viewed state)) (use_of root site context (viewed old.state)) fault refl (is context)
-
--- ---- an expression that the checker has begun
-
-pub monadic-begun : (expression : Expr) (number : ℕ) (operation : Monadic) (operand : Box Expr Global) (inner : Expr) (old entered new : Flow)
-    (before between after : Visits) (value : Unit {0}) (result : Result Known CheckFault)
-    → expression ≡ expr.Monadic number operation operand → inner ≡ operand.value → Goes (enter number) old before (Ok value) entered between
-    → Goes (value_walk inner >>= operated operation) entered between result new after → Goes (value_walk expression) old before result new after
-monadic-begun expression number operation operand inner old entered new before between after value result is inner_is one two =
-    goes-as (value_walk expression) (enter number >>= λ _. (value_walk inner >>= operated operation)) old new before after result
-    (ap value_walk is ∙ value-Monadic number operation operand ∙ ap (λ e. enter number >>= λ _. (value_walk e >>= operated operation)) (sym inner_is))
-    (goes-then (enter number) (λ _. value_walk inner >>= operated operation) old entered new before between after value result one two)
-
-pub chain-begun : (expression : Expr) (first : Box Expr Global) (rest : Vec Link Global) (inner : Expr) (items : List Link) (left : Known)
-    (old mid : Flow) (before between : Visits)
-    → expression ≡ expr.Chain first rest → inner ≡ first.value → items ≡ rest.items → Goes (value_walk inner) old before (Ok left) mid between
-    → (result : Result Known CheckFault) (new : Flow) (after : Visits) → Goes (in_turn (map link_walk items) left) mid between result new after
-    → Goes (value_walk expression) old before result new after
-chain-begun expression first rest inner items left old mid before between is inner_is items_are one result new after two =
-    goes-as (value_walk expression) (value_walk inner >>= in_turn (map link_walk items)) old new before after result
-    (ap value_walk is ∙ value-Chain first rest ∙ ap (λ e. value_walk e >>= in_turn (map link_walk rest.items)) (sym inner_is)
-    ∙ ap (λ links. value_walk inner >>= in_turn (map link_walk links)) (sym items_are))
-    (goes-then (value_walk inner) (in_turn (map link_walk items)) old mid new before between after left result one two)
-
-pub link-done : (link : Link) (left right : Known) (old entered valued new : Flow) (before between after end : Visits) (value : Unit {0})
-    (result : Result Known CheckFault)
-    → Goes (enter link.number) old before (Ok value) entered between → Goes (value_walk link.operand) entered between (Ok right) valued after
-    → Goes (combined link.operation left right) valued after result new end → Goes (link_walk link left) old before result new end
-link-done link left right old entered valued new before between after end value result one two three =
-    goes-as (link_walk link left) (enter link.number >>= λ _. (value_walk link.operand >>= combined link.operation left)) old new before end result
-    (ap (λ walk. walk left) (link-walks link))
-    (goes-then (enter link.number) (λ _. value_walk link.operand >>= combined link.operation left) old entered new before between end value result one
-    (goes-then (value_walk link.operand) (combined link.operation left) entered valued new between after end right result two three))
-
--- ---- what is tested of a value by its range
-
-pub width-as : (site : ℕ) (known : Known) (range : Interval) → known ≡ Ordinal range → width_test site known ≡ (positive site range >>= λ _. give (tt {0}))
-width-as site known range is = ap (width_test site) is
-
-pub fitting-as : (fits : RangeTest) (known : Known) (limits range : Interval) → known ≡ Ordinal range → limits ≡ limits_of fits.range
-    → fitting fits known ≡ (within limits fits.site range >>= ordinal)
-fitting-as fits known limits range is limits_are = ap (fitting fits) is ∙ ap (λ l. within l fits.site range >>= ordinal) (sym limits_are)
-
--- a value was tested, and what passed is given on
-pub tested-goes : {A B : Type 0} (walk : Walking B) (test : Walking A) (next : A → B) (passed : A) (result : B) (old new : Flow) (visits : Visits)
-    → walk ≡ (test >>= λ x. give (next x))
-    → result ≡ next passed → Goes test old visits (Ok passed) new visits → Goes walk old visits (Ok result) new visits
-tested-goes walk test next passed result old new visits is result_is tested =
-    goes-as walk (test >>= λ x. give (next x)) old new visits visits (Ok result) is
-    (subst (λ r. Goes (test >>= λ x. give (next x)) old visits (Ok r) new visits) (sym result_is)
-    (goes-then test (λ x. give (next x)) old new new visits visits visits passed (Ok (next passed)) tested (goes-give (next passed) new visits)))
-
--- ---- accesses and whole values
-
-pub value-Variable : (access : Access) (indexes : Vec Expr Global) (defined : ℕ)
-    → value_walk (expr.Variable access indexes defined) ≡ variable_walk access (index_walks indexes.items) defined
-value-Variable access indexes defined = search (rules, the_lemmas)
-
-pub value-Compare : (number : ℕ) (relation : Relation) (left : Whole) (left_indexes : Vec Expr Global) (right : Whole) (right_indexes : Vec Expr Global)
-    → value_walk (expr.Compare number relation left left_indexes right right_indexes)
-    ≡ (whole_walk left (index_walks left_indexes.items) >>= λ _. related_walk number right (index_walks right_indexes.items))
-value-Compare number relation left left_indexes right right_indexes = search (rules, the_lemmas)
-
--- the index expressions from one of them on
-pub index-cut : (selectors : List Selector) (items : List Expr) (i : ℕ) (index : Expr) → i < length items → index ≡ get_or items i index
-    → indexes_walk selectors (index_walks (drop i items))
-    ≡ (value_walk index
-    >>= λ known. (index_test (next_test selectors) known >>= λ _. indexes_walk (behind_next selectors) (index_walks (drop (i + 1) items))))
-index-cut selectors items i index inside is = ap (λ indexes. indexes_walk selectors (index_walks indexes)) (item-cut items i index inside is)
-
--- an index expression was walked over and its value tested: what the checker did over those behind it is what it did over all
-pub index-step : (selectors behind : List Selector) (items : List Expr) (i : ℕ) (index : Expr) (fits : Option RangeTest) (known : Known)
-    (old valued mid new : Flow) (before between after : Visits) (done : Unit {0}) (result : Result (Unit {0}) CheckFault)
-    → i < length items → index ≡ get_or items i index → fits ≡ next_test selectors → behind ≡ behind_next selectors
-    → Goes (value_walk index) old before (Ok known) valued between → Goes (index_test fits known) valued between (Ok done) mid between
-    → Goes (indexes_walk behind (index_walks (drop (i + 1) items))) mid between result new after
-    → Goes (indexes_walk selectors (index_walks (drop i items))) old before result new after
-index-step selectors behind items i index fits known old valued mid new before between after done result inside is fits_is behind_is one two three =
-    let rest = λ (left : List Selector). indexes_walk left (index_walks (drop (i + 1) items)) in
-    goes-as (indexes_walk selectors (index_walks (drop i items))) (value_walk index >>= λ known. (index_test fits known >>= λ _. rest behind)) old new
-    before after result
-    (index-cut selectors items i index inside is
-    ∙ ap (λ test. value_walk index >>= λ known. (index_test test known >>= λ _. rest (behind_next selectors))) (sym fits_is)
-    ∙ ap (λ left. value_walk index >>= λ known. (index_test fits known >>= λ _. rest left)) (sym behind_is))
-    (goes-then (value_walk index) (λ known. index_test fits known >>= λ _. rest behind) old valued new before between after known result one
-    (goes-then (index_test fits known) (λ _. rest behind) valued mid new between between after done result two three))
-
--- the checker gave up over an index expression, or over the test of its value
-pub index-stopped : (selectors : List Selector) (items : List Expr) (i : ℕ) (index : Expr) (old new : Flow) (before after : Visits) (fault : CheckFault)
-    → i < length items → index ≡ get_or items i index → ((context : Context) → IsBreachOf (value_walk index context (viewed old.state)) fault)
-    → Goes (indexes_walk selectors (index_walks (drop i items))) old before (Err fault) new after
-index-stopped selectors items i index old new before after fault inside is one =
-    let rest = indexes_walk (behind_next selectors) (index_walks (drop (i + 1) items)) in
-    let next = λ (known : Known). index_test (next_test selectors) known >>= λ _. rest in
-    goes-as (indexes_walk selectors (index_walks (drop i items))) (value_walk index >>= next) old new before after (Err fault)
-    (index-cut selectors items i index inside is) (goes-stopped (value_walk index) next old new before after fault one)
-
-pub test-stopped : (selectors : List Selector) (items : List Expr) (i : ℕ) (index : Expr) (fits : Option RangeTest) (known : Known) (old valued new : Flow)
-    (before between after : Visits) (fault : CheckFault)
-    → i < length items → index ≡ get_or items i index → fits ≡ next_test selectors → Goes (value_walk index) old before (Ok known) valued between
-    → ((context : Context) → IsBreachOf (index_test fits known context (viewed valued.state)) fault)
-    → Goes (indexes_walk selectors (index_walks (drop i items))) old before (Err fault) new after
-test-stopped selectors items i index fits known old valued new before between after fault inside is fits_is one two =
-    let rest = indexes_walk (behind_next selectors) (index_walks (drop (i + 1) items)) in
-    let next = λ (known : Known). index_test fits known >>= λ _. rest in
-    goes-as (indexes_walk selectors (index_walks (drop i items))) (value_walk index >>= next) old new before after (Err fault)
-    (index-cut selectors items i index inside is
-    ∙ ap (λ test. value_walk index >>= λ known. (index_test test known >>= λ _. rest)) (sym fits_is))
-    (goes-then (value_walk index) next old valued new before between after known (Err fault) one
-    (goes-stopped (index_test fits known) (λ _. rest) valued new between after fault two))
-
-pub index-end : (selectors : List Selector) (items : List Expr) (i : ℕ) (old : Flow) (visits : Visits) → length items ≤ i
-    → Goes (indexes_walk selectors (index_walks (drop i items))) old visits (Ok (tt {0})) old visits
-index-end selectors items i old visits past =
-    subst (λ (indexes : List Expr). Goes (indexes_walk selectors (index_walks indexes)) old visits (Ok (tt {0})) old visits) (sym (drop-past items i past))
-    (goes-give (tt {0}) old visits)
-
--- ---- the value after another, and before
-
--- what passed a test is known in each context, and so is what is made of it
-pub passed-goes : {A B : Type 0} (walk : Walking B) (test : Walking A) (next : A → B) (passed known : A) (result : B) (old new : Flow) (visits : Visits)
-    → walk ≡ (test >>= λ x. give (next x)) → ((context : Context) → (test context (viewed old.state)).value ≡ known)
-    → (passed ≡ known → result ≡ next passed) → Goes test old visits (Ok passed) new visits → Goes walk old visits (Ok result) new visits
-passed-goes walk test next passed known result old new visits is known_is result_is tested = λ context.
-    let same = result_is ((tested context).value_is ∙ known_is context) in
-    tested-goes walk test next passed result old new visits is same tested context

@@ -116,27 +116,3 @@ all-found certificate count rows found =
     (found.each number known ∙ ap (λ f. or_else (found_as f) (found_in number (contents certificate))) (get_or-replicate count number None None below))
     ∙ sym (get_or-map-range_with_len (claims_on certificate) 0 count number number no_claims below (omega arith)))
 
--- ---- claims that a state keeps
-
-given_one : (state : State) (claim : Option Fact) (facts : List Fact)
-    → gives_all state (cons_option claim facts) ≡ (gives_some state claim && gives_all state facts)
-given_one state None facts = refl
-given_one state (Some fact) facts = refl
-
--- the claims that are kept are given exactly where each claim is given or isn't kept
-pub all_given : (state : State) (claims : List KeptFact)
-    → list_all (λ claim. gives_some state (plain (said_fact claim))) claims ≡ gives_all state (plain_facts (map said_fact claims))
-all_given state [] = refl
-all_given state (claim ∷ claims) =
-    ap (λ rest. gives_some state (plain (said_fact claim)) && rest) (all_given state claims)
-    ∙ sym (given_one state (plain (said_fact claim)) (plain_facts (map said_fact claims)))
-
--- one claim more
-pub kept_more : (claims : List KeptFact) (i : ℕ) (claim : KeptFact) (kept : List Fact) (fact : Option Fact) → i < length claims → claim ≡ get_or claims i claim
-    → kept ≡ plain_facts (map said_fact (take i claims)) → fact ≡ plain (said_fact claim)
-    → kept ++ cons_option fact [] ≡ plain_facts (map said_fact (take (i + 1) claims))
-kept_more claims i claim kept fact inside is kept_is fact_is =
-    ap (λ front. front ++ cons_option fact []) kept_is
-    ∙ ap (λ f. plain_facts (map said_fact (take i claims)) ++ cons_option f []) fact_is
-    ∙ sym (filter_map-append plain (map said_fact (take i claims)) (said_fact claim ∷ []))
-    ∙ ap plain_facts (mapped-more said_fact claims i claim inside is)

@@ -1,9 +1,12 @@
 ghost use Rattle.std.specs.Prelude.{◌≡◌, IfOk, slice_get};
 ghost use Rattle.domain.specs.Numbers.{is_covered};
-ghost use Rattle.abstract_state.specs.View.{viewed};
+ghost use Rattle.abstract_state.specs.View as variables;
+ghost use Rattle.component_states.specs.States.{over_variables};
+ghost use Rattle.component_states.specs.View.{viewed};
 ghost use Rattle.structured_states.specs.Cases.{arm_start, at_constants, constants_before};
 
-use abstract_state::State;
+use abstract_state::State as Variables;
+use component_states::State;
 use domain::Domain;
 use domain::interval::Interval;
 use std::alloc::{AllocError, Global};
@@ -33,8 +36,8 @@ pub fn covers(alloc: Global, constants: &[i32], range: Interval) -> Result<bool,
 }
 
 /// What is known where the index, perhaps an entire variable, is one of some constants.
-fn at_constants(state: &mut State, index: Option<u32>, constants: &[i32])
-    ensures { viewed state.new ≡ at_constants index constants.now (viewed state.old) }
+fn at_constants(state: &mut Variables, index: Option<u32>, constants: &[i32])
+    ensures { variables.viewed state.new ≡ at_constants index constants.now (variables.viewed state.old) }
 {
     if let Some(root) = index {
         let range = state.range(root).meet(&Interval::hull(constants));
@@ -50,14 +53,13 @@ pub fn arm_start(
     rows: &[Vec<i32>],
     number: usize,
 ) -> Result<State, AllocError>
-    ensures { IfOk result (λ start. viewed start ≡ arm_start index (slice_get rows.now number) (viewed state.now)) }
+    ensures { IfOk result (λ start. viewed start
+        ≡ over_variables (arm_start index (slice_get rows.now number)) (viewed state.now)) }
 {
+    let mut start = state.copied(alloc)?;
     match rows.get(number) {
-        None => Ok(State::Dead),
-        Some(row) => {
-            let mut start = state.copied(alloc)?;
-            at_constants(&mut start, index, row);
-            Ok(start)
-        }
+        None => start.variables = Variables::Dead,
+        Some(row) => at_constants(&mut start.variables, index, row),
     }
+    Ok(start)
 }

