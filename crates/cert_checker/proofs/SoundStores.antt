@@ -22,7 +22,8 @@ use Rattle.abstract_state.proofs.Ranged.{included-in}
 use Rattle.leaf_rows.specs.Rows.{Parts, all_parts, first_index, no_parts, rows_of}
 use Rattle.component_states.specs.Components.{At, Components, Entire, Index, Inside, Reach, all_stored}
 use Rattle.component_states.specs.Holds.{ComponentsHold, HasComponent, IsOfRow, component_at}
-use Rattle.component_states.specs.Laws.{AreApart, AreComponents, AreStored, IsIndex, IsReach, IsReached, StoresHold}
+use Rattle.component_states.specs.Laws.{AreApart, AreComponents, AreStored, IsIndex, IsReach, IsReached}
+use Rattle.component_states.proofs.Stored.{stores-hold}
 use Rattle.structured_states.specs.Loops.{limits_at, row_limits}
 use Rattle.expression_checker.proofs.Keeping.{InTypes}
 use Rattle.cert_checker.specs.Walk.{Stores}
@@ -164,14 +165,14 @@ IsFormed Entire = Unit {0}
 IsFormed (At index) = (b : Bound) × (index.form ≡ Some b)
 IsFormed (Inside index) = Unit {0}
 
-module _ (law : StoresHold) (rows : List Parts) (components : AreComponents rows) (apart : AreApart rows) (roots : ℕ) (env : Environment) (root : ℕ)
+module _ (rows : List Parts) (components : AreComponents rows) (apart : AreApart rows) (roots : ℕ) (env : Environment) (root : ℕ)
     (pairs : Pairs) (stores : Stores) (before after : Store) (targets : AreTargets rows root pairs stores)
     (written : AreWritten env root pairs before after) (state : variables.State) (held : entire.Knows roots env state before) (known : Components)
     (holds : ComponentsHold rows known (moment env before)) where
   by-law : (reach : Reach) → IsReach env before reach → AreReached rows env reach pairs stores before
       → ComponentsHold rows (all_stored state reach stores known) (moment env after)
   by-law reach is reached =
-      law rows components apart roots env state known reach stores before after held is
+      stores-hold rows components apart roots env state known reach stores before after held is
       (are-stored rows env root pairs stores before after targets written reach reached) holds
 
   at-known : (form : Option Bound) (range : Interval) → IsReach env before (At (record { form = form; range = range }))
