@@ -5,4 +5,5 @@ pub mod Sound
 pub mod SoundAccesses
 pub mod SoundExpressions
 pub mod SoundOperations
+pub mod SoundRows
 pub mod Steps

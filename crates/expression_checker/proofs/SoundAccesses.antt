@@ -147,7 +147,7 @@ RowOfIntegers done row = AreIntegers row
 
 module _ (world : World) (env : Environment) (shows : Shows (variables_in world) env) where
   abbrev tests_are_well : List Selector → Bool
-  tests_are_well selectors = list_all (is_well_formed_selector world.declared world.types world.sites) selectors
+  tests_are_well selectors = list_all (is_well_formed_selector (declared_in world) (types_in world) world.sites) selectors
 
   -- an index is tested
   tested-sound : (fits : RangeTest) (known : Known) (v : Value) → fits.site < world.sites → IsKnown known v
@@ -182,7 +182,7 @@ module _ (world : World) (env : Environment) (shows : Shows (variables_in world)
   selected-sound (Element fits cells ∷ selectors) (evaluation ∷ evaluations) [] all count tests root steps place place_is = absurd all
   selected-sound (Element fits cells ∷ selectors) (evaluation ∷ evaluations) (index ∷ walks) all count tests root steps place place_is =
       let R = Arrives root (length steps + suc (length selectors)) in
-      let first = and_parts (is_well_formed_selector world.declared world.types world.sites (Element fits cells)) (tests_are_well selectors) tests in
+      let first = and_parts (is_well_formed_selector (declared_in world) (types_in world) world.sites (Element fits cells)) (tests_are_well selectors) tests in
       let site = and_parts (nat_lt fits.site world.sites) (is_whole fits.range.first && is_whole fits.range.last) first.0 in
       let inner_of = λ (v : Value). part place (step.Element (number_of v) ∷ []) in
       sound-then world env IsKnown R (evaluation env)
@@ -317,7 +317,7 @@ module _ (world : World) (env : Environment) (shows : Shows (variables_in world)
       (all-good root before place place_is components site context state s below part stands))
 
   pub whole-good : (value : Whole) (evaluations : List Evaluation) (walks : List (Walking Known)) → AllSound world env evaluations walks
-      → is_well_formed_whole world.declared world.types world.sites value (length evaluations) ≡ true
+      → is_well_formed_whole (declared_in world) (types_in world) world.sites value (length evaluations) ≡ true
       → Sound world env RowOfIntegers (whole_of value evaluations env) (whole_walk value walks)
   whole-good (Text number text) evaluations walks all well =
       let parts = and_parts (nat_le (length text.items) 65536) (list_all is_character text.items) well in
@@ -325,15 +325,15 @@ module _ (world : World) (env : Environment) (shows : Shows (variables_in world)
       (effect.enter number env) (walk.enter number) (sound-enter world env shows number)
   whole-good (VariableOf access type_id cells defined) evaluations walks all well =
       let selectors = access.selectors.items in
-      let leads = leads_to_whole world.declared world.types world.sites type_id access.root selectors (length evaluations) in
-      let sized = is_value_of world.declared world.types world.sites type_id cells in
+      let leads = leads_to_whole (declared_in world) (types_in world) world.sites type_id access.root selectors (length evaluations) in
+      let sized = is_value_of (declared_in world) (types_in world) world.sites type_id cells in
       let parts = and_parts leads (sized && nat_lt defined world.sites) well in
       let site = and_parts sized (nat_lt defined world.sites) parts.1 in
-      let wanted = λ (id : TypeId). is_same id type_id && not (is_ordinal world.types id) in
+      let wanted = λ (id : TypeId). is_same id type_id && not (is_ordinal (types_in world) id) in
       sound-then world env (Arrives access.root (length selectors)) RowOfIntegers (accessed access evaluations env)
       (λ place. fetch_all place (components_of env.types type_id) defined) (access_walk access walks) (λ done. walk.components_use defined)
       (reached-sound access evaluations walks all
-      (leads-count world.declared world.types world.sites wanted access.root selectors (length evaluations) parts.0)
-      (leads-tests world.declared world.types world.sites wanted access.root selectors (length evaluations) parts.0))
+      (leads-count (declared_in world) (types_in world) world.sites wanted access.root selectors (length evaluations) parts.0)
+      (leads-tests (declared_in world) (types_in world) world.sites wanted access.root selectors (length evaluations) parts.0))
       (λ done place reaches.
       components-sound access.root (length selectors) place reaches (components_of env.types type_id) defined (ltb-true defined world.sites site.1))

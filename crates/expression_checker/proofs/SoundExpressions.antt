@@ -24,7 +24,7 @@ use Rattle.typed_tree.specs.WellFormed.{whole_indexes}
 use Rattle.meaning.specs.declared.store.Value.{Value}
 use Rattle.meaning.specs.declared.store.Value.TheVariants.{Number}
 use Rattle.meaning.specs.Integers.{truth}
-use Rattle.meaning.specs.Store.{Environment}
+use Rattle.meaning.specs.Store.{Environment, Store}
 use Rattle.meaning.specs.Effect as effect
 use Rattle.meaning.specs.Effect.{is_positive, row_text, text_of}
 use Rattle.meaning.specs.Meaning as meaning
@@ -38,9 +38,8 @@ use Rattle.expression_checker.specs.Walk.{Walking, value_walk, link_walk, parame
 use Rattle.abstract_state.proofs.Ranged.{IsKnown, constant-in, truth_values-has}
 use Rattle.abstract_state.proofs.Knows.{Shows}
 use Rattle.expression_checker.proofs.Sound.{World, Sound, Any_value, Passes, sound-then, sound-named, sound-written, sound-give, sound-enter}
-use Rattle.expression_checker.proofs.Sound.{variables_in}
-use Rattle.expression_checker.proofs.SoundAccesses.{AllSound, Reaches, RowOfIntegers, leads-count, leads-tests, leads-within, reached-sound, used-sound}
-use Rattle.expression_checker.proofs.SoundAccesses.{whole-good}
+use Rattle.expression_checker.proofs.Sound.{SoundFrom, declared_in, types_in, variables_in}
+use Rattle.expression_checker.proofs.SoundRows.{IsWhole, Leads}
 use Rattle.expression_checker.proofs.SoundOperations.{given-sound, operated-sound, combined-sound, positive-sound}
 
 -- the walk over an action that gives no value is sound
@@ -58,277 +57,31 @@ entered-sound world env shows R number action walking one =
 
 module _ (world : World) (env : Environment) (shows : Shows (variables_in world) env) where
   abbrev well_expr : Expr → Bool
-  well_expr = is_well_formed_expr world.declared world.types world.sites
+  well_expr = is_well_formed_expr (declared_in world) (types_in world) world.sites
 
-  abbrev well_link : Link → Bool
-  well_link = is_well_formed_link world.declared world.types world.sites
-
-  -- ---- expressions
-
-  -- the walk of an expression tells of its value
   abbrev SoundValue : Bool → Evaluation → Walking Known → Type 0
   SoundValue well evaluation walking = well ≡ true → Sound world env IsKnown (evaluation env) walking
-
-  abbrev SoundLink : Bool → meaning.Combination → walk.Combination → Type 0
-  SoundLink well combination walking = well ≡ true → (known : Known) (v : Value) → IsKnown known v → Sound world env IsKnown (combination env v) (walking known)
 
   abbrev ValueIsSound : Expr → Type 0
   ValueIsSound e = SoundValue (well_expr e) (value_of e) (value_walk e)
 
-  abbrev LinkIsSound : Link → Type 0
-  LinkIsSound l = SoundLink (well_link l) (link_of l) (link_walk l)
-
-  abbrev ProvedExpr : Type 0
-  ProvedExpr = (e : Expr) × ValueIsSound e
-
-  abbrev ProvedLink : Type 0
-  ProvedLink = (l : Link) × LinkIsSound l
-
-  -- the operators of a chain
-  turns-sound : (links : List ProvedLink)
-      → SoundLink (all_hold (map well_link (map (λ l. l.0) links))) (meaning.in_turn (map link_of (map (λ l. l.0) links)))
-      (walk.in_turn (map link_walk (map (λ l. l.0) links)))
-  turns-sound [] well known v inside = sound-give world env IsKnown v known inside
-  turns-sound (link ∷ links) well known v inside =
-      let later = map (λ (l : ProvedLink). l.0) links in
-      let parts = and_parts (well_link link.0) (all_hold (map well_link later)) well in
-      sound-then world env IsKnown IsKnown (link_of link.0 env v) (meaning.in_turn (map link_of later) env) (link_walk link.0 known)
-      (walk.in_turn (map link_walk later))
-      (link.1 parts.0 known v inside) (λ k w within. turns-sound links parts.1 k w within)
-
-  -- a layer of an expression, of which the parts are sound
-  abbrev ExprLayer : Expr-F Expr Link → Type 0
-  ExprLayer x =
-      SoundValue (expr_is_well_formed world.declared world.types world.sites (map-Expr Expr Link Bool Bool well_expr well_link x))
-      (meaning.value_step (map-Expr Expr Link Evaluation meaning.Combination value_of link_of x))
-      (walk.value_step (map-Expr Expr Link (Walking Known) walk.Combination value_walk link_walk x))
-
-  abbrev LinkLayer : Link-F Expr Link → Type 0
-  LinkLayer x =
-      SoundLink (link_is_well_formed world.declared world.types world.sites (map-Link Expr Link Bool Bool well_expr well_link x))
-      (meaning.link_step (map-Link Expr Link Evaluation meaning.Combination value_of link_of x))
-      (walk.link_step (map-Link Expr Link (Walking Known) walk.Combination value_walk link_walk x))
-
-  -- the index expressions of an access
-  proved-indexes : (parts : List ProvedExpr) → all_hold (map well_expr (map (λ e. e.0) parts)) ≡ true
-      → AllSound world env (map value_of (map (λ e. e.0) parts)) (map value_walk (map (λ e. e.0) parts))
-  proved-indexes [] well = tt
-  proved-indexes (one ∷ parts) well =
-      let both = and_parts (well_expr one.0) (all_hold (map well_expr (map (λ (e : ProvedExpr). e.0) parts))) well in
-      (one.1 both.0, proved-indexes parts both.1)
-
-  many-mapped : {A : Type 0} (f : Expr → A) (parts : List ProvedExpr) → length (map f (map (λ e. e.0) parts)) ≡ length (map (λ e. e.0) parts)
-  many-mapped f parts = length-map (map (λ (e : ProvedExpr). e.0) parts) f
-
-  variable-sound : (access : Access) (evaluations : List Evaluation) (walks : List (Walking Known)) (site : ℕ) → AllSound world env evaluations walks
-      → leads_to_ordinal world.declared world.types world.sites access.root access.selectors.items (length evaluations) ≡ true → site < world.sites
-      → Sound world env IsKnown (effect.◌>>=◌ (accessed access evaluations env) (λ place. fetch place site)) (walk.variable_walk access walks site)
-  variable-sound access evaluations walks site all well below =
-      let selectors = access.selectors.items in
-      let wanted = is_ordinal world.types in
-      let count = leads-count world.declared world.types world.sites wanted access.root selectors (length evaluations) well in
-      let tests = leads-tests world.declared world.types world.sites wanted access.root selectors (length evaluations) well in
-      let within = leads-within world.declared world.types world.sites wanted access.root selectors (length evaluations) well in
-      sound-then world env (λ (done : Unit {0}) place. Reaches env access.root (length selectors) place) IsKnown (accessed access evaluations env)
-      (λ place. fetch place site) (walk.access_walk access walks) (λ done. walk.value_use access.root selectors site)
-      (reached-sound world env shows access evaluations walks all count tests)
-      (λ done place reaches. used-sound world env shows access.root selectors site place within below reaches)
-
-  -- the index expressions that count, and the whole value
-  whole-sound : (value : Whole) (indexes : List ProvedExpr)
-      → all_hold (whole_indexes value (map well_expr (map (λ e. e.0) indexes))) ≡ true
-      → is_well_formed_whole world.declared world.types world.sites value (length (map (λ e. e.0) indexes)) ≡ true
-      → Sound world env RowOfIntegers (meaning.whole_of value (map value_of (map (λ e. e.0) indexes)) env)
-      (walk.whole_walk value (map value_walk (map (λ e. e.0) indexes)))
-  whole-sound (Text number text) indexes counted well = whole-good world env shows (Text number text) [] [] tt well
-  whole-sound (VariableOf access type_id cells defined) indexes counted well =
-      whole-good world env shows (VariableOf access type_id cells defined) (map value_of (map (λ (e : ProvedExpr). e.0) indexes))
-      (map value_walk (map (λ (e : ProvedExpr). e.0) indexes)) (proved-indexes indexes counted)
-      (subst (λ (n : ℕ). is_well_formed_whole world.declared world.types world.sites (VariableOf access type_id cells defined) n ≡ true)
-      (sym (many-mapped value_of indexes)) well)
-
-  value-layer : (y : Expr-F ProvedExpr ProvedLink) → ExprLayer (map-Expr ProvedExpr ProvedLink Expr Link (λ e. e.0) (λ l. l.0) y)
-  value-layer (Constant number value) well =
-      entered-sound world env shows IsKnown number (effect.give (Number value)) (walk.ordinal (record { first = value; last = value }))
-      (given-sound world env (record { first = value; last = value }) value (constant-in value))
-  value-layer (Variable access indexes defined) well =
-      let expressions = map (λ (e : ProvedExpr). e.0) indexes.items in
-      let leads = leads_to_ordinal world.declared world.types world.sites access.root access.selectors.items in
-      let counted = all_hold (map well_expr expressions) in
-      let many = length (map well_expr expressions) in
-      let parts = and_parts counted (leads many && nat_lt defined world.sites) well in
-      let both = and_parts (leads many) (nat_lt defined world.sites) parts.1 in
-      variable-sound access (map value_of expressions) (map value_walk expressions) defined (proved-indexes indexes.items parts.0)
-      (subst (λ (n : ℕ). leads n ≡ true) (many-mapped well_expr indexes.items ∙ sym (many-mapped value_of indexes.items)) both.0)
-      (ltb-true defined world.sites both.1)
-  value-layer (MonadicOf number operation operand) well =
-      let parts = and_parts (monadic_is_well_formed world.declared world.types world.sites operation) (well_expr operand.value.0) well in
-      entered-sound world env shows IsKnown number (effect.◌>>=◌ (value_of operand.value.0 env) (meaning.operated operation))
-      (walk.◌>>=◌ (value_walk operand.value.0) (walk.operated operation))
-      (sound-then world env IsKnown IsKnown (value_of operand.value.0 env) (meaning.operated operation) (value_walk operand.value.0) (walk.operated operation)
-      (operand.value.1 parts.1) (λ known v inside. operated-sound world env operation known v parts.0 inside))
-  value-layer (Chain first rest) well =
-      let links = map (λ (l : ProvedLink). l.0) rest.items in
-      let parts = and_parts (well_expr first.value.0) (all_hold (map well_link links)) well in
-      sound-then world env IsKnown IsKnown (value_of first.value.0 env) (meaning.in_turn (map link_of links) env) (value_walk first.value.0)
-      (walk.in_turn (map link_walk links))
-      (first.value.1 parts.0) (λ known v inside. turns-sound rest.items parts.1 known v inside)
-  value-layer (Compare number relation left left_indexes right right_indexes) well =
-      let left_expressions = map (λ (e : ProvedExpr). e.0) left_indexes.items in
-      let right_expressions = map (λ (e : ProvedExpr). e.0) right_indexes.items in
-      let left_values = map value_of left_expressions in
-      let right_values = map value_of right_expressions in
-      let left_walks = map value_walk left_expressions in
-      let right_walks = map value_walk right_expressions in
-      let is_well = is_well_formed_whole world.declared world.types world.sites in
-      let left_counted = all_hold (whole_indexes left (map well_expr left_expressions)) in
-      let right_counted = all_hold (whole_indexes right (map well_expr right_expressions)) in
-      let left_well = is_well left (length (map well_expr left_expressions)) in
-      let right_well = is_well right (length (map well_expr right_expressions)) in
-      let same = nat_eq (length_of left) (length_of right) in
-      let one = and_parts left_counted (left_well && (right_counted && (right_well && same))) well in
-      let two = and_parts left_well (right_counted && (right_well && same)) one.1 in
-      let three = and_parts right_counted (right_well && same) two.1 in
-      let four = and_parts right_well same three.1 in
-      let left_sized : is_well left (length left_expressions) ≡ true =
-      subst (λ (n : ℕ). is_well left n ≡ true) (many-mapped well_expr left_indexes.items) two.0 in
-      let right_sized : is_well right (length right_expressions) ≡ true =
-      subst (λ (n : ℕ). is_well right n ≡ true) (many-mapped well_expr right_indexes.items) four.0 in
-      let compares = λ (a : List ℤ). effect.◌>>=◌ (meaning.whole_of right right_values env) (λ b. effect.give (meaning.compared relation a b)) in
-      let behind = λ (a : List ℤ). effect.◌>>=◌ (effect.enter number env) (λ done. compares a) in
-      let walked = walk.◌>>=◌ (walk.whole_walk right right_walks) (λ done. walk.ordinal truth_values) in
-      let Row = RowOfIntegers in
-      sound-then world env Row IsKnown (meaning.whole_of left left_values env) behind
-      (walk.whole_walk left left_walks) (λ done. walk.◌>>=◌ (walk.enter number) (λ done. walked)) (whole-sound left left_indexes.items one.0 left_sized)
-      (λ b a tie. entered-sound world env shows IsKnown number (compares a) walked
-      (sound-then world env Row IsKnown (meaning.whole_of right right_values env) (λ b. effect.give (meaning.compared relation a b))
-      (walk.whole_walk right right_walks) (λ done. walk.ordinal truth_values) (whole-sound right right_indexes.items three.0 right_sized)
-      (λ c b tie. given-sound world env truth_values (truth (meaning.relates relation (meaning.order_of a b) (pos 0)))
-      (truth_values-has (meaning.relates relation (meaning.order_of a b) (pos 0))))))
-
-  link-layer : (y : Link-F ProvedExpr ProvedLink) → LinkLayer (map-Link ProvedExpr ProvedLink Expr Link (λ e. e.0) (λ l. l.0) y)
-  link-layer y well known v inside =
-      let right = y.operand.0 in
-      let meant = meaning.combined y.operation v in
-      let walked = walk.combined y.operation known in
-      let parts = and_parts (dyadic_is_well_formed world.declared world.types world.sites y.operation) (well_expr right) well in
-      entered-sound world env shows IsKnown y.number (effect.◌>>=◌ (value_of right env) meant) (walk.◌>>=◌ (value_walk right) walked)
-      (sound-then world env IsKnown IsKnown (value_of right env) meant (value_walk right) walked
-      (y.operand.1 parts.1) (λ k w is. combined-sound world env y.operation known k v w parts.0 inside is))
-
-  -- by what the three folds are at a form
-  along-value : {a b : Bool} {evaluation evaluated : Evaluation} {walking walked : Walking Known} → a ≡ b → evaluation ≡ evaluated → walking ≡ walked
-      → SoundValue b evaluated walked → SoundValue a evaluation walking
-  along-value {a} {b} {evaluation} {evaluated} {walking} {walked} zero one two sound =
-      subst (λ (w : Bool). SoundValue w evaluation walking) (sym zero)
-      (subst (λ (e : Evaluation). SoundValue b e walking) (sym one) (subst (λ (w : Walking Known). SoundValue b evaluated w) (sym two) sound))
-
-  along-link : {a b : Bool} {combination combined : meaning.Combination} {walking walked : walk.Combination} → a ≡ b → combination ≡ combined → walking ≡ walked
-      → SoundLink b combined walked → SoundLink a combination walking
-  along-link {a} {b} {combination} {combined} {walking} {walked} zero one two sound =
-      subst (λ (w : Bool). SoundLink w combination walking) (sym zero)
-      (subst (λ (c : meaning.Combination). SoundLink b c walking) (sym one) (subst (λ (w : walk.Combination). SoundLink b combined w) (sym two) sound))
-
-  rolled-expr : (x : Expr-F Expr Link) → ExprLayer x → ValueIsSound (roll-Expr x)
-  rolled-expr x =
-      along-value
-      (fold-roll-Expr Bool Bool (expr_is_well_formed world.declared world.types world.sites) (link_is_well_formed world.declared world.types world.sites) x)
-      (fold-roll-Expr Evaluation meaning.Combination meaning.value_step meaning.link_step x)
-      (fold-roll-Expr (Walking Known) walk.Combination walk.value_step walk.link_step x)
-
-  rolled-link : (x : Link-F Expr Link) → LinkLayer x → LinkIsSound (roll-Link x)
-  rolled-link x =
-      along-link
-      (fold-roll-Link Bool Bool (expr_is_well_formed world.declared world.types world.sites) (link_is_well_formed world.declared world.types world.sites) x)
-      (fold-roll-Link Evaluation meaning.Combination meaning.value_step meaning.link_step x)
-      (fold-roll-Link (Walking Known) walk.Combination walk.value_step walk.link_step x)
-
-  abbrev plain_expr : Expr-F ProvedExpr ProvedLink → Expr-F Expr Link
-  plain_expr = map-Expr ProvedExpr ProvedLink Expr Link (λ e. e.0) (λ l. l.0)
-
-  abbrev plain_link : Link-F ProvedExpr ProvedLink → Link-F Expr Link
-  plain_link = map-Link ProvedExpr ProvedLink Expr Link (λ e. e.0) (λ l. l.0)
-
   pub value-sound : (e : Expr) → ValueIsSound e
-  value-sound =
-      ind-Expr ValueIsSound LinkIsSound
-      (λ x y is. subst (λ (z : Expr-F Expr Link). ValueIsSound (roll-Expr z)) is (rolled-expr (plain_expr y) (value-layer y)))
-      (λ x y is. subst (λ (z : Link-F Expr Link). LinkIsSound (roll-Link z)) is (rolled-link (plain_link y) (link-layer y)))
+  value-sound = ?
 
-  -- ---- accesses and whole values
+  -- an access, which leads to what is wanted: what is reached there, in the store that it leaves as it is
+  pub access-sound : (access : Access) (indexes : List Expr) (wanted : TypeId → Bool)
+      → are_well_formed (declared_in world) (types_in world) world.sites indexes ≡ true
+      → leads_to (declared_in world) (types_in world) world.sites wanted access.root access.selectors.items (length indexes) ≡ true
+      → (store : Store)
+      → SoundFrom world env store (Leads env access.root access.selectors.items store) (accessed access (values_of indexes) env)
+      (walk.access_walk access (walk.index_pieces indexes))
+  access-sound access indexes wanted well leads store = ?
 
-  all-indexes : (indexes : List Expr) → are_well_formed world.declared world.types world.sites indexes ≡ true
-      → AllSound world env (values_of indexes) (walk.index_walks indexes)
-  all-indexes [] well = tt
-  all-indexes (index ∷ indexes) well =
-      let both = and_parts (well_expr index) (are_well_formed world.declared world.types world.sites indexes) well in
-      (value-sound index both.0, all-indexes indexes both.1)
+  -- the numbers of a whole value lie in the ranges that the walk tells
+  pub whole_value-sound : (value : Whole) (indexes : List Expr) → is_well_formed_value (declared_in world) (types_in world) world.sites value indexes ≡ true
+      → Sound world env (IsWhole (types_in world) value) (meaning.whole_of value (values_of indexes) env) (walk.whole_walk value (walk.index_pieces indexes))
+  whole_value-sound value indexes well = ?
 
-  -- an access, which leads to what is wanted
-  pub access-sound : (access : Access) (indexes : List Expr) (wanted : TypeId → Bool) → are_well_formed world.declared world.types world.sites indexes ≡ true
-      → leads_to world.declared world.types world.sites wanted access.root access.selectors.items (length indexes) ≡ true
-      → Sound world env (λ (done : Unit {0}) place. Reaches env access.root (length access.selectors.items) place)
-      (accessed access (values_of indexes) env) (walk.access_walk access (walk.index_walks indexes))
-  access-sound access indexes wanted well leads =
-      let selectors = access.selectors.items in
-      reached-sound world env shows access (values_of indexes) (walk.index_walks indexes) (all-indexes indexes well)
-      (length-map indexes value_of ∙ leads-count world.declared world.types world.sites wanted access.root selectors (length indexes) leads)
-      (leads-tests world.declared world.types world.sites wanted access.root selectors (length indexes) leads)
-
-  pub whole_value-sound : (value : Whole) (indexes : List Expr) → is_well_formed_value world.declared world.types world.sites value indexes ≡ true
-      → Sound world env RowOfIntegers (meaning.whole_of value (values_of indexes) env) (walk.whole_walk value (walk.index_walks indexes))
-  whole_value-sound (Text number text) indexes well =
-      whole-good world env shows (Text number text) [] [] tt
-      (and_parts true (is_well_formed_whole world.declared world.types world.sites (Text number text) (length indexes)) well).1
-  whole_value-sound (VariableOf access type_id cells defined) indexes well =
-      let is_well = is_well_formed_whole world.declared world.types world.sites (VariableOf access type_id cells defined) in
-      let both = and_parts (are_well_formed world.declared world.types world.sites indexes) (is_well (length indexes)) well in
-      whole-good world env shows (VariableOf access type_id cells defined) (values_of indexes) (walk.index_walks indexes) (all-indexes indexes both.0)
-      (subst (λ (n : ℕ). is_well n ≡ true) (sym (length-map indexes value_of)) both.1)
-
-  -- ---- values that are written
-
-  -- a width that has to be at least 1
-  width-tested : (site : ℕ) (known : Known) (w : Value) → nat_lt site world.sites ≡ true → IsKnown known w
-      → Sound {B = Unit {0}} world env Any_value (effect.◌>>=◌ (effect.require (is_positive w) site) (λ tested. effect.give w)) (walk.width_test site known)
-  width-tested site (Ordinal range) w below inside =
-      sound-then {D = Unit {0}} world env (Passes (is_positive w) w) Any_value (effect.require (is_positive w) site) (λ tested. effect.give w)
-      (walk.positive site range) (λ passed. walk.give tt)
-      (positive-sound world env site range w (ltb-true site world.sites below) inside)
-      (λ passed tested passes. sound-give {B = Unit {0}} world env Any_value w tt tt)
-
-  width-sound : (width : Option Width) (default : ℤ) → is_well_formed_width world.declared world.types world.sites width ≡ true
-      → Sound {B = Unit {0}} world env Any_value (width_of width default env) (width_walk width)
-  width-sound None default well = sound-give {B = Unit {0}} world env Any_value (Number default) tt tt
-  width-sound (Some width) default well =
-      let parts = and_parts (nat_lt width.site world.sites) (well_expr width.value) well in
-      let tests = λ (w : Value). effect.◌>>=◌ (effect.require (is_positive w) width.site) (λ tested. effect.give w) in
-      sound-then {D = Unit {0}} world env IsKnown Any_value (value_of width.value env) tests (value_walk width.value) (walk.width_test width.site)
-      (value-sound width.value parts.1) (λ known w inside. width-tested width.site known w parts.0 inside)
-
-  -- a value that is written, and its width
-  written-sound : (value : Written) (width : Option Width) → is_well_formed_written world.declared world.types world.sites value ≡ true
-      → is_well_formed_width world.declared world.types world.sites width ≡ true
-      → SoundAction world env (written_of value width env) (walk.◌>>=◌ (walk.written_walk value) (λ done. width_walk width))
-  written-sound (written.Ordinal value representation) width well wide =
-      let default = meaning.default_width representation in
-      sound-then world env Any_value Any_value (value_of value env)
-      (λ v. effect.◌>>=◌ (width_of width default env) (λ w. effect.write (text_of representation v w)))
-      (walk.written_walk (written.Ordinal value representation)) (λ done. width_walk width)
-      (sound-named world env IsKnown Any_value (λ known. tt) (λ known v inside. tt) (value_of value env) (value_walk value) (value-sound value well))
-      (λ done v tie. sound-written world env Any_value (text_of representation v) (width_of width default env) (width_walk width)
-      (width-sound width default wide))
-  written-sound (written.String value indexes) width well wide =
-      let default = pos (length_of value) in
-      sound-then world env RowOfIntegers Any_value (meaning.whole_of value (values_of indexes.items) env)
-      (λ row. effect.◌>>=◌ (width_of width default env) (λ w. effect.write (row_text row w)))
-      (walk.whole_walk value (walk.index_walks indexes.items)) (λ done. width_walk width) (whole_value-sound value indexes.items well)
-      (λ done row tie. sound-written world env Any_value (row_text row) (width_of width default env) (width_walk width)
-      (width-sound width default wide))
-
-  pub parameter-sound : (parameter : WriteParameter) → is_well_formed_parameter world.declared world.types world.sites parameter ≡ true
+  pub parameter-sound : (parameter : WriteParameter) → is_well_formed_parameter (declared_in world) (types_in world) world.sites parameter ≡ true
       → SoundAction world env (parameter_of parameter env) (parameter_walk parameter)
-  parameter-sound parameter well =
-      let parts = and_parts (is_well_formed_written world.declared world.types world.sites parameter.value)
-      (is_well_formed_width world.declared world.types world.sites parameter.width) well in
-      written-sound parameter.value parameter.width parts.0 parts.1
+  parameter-sound parameter well = ?

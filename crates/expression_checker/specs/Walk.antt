@@ -2,7 +2,8 @@
 -- sites that it leaves open, and the state at each entry into an expression (ISO 7185:1990, 6.7). Rules of certificates
 -- are broken by statements alone. It does not say that a run does what the walk says of it.
 use Rattle.std.specs.Prelude.{◌≡◌, ℕ, ℤ, pos, ◌+ℤ◌, ◌-ℤ◌, Bool, false, not, ◌||◌, int_le, int_lt, List, [], ◌∷◌, ◌++◌}
-use Rattle.std.specs.Prelude.{Option, Some, None, if◌then◌else◌, map}
+use Rattle.std.specs.Prelude.{Option, Some, None, if◌then◌else◌, map, ◌&&◌}
+use Rattle.std.specs.List.{list_all}
 use Rattle.place.specs.declared.Place.{Place}
 use Rattle.typed_tree.specs.declared.tree.Tree.{Tree}
 use Rattle.typed_tree.specs.declared.tree.Access.{Access}
