@@ -1,5 +1,5 @@
 -- The numbers of bounds: of those that are moved, that are known to be at most others, and that lie just behind them.
-use Rattle.std.proofs.Common.{arith, ◌≡◌, ◌∙◌, sym, ap, refl, subst, ℕ, ℤ, pos, ◌+ℤ◌, ◌≤ℤ◌, Bool, true, false, cond, ◌&&◌, Option, Some, None}
+use Rattle.std.proofs.Common.{arith, ◌≡◌, ap, refl, subst, ℕ, ℤ, pos, ◌+ℤ◌, ◌≤ℤ◌, Bool, true, false, cond, Option, Some, None}
 use Rattle.std.proofs.lemmas.Int.{ints}
 use Rattle.std.proofs.lemmas.Bool.{and_parts}
 use Rattle.domain.specs.Facts.{Bound, Number, Plus}
@@ -7,10 +7,10 @@ use Rattle.meaning.specs.Integers.{is_integer_number}
 use Rattle.meaning.specs.Store.{Environment, Store}
 use Rattle.abstract_state.specs.State as variables
 use Rattle.abstract_state.specs.State.{Dead, Live, at_most}
-use Rattle.abstract_state.specs.Holds.{Moment, HasNumber, IsBound}
+use Rattle.abstract_state.specs.Holds.{Moment, IsBound}
 use Rattle.abstract_state.specs.Knows as entire
 use Rattle.abstract_state.specs.Knows.{moment}
-use Rattle.abstract_state.proofs.Given.{defined-number, le-holds, same-number}
+use Rattle.abstract_state.proofs.Given.{defined-number, le-holds}
 use Rattle.component_states.specs.Components.{has_value, is_next, moved_bound, some_at_least, some_at_most}
 
 pub some-if : (test : Bool) (one other : Bound) → cond test (Some one) None ≡ Some other → one ≡ other

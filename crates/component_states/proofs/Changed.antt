@@ -1,20 +1,21 @@
 -- What is known of components holds after a variable changed, and where a variable is its bound.
-use Rattle.std.proofs.Common.{arith, ◌≡◌, ◌∙◌, sym, ap, refl, subst, ℕ, ℤ, ◌+ℤ◌, neg_ℤ, ◌≤ℤ◌, Bool, true, false, not, cond, nat_eq, List, [], get_or, Option, Some, None}
+use Rattle.std.proofs.Common.{arith, ◌≡◌, ◌∙◌, sym, ap, refl, subst, ℕ, ℤ, ◌+ℤ◌, neg_ℤ, Bool, true, false, not, cond, nat_eq, List, []}
+use Rattle.std.proofs.Common.{get_or, Option, Some, None}
 use Rattle.std.specs.List.{filter_map}
 use Rattle.std.proofs.lemmas.Int.{ints}
-use Rattle.std.proofs.lemmas.Bool.{both_ways, cond_both, eq-eqb, eqb-true}
+use Rattle.std.proofs.lemmas.Bool.{both_ways, eq-eqb, eqb-true}
 use Rattle.std.proofs.lemmas.List.Elements.{All-contains}
 use Rattle.types.specs.declared.form.Step.{Step}
 use Rattle.domain.specs.Facts.{Bound, Number, Plus}
 use Rattle.meaning.specs.Store.{Environment, Store}
-use Rattle.abstract_state.specs.Holds.{Moment, HasNumber, IsBound, value_at}
+use Rattle.abstract_state.specs.Holds.{Moment, HasNumber, IsBound}
 use Rattle.abstract_state.specs.Knows.{moment}
 use Rattle.abstract_state.proofs.Given.{same-number}
 use Rattle.leaf_rows.specs.Rows.{Parts, no_parts}
-use Rattle.component_states.specs.Components.{Components, Stretch, between, bound_in_place, changed, changed_bound, moved_bound, replaced, with_bounds}
-use Rattle.component_states.specs.Holds.{AreDefined, ComponentsHold, HasComponent, IsOfRow, StretchHolds}
-use Rattle.component_states.specs.Laws.{AreComponents, BoundsHold, ChangesHold, IsNumberOf, OneChanges}
-use Rattle.component_states.proofs.Bounds.{moved-is, unless-if}
+use Rattle.component_states.specs.Components.{Stretch, between, bound_in_place, changed, changed_bound, moved_bound, replaced, with_bounds}
+use Rattle.component_states.specs.Holds.{AreDefined, HasComponent, IsOfRow, StretchHolds}
+use Rattle.component_states.specs.Laws.{BoundsHold, ChangesHold, IsNumberOf, OneChanges}
+use Rattle.component_states.proofs.Bounds.{moved-is}
 use Rattle.component_states.proofs.Listed.{changed-all, each-of, with_stretches-all}
 
 -- ---- stretches with other bounds

@@ -1,6 +1,5 @@
 -- What is known of components where two ways meet holds, whichever was taken.
-use Rattle.std.proofs.Common.{arith, ◌≡◌, sym, ap, refl, subst, ℕ, zero, suc, ◌≤◌, true, ◌&&◌, ◌∙◌, List, [], ◌∷◌, get_or, length, map}
-use Rattle.std.specs.List.{All, Contains}
+use Rattle.std.proofs.Common.{arith, ◌≡◌, sym, refl, subst, ℕ, zero, suc, ◌≤◌, List, [], ◌∷◌, get_or, length, map}
 use Rattle.std.proofs.lemmas.Bool.{and_parts}
 use Rattle.std.proofs.lemmas.List.{length-map}
 use Rattle.std.proofs.lemmas.List.Elements.{All-contains}
@@ -12,7 +11,6 @@ use Rattle.meaning.specs.Store.{Environment, Store}
 use Rattle.abstract_state.specs.State as variables
 use Rattle.abstract_state.specs.State.{Dead, Live}
 use Rattle.abstract_state.specs.Holds.{IsIn}
-use Rattle.abstract_state.specs.Knows as entire
 use Rattle.abstract_state.specs.Knows.{moment}
 use Rattle.abstract_state.proofs.Knows.{joined-known_one, joined-known_other}
 use Rattle.leaf_rows.specs.Rows.{Parts}
@@ -22,7 +20,7 @@ use Rattle.component_states.specs.Laws.{JoinHolds}
 use Rattle.component_states.specs.States.{State, given_stretches, joined_components, joined_states}
 use Rattle.component_states.proofs.Given.{stretch-holds}
 use Rattle.component_states.proofs.Listed.{each-of, filter-all, with_stretches-all}
-use Rattle.component_states.proofs.Rows.{RowHolds, row-holds}
+use Rattle.component_states.proofs.Rows.{RowHolds}
 
 -- ---- ranges
 

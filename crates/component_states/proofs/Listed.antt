@@ -1,6 +1,6 @@
 -- What holds of each of some stretches holds of those that are taken from them, of what they become, and of those that
 -- are added.
-use Rattle.std.proofs.Common.{◌≡◌, ⊎_elim, refl, Bool, true, false, cond, ◌||◌, List, [], ◌∷◌, ◌++◌, Option, Some, None}
+use Rattle.std.proofs.Common.{◌≡◌, ⊎_elim, refl, Bool, true, false, cond, List, [], ◌∷◌, ◌++◌, Option, Some, None}
 use Rattle.std.specs.List.{All, Contains, cons_option, filter, filter_map, list_any}
 use Rattle.std.proofs.lemmas.Bool.{cond_both, or_cases, or_parts}
 use Rattle.std.proofs.lemmas.List.Elements.{All-cons, All-contains_itself, All-head, All-nil, All-push, All-tail, All-weaker}

@@ -1,23 +1,23 @@
 -- What is known of components at the head of a loop holds after any turns.
-use Rattle.std.proofs.Common.{arith, ◌≡◌, ⊎_elim, ◌∙◌, sym, ap, refl, subst, ℕ, ℤ, ◌<◌, ◌≤◌, Bool, true, false, nat_eq, List, [], ◌∷◌, get_or, length, Option, Some, None}
+use Rattle.std.proofs.Common.{arith, ◌≡◌, ⊎_elim, ◌∙◌, sym, ap, refl, subst, ℕ, ℤ, ◌<◌, ◌≤◌, Bool, true, false, nat_eq, List, [], ◌∷◌, get_or}
+use Rattle.std.proofs.Common.{length, Option, Some, None}
 use Rattle.std.specs.List.{All, Contains, list_any}
 use Rattle.std.proofs.lemmas.Bool.{both_ways, cases_Bool, cases_eq, eq-eqb, ne_eqb, or_from}
 use Rattle.std.proofs.lemmas.List.{length-set}
 use Rattle.std.proofs.lemmas.List.Elements.{All-contains, All-contains_itself, All-head, All-tail, All-weaker}
-use Rattle.types.specs.declared.form.Step.{Step}
 use Rattle.domain.specs.Interval.{Interval, common}
 use Rattle.domain.specs.Facts.{Bound, Number, Plus}
-use Rattle.meaning.specs.declared.store.Value.{Value}
 use Rattle.meaning.specs.Store.{Environment, Store}
 use Rattle.abstract_state.specs.Changes.{bound_rests_on}
-use Rattle.abstract_state.specs.Holds.{IsBound, IsIn, Moment, value_at}
+use Rattle.abstract_state.specs.Holds.{IsBound, IsIn, Moment}
 use Rattle.abstract_state.specs.Knows.{IsKept, moment}
 use Rattle.abstract_state.specs.Loops.{is_among}
 use Rattle.abstract_state.proofs.Ranged.{common-in}
 use Rattle.leaf_rows.specs.Rows.{Parts, no_parts}
-use Rattle.component_states.specs.Components.{ComponentFact, Components, Defined, Range, RowState, Stretch, Stretched, all_changed, between, changed, changed_bound}
-use Rattle.component_states.specs.Components.{head, no_row, row_at, with_bounds, with_claim, with_claims, with_range, with_touched}
-use Rattle.component_states.specs.Holds.{ComponentsHold, HasComponent, Holds, IsOfRow, StretchHolds, component_at}
+use Rattle.component_states.specs.Components.{ComponentFact, Components, Defined, Range, RowState, Stretch, Stretched, all_changed, between, changed}
+use Rattle.component_states.specs.Components.{changed_bound}
+use Rattle.component_states.specs.Components.{no_row, row_at, with_bounds, with_claim, with_claims, with_range, with_touched}
+use Rattle.component_states.specs.Holds.{ComponentsHold, Holds, IsOfRow, StretchHolds}
 use Rattle.component_states.specs.Laws.{AreEntire, AreTouched, HeadsHold, InLimits}
 use Rattle.component_states.proofs.Bounds.{unless-if}
 use Rattle.component_states.proofs.Changed.{StaysDefined, with_bounds-holds}
@@ -154,7 +154,7 @@ touched-defined limits (one ∷ touched) known row =
 -- ---- the head
 
 module _ (rows : List Parts) (env : Environment) (limits : ℕ → Interval) (roots controls touched : List ℕ) (before after : Store)
-  (kept : IsKept env roots controls before after) (are_touched : AreTouched rows roots touched) (are_entire : AreEntire rows controls) where
+    (kept : IsKept env roots controls before after) (are_touched : AreTouched rows roots touched) (are_entire : AreEntire rows controls) where
   defined-stays : StaysDefined rows (moment env before) (moment env after)
   defined-stays row steps of_row has =
       kept.defined (get_or rows row no_parts).root (are_entire row (of_row-within rows row steps of_row)) steps has

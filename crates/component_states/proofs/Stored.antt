@@ -1,9 +1,10 @@
 -- What is known of components holds after values were stored to some of them.
-use Rattle.std.proofs.Common.{arith, ◌≡◌, ◌⊎◌, ⊎_elim, inl, inr, ◌∙◌, sym, ap, refl, subst, ℕ, ℤ, pos, ◌+ℤ◌, ◌≤ℤ◌, ◌<◌, ◌≤◌, Bool, true, false, cond, ◌||◌, nat_eq}
+use Rattle.std.proofs.Common.{arith, ◌≡◌, ◌⊎◌, ⊎_elim, inl, inr, ◌∙◌, sym, ap, refl, subst, ℕ, ℤ, pos, ◌+ℤ◌, ◌≤ℤ◌, ◌<◌, ◌≤◌, Bool, true, false}
+use Rattle.std.proofs.Common.{cond, ◌||◌, nat_eq}
 use Rattle.std.proofs.Common.{List, [], ◌∷◌, get_or, length, Option, Some, None}
 use Rattle.std.specs.List.{All, Contains, filter, filter_map, list_any}
 use Rattle.std.proofs.lemmas.Int.{ints, by_lt_z}
-use Rattle.std.proofs.lemmas.Bool.{both_ways, cases_Bool, cases_eq, cond_both, eq-eqb, eqb-true, ne_eqb, or_right}
+use Rattle.std.proofs.lemmas.Bool.{both_ways, cases_Bool, cases_eq, cond_both, eq-eqb, eqb-true, ne_eqb}
 use Rattle.std.proofs.lemmas.List.{length-set}
 use Rattle.std.proofs.lemmas.List.Elements.{All-cons, All-contains, All-contains_itself, All-head, All-tail}
 use Rattle.types.specs.declared.form.Step.{Step}
@@ -16,11 +17,11 @@ use Rattle.abstract_state.specs.Holds.{IsBound, IsIn, value_at}
 use Rattle.abstract_state.specs.Knows as entire
 use Rattle.abstract_state.specs.Knows.{moment}
 use Rattle.leaf_rows.specs.Rows.{Parts, first_index, no_parts}
-use Rattle.component_states.specs.Components.{At, Components, Defined, Entire, Index, Inside, Range, Reach, RowState, Stretch, all_stored, at_index, gives_stretch}
-use Rattle.component_states.specs.Components.{is_next, is_none, longer, longer_in, or_alone, row_at, stored, with_defined, with_element, with_joined, with_range}
-use Rattle.component_states.specs.Components.{with_some_element, with_stretches}
-use Rattle.component_states.specs.Holds.{AreDefined, ComponentsHold, HasComponent, Holds, IsOfRow, StretchHolds, component_at}
-use Rattle.component_states.specs.Laws.{AreApart, AreComponents, AreStored, IsIndex, IsReach, IsReached, StoresHold}
+use Rattle.component_states.specs.Components.{At, Components, Defined, Entire, Index, Inside, Reach, RowState, Stretch, all_stored, at_index, gives_stretch}
+use Rattle.component_states.specs.Components.{is_next, is_none, longer, longer_in, or_alone, row_at, stored, with_defined, with_element, with_joined}
+use Rattle.component_states.specs.Components.{with_range, with_some_element, with_stretches}
+use Rattle.component_states.specs.Holds.{ComponentsHold, HasComponent, Holds, IsOfRow, StretchHolds, component_at}
+use Rattle.component_states.specs.Laws.{AreApart, AreComponents, AreStored, IsIndex, IsReach, StoresHold}
 use Rattle.component_states.proofs.Bounds.{next-is}
 use Rattle.component_states.proofs.Joins.{in-left, in-right}
 use Rattle.component_states.proofs.Listed.{changed-all, each-of, filter-all, none-of, with_stretches-all}
@@ -151,7 +152,8 @@ module _ (rows : List Parts) (env : Environment) (stores : List (ℕ × Interval
               subst (λ (range : Interval). IsIn range v) (sym (with_defined-range known row other)) (left.ranges other steps v of_row there was);
           defined = λ other is.
               ⊎_elim (λ kept. left.defined other (sym (ap (λ (s : RowState). s.is_defined) kept) ∙ is))
-              (λ (both : (row ≡ other) × (row_at (with_defined row known) other ≡ state)). subst (λ (r : ℕ). Holds rows (Defined r) (moment env after)) both.0 so)
+              (λ (both : (row ≡ other) × (row_at (with_defined row known) other ≡ state)).
+              subst (λ (r : ℕ). Holds rows (Defined r) (moment env after)) both.0 so)
               (set-at known.rows row other state);
           stretches = left.stretches;
         }
@@ -168,7 +170,7 @@ module _ (rows : List Parts) (env : Environment) (stores : List (ℕ × Interval
   -- ---- the components of an index
 
   module _ (whole : AreComponents rows) (roots : ℕ) (state : variables.State) (knows : entire.Knows roots env state before) (index : Index) (number : ℤ)
-    (is_index : IsIndex env before index number) (are : AreStored rows env (At index) stores before after) where
+      (is_index : IsIndex env before index number) (are : AreStored rows env (At index) stores before after) where
     module _ (one : ℕ × Interval) (listed : Contains stores one) (bound : Bound) (bound_is : IsBound (moment env before) bound number) where
       index-defined : (steps : List Step) (at : ℤ) → IsOfRow rows one.0 steps → first_index steps ≡ Some at → at ≡ number
           → HasComponent rows (moment env after) (one.0) steps
@@ -285,3 +287,25 @@ stores-hold rows whole apart roots env state known reach stores before after kno
       defined = last.defined;
       stretches = λ one listed. All-contains (λ (one : Stretch). StretchHolds rows one (moment env after)) end.stretches one last.stretches listed;
     }
+
+-- ---- an index without a form
+
+-- an index of which no form is known is stored as one that lies behind others
+pub formless-stored : (state : variables.State) (index : Index) → index.form ≡ None → (stores : List (ℕ × Interval)) (known : Components)
+    → all_stored state (At index) stores known ≡ all_stored state (Inside index) stores known
+formless-stored state index none [] known = refl
+formless-stored state index none (one ∷ more) known =
+    let joined_one = with_joined (one.0) (one.1) known in
+    let same : stored state (At index) (one.0) (one.1) known ≡ joined_one =
+    ap (λ (form : Option Bound). with_some_element state (one.0) form joined_one) none in
+    ap (λ (c : Components). all_stored state (At index) more c) same ∙ formless-stored state index none more joined_one
+
+-- then no more has to be said of the stores than of those behind others
+pub formless-hold : (rows : List Parts) → AreComponents rows → AreApart rows
+    → (roots : ℕ) (env : Environment) (state : variables.State) (known : Components) (index : Index) → index.form ≡ None
+    → (stores : List (ℕ × Interval)) (before after : Store) → entire.Knows roots env state before
+    → AreStored rows env (Inside index) stores before after → ComponentsHold rows known (moment env before)
+    → ComponentsHold rows (all_stored state (At index) stores known) (moment env after)
+formless-hold rows whole apart roots env state known index none stores before after knows are holds =
+    subst (λ (c : Components). ComponentsHold rows c (moment env after)) (sym (formless-stored state index none stores known))
+    (stores-hold rows whole apart roots env state known (Inside index) stores before after knows tt are holds)
