@@ -1,11 +1,17 @@
 pub mod Among
+pub mod Changes
+pub mod Copied
 pub mod Entered
+pub mod Heads
 pub mod Keeping
 pub mod SoundCase
 pub mod SoundFor
 pub mod SoundForms
 pub mod SoundLoops
 pub mod SoundProgram
+pub mod SoundStores
 pub mod Steps
 pub mod StepsCase
 pub mod StepsFor
+pub mod Stored
+pub mod Targets

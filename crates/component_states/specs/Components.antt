@@ -3,13 +3,13 @@
 -- what that means for a run.
 use Rattle.std.specs.Prelude.{ℕ, ℤ, pos, neg_ℤ, ◌+ℤ◌, Bool, true, false, not, ◌&&◌, ◌||◌, List, [], ◌∷◌, ◌++◌, Option}
 use Rattle.std.specs.Prelude.{Some, None, if◌then◌else◌, filter, map, nat_eq, replicate, slice_index_or, slice_set}
-use Rattle.std.specs.List.{filter_map, list_all, list_any}
+use Rattle.std.specs.List.{filter_map, list_any}
 use Rattle.std.specs.Ordering.{int_eq}
 use Rattle.domain.specs.Interval.{Interval, common, is_included, joined, vacant}
 use Rattle.domain.specs.Facts.{Bound, Number, Plus}
 use Rattle.meaning.specs.Integers.{is_integer_number}
 use Rattle.abstract_state.specs.State as variables
-use Rattle.abstract_state.specs.State.{Dead, Live, is_defined, le}
+use Rattle.abstract_state.specs.State.{at_most, is_defined}
 
 -- the components of a row whose first indexes lie between two bounds
 pub record Stretch : Type 0 where
@@ -65,11 +65,6 @@ bound_with form number = if is_integer_number number then Some (form number) els
 abbrev pub moved_bound : ℤ → Bound → Option Bound
 moved_bound n (Number m) = bound_with Number (m +ℤ n)
 moved_bound n (Plus root m) = bound_with (Plus root) (m +ℤ n)
-
--- a bound is known to be at most another; at a dead point, each is
-abbrev pub at_most : variables.State → Bound → Bound → Bool
-at_most Dead a b = true
-at_most (Live known) a b = le known a b
 
 abbrev pub some_at_most : variables.State → Option Bound → Bound → Bool
 some_at_most state None b = false
@@ -233,7 +228,7 @@ with_element state row index known =
     if gives_stretch state known (at_index row index) then known
     else record known {
       stretches = with_stretches (or_alone row index (filter_map (longer_in state row index) known.stretches))
-                  (filter (λ stretch. is_none (longer_in state row index stretch)) known.stretches);
+          (filter (λ stretch. is_none (longer_in state row index stretch)) known.stretches);
     }
 
 abbrev pub with_some_element : variables.State → ℕ → Option Bound → Components → Components

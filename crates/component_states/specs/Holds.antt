@@ -1,13 +1,10 @@
 -- What facts of components and states say of a moment of a run (ISO 7185:1990, 6.5.1). It does not say that a run keeps
 -- them.
-use Rattle.std.specs.Prelude.{◌≡◌, ℕ, ℤ, ◌<◌, ◌≤ℤ◌, ◌×◌, true, false, List, Option, Some, None, length, slice_index_or}
+use Rattle.std.specs.Prelude.{◌≡◌, ℕ, ℤ, ◌≤◌, ◌≤ℤ◌, true, List, Option, Some, length, slice_index_or}
 use Rattle.std.specs.Prelude.{Contains}
 use Rattle.types.specs.declared.form.Step.{Step}
 use Rattle.meaning.specs.declared.store.Value.{Value}
 use Rattle.meaning.specs.Store.{Environment, Store}
-use Rattle.domain.specs.Interval.{Interval}
-use Rattle.domain.specs.Facts.{Bound}
-use Rattle.abstract_state.specs.State as variables
 use Rattle.abstract_state.specs.Holds as entire
 use Rattle.abstract_state.specs.Holds.{HasValue, IsBound, IsIn, Moment, value_at}
 use Rattle.abstract_state.specs.Knows as entire_knows
@@ -50,7 +47,7 @@ module _ (rows : List Parts) where
 
   -- the range of each row, each row that is defined, and each stretch; there is what is known for each row
   pub record ComponentsHold (known : Components) (moment : Moment) : Type 0 where
-    pub count : length rows ≡ length known.rows
+    pub count : length rows ≤ length known.rows
     pub ranges : (row : ℕ) → Holds (Range row (row_at known row).range) moment
     pub defined : (row : ℕ) → (row_at known row).is_defined ≡ true → Holds (Defined row) moment
     pub stretches : (stretch : Stretch) → Contains known.stretches stretch → StretchHolds stretch moment

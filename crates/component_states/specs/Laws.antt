@@ -17,7 +17,7 @@ use Rattle.abstract_state.specs.Loops.{is_among}
 use Rattle.leaf_rows.specs.Rows.{Parts, first_index, no_parts}
 use Rattle.component_states.specs.Components.{At, ComponentFact, Components, Entire, Index, Inside, Reach, all_stored}
 use Rattle.component_states.specs.Components.{changed, head, replaced}
-use Rattle.component_states.specs.Holds.{ComponentsHold, HasComponent, Holds, IsOfRow, Knows, StateHolds, component_at}
+use Rattle.component_states.specs.Holds.{ComponentsHold, HasComponent, Holds, IsOfRow, Knows, component_at}
 use Rattle.component_states.specs.States.{State, gives_component, joined_states}
 
 -- where two ways meet, what is known behind them holds, whichever was taken
@@ -110,7 +110,7 @@ pub record AreStored (rows : List Parts) (env : Environment) (reach : Reach) (st
   -- what lies in no such row is as it was
   pub others : (root : ℕ) (steps : List Step)
       → ((one : ℕ × Interval) → Contains stores one → IsOfRow rows one.0 steps
-          → (slice_index_or rows (one.0) no_parts).root ≡ root → ⊥)
+      → (slice_index_or rows (one.0) no_parts).root ≡ root → ⊥)
       → value_at (moment env after) root steps ≡ value_at (moment env before) root steps
   -- a component of such a row has the value that it had, or one of the range
   pub values : (one : ℕ × Interval) (steps : List Step) (v : Value) → Contains stores one → IsOfRow rows one.0 steps

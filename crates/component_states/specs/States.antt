@@ -1,6 +1,6 @@
 -- What a checker knows at a point of a program: of the variables, and of the components of those that are structured
 -- (ISO 7185:1990, 6.5.1). It does not say how that comes about, nor what it means for a run.
-use Rattle.std.specs.Prelude.{ℕ, ℤ, Bool, true, false, ◌||◌, List, [], ◌∷◌, Option, Some, None, if◌then◌else◌, filter}
+use Rattle.std.specs.Prelude.{ℕ, Bool, false, ◌||◌, List, Option, Some, None, if◌then◌else◌, filter}
 use Rattle.std.specs.List.{list_all}
 use Rattle.types.specs.declared.form.OrdinalRange.{OrdinalRange}
 use Rattle.domain.specs.Interval.{Interval}
@@ -9,7 +9,8 @@ use Rattle.abstract_state.specs.State as variables
 use Rattle.abstract_state.specs.State.{Dead, Live}
 use Rattle.component_states.specs.Components as components
 use Rattle.component_states.specs.Components.{ComponentFact, Components, Defined, Index, Reach, Stretch, Stretched}
-use Rattle.component_states.specs.Components.{Entire, At, Inside, at_index, gives_stretch, no_values, with_stretches}
+use Rattle.component_states.specs.Components.{Entire, At, Inside, at_index, between, bound_with, gives_stretch}
+use Rattle.component_states.specs.Components.{no_values, with_stretches}
 
 -- what is known of variables, and what of components
 pub record State : Type 0 where
@@ -66,11 +67,17 @@ abbrev pub gives_form : State → ℕ → Option Bound → Bool
 gives_form state row None = false
 gives_form state row (Some index) = gives_component state (Stretched (at_index row index))
 
+-- a stretch is given, if its bounds are there
+abbrev pub gives_some : State → Option Stretch → Bool
+gives_some state None = is_dead state
+gives_some state (Some stretch) = gives_component state (Stretched stretch)
+
+abbrev pub range_stretch : ℕ → Interval → Option Stretch
+range_stretch row range = between row (bound_with Number range.first) (bound_with Number range.last)
+
 abbrev pub gives_index : State → ℕ → Index → Bool
 gives_index state row index =
-    gives_form state row index.form
-    || gives_component state
-       (Stretched (record { row = row; first = Number index.range.first; last = Number index.range.last }))
+    gives_form state row index.form || gives_some state (range_stretch row index.range)
 
 -- what an access reaches in a row, whose first index has these values, is defined
 abbrev pub gives_reached : State → Reach → Option OrdinalRange → ℕ → Bool
@@ -88,7 +95,7 @@ abbrev pub joined_components : State → State → Components
 joined_components one other = record {
   rows = components.joined_rows one.components.rows other.components.rows;
   stretches = with_stretches (given_stretches one other.components.stretches)
-              (given_stretches other one.components.stretches);
+      (given_stretches other one.components.stretches);
 }
 
 -- what is known behind two ways that meet; one that no run takes adds nothing

@@ -1,8 +1,9 @@
 -- The walk of the checker over an expression, one equation a form: what is known of its value, the state after it, the
 -- sites that it leaves open, and the state at each entry into an expression (ISO 7185:1990, 6.7). Rules of certificates
 -- are broken by statements alone. It does not say that a run does what the walk says of it.
-use Rattle.std.specs.Prelude.{◌≡◌, ℕ, ℤ, pos, ◌+ℤ◌, ◌-ℤ◌, Bool, false, not, ◌||◌, int_le, int_lt, List, [], ◌∷◌, ◌++◌}
-use Rattle.std.specs.Prelude.{Option, Some, None, if◌then◌else◌, map}
+use Rattle.std.specs.Prelude.{◌≡◌, ℕ, ℤ, pos, ◌+ℤ◌, ◌-ℤ◌, Bool, not, ◌||◌, int_le, int_lt, List, [], ◌∷◌, ◌++◌}
+use Rattle.std.specs.Prelude.{Option, Some, None, if◌then◌else◌, map, ◌&&◌}
+use Rattle.std.specs.List.{list_all}
 use Rattle.place.specs.declared.Place.{Place}
 use Rattle.typed_tree.specs.declared.tree.Tree.{Tree}
 use Rattle.typed_tree.specs.declared.tree.Access.{Access}
@@ -29,7 +30,6 @@ use Rattle.typed_tree.specs.declared.tree.Expr.TheFolds.{fold-Expr, fold-Link}
 use Rattle.domain.specs.Interval.{Interval, is_included, has_number, common, sum, difference, negated, product, squared}
 use Rattle.domain.specs.Interval.{absolute, quotient, remainder, without_zero_end, at_least, at_most, both, either}
 use Rattle.domain.specs.Interval.{complement, joined, truth_values, vacant}
-use Rattle.domain.specs.Facts.{Bound}
 use Rattle.expression_checker.specs.declared.fault.Rule.{Rule}
 use Rattle.expression_checker.specs.declared.fault.CheckFault.{CheckFault}
 use Rattle.expression_checker.specs.declared.fault.CheckFault.TheVariants.{Memory, Foreign, Broken}
@@ -317,8 +317,8 @@ whole_rows_use type_id rows reach site context state = record {
   value = ranges_of state rows;
   after = with_used reach rows state;
   open_ids = left_open
-    (is_dead state
-    || (is_structured context.tree.types type_id && is_covered context.tree state reach rows)) site;
+      (is_dead state
+      || (is_structured context.tree.types type_id && is_covered context.tree state reach rows)) site;
   broken = [];
   linked = [];
 }
