@@ -1,21 +1,22 @@
-ghost use Rattle.std.specs.Prelude.{◌≡◌, ◌++◌, ◌&&◌, IfOk, filter_map, map, take};
+ghost use Rattle.std.specs.Prelude.{◌≡◌, ◌++◌, [], IfOk, map};
 ghost use Rattle.std.specs.List.{list_all};
 ghost use Rattle.std.specs.Option.{option_map};
 ghost use Rattle.domain.specs.Facts.{said};
 ghost use Rattle.component_states.specs.View.{said_component, viewed};
-ghost use Rattle.component_states.specs.States.{gives_components};
+ghost use Rattle.component_states.specs.States.{all_of_row, gives_components};
 ghost use Rattle.certificate.specs.Contents.{said_fact, said_path};
 ghost use Rattle.structured_states.specs.Loops.{component_claims, component_facts, is_ordinal_variable, names_entire};
 ghost use Rattle.structured_states.specs.Loops.{plain, plain_facts, rows_named};
-ghost use Rattle.structured_states.specs.View.{gives_some, row_claim, row_claims, rows_claimed};
+ghost use Rattle.structured_states.specs.View.{gives_some, row_claim, rows_claimed};
 ghost use Rattle.leaf_rows.specs.View.{numbers};
 
 use certificate::{Fact as Claim, Path};
 use component_states::{ComponentFact, State, Stretch};
-use domain::facts::Fact;
+use domain::facts::{Bound, Fact};
 use leaf_rows::{Rows, Span};
 use std::alloc::{AllocError, Global};
 use typed_tree::tree::Tree;
+use types::OrdinalRange;
 
 /// Whether a variable is there, and of an ordinal type.
 pub fn is_ordinal_variable(tree: &Tree, root: u32) -> bool
@@ -101,7 +102,7 @@ fn rows_claimed(rows: &Rows, claim: &Claim) -> Span
         Claim::Range { path, .. } => rows_named(rows, path),
         Claim::Defined { path } => rows_named(rows, path),
         Claim::Stretch { path, .. } => rows_named(rows, path),
-        Claim::Order { .. } => Span::EMPTY,
+        Claim::Order { .. } => no_rows(),
     }
 }
 
@@ -110,9 +111,15 @@ fn rows_named(rows: &Rows, path: &Path) -> Span
     ensures { numbers result ≡ rows_named rows.now (said_path path.now) }
 {
     match rows.named(path) {
-        None => Span::EMPTY,
+        None => no_rows(),
         Some(part) => part.rows,
     }
+}
+
+fn no_rows() -> Span
+    ensures { numbers result ≡ [] }
+{
+    Span { first: 0, count: 0 }
 }
 
 /// What a claim says of a row that it names.
@@ -121,13 +128,27 @@ fn row_claim(rows: &Rows, claim: &Claim, row: u32) -> Option<ComponentFact>
 {
     match claim {
         Claim::Range { range, .. } => Some(ComponentFact::Range { row, range: *range }),
-        Claim::Defined { .. } => Some(ComponentFact::all_of_row(rows.index(row), row)),
+        Claim::Defined { .. } => Some(all_of_row(rows.index(row), row)),
         Claim::Stretch { first, last, .. } => Some(ComponentFact::Stretched(Stretch {
             row,
             first: *first,
             last: *last,
         })),
         Claim::Order { .. } => None,
+    }
+}
+
+/// That each component of a row is defined: of one with indexes, those from the first index to the last are.
+fn all_of_row(range: Option<OrdinalRange>, row: u32) -> ComponentFact
+    ensures { said_component result ≡ all_of_row range row }
+{
+    match range {
+        None => ComponentFact::Defined { row },
+        Some(range) => ComponentFact::Stretched(Stretch {
+            row,
+            first: Bound::Number(range.first),
+            last: Bound::Number(range.last),
+        }),
     }
 }
 

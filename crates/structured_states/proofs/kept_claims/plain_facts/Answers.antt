@@ -14,10 +14,10 @@ loop-claim-preserved c =
     elim c.match-plain.branch [
       | in-Some+in_ok-push w ↦
           ap (λ facts. map said facts.items) w.facts-is ∙ ap (map said) w.in_ok-push.ensures.items ∙ map-append said facts (w.in-Some.fact ∷ [])
-          ∙ kept_more claims i c.claim-item.result (map said facts) (Some (said w.in-Some.fact)) (omega arith) c.claim-item.is c.loop-claim.invariant
+          ∙ kept_more c.args.tree.now claims i c.claim-item.result (map said facts) (Some (said w.in-Some.fact)) (omega arith) c.claim-item.is c.loop-claim.invariant
           (ap (option_map said) (sym w.in-Some.is) ∙ c.plain.ensures)
       | in_default w ↦
           ap (λ facts. map said facts.items) w.facts-is ∙ sym (append-nil (map said facts))
-          ∙ kept_more claims i c.claim-item.result (map said facts) None (omega arith) c.claim-item.is c.loop-claim.invariant
+          ∙ kept_more c.args.tree.now claims i c.claim-item.result (map said facts) None (omega arith) c.claim-item.is c.loop-claim.invariant
           (ap (option_map said) (sym w.in_default.is) ∙ c.plain.ensures)
     ]
