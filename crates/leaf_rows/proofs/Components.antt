@@ -1,9 +1,8 @@
 -- The components of a type and its leaves: each component is named by a leaf, by one alone, and the first index on its way is one of the leaf's.
 use Rattle.std.proofs.Common.{arith, ◌≡◌, ⊎_elim, ◌⊎◌, inl, inr, ◌∙◌, sym, ap, refl, subst, ℕ, zero, suc, ◌+◌, ◌<◌, ◌≤◌, ℤ, pos, ◌+ℤ◌, ◌≤ℤ◌, Bool, true, false}
 use Rattle.std.proofs.Common.{◌&&◌, List, [], ◌∷◌, ◌++◌, length, map, Option, Some, None}
-use Rattle.std.proofs.lemmas.Bool.{and_parts, eq-eqb, eqb-true}
+use Rattle.std.proofs.lemmas.Bool.{and_parts, cases_lt, eq-eqb, eqb-true}
 use Rattle.std.proofs.lemmas.Int.{ints}
-use Rattle.std.proofs.lemmas.Nat.{order}
 use Rattle.std.proofs.lemmas.Option.{none-some, same_Some, slice_get-map}
 use Rattle.std.specs.List.{flat_map}
 use Rattle.std.specs.Prelude.{slice_get}
@@ -179,7 +178,7 @@ module _ (types : List Form) (Q : List Steps → List Leaf → Type 0) (of_scala
       (components_before types id part less) (leaves_before types id part less) (each less))
       (λ more. as-both (components_at (laid_before types id) part) ([] ∷ []) (leaves_at (leafed_before types id) part) (scalar None ∷ [])
       (components_not_before types id part more) (leaves_not_before types id part more) (of_scalar None))
-      (order part.index id.index)
+      (cases_lt part.index id.index)
 
   below : (bound : ℕ) (id : TypeId) → id.index < bound → Q (components_of types id) (leaves_of types id)
   below zero id less = absurd (omega (arith, less))

@@ -3,3 +3,4 @@ pub mod Under
 pub mod Counted
 pub mod Variables
 pub mod Naming
+pub mod Components
