@@ -26,7 +26,7 @@ use leaf_rows::Rows;
 use place::Place;
 use std::alloc::{AllocError, Global};
 use std::mem;
-use structured_states::cases::{arm_start, constants_before, covers};
+use structured_states::cases::{begin_arm, constants_before, covers};
 use structured_states::rounds::{Round, all_claims, all_limits};
 use structured_states::ways::{End, Way};
 use typed_tree::tree::{Access, Block, Expr, Stmt, Whole, WriteParameter};
@@ -375,7 +375,8 @@ impl<'a> Walk<'a> {
             self.old visits.old result self.new visits.new }
     {
         for i in 0..arms.len() {
-            let start = arm_start(self.alloc, base, index, constants, i)?;
+            let mut start = base.copied(self.alloc)?;
+            begin_arm(&mut start.variables, index, constants, i);
             self.arm(&arms[i], start, visits)?;
         }
         Ok(())

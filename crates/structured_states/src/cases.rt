@@ -42,22 +42,12 @@ fn at_constants(state: &mut State, index: Option<u32>, constants: &[i32])
     }
 }
 
-/// What is known where the arm of a number is executed, by its row of constants.
-pub fn arm_start(
-    alloc: Global,
-    state: &State,
-    index: Option<u32>,
-    rows: &[Vec<i32>],
-    number: usize,
-) -> Result<State, AllocError>
-    ensures { IfOk result (λ start. viewed start ≡ arm_start index (slice_get rows.now number) (viewed state.now)) }
+/// Goes on where the arm of a number is executed, by its row of constants.
+pub fn begin_arm(state: &mut State, index: Option<u32>, rows: &[Vec<i32>], number: usize)
+    ensures { viewed state.new ≡ arm_start index (slice_get rows.now number) (viewed state.old) }
 {
     match rows.get(number) {
-        None => Ok(State::Dead),
-        Some(row) => {
-            let mut start = state.copied(alloc)?;
-            at_constants(&mut start, index, row);
-            Ok(start)
-        }
+        None => *state = State::Dead,
+        Some(row) => at_constants(state, index, row),
     }
 }

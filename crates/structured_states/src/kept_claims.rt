@@ -11,7 +11,7 @@ ghost use Rattle.structured_states.specs.View.{gives_some, row_claim, row_claims
 ghost use Rattle.leaf_rows.specs.View.{numbers};
 
 use certificate::{Fact as Claim, Path};
-use component_states::{ComponentFact, State, Stretch};
+use component_states::{ComponentFact, State, Stretch, all_of_row};
 use domain::facts::Fact;
 use leaf_rows::{Rows, Span};
 use std::alloc::{AllocError, Global};
@@ -101,7 +101,7 @@ fn rows_claimed(rows: &Rows, claim: &Claim) -> Span
         Claim::Range { path, .. } => rows_named(rows, path),
         Claim::Defined { path } => rows_named(rows, path),
         Claim::Stretch { path, .. } => rows_named(rows, path),
-        Claim::Order { .. } => Span::EMPTY,
+        Claim::Order { .. } => Span::none(),
     }
 }
 
@@ -110,7 +110,7 @@ fn rows_named(rows: &Rows, path: &Path) -> Span
     ensures { numbers result ≡ rows_named rows.now (said_path path.now) }
 {
     match rows.named(path) {
-        None => Span::EMPTY,
+        None => Span::none(),
         Some(part) => part.rows,
     }
 }
@@ -121,7 +121,7 @@ fn row_claim(rows: &Rows, claim: &Claim, row: u32) -> Option<ComponentFact>
 {
     match claim {
         Claim::Range { range, .. } => Some(ComponentFact::Range { row, range: *range }),
-        Claim::Defined { .. } => Some(ComponentFact::all_of_row(rows.index(row), row)),
+        Claim::Defined { .. } => Some(all_of_row(rows.index(row), row)),
         Claim::Stretch { first, last, .. } => Some(ComponentFact::Stretched(Stretch {
             row,
             first: *first,
