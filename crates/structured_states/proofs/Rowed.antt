@@ -1,6 +1,6 @@
 -- What claims say of components, row by row.
 use Rattle.std.proofs.Common.{arith, ◌≡◌, ◌∙◌, sym, ap, ap₂, refl, ℕ, suc, ◌+◌, ◌-◌, ◌<◌, ◌≤◌, Bool, true, false, ◌&&◌, cond, List, [], ◌∷◌, ◌++◌, append_assoc}
-use Rattle.std.proofs.Common.{Option, Some, None, length, map, take, get_or}
+use Rattle.std.proofs.Common.{Option, Some, None, length, map, take, drop, drop-cons, add-one, get_or}
 use Rattle.std.proofs.lemmas.List.{append-nil}
 use Rattle.std.proofs.lemmas.Grind.{flat_map-append}
 use Rattle.std.specs.List.{cons_option, filter_map, flat_map, list_all, range_with_len}
@@ -9,6 +9,7 @@ use Rattle.certificate.specs.declared.facts.Fact.{Fact as KeptFact}
 use Rattle.certificate.specs.Contents.{said_fact}
 use Rattle.domain.specs.Facts.{Fact, Range, Defined, Stretch, Order}
 use Rattle.domain.specs.Interval.{Interval}
+use Rattle.leaf_rows.specs.Rows.{Row, rows_touched, rows_under}
 use Rattle.component_states.specs.Components.{ComponentFact, Components, with_range, with_touched}
 use Rattle.component_states.specs.States.{State, gives_component, gives_components, over_components}
 use Rattle.structured_states.specs.Loops.{component_claims, component_facts}
@@ -62,9 +63,16 @@ said-past tree claim row last past = ap (filter_map (row_claim tree claim)) (row
 
 -- ---- claims that are put behind others
 
--- one more is put behind them
-pub pushed-one : (facts more all : List ComponentFact) (one : ComponentFact) → facts ++ one ∷ more ≡ all → (facts ++ one ∷ []) ++ more ≡ all
-pushed-one facts more all one is = append_assoc facts (one ∷ []) more ∙ is
+pub said-one : (tree : Tree) (claim : Fact) (row last : ℕ) (facts all : List ComponentFact) (one : ComponentFact) → row < last
+    → Some one ≡ row_claim tree claim row → facts ++ said_to tree claim row last ≡ all → (facts ++ one ∷ []) ++ said_to tree claim (row + 1) last ≡ all
+said-one tree claim row last facts all one before one_is is =
+    append_assoc facts (one ∷ []) (said_to tree claim (row + 1) last)
+    ∙ ap (λ more. facts ++ more) (sym (said-next tree claim row last (Some one) before one_is)) ∙ is
+
+pub said-none : (tree : Tree) (claim : Fact) (row last : ℕ) (facts all : List ComponentFact) → row < last
+    → None ≡ row_claim tree claim row → facts ++ said_to tree claim row last ≡ all → facts ++ said_to tree claim (row + 1) last ≡ all
+said-none tree claim row last facts all before none_is is =
+    ap (λ more. facts ++ more) (sym (said-next tree claim row last None before none_is)) ∙ is
 
 pub claims-more : (tree : Tree) (claims : List KeptFact) (i : ℕ) (claim : KeptFact) (facts new : List ComponentFact)
     → i < length claims → claim ≡ get_or claims i claim → facts ≡ component_facts tree (map said_fact (take i claims))
@@ -76,6 +84,18 @@ claims-more tree claims i claim facts new inside is facts_are new_is =
     ∙ ap (component_facts tree) (mapped-more said_fact claims i claim inside is)
 
 -- ---- claims that a state gives
+
+pub given-one : (tree : Tree) (state : State) (claim : Fact) (row last : ℕ) (one : ComponentFact) (all : Bool) → row < last
+    → Some one ≡ row_claim tree claim row → gives_component state one ≡ true
+    → gives_components state (said_to tree claim row last) ≡ all → gives_components state (said_to tree claim (row + 1) last) ≡ all
+given-one tree state claim row last one all before one_is gives is =
+    ap (λ given. given && gives_components state (said_to tree claim (row + 1) last)) (sym gives)
+    ∙ ap (gives_components state) (sym (said-next tree claim row last (Some one) before one_is)) ∙ is
+
+pub given-none : (tree : Tree) (state : State) (claim : Fact) (row last : ℕ) (all : Bool) → row < last → None ≡ row_claim tree claim row
+    → gives_components state (said_to tree claim row last) ≡ all → gives_components state (said_to tree claim (row + 1) last) ≡ all
+given-none tree state claim row last all before none_is is =
+    ap (gives_components state) (sym (said-next tree claim row last None before none_is)) ∙ is
 
 and-joined : (a b c : Bool) → (a && (b && c)) ≡ ((a && b) && c)
 and-joined true b c = refl
@@ -100,3 +120,24 @@ pub touched-append : (limits : ℕ → Interval) (rows more : List ℕ) (known :
     → with_touched limits (rows ++ more) known ≡ with_touched limits more (with_touched limits rows known)
 touched-append limits [] more known = refl
 touched-append limits (row ∷ rows) more known = touched-append limits rows more (with_range row (limits row) known)
+
+pub touched-next : (limits : ℕ → Interval) (row last : ℕ) (range : Interval) (old new all : State) → row < last → range ≡ limits row
+    → new ≡ over_components (λ _. with_range row range) old → over_components (λ _. with_touched limits (rows_to row last)) old ≡ all
+    → over_components (λ _. with_touched limits (rows_to (row + 1) last)) new ≡ all
+touched-next limits row last range old new all before range_is new_is is =
+    ap (over_components (λ _. with_touched limits (rows_to (row + 1) last))) (new_is ∙ ap (λ r. over_components (λ _. with_range row r) old) range_is)
+    ∙ ap (λ rows. over_components (λ _. with_touched limits rows) old) (sym (rows-next row last before)) ∙ is
+
+-- the rows of one variable more
+pub all-touched-next : (limits : ℕ → Interval) (rows : List Row) (roots : List ℕ) (i : ℕ) (span : List ℕ) (old new all : State) → i < length roots
+    → span ≡ rows_under rows (get_or roots i 0) [] → new ≡ over_components (λ _. with_touched limits span) old
+    → over_components (λ _. with_touched limits (rows_touched rows (drop i roots))) old ≡ all
+    → over_components (λ _. with_touched limits (rows_touched rows (drop (i + 1) roots))) new ≡ all
+all-touched-next limits rows roots i span old new all inside span_is new_is is =
+    let rest = rows_touched rows (drop (i + 1) roots) in
+    let cut : rows_touched rows (drop i roots) ≡ rows_under rows (get_or roots i 0) [] ++ rest =
+    rw add-one (ap (rows_touched rows) (drop-cons roots i 0 inside)) in
+    ap (over_components (λ _. with_touched limits rest)) new_is
+    ∙ ap (λ known. over_components (λ _ _. known) old) (sym (touched-append limits span rest old.components))
+    ∙ ap (λ own. over_components (λ _. with_touched limits (own ++ rest)) old) span_is
+    ∙ ap (λ all. over_components (λ _. with_touched limits all) old) (sym cut) ∙ is
