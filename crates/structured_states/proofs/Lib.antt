@@ -1,5 +1,2 @@
 pub mod Behind
 pub mod Claims
-pub mod Constants
-pub mod OnWay
-pub mod Touched

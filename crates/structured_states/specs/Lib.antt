@@ -1,4 +1,2 @@
-pub mod Cases
 pub mod Loops
-pub mod View
 pub mod Ways
