@@ -1,6 +1,6 @@
 -- The components of a type and its leaves: each component is named by a leaf, by one alone, and the first index on its way is one of the leaf's.
-use Rattle.std.proofs.Common.{arith, ◌≡◌, ⊎_elim, ◌⊎◌, inl, inr, ◌∙◌, sym, ap, refl, subst, ℕ, zero, suc, ◌+◌, ◌<◌, ◌≤◌, ℤ, pos, negsuc, ◌+ℤ◌, ◌-ℤ◌, ◌≤ℤ◌, ◌<ℤ◌, Bool, true}
-use Rattle.std.proofs.Common.{◌&&◌, List, [], ◌∷◌, ◌++◌, length, map, nat_eq, take, Option, Some, None}
+use Rattle.std.proofs.Common.{arith, ◌≡◌, ⊎_elim, ◌∙◌, sym, ap, refl, subst, ℕ, zero, suc, ◌+◌, ◌<◌, ◌≤◌, ℤ, pos, negsuc, ◌+ℤ◌, ◌-ℤ◌, ◌≤ℤ◌, ◌<ℤ◌}
+use Rattle.std.proofs.Common.{Bool, true, ◌&&◌, List, [], ◌∷◌, ◌++◌, length, map, nat_eq, take, Option, Some, None}
 use Rattle.std.proofs.lemmas.Bool.{and_parts, cases_lt, eq-eqb, eqb-true, false≢true}
 use Rattle.std.proofs.lemmas.Int.{ints}
 use Rattle.std.proofs.lemmas.Option.{none-some, same_Some, slice_get_within}
@@ -196,7 +196,8 @@ only : {A : Type 0} (x item : A) → Has (x ∷ []) item → x ≡ item
 only x item (zero, is) = same_Some x item is
 only x item (suc k, is) = absurd (none-some item is)
 
-named-field : (position : ℕ) (path : List LeafStep) (rest : Steps) → is_named path rest ≡ true → is_named (FieldAt position ∷ path) (step.Field position ∷ rest) ≡ true
+named-field : (position : ℕ) (path : List LeafStep) (rest : Steps) → is_named path rest ≡ true
+    → is_named (FieldAt position ∷ path) (step.Field position ∷ rest) ≡ true
 named-field position path rest is = ap (λ (b : Bool). b && is_named path rest) (eq-eqb position position refl) ∙ is
 
 pub each-named : (types : List Form) (id : TypeId) → AreNamed (components_of types id) (leaves_of types id)

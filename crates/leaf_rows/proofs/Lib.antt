@@ -5,3 +5,4 @@ pub mod Variables
 pub mod Naming
 pub mod Components
 pub mod Selected
+pub mod Accessed

@@ -24,7 +24,7 @@ use Rattle.typed_tree.specs.Accesses.{are_values_of, element_type, field_type, l
 use Rattle.typed_tree.specs.declared.tree.RangeTest.{RangeTest}
 use Rattle.typed_tree.specs.declared.tree.Selector.{Selector}
 use Rattle.typed_tree.specs.declared.tree.Selector.TheVariants.{Element, Field}
-use Rattle.leaf_rows.specs.Leaves.{Leaf, LeafStep, Elements, FieldAt, begins, behind_elements, fields_leaves, is_named, leaves_at, leaves_of, range_at, same_step}
+use Rattle.leaf_rows.specs.Leaves.{Leaf, LeafStep, Elements, FieldAt, begins, behind_elements, fields_leaves, is_named, leaves_at, leaves_of, range_at}
 use Rattle.leaf_rows.specs.Rows.{has_components, is_structured, leaf_step}
 use Rattle.leaf_rows.proofs.Components.{Has, in-element, in-field, in-range, of-element, of-field, of-range}
 use Rattle.leaf_rows.proofs.Leafed.{leafed_before, leaves_before, leaves_of_form}
