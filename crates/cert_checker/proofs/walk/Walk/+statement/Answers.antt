@@ -7,7 +7,7 @@ use Rattle.cert_checker.proofs.Steps.{all-step, all-end, given-up, if-begun, bra
 use Rattle.cert_checker.proofs.Steps.{repeat-begun, while_round-done, repeat_round-done}
 use Rattle.cert_checker.proofs.StepsFor.{for-begun, for-last_stopped, for-stopped, rounds-go, turns-done, turns-not_begun, turns-not_tested, way-same}
 use Rattle.cert_checker.proofs.StepsCase.{arms-end, arms-step, arms-stopped, case-begun, case-not_tested, case-tested}
-use Rattle.abstract_state.specs.View.{viewed}
+use Rattle.component_states.specs.View.{viewed}
 use Rattle.abstract_state.specs.declared.known.Known.TheVariants.{Ordinal}
 use Rattle.cert_checker.proofs.walk.Walk.+statement.Goals as goal
 

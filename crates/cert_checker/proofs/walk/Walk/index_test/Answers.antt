@@ -2,7 +2,7 @@ use Rattle.std.proofs.Common.{ap, ◌∙◌, refl, Ok}
 use Rattle.domain.specs.Interval.{common}
 use Rattle.domain.specs.Numbers.{hull, is_covered}
 use Rattle.structured_states.specs.Cases.{constants_before}
-use Rattle.abstract_state.specs.View.{viewed}
+use Rattle.component_states.specs.View.{viewed}
 use Rattle.cert_checker.proofs.StepsCase.{index-done, index-stopped}
 use Rattle.expression_checker.specs.Walk.{tested}
 use Rattle.cert_checker.specs.View.{context_of}
