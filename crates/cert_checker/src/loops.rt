@@ -45,12 +45,8 @@ impl<'a> Walk<'a> {
                 place,
             });
         }
-        round.head(
-            self.alloc,
-            &mut self.flow.state,
-            self.flow.rows,
-            &self.limits,
-        )?;
+        let rows = self.flow.rows;
+        round.head(self.alloc, &mut self.flow.state, rows, &self.limits)?;
         self.rounds.push(round)?;
         Ok(())
     }

@@ -1,0 +1,1 @@
+unsigned never(void) { for (;;) {} }
