@@ -15,3 +15,4 @@ pub mod StepsCase
 pub mod StepsFor
 pub mod Stored
 pub mod Targets
+pub mod Written
