@@ -1,9 +1,9 @@
-ghost use Rattle.std.specs.Prelude.{◌≡◌, ◌++◌, [], IfOk, map};
+ghost use Rattle.std.specs.Prelude.{◌≡◌, ◌++◌, IfOk, map};
 ghost use Rattle.std.specs.List.{list_all, list_any};
 ghost use Rattle.std.specs.Option.{option_map};
 ghost use Rattle.domain.specs.Facts.{said};
 ghost use Rattle.component_states.specs.View.{said_component, said_stretch, viewed};
-ghost use Rattle.component_states.specs.States.{all_of_row, gives_components};
+ghost use Rattle.component_states.specs.States.{gives_components};
 ghost use Rattle.certificate.specs.Contents.{said_fact, said_path, said_step};
 ghost use Rattle.structured_states.specs.Loops.{component_claims, component_facts, is_ordinal_variable, names_entire};
 ghost use Rattle.structured_states.specs.Loops.{is_elements, passes_elements, plain, plain_facts, rows_named};
@@ -12,12 +12,11 @@ ghost use Rattle.structured_states.specs.View.{gives_some, row_claim, rows_claim
 ghost use Rattle.leaf_rows.specs.View.{numbers};
 
 use certificate::{Fact as Claim, Path, Step};
-use component_states::{ComponentFact, State, Stretch};
-use domain::facts::{Bound, Fact};
+use component_states::{ComponentFact, State, Stretch, all_of_row};
+use domain::facts::Fact;
 use leaf_rows::{Rows, Span};
 use std::alloc::{AllocError, Global};
 use typed_tree::tree::Tree;
-use types::OrdinalRange;
 
 /// Whether a variable is there, and of an ordinal type.
 pub fn is_ordinal_variable(tree: &Tree, root: u32) -> bool
@@ -105,7 +104,7 @@ fn rows_claimed(rows: &Rows, claim: &Claim) -> Span
         Claim::Range { path, .. } => rows_named(rows, path),
         Claim::Defined { path } => rows_named(rows, path),
         Claim::Stretch { path, .. } => rows_named(rows, path),
-        Claim::Order { .. } => no_rows(),
+        Claim::Order { .. } => Span::none(),
     }
 }
 
@@ -114,15 +113,9 @@ fn rows_named(rows: &Rows, path: &Path) -> Span
     ensures { numbers result ≡ rows_named rows.now (said_path path.now) }
 {
     match rows.named(path) {
-        None => no_rows(),
+        None => Span::none(),
         Some(part) => part.rows,
     }
-}
-
-fn no_rows() -> Span
-    ensures { numbers result ≡ [] }
-{
-    Span { first: 0, count: 0 }
 }
 
 /// What a claim says of a row that it names.
@@ -176,20 +169,6 @@ fn is_elements(step: &Step) -> bool
     match step {
         Step::Element => true,
         Step::Field { .. } => false,
-    }
-}
-
-/// That each component of a row is defined: of one with indexes, those from the first index to the last are.
-fn all_of_row(range: Option<OrdinalRange>, row: u32) -> ComponentFact
-    ensures { said_component result ≡ all_of_row range row }
-{
-    match range {
-        None => ComponentFact::Defined { row },
-        Some(range) => ComponentFact::Stretched(Stretch {
-            row,
-            first: Bound::Number(range.first),
-            last: Bound::Number(range.last),
-        }),
     }
 }
 
