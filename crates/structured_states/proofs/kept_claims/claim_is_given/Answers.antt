@@ -1,4 +1,4 @@
-use Rattle.std.proofs.Common.{◌∙◌, ap, sym, arith, true}
+use Rattle.std.proofs.Common.{◌∙◌, ap, sym}
 use Rattle.std.specs.Option.{option_map}
 use Rattle.certificate.specs.Contents.{said_fact}
 use Rattle.component_states.specs.States.{gives_components}
