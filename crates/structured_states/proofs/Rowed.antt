@@ -1,5 +1,5 @@
 -- What claims say of components, row by row.
-use Rattle.std.proofs.Common.{arith, ◌≡◌, ◌∙◌, sym, ap, refl, ℕ, suc, ◌+◌, ◌-◌, ◌<◌, ◌≤◌, Bool, true, false, ◌&&◌, List, [], ◌∷◌, ◌++◌, append_assoc}
+use Rattle.std.proofs.Common.{arith, ◌≡◌, ◌∙◌, sym, ap, refl, ℕ, suc, ◌+◌, ◌-◌, ◌<◌, Bool, true, false, ◌&&◌, List, [], ◌∷◌, ◌++◌, append_assoc}
 use Rattle.std.proofs.Common.{Option, Some, None, length, map, take, drop, drop-cons, add-one, get_or}
 use Rattle.std.proofs.lemmas.List.{append-nil}
 use Rattle.std.proofs.lemmas.Grind.{flat_map-append}
@@ -24,9 +24,6 @@ rows_to row last = range_with_len row (last - row)
 
 pub rows-next : (row last : ℕ) → row < last → rows_to row last ≡ row ∷ rows_to (row + 1) last
 rows-next row last before = let e : last - row ≡ suc (last - (row + 1)) = omega arith in ap (range_with_len row) e
-
-pub rows-past : (row last : ℕ) → last ≤ row → rows_to row last ≡ []
-rows-past row last past = let e : last - row ≡ 0 = omega arith in ap (range_with_len row) e
 
 pub rows-all : (first count last : ℕ) → last ≡ first + count → rows_to first last ≡ range_with_len first count
 rows-all first count last is = let e : last - first ≡ count = omega arith in ap (range_with_len first) e
@@ -57,9 +54,6 @@ pub said-next : (tree : Tree) (claim : Fact) (row last : ℕ) (one : Option Comp
     → said_to tree claim row last ≡ cons_option one (said_to tree claim (row + 1) last)
 said-next tree claim row last one before is =
     ap (filter_map (row_claim tree claim)) (rows-next row last before) ∙ ap (λ f. cons_option f (said_to tree claim (row + 1) last)) (sym is)
-
-pub said-past : (tree : Tree) (claim : Fact) (row last : ℕ) → last ≤ row → said_to tree claim row last ≡ []
-said-past tree claim row last past = ap (filter_map (row_claim tree claim)) (rows-past row last past)
 
 -- ---- claims that are put behind others
 

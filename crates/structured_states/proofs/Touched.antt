@@ -9,12 +9,9 @@ use Rattle.domain.specs.Interval.{Interval}
 use Rattle.domain.specs.Facts.{Fact}
 use Rattle.abstract_state.specs.State as variables
 use Rattle.abstract_state.specs.Loops.{head, is_among}
-use Rattle.typed_tree.specs.declared.tree.Tree.{Tree}
-use Rattle.leaf_rows.specs.Rows.{rows_of, rows_touched}
-use Rattle.component_states.specs.Components as components
-use Rattle.component_states.specs.Components.{ComponentFact, Components}
-use Rattle.component_states.specs.States.{State, over_components, over_variables}
-use Rattle.structured_states.specs.Loops.{Round, all_but, component_facts, head_of, limits_at, plain_facts, row_limits, touched, with_own, without_own}
+use Rattle.component_states.specs.Components.{Components}
+use Rattle.component_states.specs.States.{State, over_variables}
+use Rattle.structured_states.specs.Loops.{Round, all_but, limits_at, touched, with_own, without_own}
 use Rattle.structured_states.specs.View.{is_own}
 
 true-false : (a b : Bool) → a ≡ b → a ≡ true → b ≡ false → ⊥
@@ -106,10 +103,6 @@ own-controls control loop = or-first (nat_eq control control) (is_among control 
 
 -- ---- the head
 
-pub own-changes : (own : Option ℕ) (round : Round) → (with_own own round).changes ≡ round.changes
-own-changes None round = refl
-own-changes (Some control) round = refl
-
 abbrev state_of : variables.State → Components → State
 state_of known components = record { variables = known; components = components }
 
@@ -121,18 +114,3 @@ pub variables-head : (result : Result (Unit {0}) AllocError) (new old : variable
 variables-head (Ok done) new old known limits touched controls facts_one facts_two facts_are is =
     ap (λ v. state_of v known) (is ∙ ap (λ f. head (limits_at limits) touched controls f old) facts_are)
 variables-head (Err fault) new old known limits touched controls facts_one facts_two facts_are is = is
-
--- what is known of variables, and then of components
-pub head-joined : (tree : Tree) (limits : List Interval) (round : Round) (claims : List Fact) (roots controls : List ℕ) (facts : List ComponentFact)
-    (result : Result (Unit {0}) AllocError) (old mid new : State) → controls ≡ round.controls → roots ≡ touched round → facts ≡ component_facts tree claims
-    → mid ≡ over_variables (head (limits_at limits) roots controls (plain_facts tree claims)) old
-    → IfOk result (λ done. new ≡ over_components
-    (λ _. components.head (row_limits (rows_of tree)) roots (rows_touched (rows_of tree) roots) facts) mid)
-    → IfOk result (λ done. new ≡ head_of tree limits round claims old)
-head-joined tree limits round claims roots controls facts (Err fault) old mid new controls_are roots_are facts_are mid_is is = is
-head-joined tree limits round claims roots controls facts (Ok done) old mid new controls_are roots_are facts_are mid_is is =
-    let over : List ℕ → List ℕ → List ComponentFact → State =
-    λ r c f. over_components (λ _. components.head (row_limits (rows_of tree)) r (rows_touched (rows_of tree) r) f)
-    (over_variables (head (limits_at limits) r c (plain_facts tree claims)) old) in
-    is ∙ ap (over_components (λ _. components.head (row_limits (rows_of tree)) roots (rows_touched (rows_of tree) roots) facts)) mid_is
-    ∙ ap (λ r. over r controls facts) roots_are ∙ ap (λ c. over (touched round) c facts) controls_are ∙ ap (over (touched round) round.controls) facts_are

@@ -174,10 +174,10 @@ row_limits rows row = limits_or_integer (values_at rows row)
 abbrev pub head_of : Tree → List Interval → Round → List Fact → State → State
 head_of tree limits round facts state = record {
   variables =
-    variables.head (limits_at limits) (touched round) round.controls (plain_facts tree facts) state.variables;
+      variables.head (limits_at limits) (touched round) round.controls (plain_facts tree facts) state.variables;
   components =
-    components.head (row_limits (rows_of tree)) (touched round) (rows_touched (rows_of tree) (touched round))
-    (component_facts tree facts) state.components;
+      components.head (row_limits (rows_of tree)) (touched round) (rows_touched (rows_of tree) (touched round))
+      (component_facts tree facts) state.components;
 }
 
 -- each of these loops lists a variable

@@ -82,7 +82,9 @@ pub(crate) fn plain_are_given(state: &State, tree: &Tree, claims: &[Claim]) -> b
     ensures { result ≡ list_all (λ claim. gives_some (viewed state.now).variables (plain tree.now (said_fact claim)))
         claims.now }
 {
-    claims.iter().all(|claim| plain_is_given(state, tree, claim))
+    claims
+        .iter()
+        .all(|claim| plain_is_given(state, tree, claim))
 }
 
 fn plain_is_given(state: &State, tree: &Tree, claim: &Claim) -> bool
@@ -184,8 +186,8 @@ pub(crate) fn component_facts(
 
 /// Whether a state gives what each claim says of components.
 pub(crate) fn components_are_given(state: &State, rows: &Rows, claims: &[Claim]) -> bool
-    ensures { result ≡ list_all (λ claim. gives_components (viewed state.now) (component_claims rows.now (said_fact claim)))
-        claims.now }
+    ensures { result ≡ list_all
+        (λ claim. gives_components (viewed state.now) (component_claims rows.now (said_fact claim))) claims.now }
 {
     claims
         .iter()
