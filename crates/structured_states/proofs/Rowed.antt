@@ -1,18 +1,19 @@
 -- What claims say of components, row by row.
-use Rattle.std.proofs.Common.{arith, ◌≡◌, ◌∙◌, sym, ap, refl, ℕ, suc, ◌+◌, ◌-◌, ◌<◌, Bool, true, false, ◌&&◌, List, [], ◌∷◌, ◌++◌, append_assoc}
+use Rattle.std.proofs.Common.{arith, ◌≡◌, ◌∙◌, sym, ap, refl, ℕ, suc, ◌+◌, ◌-◌, ◌<◌, Bool, true, false, ◌&&◌, ◌||◌, List, [], ◌∷◌, ◌++◌, append_assoc}
 use Rattle.std.proofs.Common.{Option, Some, None, length, map, take, drop, drop-cons, add-one, get_or}
 use Rattle.std.proofs.lemmas.List.{append-nil}
 use Rattle.std.proofs.lemmas.Grind.{flat_map-append}
-use Rattle.std.specs.List.{cons_option, filter_map, list_all, range_with_len}
+use Rattle.std.specs.List.{cons_option, filter_map, list_all, list_any, range_with_len}
 use Rattle.typed_tree.specs.declared.tree.Tree.{Tree}
 use Rattle.certificate.specs.declared.facts.Fact.{Fact as KeptFact}
-use Rattle.certificate.specs.Contents.{said_fact}
+use Rattle.certificate.specs.declared.facts.Step.{Step as KeptStep}
+use Rattle.certificate.specs.Contents.{said_fact, said_step}
 use Rattle.domain.specs.Facts.{Fact, Range, Defined, Stretch, Order}
 use Rattle.domain.specs.Interval.{Interval}
 use Rattle.leaf_rows.specs.Rows.{Row, rows_touched, rows_under}
 use Rattle.component_states.specs.Components.{ComponentFact, Components, with_range, with_touched}
 use Rattle.component_states.specs.States.{State, gives_component, gives_components, over_components}
-use Rattle.structured_states.specs.Loops.{component_claims, component_facts}
+use Rattle.structured_states.specs.Loops.{component_claims, component_facts, is_elements}
 use Rattle.structured_states.specs.View.{row_claim, rows_claimed}
 use Rattle.structured_states.proofs.Claims.{mapped-more}
 
@@ -27,6 +28,12 @@ rows-next row last before = let e : last - row ≡ suc (last - (row + 1)) = omeg
 
 pub rows-all : (first count last : ℕ) → last ≡ first + count → rows_to first last ≡ range_with_len first count
 rows-all first count last is = let e : last - first ≡ count = omega arith in ap (range_with_len first) e
+
+-- ---- paths
+
+pub any_said : (steps : List KeptStep) → list_any is_elements (map said_step steps) ≡ list_any (λ step. is_elements (said_step step)) steps
+any_said [] = refl
+any_said (step ∷ steps) = ap (λ rest. is_elements (said_step step) || rest) (any_said steps)
 
 -- ---- what a claim says of each row
 
@@ -67,15 +74,6 @@ pub said-none : (tree : Tree) (claim : Fact) (row last : ℕ) (facts all : List 
     → None ≡ row_claim tree claim row → facts ++ said_to tree claim row last ≡ all → facts ++ said_to tree claim (row + 1) last ≡ all
 said-none tree claim row last facts all before none_is is =
     ap (λ more. facts ++ more) (sym (said-next tree claim row last None before none_is)) ∙ is
-
-pub claims-more : (tree : Tree) (claims : List KeptFact) (i : ℕ) (claim : KeptFact) (facts new : List ComponentFact)
-    → i < length claims → claim ≡ get_or claims i claim → facts ≡ component_facts tree (map said_fact (take i claims))
-    → new ≡ facts ++ component_claims tree (said_fact claim) → new ≡ component_facts tree (map said_fact (take (i + 1) claims))
-claims-more tree claims i claim facts new inside is facts_are new_is =
-    new_is ∙ ap (λ front. front ++ component_claims tree (said_fact claim)) facts_are
-    ∙ ap (λ last. component_facts tree (map said_fact (take i claims)) ++ last) (sym (append-nil (component_claims tree (said_fact claim))))
-    ∙ sym (flat_map-append (component_claims tree) (map said_fact (take i claims)) (said_fact claim ∷ []))
-    ∙ ap (component_facts tree) (mapped-more said_fact claims i claim inside is)
 
 -- ---- claims that a state gives
 
