@@ -1,7 +1,6 @@
 -- The walk over accesses and over whole values is sound, where that over their index expressions is.
-use Rattle.std.proofs.Common.{arith, ◌≡◌, ⊎_elim, ◌∙◌, sym, ap, refl, subst, ℕ, zero, suc, ◌+◌, ◌<◌, ℤ, pos, ◌≤ℤ◌, Bool, true, false, ◌&&◌, ◌||◌, nat_eq, nat_lt, nat_le, not}
-use Rattle.std.proofs.Common.{List, [], ◌∷◌}
-use Rattle.std.proofs.Common.{◌++◌, append-nil, append_assoc, length, map, Option, Some, None}
+use Rattle.std.proofs.Common.{arith, ◌≡◌, ⊎_elim, ◌∙◌, sym, ap, refl, subst, ℕ, zero, suc, ◌+◌, ◌<◌, ℤ, pos, ◌≤ℤ◌, Bool, true, false}
+use Rattle.std.proofs.Common.{◌&&◌, ◌||◌, nat_eq, nat_lt, nat_le, not, List, [], ◌∷◌, ◌++◌, append-nil, append_assoc, length, map, Option, Some, None}
 use Rattle.std.specs.Prelude.{slice_get, slice_index_or}
 use Rattle.std.specs.List.{All, Contains, list_all}
 use Rattle.std.specs.Option.{option_and_then}
@@ -58,9 +57,10 @@ use Rattle.expression_checker.specs.Walk as walk
 use Rattle.expression_checker.specs.Walk.{Context, Piece, Walking, access_walk, all_joined, deeper, index_test, indexes_walk, is_covered}
 use Rattle.expression_checker.specs.Walk.{range_in, ranges_of, text_range, value_use, whole_walk, with_used}
 use Rattle.expression_checker.proofs.Keeping.{InTypes, Keeps, keeps-itself}
-use Rattle.expression_checker.proofs.Sound.{World, variables_in, Any_value, Good, IsForetold, IsPartOf, Leaves, Sound, SoundFrom, Stands, alive, declared_in, errs-here}
-use Rattle.expression_checker.proofs.Sound.{false-true, good-give, good-then, good-weaker, nothing-new, open-here, sound-enter, sound-give, sound-anywhere, sound-here}
-use Rattle.expression_checker.proofs.Sound.{nonempty-stands, parts_in, sound-named, sound-still, sound-then, sound-use, stands-as, types_in}
+use Rattle.expression_checker.proofs.Sound.{World, variables_in, Any_value, Good, IsForetold, IsPartOf, Leaves, Sound, SoundFrom, Stands, alive, declared_in}
+use Rattle.expression_checker.proofs.Sound.{errs-here, false-true, good-give, good-then, good-weaker, nothing-new, open-here, sound-enter, sound-give}
+use Rattle.expression_checker.proofs.Sound.{nonempty-stands, parts_in, sound-anywhere, sound-here, sound-named, sound-still, sound-then, sound-use}
+use Rattle.expression_checker.proofs.Sound.{stands-as, types_in}
 use Rattle.expression_checker.proofs.SoundOperations.{IsKnownOf, fitting-sound}
 use Rattle.expression_checker.proofs.SoundRows.{AreIntegers, IsIndexOn, IsReachedBy, IsWhole, Leads, LieIn, Matches, RowsAre, covered-row, first-behind}
 use Rattle.expression_checker.proofs.SoundRows.{first-then, joined-in, matches-then, reached-has, rows-are, used-known}

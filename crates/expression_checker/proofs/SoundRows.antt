@@ -33,7 +33,7 @@ use Rattle.leaf_rows.specs.Rows.{Parts, all_parts, first_index, index_at, rows_a
 use Rattle.leaf_rows.proofs.Accessed.{indexes-are}
 pub use Rattle.leaf_rows.proofs.Accessed.{RowsAre, rows-are}
 pub use Rattle.leaf_rows.proofs.Selected.{Matches}
-use Rattle.component_states.specs.Components.{At, Defined, Entire, Index, Inside, Reach, Stretched, at_index, between, row_at, with_defined}
+use Rattle.component_states.specs.Components.{At, Defined, Entire, Index, Inside, Reach, Stretch, Stretched, at_index, between, row_at, with_defined}
 use Rattle.component_states.specs.Holds.{HasComponent, IsOfRow, Knows}
 use Rattle.component_states.specs.States.{State, all_of_row, gives_component, gives_form, gives_index, gives_reached, gives_some, is_dead, over_components}
 use Rattle.component_states.specs.States.{range_stretch}
@@ -162,7 +162,8 @@ module _ (tree : Tree) (roots : ℕ) (env : Environment) (state : State) (store 
       → gives_component state (Stretched (record { row = row; first = NumberBound from; last = NumberBound to })) ≡ true
       → HasComponent (all_parts tree) m row steps
   between-has row from to number steps of_row first low high is =
-      let holds = given-holds (all_parts tree) roots env state store (Stretched (record { row = row; first = NumberBound from; last = NumberBound to })) known is in
+      let stretch : Stretch = record { row = row; first = NumberBound from; last = NumberBound to } in
+      let holds = given-holds (all_parts tree) roots env state store (Stretched stretch) known is in
       holds.4 steps number of_row first (subst (λ (n : ℤ). n ≤ℤ number) holds.2 low) (subst (λ (n : ℤ). number ≤ℤ n) holds.3 high)
 
   -- all of a row
@@ -239,7 +240,8 @@ all_defined-known rows roots env store (row ∷ used) has state known =
     (over_components (λ of_variables components. with_defined row components) state)
     (record {
       variables = known.variables;
-      components = with_defined-holds rows (moment env store) state.components row (λ steps of_row. has row steps (0, omega arith, refl) of_row) known.components;
+      components = with_defined-holds rows (moment env store) state.components row
+          (λ steps of_row. has row steps (0, omega arith, refl) of_row) known.components;
     })
 
 -- where all components of the type that is reached have values
