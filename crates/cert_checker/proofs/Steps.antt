@@ -1,5 +1,5 @@
 -- What the checker did over a piece of a program, from what it did over the parts of the piece.
-use Rattle.std.proofs.Common.{rules, ◌≡◌, ◌≤◌, Bool, true, false, ◌&&◌, Option, Some, None, Result, Ok, Err, ℕ, ◌+◌, List, [], ◌∷◌, ◌++◌, length, map, refl}
+use Rattle.std.proofs.Common.{rules, ◌≡◌, ◌≤◌, Bool, true, false, Option, Some, None, Result, Ok, Err, ℕ, ◌+◌, List, [], ◌∷◌, ◌++◌, length, map, refl}
 use Rattle.std.proofs.Common.{sym, ap, ◌∙◌, subst, append_assoc, append-nil, ◌<◌, get_or, drop}
 use Rattle.std.specs.Result.{IsErr, IsErrAnd}
 use Rattle.std.specs.Prelude.{MatchResult}
@@ -21,7 +21,7 @@ use Rattle.component_states.specs.States.{State, joined_states}
 use Rattle.expression_checker.specs.Walk.{Context, Walked, Walking, ◌>>=◌, give}
 use Rattle.expression_checker.specs.Walk.{enter, value_walk, followed, numbers_of}
 use Rattle.expression_checker.specs.Walk.{IsBreachOf}
-use Rattle.cert_checker.specs.Walk.{statement_walk, all_of, block_walk, branches, breach_unless, facts_given}
+use Rattle.cert_checker.specs.Walk.{asked, statement_walk, all_of, block_walk, branches, breach_unless, facts_given}
 use Rattle.cert_checker.specs.Walk.{first_context}
 use Rattle.cert_checker.specs.Walk.{program_walk, here, loop_walk, parted, repeat_round, while_round, with_state, where_so}
 use Rattle.cert_checker.specs.View.{at_state, claims_in, context_of, else_walk, AtHead, IsBegun, IsMoved, LeavesLoop, loop_in, Meets, Parts, Walks}
@@ -30,6 +30,7 @@ use Rattle.structured_states.specs.Loops.{Claims, Round, claims_at, gives_claims
 use Rattle.typed_tree.specs.declared.tree.Tree.{Tree}
 use denote.Ref.{Bor}
 use Rattle.certificate.specs.declared.Certificate.{Certificate}
+use Rattle.expression_checker.specs.declared.fault.Rule.{Rule}
 use Rattle.expression_checker.specs.declared.fault.Rule.TheVariants.{LoopEntry, LoopTurn}
 use Rattle.structured_states.proofs.Claims.{item-cut, drop-past}
 use Rattle.expression_checker.specs.declared.flow.Flow.{Flow}
@@ -120,6 +121,15 @@ goes-here walk form old new before after (Ok value) is one = record {
 }
 goes-here walk form old new before after (Err fault) is one =
     breach-same (form (context_of old) (viewed old.flow.state)) (walk (context_of old) (viewed old.flow.state)) fault (ap (λ w. w.broken) (sym is)) one
+
+-- what a rule asks for where the checker is
+pub asked-goes : (walk : Walking (Unit {0})) (kept is_kept : Bool) (rule : Rule) (place : SourcePlace) (old : Walk) (visits : Visits)
+    (result : Result (Unit {0}) CheckFault)
+    → walk (context_of old) (viewed old.flow.state) ≡ asked kept rule place (context_of old) (viewed old.flow.state) → is_kept ≡ kept
+    → Goes (asked is_kept rule place) old visits result old visits → Goes walk old visits result old visits
+asked-goes walk kept is_kept rule place old visits result walk_is is goes =
+    goes-here walk (asked is_kept rule place) old old visits visits result
+    (walk_is ∙ ap (λ k. asked k rule place (context_of old) (viewed old.flow.state)) (sym is)) goes
 
 -- by the fault that is handed on
 pub given-up : {A : Type 0} (walk : Walking A) (old new : Walk) (before after : Visits) (fault : CheckFault) (result : Result A CheckFault)

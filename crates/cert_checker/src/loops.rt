@@ -1,4 +1,4 @@
-ghost use Rattle.std.specs.Prelude.{◌≡◌, ◌&&◌, None};
+ghost use Rattle.std.specs.Prelude.{◌≡◌, ◌&&◌, None, true, false};
 ghost use Rattle.domain.specs.Interval.{is_included};
 ghost use Rattle.abstract_state.specs.declared.known.Known.TheVariants.{Ordinal};
 ghost use Rattle.abstract_state.specs.Loops.{with_undefined};
@@ -45,12 +45,8 @@ impl<'a> Walk<'a> {
                 place,
             });
         }
-        round.head(
-            self.alloc,
-            &mut self.flow.state,
-            self.flow.rows,
-            &self.limits,
-        )?;
+        let rows = self.flow.rows;
+        round.head(self.alloc, &mut self.flow.state, rows, &self.limits)?;
         self.rounds.push(round)?;
         Ok(())
     }

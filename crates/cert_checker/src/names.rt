@@ -1,8 +1,6 @@
-ghost use Rattle.std.specs.Prelude.{◌≡◌, slice_get};
+ghost use Rattle.std.specs.Prelude.{◌≡◌, true, slice_get};
 ghost use Rattle.std.specs.List.{list_all};
 ghost use Rattle.types.specs.Types.{is_ordinal};
-ghost use Rattle.certificate.specs.Contents.{said_path};
-ghost use Rattle.leaf_rows.specs.Rows.{part_named};
 ghost use Rattle.cert_checker.specs.Names.{bound_is_known, claims_are_known, fact_is_known, is_array, is_known};
 ghost use Rattle.cert_checker.specs.Names.{is_variable, names, section_is_known, stands_in};
 

@@ -1,11 +1,11 @@
-ghost use Rattle.std.specs.Prelude.{◌≡◌, ◌&&◌, IfOk, length, nat_eq};
+ghost use Rattle.std.specs.Prelude.{◌≡◌, ◌&&◌, ◌||◌, Some, true, IfOk, length, nat_eq};
 ghost use Rattle.std.specs.List.{list_all};
 ghost use Rattle.domain.specs.Interval.{is_included};
-ghost use Rattle.types.specs.Types.{have_one_length};
+ghost use Rattle.types.specs.Types.{have_one_length, is_same, string_length};
 ghost use Rattle.abstract_state.specs.declared.known.Known.TheVariants.{Ordinal};
 ghost use Rattle.abstract_state.specs.Conditions.{bound_form};
 ghost use Rattle.abstract_state.specs.View.{said_form};
-ghost use Rattle.leaf_rows.specs.Rows.{rows_of};
+ghost use Rattle.leaf_rows.specs.Rows.{is_structured, rows_of};
 ghost use Rattle.leaf_rows.specs.View.{numbers};
 ghost use Rattle.component_states.specs.Components.{all_stored};
 ghost use Rattle.component_states.specs.States.{over_components};
@@ -32,7 +32,7 @@ use place::Place;
 use std::alloc::{AllocError, Global};
 use structured_states::rounds::{all_list, limits_at, row_limits};
 use typed_tree::tree::{Access, Expr, RangeTest, Whole};
-use types::TypeId;
+use types::{TypeId, TypeTable};
 
 // What statements store to variables and to components.
 impl<'a> Walk<'a> {
@@ -156,7 +156,7 @@ impl<'a> Walk<'a> {
         ensures { (visits : Visits)
             → Goes (stores_made root (said_reach reach) stores.now) self.old visits result self.new visits }
     {
-        store_all(self.alloc, &mut self.flow.state, reach, stores)?;
+        store_all(self.alloc, &mut self.flow.state, &reach, stores)?;
         let values = limits_at(&self.limits, root);
         self.flow.state.variables.touch(root, values);
         Ok(())
@@ -236,15 +236,15 @@ impl<'a> Walk<'a> {
 fn store_all(
     alloc: Global,
     state: &mut State,
-    reach: Reach,
+    reach: &Reach,
     stores: &[(u32, Interval)],
 ) -> Result<(), AllocError>
     ensures { IfOk result (λ _. viewed state.new
-        ≡ over_components (λ known. all_stored known (said_reach reach) stores.now) (viewed state.old)) }
+        ≡ over_components (λ known. all_stored known (said_reach reach.now) stores.now) (viewed state.old)) }
 {
     for store in stores {
         let (row, range) = *store;
-        state.store(alloc, reach, row, range)?;
+        state.store(alloc, *reach, row, range)?;
     }
     Ok(())
 }
@@ -318,19 +318,34 @@ fn fits_rows(rows: &Rows, target: TypeId, value: &Whole, span: Span, ranges: &[I
 fn fits_whole(rows: &Rows, target: TypeId, value: &Whole) -> bool
     ensures { result ≡ fits_whole rows.now.types target value.now }
 {
-    let types = &rows.tree().types;
-    if !rows.is_structured(target) {
-        return false;
-    }
-    let length = types.string_length(target);
+    rows.is_structured(target) && is_alike(&rows.tree().types, target, value)
+}
+
+/// Whether it may, if the type is structured.
+fn is_alike(types: &TypeTable, target: TypeId, value: &Whole) -> bool
+    ensures { (is_structured types.now target && result) ≡ fits_whole types.now target value.now }
+{
     match value {
-        Whole::Text { characters, .. } => match length {
-            None => false,
-            Some(length) => length as usize == characters.len(),
-        },
-        Whole::Variable { type_id, .. } => {
-            target.same(*type_id) || have_one_length(length, types.string_length(*type_id))
-        }
+        Whole::Text { characters, .. } => has_length(types.string_length(target), characters.len()),
+        Whole::Variable { type_id, .. } => is_as_long(types, target, *type_id),
+    }
+}
+
+/// Whether two types are the same, or of strings of equal length.
+fn is_as_long(types: &TypeTable, target: TypeId, other: TypeId) -> bool
+    ensures { result ≡ (is_same target other
+        || have_one_length (string_length types.now target) (string_length types.now other)) }
+{
+    target.same(other) || have_one_length(types.string_length(target), types.string_length(other))
+}
+
+/// Whether a string, if it is one, has so many components.
+fn has_length(length: Option<u32>, count: usize) -> bool
+    ensures { result ≡ have_one_length length (Some count) }
+{
+    match length {
+        None => false,
+        Some(length) => length as usize == count,
     }
 }
 

@@ -1,4 +1,4 @@
-ghost use Rattle.std.specs.Prelude.{◌≡◌, [], map, slice_get, IfOk, MatchResult};
+ghost use Rattle.std.specs.Prelude.{◌≡◌, [], true, false, map, slice_get, IfOk, MatchResult};
 ghost use Rattle.typed_tree.specs.Entries.{entries_of};
 ghost use Rattle.abstract_state.specs.declared.known.Known.TheVariants.{Ordinal};
 ghost use Rattle.component_states.specs.States.{over_variables};
