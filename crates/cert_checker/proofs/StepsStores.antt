@@ -1,6 +1,6 @@
 -- What the checker did where values are stored, from what it did over the parts of it.
-use Rattle.std.proofs.Common.{arith, ◌≡◌, refl, sym, subst, ap, ap₂, ◌∙◌, ℕ, zero, suc, add-one, ◌+◌, ◌-◌, ◌<◌, ◌≤◌, Bool, true, false, ◌&&◌, List, [], ◌∷◌, ◌++◌, append-nil, append_assoc}
-use Rattle.std.proofs.Common.{Option, Some, None, Result, Ok, Err, length, map, drop, take, get_or, nat_eq}
+use Rattle.std.proofs.Common.{arith, ◌≡◌, refl, sym, subst, ap, ◌∙◌, ℕ, zero, suc, ◌+◌, ◌-◌, ◌<◌, ◌≤◌, Bool, true, false, ◌&&◌, List, [], ◌∷◌, ◌++◌, append_assoc}
+use Rattle.std.proofs.Common.{Option, Some, None, Result, Ok, Err, length, drop, get_or, nat_eq}
 use Rattle.std.specs.Prelude.{slice_get}
 use Rattle.std.specs.Bool.{◌==◌}
 use Rattle.std.specs.List.{list_all}
@@ -15,31 +15,26 @@ use Rattle.typed_tree.specs.declared.tree.RangeTest.{RangeTest}
 use Rattle.typed_tree.specs.declared.tree.Selector.{Selector}
 use Rattle.typed_tree.specs.declared.tree.Whole.{Whole}
 use Rattle.domain.specs.Facts.{Bound}
-use Rattle.domain.specs.Interval.{Interval, is_included}
+use Rattle.domain.specs.Interval.{Interval}
 use Rattle.abstract_state.specs.declared.known.Known.{Known}
 use Rattle.abstract_state.specs.declared.known.Known.TheVariants.{Ordinal}
-use Rattle.abstract_state.specs.declared.state.State.{State as KeptVariables}
-use Rattle.abstract_state.specs.View as variables
 use Rattle.abstract_state.specs.State.{limits_of}
 use Rattle.abstract_state.specs.Conditions.{bound_form}
-use Rattle.abstract_state.specs.Loops.{is_among, with_touched}
+use Rattle.abstract_state.specs.Loops.{is_among}
 use Rattle.leaf_rows.specs.Rows.{rows_accessed, rows_of}
 use Rattle.component_states.specs.Components.{Reach, all_stored, stored}
 use Rattle.component_states.specs.States.{State, over_components}
 use Rattle.component_states.specs.View.{viewed}
-use Rattle.component_states.specs.declared.state.State.{State as Kept}
-use Rattle.structured_states.specs.Loops.{Round, all_list, limits_at}
+use Rattle.structured_states.specs.Loops.{Round, all_list}
 use Rattle.structured_states.specs.View.{kept_round}
 use Rattle.structured_states.proofs.Claims.{item-cut}
 use Rattle.structured_states.proofs.Rowed.{rows_to, rows-next}
-use Rattle.structured_states.specs.declared.rounds.Round.{Round as KeptRound}
 use Rattle.expression_checker.specs.declared.fault.CheckFault.{CheckFault}
 use Rattle.expression_checker.specs.Visits.{Visits}
 use Rattle.expression_checker.specs.Walk.{Walking, ◌>>=◌, access_walk, fitting, index_pieces, value_walk, whole_walk}
 use Rattle.cert_checker.specs.declared.walk.Walk.{Walk}
-use Rattle.cert_checker.specs.View.{Goes, Walks, at_state, context_of}
-use Rattle.cert_checker.specs.Walk.{Stores, alike, assign, assign_component, assign_to, assignment, change, copy_to, copying, fits_whole, paired, store_to, stored_to}
-use Rattle.cert_checker.specs.Walk.{stores_made}
+use Rattle.cert_checker.specs.View.{Goes, Walks, context_of}
+use Rattle.cert_checker.specs.Walk.{Stores, alike, assign, assign_component, assign_to, assignment, change, copy_to, copying, fits_whole, paired, store_to}
 use Rattle.cert_checker.proofs.Steps.{goes-here, goes-then}
 
 -- an assignment from the access of its target on
@@ -107,30 +102,6 @@ module _ (place : SourcePlace) (root : ℕ) (selectors : List Selector) (reach :
       (ap (λ r. store_to place root reach (may && nat_eq (length r) (length ranges)) (paired r ranges) (context_of old) (viewed old.flow.state)) (sym rows_are)
       ∙ ap (λ f. store_to place root reach f (paired rows ranges) (context_of old) (viewed old.flow.state)) (sym fits_is)
       ∙ ap (λ s. store_to place root reach fits s (context_of old) (viewed old.flow.state)) (sym stores_are)) goes
-
--- values were stored, and then the variable is known as one whose components changed
-pub stores-done : (root : ℕ) (reach : Reach) (stores : Stores) (values : Interval) (old new : Walk) (stored : Kept) (visits : Visits)
-    → viewed stored ≡ over_components (λ known. all_stored known reach stores) (viewed old.flow.state)
-    → values ≡ limits_at old.limits.items root
-    → variables.viewed new.flow.state.variables ≡ with_touched (λ _. values) root (variables.viewed stored.variables)
-    → new.flow.state.components ≡ stored.components → new ≡ at_state new.flow.state old
-    → Walks (stores_made root reach stores) old visits new visits tt
-stores-done root reach stores values old new stored visits stored_is values_is touched_is kept only =
-    let was : State = viewed old.flow.state in
-    let variables_are = touched_is ∙ ap (λ (s : State). with_touched (λ _. values) root s.variables) stored_is
-    ∙ ap (λ v. with_touched (λ _. v) root was.variables) values_is in
-    let components_are = ap (λ (s : Kept). (viewed s).components) kept ∙ ap (λ (s : State). s.components) stored_is in
-    record {
-      context_is = ap context_of only;
-      flows = record {
-        rows_are = ap (λ (w : Walk). w.flow.rows) only;
-        value_is = refl;
-        state_is = ap₂ (λ v c. record { variables = v; components = c }) variables_are components_are;
-        open_is = ap (λ (w : Walk). w.flow.open_ids.items) only ∙ sym (append-nil old.flow.open_ids.items);
-        visits_are = refl;
-        unbroken = refl;
-      };
-    }
 
 -- ---- stores, from one of them on
 

@@ -1,4 +1,4 @@
-ghost use Rattle.std.specs.Prelude.{◌≡◌, ◌&&◌, ◌||◌, Some, true, IfOk, length, nat_eq};
+ghost use Rattle.std.specs.Prelude.{◌≡◌, ◌&&◌, ◌||◌, Some, true, IfOk, length, nat_eq, slice_get};
 ghost use Rattle.std.specs.List.{list_all};
 ghost use Rattle.domain.specs.Interval.{is_included};
 ghost use Rattle.types.specs.Types.{have_one_length, is_same, string_length};
@@ -299,11 +299,17 @@ fn paired(
 {
     let mut stores = Vec::new(alloc);
     for row in rows.first..rows.end() {
-        if let Some(range) = ranges.get((row - rows.first) as usize) {
-            stores.push((row, *range))?;
+        if let Some(range) = range_at(ranges, row - rows.first) {
+            stores.push((row, range))?;
         }
     }
     Ok(stores)
+}
+
+fn range_at(ranges: &[Interval], place: u32) -> Option<Interval>
+    ensures { result ≡ slice_get ranges.now place }
+{
+    ranges.get(place as usize).copied()
 }
 
 /// Whether a whole value, with the ranges of its components, may be copied to rows of a type.
@@ -326,7 +332,7 @@ fn is_alike(types: &TypeTable, target: TypeId, value: &Whole) -> bool
     ensures { (is_structured types.now target && result) ≡ fits_whole types.now target value.now }
 {
     match value {
-        Whole::Text { characters, .. } => has_length(types.string_length(target), characters.len()),
+        Whole::Text { characters, .. } => has_length(types.string_length(target), characters),
         Whole::Variable { type_id, .. } => is_as_long(types, target, *type_id),
     }
 }
@@ -339,13 +345,13 @@ fn is_as_long(types: &TypeTable, target: TypeId, other: TypeId) -> bool
     target.same(other) || have_one_length(types.string_length(target), types.string_length(other))
 }
 
-/// Whether a string, if it is one, has so many components.
-fn has_length(length: Option<u32>, count: usize) -> bool
-    ensures { result ≡ have_one_length length (Some count) }
+/// Whether a string, if it is one, is as long as a text.
+fn has_length(count: Option<u32>, text: &[u8]) -> bool
+    ensures { result ≡ have_one_length count (Some (length text.now)) }
 {
-    match length {
+    match count {
         None => false,
-        Some(length) => length as usize == count,
+        Some(count) => count as usize == text.len(),
     }
 }
 
