@@ -21,9 +21,9 @@ use Rattle.component_states.specs.States.{State, joined_states}
 use Rattle.expression_checker.specs.Walk.{Context, Walked, Walking, ◌>>=◌, give}
 use Rattle.expression_checker.specs.Walk.{enter, value_walk, followed, numbers_of}
 use Rattle.expression_checker.specs.Walk.{IsBreachOf}
-use Rattle.cert_checker.specs.Walk.{asked, statement_walk, all_of, block_walk, branches, breach_unless, facts_given}
+use Rattle.cert_checker.specs.Walk.{asked, statement_walk, all_of, block_walk, branches, breach_unless, enter_head, facts_given}
 use Rattle.cert_checker.specs.Walk.{first_context}
-use Rattle.cert_checker.specs.Walk.{program_walk, here, loop_walk, parted, repeat_round, while_round, with_state, where_so}
+use Rattle.cert_checker.specs.Walk.{program_walk, here, inside, loop_walk, parted, repeat_round, while_round, with_state, where_so}
 use Rattle.cert_checker.specs.View.{at_state, claims_in, context_of, else_walk, AtHead, IsBegun, IsMoved, LeavesLoop, loop_in, Meets, Parts, Walks}
 use Rattle.cert_checker.specs.View.{Goes}
 use Rattle.structured_states.specs.Loops.{Claims, Round, claims_at, gives_claims, head_of, with_own, without_own}
@@ -262,7 +262,32 @@ if-begun statement number condition consequence alternative inner old entered va
     (goes-as (chosen known) (branches condition (statement_walk inner) (else_walk alternative) known) valued new after end result
     (ap (λ s. branches condition (statement_walk s) (else_walk alternative) known) (sym inner_is)) three)))
 
+-- the checker gave up in the condition
+pub if-stopped : (statement : Stmt) (number : ℕ) (condition : Expr) (consequence : Box Stmt Global) (alternative : Option (Box Stmt Global))
+    (old entered new : Walk) (before between after : Visits) (fault : CheckFault)
+    → statement ≡ stmt.If number condition consequence alternative → Walks (enter number) old before entered between tt
+    → IsBreachOf (value_walk condition (context_of entered) (viewed entered.flow.state)) fault
+    → Goes (statement_walk statement) old before (Err fault) new after
+if-stopped statement number condition consequence alternative old entered new before between after fault is one stopped =
+    let chosen = branches condition (statement_walk consequence.value) (else_walk alternative) in
+    goes-as (statement_walk statement) (enter number >>= λ _. (value_walk condition >>= chosen)) old new before after (Err fault)
+    (ap statement_walk is ∙ statement-If number condition consequence alternative)
+    (goes-then (enter number) (λ _. value_walk condition >>= chosen) old entered new before between after tt (Err fault) one
+    (goes-stopped (value_walk condition) chosen entered new between after fault stopped))
+
 -- ---- loops
+
+-- the facts of a loop weren't given where it is entered
+pub loop-not_entered : (number : ℕ) (place : SourcePlace) (control : Option ℕ) (walking : Walking State) (old new : Walk) (before after : Visits)
+    (fault : CheckFault)
+    → IsBreachOf (facts_given LoopEntry place (claims_in number old).facts (context_of old) (viewed old.flow.state)) fault
+    → Goes (loop_walk number place control walking) old before (Err fault) new after
+loop-not_entered number place control walking old new before after fault is =
+    let facts = (claims_in number old).facts in
+    let loop = loop_in number old in
+    let rest = enter_head (with_own control loop) facts >>= λ _. (inside (without_own control loop) walking >>= λ behind.
+    (facts_given LoopTurn place facts >>= λ _. with_state behind)) in
+    breach-first (context_of old) (facts_given LoopEntry place facts) (λ _. rest) (viewed old.flow.state) fault is
 
 module _ (number : ℕ) (place : SourcePlace) (control : Option ℕ) (walking : Walking State) (old headed : Walk)
     (at_head : AtHead number control old headed) where

@@ -60,6 +60,22 @@ for-begun statement number loop_number place control first first_fits direction 
     (ap (λ s. for_walk loop_number place (statement_walk s) (way_of control direction first first_fits last last_fits from to)) (sym inner_is)
     ∙ ap (for_walk loop_number place (statement_walk inner)) (sym way_is)) four))))
 
+-- the checker gave up in the first bound
+pub for-first_stopped : (statement : Stmt) (number loop_number : ℕ) (place : SourcePlace) (control : ℕ) (first : Expr) (first_fits : RangeTest)
+    (direction : Direction) (last : Expr) (last_fits : RangeTest) (body : Box Stmt Global) (old entered new : Walk) (before between after : Visits)
+    (fault : CheckFault)
+    → statement ≡ stmt.For number loop_number place control first first_fits direction last last_fits body
+    → Walks (enter number) old before entered between tt → IsBreachOf (value_walk first (context_of entered) (viewed entered.flow.state)) fault
+    → Goes (statement_walk statement) old before (Err fault) new after
+for-first_stopped statement number loop_number place control first first_fits direction last last_fits body old entered new before between after fault is
+    one stopped =
+    let rest = λ (from : Known). value_walk last >>= λ to.
+    for_walk loop_number place (statement_walk body.value) (way_of control direction first first_fits last last_fits from to) in
+    goes-as (statement_walk statement) (enter number >>= λ _. (value_walk first >>= rest)) old new before after (Err fault)
+    (ap statement_walk is ∙ statement-For number loop_number place control first first_fits direction last last_fits body)
+    (goes-then (enter number) (λ _. value_walk first >>= rest) old entered new before between after tt (Err fault) one
+    (goes-stopped (value_walk first) rest entered new between after fault stopped))
+
 -- the checker gave up in the last bound
 pub for-last_stopped : (statement : Stmt) (number loop_number : ℕ) (place : SourcePlace) (control : ℕ) (first : Expr) (first_fits : RangeTest)
     (direction : Direction) (last : Expr) (last_fits : RangeTest) (body : Box Stmt Global) (from : Known) (old entered begun new : Walk)
