@@ -10,4 +10,4 @@ mod state;
 mod stretches;
 
 pub use facts::{ComponentFact, Index, Reach, Stretch};
-pub use state::State;
+pub use state::{State, all_of_row};

@@ -303,7 +303,7 @@ impl State {
 }
 
 /// That each component of a row is defined: of one with indexes, those from the first index to the last are.
-fn all_of_row(range: Option<OrdinalRange>, row: u32) -> ComponentFact
+pub fn all_of_row(range: Option<OrdinalRange>, row: u32) -> ComponentFact
     ensures { said_component result ≡ all_of_row range row }
 {
     match range {

@@ -10,7 +10,7 @@ pub struct Span {
 
 impl Span {
     /// No rows.
-    pub(crate) fn none() -> Span
+    pub fn none() -> Span
         ensures { (result.first ≡ 0) × (result.count ≡ 0) }
     {
         Span { first: 0, count: 0 }
