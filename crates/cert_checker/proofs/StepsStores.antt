@@ -3,7 +3,7 @@ use Rattle.std.proofs.Common.{arith, ◌≡◌, refl, sym, subst, ap, ◌∙◌,
 use Rattle.std.proofs.Common.{Option, Some, None, Result, Ok, Err, length, drop, get_or, nat_eq}
 use Rattle.std.specs.Prelude.{slice_get}
 use Rattle.std.specs.Bool.{◌==◌}
-use Rattle.std.specs.List.{list_all}
+use Rattle.std.specs.List.{list_all, range_with_len}
 use Rattle.std.proofs.lemmas.Bool.{eqb-true}
 use Rattle.std.proofs.lemmas.List.Folds.{list_all-map}
 use Rattle.std.proofs.lemmas.Option.{none-some, same_Some}
@@ -113,6 +113,10 @@ store-step reach stores i one old mid inside is mid_is =
     ∙ ap (λ more. over_components (λ known. all_stored known reach more) old) (sym (item-cut stores i one inside is))
 
 -- ---- rows with their ranges, row by row
+
+-- no row is left
+pub rows-past : (row last : ℕ) → last ≤ row → rows_to row last ≡ []
+rows-past row last past = let e : last - row ≡ 0 = omega arith in ap (range_with_len row) e
 
 pub alike-step : (range : Interval) (row last : ℕ) (made more : Stores) → row < last → more ≡ made ++ (row, range) ∷ []
     → more ++ alike range (rows_to (row + 1) last) ≡ made ++ alike range (rows_to row last)

@@ -1,7 +1,7 @@
 use Rattle.std.proofs.Common.{◌∙◌, ◌++◌, sym, ap, append-nil}
 use Rattle.cert_checker.specs.Walk.{alike}
-use Rattle.structured_states.proofs.Rowed.{rows-all, rows-past, rows_to}
-use Rattle.cert_checker.proofs.StepsStores.{alike-step}
+use Rattle.structured_states.proofs.Rowed.{rows-all, rows_to}
+use Rattle.cert_checker.proofs.StepsStores.{alike-step, rows-past}
 use Rattle.cert_checker.proofs.stores.alike.Goals as goal
 
 pub loop-row-init : goal.loop-row-init
