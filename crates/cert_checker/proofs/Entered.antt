@@ -31,7 +31,7 @@ use Rattle.abstract_state.specs.Forms.{root_of}
 use Rattle.structured_states.specs.Cases.{arm_start, constants_before}
 use Rattle.place.specs.declared.Place.{Place}
 use Rattle.expression_checker.specs.Walk.{Context, Walking, ◌>>=◌, access_walk, index_pieces, numbers_of, fitting, value_walk, parameter_walk, whole_walk}
-use Rattle.cert_checker.specs.Walk.{first_context, assign, assign_to, arms_walk, case_walk, change, for_round, for_turns, for_walk, index_test, loop_walk}
+use Rattle.cert_checker.specs.Walk.{first_context, assign, assign_to, arms_walk, case_walk, for_round, for_turns, for_walk, index_test, loop_walk}
 use Rattle.cert_checker.specs.Walk.{steady_in}
 use Rattle.cert_checker.specs.Walk.{tested_way, while_round, repeat_round, statement_step, statement_walk, where_so, all_of, block_walk, program_walk}
 use Rattle.expression_checker.proofs.Entered.{Enters, access-entered, and_no_more, and_then, parameter-entered, value-entered, whole-entered}

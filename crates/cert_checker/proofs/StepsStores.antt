@@ -1,6 +1,6 @@
 -- What the checker did where values are stored, from what it did over the parts of it.
 use Rattle.std.proofs.Common.{arith, ◌≡◌, refl, sym, subst, ap, ◌∙◌, ℕ, zero, suc, ◌+◌, ◌-◌, ◌<◌, ◌≤◌, Bool, true, false, ◌&&◌, List, [], ◌∷◌, ◌++◌, append_assoc}
-use Rattle.std.proofs.Common.{Option, Some, None, Result, Ok, Err, length, drop, get_or, nat_eq}
+use Rattle.std.proofs.Common.{Option, Some, None, Result, length, drop, get_or, nat_eq}
 use Rattle.std.specs.Prelude.{slice_get}
 use Rattle.std.specs.Bool.{◌==◌}
 use Rattle.std.specs.List.{list_all, range_with_len}
@@ -31,7 +31,7 @@ use Rattle.structured_states.proofs.Claims.{item-cut}
 use Rattle.structured_states.proofs.Rowed.{rows_to, rows-next}
 use Rattle.expression_checker.specs.declared.fault.CheckFault.{CheckFault}
 use Rattle.expression_checker.specs.Visits.{Visits}
-use Rattle.expression_checker.specs.Walk.{Walking, ◌>>=◌, access_walk, fitting, index_pieces, value_walk, whole_walk}
+use Rattle.expression_checker.specs.Walk.{◌>>=◌, access_walk, fitting, index_pieces, value_walk, whole_walk}
 use Rattle.cert_checker.specs.declared.walk.Walk.{Walk}
 use Rattle.cert_checker.specs.View.{Goes, Walks, context_of}
 use Rattle.cert_checker.specs.Walk.{Stores, alike, assign, assign_component, assign_to, assignment, change, copy_to, copying, fits_whole, paired, store_to}

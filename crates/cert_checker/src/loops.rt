@@ -52,10 +52,17 @@ impl<'a> Walk<'a> {
     }
 
     /// Goes on behind a loop, whose facts have to be given where a round of it ends.
-    pub(crate) fn leave_loop(&mut self, number: u32, place: Place, behind: State) -> Result<(), CheckFault>
+    pub(crate) fn leave_loop(
+        &mut self,
+        number: u32,
+        place: Place,
+        behind: State,
+    ) -> Result<(), CheckFault>
         ensures { LeavesLoop number place behind self.old result self.new }
     {
-        let is_given = self.round(number, None).is_given(&self.flow.state, self.flow.rows);
+        let is_given = self
+            .round(number, None)
+            .is_given(&self.flow.state, self.flow.rows);
         if !is_given {
             return Err(CheckFault::Broken {
                 rule: Rule::LoopTurn,

@@ -275,11 +275,7 @@ fn is_typed(rows: &Rows, store: &(u32, Interval)) -> bool
 }
 
 /// The same range for each of some rows.
-fn alike(
-    alloc: Global,
-    range: Interval,
-    rows: Span,
-) -> Result<Vec<(u32, Interval)>, AllocError>
+fn alike(alloc: Global, range: Interval, rows: Span) -> Result<Vec<(u32, Interval)>, AllocError>
     ensures { IfOk result (λ stores. stores.items ≡ alike range (numbers rows)) }
 {
     let mut stores = Vec::new(alloc);

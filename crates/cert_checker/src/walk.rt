@@ -422,7 +422,11 @@ impl<'a> Walk<'a> {
     }
 
     /// What is known of an expression's value.
-    pub(crate) fn expression(&mut self, expression: &Expr, visits: &mut Visits) -> Result<Known, CheckFault>
+    pub(crate) fn expression(
+        &mut self,
+        expression: &Expr,
+        visits: &mut Visits,
+    ) -> Result<Known, CheckFault>
         ensures { Goes (value_walk expression.now) self.old visits.old result self.new visits.new }
     {
         self.flow.expression(expression, visits)
