@@ -209,7 +209,8 @@ module _ (place : SourcePlace) (way : Way) (old : Walk) where
       (goes-stopped (tested_end start way.first) from_first old new visits visits fault
       (subst (λ r. IsBreachOf (first_test r (context_of old) start) fault) is stopped))
 
-  module _ (one : Walk) (visits : Visits) (first_range last_range first : Interval) (first_is : first_range ≡ met way.first.form start.variables way.first.values)
+  module _ (one : Walk) (visits : Visits) (first_range last_range first : Interval)
+      (first_is : first_range ≡ met way.first.form start.variables way.first.values)
       (last_is : last_range ≡ met way.last.form start.variables way.last.values) (passed : Walks (first_test first_range) old visits one visits first) where
     first-goes : (new : Walk) (result : Result Way CheckFault) → Goes (from_first first) one visits result new visits
         → Goes (tested_way place way) old visits result new visits

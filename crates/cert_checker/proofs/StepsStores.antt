@@ -1,6 +1,6 @@
 -- What the checker did where values are stored, from what it did over the parts of it.
-use Rattle.std.proofs.Common.{arith, ◌≡◌, refl, sym, subst, ap, ◌∙◌, ℕ, zero, suc, ◌+◌, ◌-◌, ◌<◌, ◌≤◌, Bool, true, false, ◌&&◌, List, [], ◌∷◌, ◌++◌, append_assoc}
-use Rattle.std.proofs.Common.{Option, Some, None, Result, length, drop, get_or, nat_eq}
+use Rattle.std.proofs.Common.{arith, ◌≡◌, refl, sym, subst, ap, ◌∙◌, ℕ, zero, suc, ◌+◌, ◌-◌, ◌<◌, ◌≤◌, Bool, true, false, ◌&&◌, List, [], ◌∷◌, ◌++◌}
+use Rattle.std.proofs.Common.{append_assoc, Option, Some, None, Result, length, drop, get_or, nat_eq}
 use Rattle.std.specs.Prelude.{slice_get}
 use Rattle.std.specs.Bool.{◌==◌}
 use Rattle.std.specs.List.{list_all, range_with_len}
@@ -53,8 +53,8 @@ assignment-done becomes target indexes fits value values reach old reached value
     (subst (λ (v : Interval). Goes (stored v reach known) valued after result new after) is three))
 
 -- an assignment of a whole value from the access of its target on
-pub copying-done : (becomes : SourcePlace) (target : Access) (indexes : List Expr) (type_id : TypeId) (value : Whole) (value_indexes : List Expr) (reach : Reach)
-    (old reached valued : Walk) (before entries after : Visits) (ranges : List Interval) (result : Result (Unit {0}) CheckFault) (new : Walk)
+pub copying-done : (becomes : SourcePlace) (target : Access) (indexes : List Expr) (type_id : TypeId) (value : Whole) (value_indexes : List Expr)
+    (reach : Reach) (old reached valued : Walk) (before entries after : Visits) (ranges : List Interval) (result : Result (Unit {0}) CheckFault) (new : Walk)
     → Walks (access_walk target (index_pieces indexes)) old before reached entries reach
     → Walks (whole_walk value (index_pieces value_indexes)) reached entries valued after ranges
     → Goes (copy_to becomes target.root target.selectors.items reach type_id value ranges) valued after result new after

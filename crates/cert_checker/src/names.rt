@@ -11,7 +11,8 @@ use structured_states::kept_claims::is_ordinal_variable;
 use typed_tree::tree::Tree;
 use types::{TypeForm, TypeId, TypeTable};
 
-/// Whether a certificate names blocks, loops, and variables and parts of them alone that are there, each loop under its block.
+/// Whether a certificate names blocks, loops, and variables and parts of them alone that are there, each loop under its
+/// block.
 pub(crate) fn is_known(rows: &Rows, certificate: &Certificate) -> bool
     ensures { result ≡ is_known rows.now certificate.now }
 {

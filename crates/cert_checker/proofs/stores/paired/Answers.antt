@@ -9,13 +9,16 @@ loop-row-preserved c =
     let first = c.args.rows.first in
     let last = c.end-row-end.result in
     let ranges = c.args.ranges.now in
+    let made = here.stores.items in
     let behind = here.invariant.0 in (
       omega (arith, behind),
       elim c.match-range_at.branch [
         | in-Some+in_ok-push w ↦
-            paired-step first here.row last ranges w.in-Some.range here.stores.items _ behind c.loop-row-test.true (sym c.range_at.ensures ∙ w.in-Some.is)
-            (ap (λ stores. stores.items) w.stores-is ∙ w.in_ok-push.ensures.items) ∙ here.invariant.1
+            paired-step first here.row last ranges w.in-Some.range made _ behind c.loop-row-test.true (sym c.range_at.ensures ∙ w.in-Some.is)
+            (ap (λ stores. stores.items) w.stores-is ∙ w.in_ok-push.ensures.items)
+            ∙ here.invariant.1
         | in_default w ↦
-            paired-past first here.row last ranges here.stores.items _ behind (sym c.range_at.ensures ∙ w.in_default.is) (ap (λ stores. stores.items) w.stores-is) ∙ here.invariant.1
+            paired-past first here.row last ranges made _ behind (sym c.range_at.ensures ∙ w.in_default.is) (ap (λ stores. stores.items) w.stores-is)
+            ∙ here.invariant.1
       ],
     )

@@ -5,7 +5,8 @@ use Rattle.structured_states.specs.View.{said_end, said_way}
 use Rattle.cert_checker.specs.View.{else_walk}
 use Rattle.cert_checker.proofs.Steps.{all-step, all-end, given-up, if-begun, branches-done, branches-stopped, loop-done, loop-stopped, while-begun}
 use Rattle.cert_checker.proofs.Steps.{if-stopped, loop-not_entered, repeat-begun, while_round-done, repeat_round-done}
-use Rattle.cert_checker.proofs.StepsFor.{for-begun, for-done, for-first_stopped, for-last_stopped, for-stopped, rounds-go, turns-done, turns-not_begun, turns-not_tested, way-same}
+use Rattle.cert_checker.proofs.StepsFor.{for-begun, for-done, for-first_stopped, for-last_stopped, for-stopped, rounds-go, turns-done}
+use Rattle.cert_checker.proofs.StepsFor.{turns-not_begun, turns-not_tested, way-same}
 use Rattle.cert_checker.proofs.StepsCase.{arms-end, arms-step, arms-stopped, case-begun, case-not_tested, case-tested}
 use Rattle.component_states.specs.View.{viewed}
 use Rattle.abstract_state.specs.declared.known.Known.TheVariants.{Ordinal}
