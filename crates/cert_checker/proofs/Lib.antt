@@ -13,5 +13,6 @@ pub mod SoundStores
 pub mod Steps
 pub mod StepsCase
 pub mod StepsFor
+pub mod StepsStores
 pub mod Stored
 pub mod Targets
