@@ -4,6 +4,7 @@ pub mod Copied
 pub mod Entered
 pub mod Heads
 pub mod Keeping
+pub mod SoundAssignments
 pub mod SoundCase
 pub mod SoundFor
 pub mod SoundForms
