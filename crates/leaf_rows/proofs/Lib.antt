@@ -4,3 +4,4 @@ pub mod Counted
 pub mod Variables
 pub mod Naming
 pub mod Components
+pub mod Alike
