@@ -27,11 +27,10 @@ pub leaf-of_component : (types : List Form) (id : TypeId) (rest : List Step) →
 leaf-of_component types id rest inside = ?
 
 module _ (tree : Tree) (root : ℕ) (selectors : List Selector) (id : TypeId)
-    (leads : accesses.accessed tree.variables.items tree.types root selectors ≡ Some id)
-    (structured : selectors ≡ [] → is_structured tree.types id ≡ true) where
+    (leads : accesses.accessed tree.variables.items tree.types root selectors ≡ Some id) where
   -- under an access lie as many rows as its type has leaves
-  pub rows-count : length (rows_accessed (rows_of tree) root selectors) ≡ length (leaves_of tree.types id)
-  rows-count = ?
+  pub rows-count : (selectors ≡ [] → is_structured tree.types id ≡ true) → length (rows_accessed (rows_of tree) root selectors) ≡ length (leaves_of tree.types id)
+  rows-count structured = ?
 
   -- and the components of each are those of the leaf at its place
   pub row-leaf : (way rest : List Step) (j row : ℕ) → Matches selectors way → slice_get (rows_accessed (rows_of tree) root selectors) j ≡ Some row

@@ -6,6 +6,7 @@ pub mod Heads
 pub mod Keeping
 pub mod SoundAssignments
 pub mod SoundCase
+pub mod SoundCopies
 pub mod SoundFor
 pub mod SoundForms
 pub mod SoundLoops
