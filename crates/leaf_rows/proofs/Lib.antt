@@ -5,3 +5,5 @@ pub mod Variables
 pub mod Naming
 pub mod Components
 pub mod Alike
+pub mod Selected
+pub mod Accessed
