@@ -1,6 +1,5 @@
 pub mod Among
 pub mod Changes
-pub mod Copied
 pub mod Entered
 pub mod Heads
 pub mod Keeping

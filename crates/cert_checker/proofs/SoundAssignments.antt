@@ -50,7 +50,7 @@ use Rattle.expression_checker.proofs.SoundRows.{IsReachedBy, Leads, Matches, Row
 use Rattle.cert_checker.specs.Walk as walk
 use Rattle.cert_checker.specs.Walk.{Stores, alike}
 use Rattle.cert_checker.proofs.Changes.{assigned-knows}
-use Rattle.cert_checker.proofs.Copied.{components-inner}
+use Rattle.leaf_rows.proofs.Accessed.{components-inner}
 use Rattle.cert_checker.proofs.Keeping.{written-kept, written-typed}
 use Rattle.cert_checker.proofs.SoundLoops.{Foretold, kept-rule}
 use Rattle.cert_checker.proofs.SoundStores.{AreTargets}

@@ -46,7 +46,7 @@ use Rattle.expression_checker.proofs.SoundExpressions.{SoundAction, access-sound
 use Rattle.expression_checker.proofs.SoundRows.{IsReachedBy, IsWhole, Leads, LieIn, Matches, rows-are}
 use Rattle.cert_checker.specs.Walk as walk
 use Rattle.cert_checker.specs.Walk.{fits_whole, paired}
-use Rattle.cert_checker.proofs.Copied.{row-leaf, rows-count}
+use Rattle.leaf_rows.proofs.Accessed.{row-leaf, rows-count}
 use Rattle.cert_checker.proofs.SoundAssignments.{of-type}
 use Rattle.cert_checker.proofs.SoundLoops.{Foretold}
 use Rattle.cert_checker.proofs.Targets.{contains-at, paired-at, paired-targets, some-at}

@@ -32,7 +32,7 @@ use Rattle.expression_checker.proofs.SoundAccesses.{part-then}
 use Rattle.expression_checker.proofs.SoundRows.{AreIntegers, IsReachedBy, Matches, RowsAre}
 use Rattle.cert_checker.specs.Walk as walk
 use Rattle.cert_checker.specs.Walk.{Stores}
-use Rattle.cert_checker.proofs.Copied.{components-inner, rows-apart}
+use Rattle.leaf_rows.proofs.Accessed.{components-inner, rows-apart}
 use Rattle.cert_checker.proofs.Keeping.{all-pass, listed-keeps}
 use Rattle.cert_checker.proofs.SoundLoops.{Foretold, kept-rule, type-limits}
 use Rattle.cert_checker.proofs.SoundStores.{AreTargets, parts-kept, parts-typed, stored-known}
