@@ -1,5 +1,6 @@
 pub mod Among
 pub mod Changes
+pub mod Controls
 pub mod Entered
 pub mod Heads
 pub mod Keeping
