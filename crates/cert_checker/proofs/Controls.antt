@@ -1,5 +1,5 @@
 -- The control variables of the for statements in a program are ones of ordinal types, so none of them has rows of components.
-use Rattle.std.proofs.Common.{arith, ◌≡◌, ⊎_elim, ◌∙◌, sym, ap, refl, subst, ℕ, ◌+◌, ◌<◌, Bool, true, false, ◌&&◌, ◌||◌, nat_eq, nat_lt, List, [], ◌∷◌, ◌++◌, map, length}
+use Rattle.std.proofs.Common.{arith, ◌≡◌, ⊎_elim, ◌∙◌, sym, ap, subst, ℕ, ◌+◌, Bool, true, ◌&&◌, nat_eq, nat_lt, List, [], ◌∷◌, ◌++◌, map}
 use Rattle.std.proofs.Common.{Option, Some, None}
 use Rattle.std.specs.Prelude.{flat_map, is_some, slice_get, slice_index_or}
 use Rattle.std.specs.List.{list_all}
@@ -8,11 +8,12 @@ use Rattle.std.proofs.lemmas.Bool.{and_parts, eqb-true, false≢true, false_from
 use Rattle.std.proofs.lemmas.List.{length-map}
 use Rattle.std.proofs.lemmas.List.Folds.{list_any-append}
 use Rattle.types.specs.Forms.{Form}
-use Rattle.types.specs.Forms.{Integer, Boolean, Char, Enumeration, Subrange, Array, Record}
+use Rattle.types.specs.Forms.{Array, Record}
 use Rattle.types.specs.Types.{form_range, is_ordinal}
-use Rattle.typed_tree.specs.Accesses.{accessed, is_type, led}
+use Rattle.typed_tree.specs.Accesses.{is_type, led}
 use Rattle.typed_tree.specs.Loops.{AreLoops, Inside, IsLoop, all_inside, inside_of, statement_inside}
-use Rattle.typed_tree.specs.WellFormed.{all_hold, are_whole, is_well_formed_expr, is_well_formed_stmt, is_well_formed_test, leads_to_ordinal, stmt_is_well_formed}
+use Rattle.typed_tree.specs.WellFormed.{all_hold, are_whole, is_well_formed_expr, is_well_formed_stmt, is_well_formed_test, leads_to_ordinal}
+use Rattle.typed_tree.specs.WellFormed.{stmt_is_well_formed}
 use Rattle.typed_tree.specs.declared.tree.Expr.{Expr}
 use Rattle.typed_tree.specs.declared.tree.Loop.{Loop}
 use Rattle.typed_tree.specs.declared.tree.Stmt.{Stmt}
@@ -57,7 +58,8 @@ both-ordinal tree first second one other root among =
 
 -- ---- those of statements
 
-ordinal-of : (types : List Form) (found : Option Variable) → is_type (is_ordinal types) (option_and_then (λ variable. led types [] variable.type_id) found) ≡ true
+ordinal-of : (types : List Form) (found : Option Variable)
+    → is_type (is_ordinal types) (option_and_then (λ variable. led types [] variable.type_id) found) ≡ true
     → has_ordinals types found ≡ true
 ordinal-of types None is = absurd (false≢true is)
 ordinal-of types (Some variable) is = is
@@ -167,7 +169,8 @@ ordinal-entire tree controls ordinal k within =
     let at = some-at (rows_of tree) k (omega (arith, count, within)) in
     let leaf = leaf-of tree.types 0 tree.variables.items k at.0 at.1 in
     let zero_root : 0 + leaf.root ≡ leaf.root = omega arith in
-    let root : (slice_index_or (all_parts tree) k no_parts).root ≡ leaf.root = ap (λ (p : Parts). p.root) (parts-at tree k at.0 at.1) ∙ leaf.root_is ∙ zero_root in
+    let root : (slice_index_or (all_parts tree) k no_parts).root ≡ leaf.root =
+    ap (λ (p : Parts). p.root) (parts-at tree k at.0 at.1) ∙ leaf.root_is ∙ zero_root in
     let of_type : has_ordinals tree.types (slice_get tree.variables.items leaf.root) ≡ true =
     subst (λ (r : ℕ). is_ordinal_variable tree r ≡ true) root (ordinal (slice_index_or (all_parts tree) k no_parts).root among) in
     ordinal-scalar (slice_get tree.types leaf.variable.type_id.index)

@@ -1,11 +1,12 @@
 -- Assignments are sound: the target is accessed, the value is evaluated and tested, and then it is stored.
-use Rattle.std.proofs.Common.{arith, ◌≡◌, ◌∙◌, sym, ap, refl, subst, ℕ, zero, suc, ◌<◌, ℤ, Bool, true, false, ◌&&◌, nat_lt, length, List, [], ◌∷◌, ◌++◌, Option, Some, None}
+use Rattle.std.proofs.Common.{arith, ◌≡◌, ◌∙◌, sym, ap, refl, subst, ℕ, zero, suc, ◌<◌, ℤ, Bool, true, false, ◌&&◌, nat_lt, length, List, [], ◌∷◌, Option}
+use Rattle.std.proofs.Common.{Some, None}
 use Rattle.std.specs.List.{Contains}
 use Rattle.std.proofs.lemmas.Bool.{and_parts, ltb-true}
 use Rattle.std.proofs.lemmas.List.Elements.{All-cons, All-nil}
 use Rattle.types.proofs.Scalars.{ordinal_component}
 use Rattle.types.specs.Components.{components_of}
-use Rattle.types.specs.Types.{is_ordinal, is_same}
+use Rattle.types.specs.Types.{is_ordinal}
 use Rattle.types.specs.declared.form.Step.{Step}
 use Rattle.types.specs.declared.form.TypeId.{TypeId}
 use Rattle.place.specs.declared.Place.{Place}
@@ -34,7 +35,7 @@ use Rattle.abstract_state.specs.State.{integer, limits_of}
 use Rattle.abstract_state.proofs.Knows.{at-place}
 use Rattle.abstract_state.proofs.Ranged.{IsKnown, included-in, is_in-integer, is_in-limits}
 use Rattle.abstract_state.proofs.Refined.{access-kept, expression-kept, form-known}
-use Rattle.leaf_rows.specs.Rows.{is_structured, rows_accessed, rows_of}
+use Rattle.leaf_rows.specs.Rows.{rows_accessed, rows_of}
 use Rattle.component_states.specs.Components.{Reach}
 use Rattle.component_states.specs.States.{State}
 use Rattle.structured_states.specs.Loops.{all_list, limits_at}
@@ -42,20 +43,18 @@ use Rattle.expression_checker.specs.declared.fault.Rule.TheVariants.{Changes}
 use Rattle.expression_checker.specs.Walk as flow
 use Rattle.expression_checker.specs.Walk.{Context, Walked, Walking, followed, value_walk}
 use Rattle.expression_checker.proofs.Sound.{Any_value, Good, Leaves, SoundFrom, Stands, World, declared_in, good-weaker, nothing-new, parts_in, sound-anywhere}
-use Rattle.expression_checker.proofs.Sound.{sound-here, sound-still, types_in, unbroken-left, unbroken-right, variables_in}
+use Rattle.expression_checker.proofs.Sound.{sound-here, sound-still, types_in, unbroken-left, variables_in}
 use Rattle.expression_checker.proofs.SoundAccesses.{leads-type, leads-within, part-none}
 use Rattle.expression_checker.proofs.SoundExpressions.{SoundAction, access-sound, value-sound}
 use Rattle.expression_checker.proofs.SoundOperations.{IsKnownOf, fitting-sound}
-use Rattle.expression_checker.proofs.SoundRows.{IsReachedBy, Leads, Matches, RowsAre, rows-are}
+use Rattle.expression_checker.proofs.SoundRows.{IsReachedBy, Leads, Matches, rows-are}
 use Rattle.cert_checker.specs.Walk as walk
 use Rattle.cert_checker.specs.Walk.{Stores, alike}
 use Rattle.cert_checker.proofs.Changes.{assigned-knows}
 use Rattle.leaf_rows.proofs.Accessed.{components-inner}
 use Rattle.cert_checker.proofs.Keeping.{written-kept, written-typed}
 use Rattle.cert_checker.proofs.SoundLoops.{Foretold, kept-rule}
-use Rattle.cert_checker.proofs.SoundStores.{AreTargets}
-use Rattle.cert_checker.proofs.Stored.{head-or_tail}
-use Rattle.cert_checker.proofs.Targets.{alike-at, alike-targets, zipped}
+use Rattle.cert_checker.proofs.Targets.{alike-at, alike-targets}
 use Rattle.cert_checker.proofs.Written.{Fit, stores-good}
 
 -- ---- what is required

@@ -1,8 +1,8 @@
 -- Copies of whole values are sound: the target is accessed, and then come the components, which are stored side by side.
-use Rattle.std.proofs.Common.{arith, ◌≡◌, ⊎_elim, ◌∙◌, sym, ap, refl, subst, ℕ, zero, suc, ◌<◌, ℤ, pos, Bool, true, false, not, ◌&&◌, ◌||◌, nat_eq, nat_le, nat_lt, length}
-use Rattle.std.proofs.Common.{List, [], ◌∷◌, ◌++◌, map, Option, Some, None}
-use Rattle.std.specs.Prelude.{slice_get}
-use Rattle.std.specs.List.{All, Contains}
+use Rattle.std.proofs.Common.{arith, ◌≡◌, ⊎_elim, ◌∙◌, sym, ap, refl, subst, ℕ, zero, suc, ◌<◌, ℤ, pos, Bool, true, not, ◌&&◌, ◌||◌, nat_eq, nat_le, nat_lt}
+use Rattle.std.proofs.Common.{length}
+use Rattle.std.proofs.Common.{List, [], ◌∷◌, Option, Some, None}
+use Rattle.std.specs.List.{All}
 use Rattle.std.proofs.lemmas.Bool.{and_parts, eqb-true, or_cases}
 use Rattle.std.proofs.lemmas.List.{length-map}
 use Rattle.std.proofs.lemmas.List.Elements.{All-contains}
@@ -11,7 +11,6 @@ use Rattle.types.specs.Components.{components_of}
 use Rattle.types.specs.Forms.{Form}
 use Rattle.types.specs.Forms.{Array}
 use Rattle.types.specs.Types.{cells_of, form_at, have_one_length, is_ordinal, is_same, most_cells, string_in, string_length}
-use Rattle.types.specs.declared.form.Step.{Step}
 use Rattle.types.specs.declared.form.TypeId.{TypeId}
 use Rattle.types.proofs.Laid.{length_components}
 use Rattle.place.specs.declared.Place.{Place}
@@ -32,18 +31,18 @@ use Rattle.meaning.specs.Meaning as meaning
 use Rattle.meaning.specs.Meaning.{accessed, values_of}
 use Rattle.abstract_state.specs.Knows.{Shows}
 use Rattle.abstract_state.proofs.Refined.{access-kept, whole-kept}
-use Rattle.leaf_rows.specs.Leaves.{Leaf, is_named, leaves_of}
 use Rattle.leaf_rows.specs.Rows.{has_components, is_structured, rows_accessed, rows_of}
 use Rattle.leaf_rows.proofs.Alike.{NamesAlike, strings-alike}
 use Rattle.component_states.specs.Components.{Reach, row_at}
 use Rattle.component_states.specs.States.{State}
 use Rattle.expression_checker.specs.Walk as flow
 use Rattle.expression_checker.specs.Walk.{Context, Piece, Walking, text_range}
-use Rattle.expression_checker.proofs.Sound.{Any_value, Good, IsForetold, Sound, SoundFrom, World, declared_in, good-weaker, sound-anywhere, sound-here, sound-still}
+use Rattle.expression_checker.proofs.Sound.{Any_value, Good, IsForetold, Sound, SoundFrom, World, declared_in, good-weaker, sound-anywhere, sound-here}
+use Rattle.expression_checker.proofs.Sound.{sound-still}
 use Rattle.expression_checker.proofs.Sound.{types_in, variables_in}
 use Rattle.expression_checker.proofs.SoundAccesses.{leads-type, leads-within}
 use Rattle.expression_checker.proofs.SoundExpressions.{SoundAction, access-sound, whole_value-sound}
-use Rattle.expression_checker.proofs.SoundRows.{IsReachedBy, IsWhole, Leads, LieIn, Matches, rows-are}
+use Rattle.expression_checker.proofs.SoundRows.{IsReachedBy, IsWhole, Leads, LieIn, rows-are}
 use Rattle.cert_checker.specs.Walk as walk
 use Rattle.cert_checker.specs.Walk.{fits_whole, paired}
 use Rattle.leaf_rows.proofs.Accessed.{row-leaf, rows-count}
@@ -172,7 +171,7 @@ module _ (world : World) (env : Environment) (shows : Shows (variables_in world)
         let string = second-string (string_length types target) (string_length types source) strings in
         let leaves = sym (rows-count world.tree root selectors target leads (λ none. structured)) ∙ same ∙ rows
         ∙ rows-count world.tree access.root access.selectors.items source source_is
-          (λ none. string-structured types string.0 (form_at types source) string.1) in
+        (λ none. string-structured types string.0 (form_at types source) string.1) in
         alike-lie types target source ranges numbers (strings-alike types target source strings leaves) (many ∙ whole.told.0) whole.told.1)
         (or_cases (is_same target source) lengths both.1)
 

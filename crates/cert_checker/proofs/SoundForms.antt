@@ -1,5 +1,5 @@
 -- The walk over statements is sound, form by form.
-use Rattle.std.proofs.Common.{◌≡◌, ◌∙◌, ap, refl, sym, subst, ℕ, ◌<◌, Bool, true, false, cond, ◌&&◌, ◌||◌, ℤ, length, nat_lt, List, [], ◌∷◌, ◌++◌, map}
+use Rattle.std.proofs.Common.{◌≡◌, ◌∙◌, refl, sym, subst, ℕ, ◌<◌, Bool, true, false, cond, ◌&&◌, ◌||◌, ℤ, length, nat_lt, List, [], ◌∷◌, map}
 use Rattle.std.proofs.Common.{Option, Some, None}
 use Rattle.std.specs.declared.alloc.Global.{Global}
 use Rattle.std.specs.declared.vec.Vec.{Vec}
@@ -52,7 +52,8 @@ use Rattle.expression_checker.specs.Walk as flow
 use Rattle.expression_checker.specs.Walk.{Context, Walked, Walking, followed, parameter_walk, value_walk}
 use Rattle.expression_checker.proofs.Keeping.{keeps-then}
 use Rattle.expression_checker.proofs.Sound.{Any_value, Good, IsForetold, IsPartOf, Stands, World, closed-passes, declared_in, errs-here, good-then, good-weaker}
-use Rattle.expression_checker.proofs.Sound.{nothing-new, open-here, over-known, part-left, part-right, parts_in, sound-enter, sound-give, sound-given, sound-then}
+use Rattle.expression_checker.proofs.Sound.{nothing-new, open-here, over-known, part-left, part-right, parts_in, sound-enter, sound-give, sound-given}
+use Rattle.expression_checker.proofs.Sound.{sound-then}
 use Rattle.expression_checker.proofs.Sound.{sound-written, stands-as, types_in, unbroken-left, unbroken-right, variables_in}
 use Rattle.expression_checker.proofs.SoundAccesses.{leads-within}
 use Rattle.expression_checker.proofs.SoundExpressions.{SoundAction, entered-sound, parameter-sound, value-sound}
@@ -91,7 +92,8 @@ module _ (world : World) (env : Environment) (shows : Shows (variables_in world)
 
   -- ---- values that are written
 
-  parameters-sound : (parameters : List WriteParameter) → all_hold (map (is_well_formed_parameter (declared_in world) (types_in world) world.sites) parameters) ≡ true
+  parameters-sound : (parameters : List WriteParameter)
+      → all_hold (map (is_well_formed_parameter (declared_in world) (types_in world) world.sites) parameters) ≡ true
       → SoundAction world env (meaning.all_of (map parameter_of parameters) env) (walk.all_of (map parameter_walk parameters))
   parameters-sound [] well = sound-give {A = Unit {0}} {B = Unit {0}} world env Any_value tt tt tt
   parameters-sound (parameter ∷ parameters) well =
@@ -157,7 +159,8 @@ module _ (world : World) (env : Environment) (shows : Shows (variables_in world)
   -- a for, from the values of its bounds
   bounds-good : (number : ℕ) (place : Place) (control : ℕ) (first : Expr) (first_fits : RangeTest) (direction : Direction) (last : Expr) (last_fits : RangeTest)
       (execution : Execution) (walking : Walking (Unit {0})) → SoundAction world env (execution env) walking → control < (variables_in world)
-      → AreEntire (parts_in world) (control ∷ controls_inside world.tree number) → first_fits.site < world.sites → last_fits.site < world.sites → (from to : Known) (a b : Value) (context : Context) (state : State) (t : effect.State)
+      → AreEntire (parts_in world) (control ∷ controls_inside world.tree number) → first_fits.site < world.sites → last_fits.site < world.sites
+      → (from to : Known) (a b : Value) (context : Context) (state : State) (t : effect.State)
       → (walk.for_walk number place walking (way_of control direction first first_fits last last_fits from to) context state).broken ≡ []
       → IsPartOf world (walk.for_walk number place walking (way_of control direction first first_fits last last_fits from to) context state)
       → Stands world env context state t.store → IsOfForm (moment env t.store) (bound_form first) a → IsOfForm (moment env t.store) (bound_form last) b
@@ -165,7 +168,8 @@ module _ (world : World) (env : Environment) (shows : Shows (variables_in world)
       → Good world (Foretold world env context
       (walk.for_walk number place walking (way_of control direction first first_fits last last_fits from to) context state) t.store) t.visited
       (effect.◌>>=◌ (meaning.for_between control first_fits direction last_fits execution env a b) (λ done. effect.undefine (env.variables control)) t)
-  bounds-good number place control first first_fits direction last last_fits execution walking one within controls_are first_site last_site (Ordinal from) (Ordinal to)
+  bounds-good number place control first first_fits direction last last_fits execution walking one within controls_are first_site last_site
+      (Ordinal from) (Ordinal to)
       (Number x) (Number y) context state t unbroken part stands first_form last_form in_first in_last =
       for-good world env shows (components-inner world.tree) number execution walking one place context state
       (way_of control direction first first_fits last last_fits (Ordinal from) (Ordinal to))
@@ -174,7 +178,8 @@ module _ (world : World) (env : Environment) (shows : Shows (variables_in world)
 
   for-sound : (number : ℕ) (place : Place) (control : ℕ) (first : Expr) (first_fits : RangeTest) (direction : Direction) (last : Expr) (last_fits : RangeTest)
       (execution : Execution) (walking : Walking (Unit {0})) → SoundAction world env (execution env) walking → control < (variables_in world)
-      → AreEntire (parts_in world) (control ∷ controls_inside world.tree number) → well_expr first ≡ true → first_fits.site < world.sites → well_expr last ≡ true → last_fits.site < world.sites
+      → AreEntire (parts_in world) (control ∷ controls_inside world.tree number) → well_expr first ≡ true → first_fits.site < world.sites
+      → well_expr last ≡ true → last_fits.site < world.sites
       → SoundAction world env
       (effect.◌>>=◌ (value_of first env) (λ a. effect.◌>>=◌ (value_of last env) (λ b.
       effect.◌>>=◌ (meaning.for_between control first_fits direction last_fits execution env a b) (λ done. effect.undefine (env.variables control)))))
@@ -207,7 +212,8 @@ module _ (world : World) (env : Environment) (shows : Shows (variables_in world)
         kept = keeps-then env context.rounds s.store t.store w.store first_told.kept
             (keeps-then env context.rounds t.store u.store w.store last_told.kept then.kept);
       })
-      (bounds-good number place control first first_fits direction last last_fits execution walking one within controls_are first_site last_site from.value to.value a b
+      (bounds-good number place control first first_fits direction last last_fits execution walking one within controls_are first_site last_site
+      from.value to.value a b
       context to.after u (unbroken-right to.broken rest.broken more_unbroken) (part-right world to rest more_part) last_told.stands form
       (form-known last env t u b last_is) first_told.tie last_told.tie)))
 
@@ -342,7 +348,8 @@ module _ (world : World) (env : Environment) (shows : Shows (variables_in world)
       (walk.assignment becomes target (flow.index_pieces indexes.items) fits value)
       (assignment-sound world env shows becomes target indexes.items fits value well)
   statement-layer (Copy number becomes target indexes type_id value value_indexes) well loops =
-      entered-sound {A = Unit {0}} {B = Unit {0}} world env shows Any_value number (copied world env shows target indexes.items type_id value value_indexes.items)
+      entered-sound {A = Unit {0}} {B = Unit {0}} world env shows Any_value number
+      (copied world env shows target indexes.items type_id value value_indexes.items)
       (walk.copying becomes target (flow.index_pieces indexes.items) type_id value (flow.index_pieces value_indexes.items))
       (copying-sound world env shows becomes target indexes.items type_id value value_indexes.items well)
   statement-layer (Write number name parameters ends_line) well loops =

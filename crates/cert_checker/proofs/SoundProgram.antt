@@ -30,14 +30,14 @@ use Rattle.meaning.specs.declared.store.Value.{Value}
 use Rattle.cert_checker.specs.Promise.{open_in, AreNumbered, ClosedNeverErr, HoldsAt, StatesHold}
 use Rattle.expression_checker.specs.Visits.{moment_of, visits_of}
 use Rattle.abstract_state.proofs.Knows.{known-start}
-use Rattle.leaf_rows.specs.Rows.{Parts, all_parts, no_parts, parts_of, rows_of}
+use Rattle.leaf_rows.specs.Rows.{Parts, no_parts, parts_of, rows_of}
 use Rattle.component_states.specs.Components.{RowState, no_row, no_values, row_at}
 use Rattle.component_states.specs.Holds.{ComponentsHold, Knows, StateHolds}
-use Rattle.component_states.specs.States.{State, dead, start}
+use Rattle.component_states.specs.States.{dead, start}
 use Rattle.structured_states.specs.Loops.{all_limits}
 use Rattle.expression_checker.proofs.Sound.{World, declared_in, parts_in, types_in, variables_in, IsPartOf, Meets, New, ErrsWithin, Stands}
 use Rattle.expression_checker.proofs.Sound.{part-left, part-right, unbroken-left}
-use Rattle.typed_tree.specs.Loops.{AreLoops, loops_of, loops_of_statement}
+use Rattle.typed_tree.specs.Loops.{AreLoops, loops_of_statement}
 use Rattle.cert_checker.proofs.Controls.{loops-parts}
 use Rattle.cert_checker.proofs.SoundForms.{statement-sound}
 

@@ -1,6 +1,6 @@
 -- What a run leaves that stores the numbers of components, one after another; and that the walk over such stores foretells it.
 use Rattle.std.proofs.Common.{◌≡◌, ◌∙◌, sym, ap, refl, subst, ℕ, ◌<◌, ℤ, Bool, true, ◌&&◌, length, List, [], ◌∷◌, ◌++◌, Option, Some}
-use Rattle.std.specs.List.{Contains, list_all}
+use Rattle.std.specs.List.{Contains}
 use Rattle.std.proofs.lemmas.Bool.{and_parts}
 use Rattle.std.proofs.lemmas.List.Elements.{All-contains}
 use Rattle.types.specs.Components.{components_of}
@@ -10,11 +10,9 @@ use Rattle.place.specs.declared.Place.{Place}
 use Rattle.typed_tree.specs.declared.tree.Selector.{Selector}
 use Rattle.typed_tree.specs.declared.tree.Tree.{Tree}
 use Rattle.domain.specs.Interval.{HasMember, Interval, is_included}
-use Rattle.meaning.specs.declared.store.Value.{Value}
 use Rattle.meaning.specs.declared.store.Value.TheVariants.{Number}
-use Rattle.meaning.specs.Store.{Environment, Place as StorePlace, Store, kept, part}
+use Rattle.meaning.specs.Store.{Environment, Place as StorePlace, Store, part}
 use Rattle.meaning.specs.Effect as effect
-use Rattle.abstract_state.specs.Holds.{IsIn}
 use Rattle.abstract_state.specs.Knows.{Shows}
 use Rattle.abstract_state.specs.State.{integer}
 use Rattle.abstract_state.proofs.Apart.{part as part_at}
@@ -25,9 +23,9 @@ use Rattle.component_states.specs.Components.{Reach}
 use Rattle.component_states.specs.States.{State}
 use Rattle.structured_states.specs.Loops.{all_list, limits_at, row_limits}
 use Rattle.expression_checker.specs.declared.fault.Rule.TheVariants.{Changes}
-use Rattle.expression_checker.specs.Walk.{Context, Walked, followed}
-use Rattle.expression_checker.proofs.Keeping.{InTypes}
-use Rattle.expression_checker.proofs.Sound.{Good, Stands, World, good-give, good-then, good-weaker, nothing-new, parts_in, types_in, unbroken-left, variables_in}
+use Rattle.expression_checker.specs.Walk.{Context, followed}
+use Rattle.expression_checker.proofs.Sound.{Good, Stands, World, good-give, good-then, good-weaker, nothing-new, parts_in, types_in, unbroken-left}
+use Rattle.expression_checker.proofs.Sound.{variables_in}
 use Rattle.expression_checker.proofs.SoundAccesses.{part-then}
 use Rattle.expression_checker.proofs.SoundRows.{AreIntegers, IsReachedBy, Matches, RowsAre}
 use Rattle.cert_checker.specs.Walk as walk
