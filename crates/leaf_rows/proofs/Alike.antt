@@ -1,13 +1,13 @@
 -- Strings of one length: the leaf that names a component of one names the component of the other at the same place.
-use Rattle.std.proofs.Common.{arith, ◌≡◌, ⊎_elim, ◌∙◌, sym, ap, refl, subst, ℕ, zero, suc, ◌+◌, ◌<◌, ◌≤◌, ℤ, Bool, true, false, cond, List, [], ◌∷◌, ◌++◌, length, map}
+use Rattle.std.proofs.Common.{arith, ◌≡◌, ⊎_elim, ◌∙◌, sym, ap, refl, ℕ, ◌<◌, ◌≤◌, ℤ, Bool, true, List, [], ◌∷◌, length, map}
 use Rattle.std.proofs.Common.{Option, Some, None}
 use Rattle.std.proofs.lemmas.Bool.{cases_lt, false≢true}
 use Rattle.std.proofs.lemmas.List.{length-map}
 use Rattle.std.proofs.lemmas.Option.{none-some, same_Some, slice_get_within}
 use Rattle.std.specs.Prelude.{slice_get}
-use Rattle.types.specs.Components.{Steps, behind_step, components_at, components_of, values_at}
+use Rattle.types.specs.Components.{Steps, behind_step, components_of, values_at}
 use Rattle.types.specs.Forms.{Form}
-use Rattle.types.specs.Forms.{Integer, Boolean, Char, Enumeration, Subrange, Array, Record}
+use Rattle.types.specs.Forms.{Array}
 use Rattle.types.specs.Types.{char, form_at, have_one_length, string_in, string_length}
 use Rattle.types.specs.declared.form.Step.TheVariants as step
 use Rattle.types.specs.declared.form.TypeId.{TypeId}
@@ -114,12 +114,11 @@ module _ (types : List Form) (a b element : TypeId) (packed_a packed_b : Bool) (
       let own = mapped-at (behind_elements range_a) (leaves_of types element) j leaf
       (ap (λ (leaves : List Leaf). slice_get leaves j) (sym (leaves-are a index_a packed_a form_a before_a)) ∙ at) in
       let rest_named : is_named own.0.steps same.rest ≡ true =
-      ap (is_named (behind_elements range_a own.0).steps) (sym same.one_is) ∙ ap (λ (l : Leaf). is_named l.steps one) own.2 ∙ named in
-      (
-      behind_elements range_b own.0,
-      ap (λ (leaves : List Leaf). slice_get leaves j) (leaves-are b index_b packed_b form_b before_b)
-      ∙ map-at (behind_elements range_b) (leaves_of types element) j own.0 own.1,
-      ap (is_named (behind_elements range_b own.0).steps) same.other_is ∙ rest_named,
+      ap (is_named (behind_elements range_a own.0).steps) (sym same.one_is) ∙ ap (λ (l : Leaf). is_named l.steps one) own.2 ∙ named in (
+        behind_elements range_b own.0,
+        ap (λ (leaves : List Leaf). slice_get leaves j) (leaves-are b index_b packed_b form_b before_b)
+            ∙ map-at (behind_elements range_b) (leaves_of types element) j own.0 own.1,
+        ap (is_named (behind_elements range_b own.0).steps) same.other_is ∙ rest_named,
       )
 
   arrays-alike : length (leaves_of types a) ≡ length (leaves_of types b) → NamesAlike types a b
