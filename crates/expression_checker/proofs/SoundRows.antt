@@ -1,11 +1,11 @@
 -- What an access reaches of the rows of components, and what is known of the values there.
-use Rattle.std.proofs.Common.{arith, ◌≡◌, ⊎_elim, ◌⊎◌, inl, inr, ◌∙◌, sym, ap, refl, subst, ℕ, zero, suc, ◌<◌, ℤ, pos, ◌≤ℤ◌, Bool, true, false, cond, ◌||◌}
-use Rattle.std.proofs.Common.{List, [], ◌∷◌, ◌++◌, append-nil, append_assoc, length, map, Option, Some, None}
-use Rattle.std.specs.Prelude.{Contains, slice_get, slice_index_or}
+use Rattle.std.proofs.Common.{arith, ◌≡◌, ⊎_elim, ◌⊎◌, inl, inr, ◌∙◌, sym, ap, refl, subst, ℕ, zero, suc, ℤ, pos, ◌≤ℤ◌, Bool, true, false, cond}
+use Rattle.std.proofs.Common.{List, [], ◌∷◌, ◌++◌, length, map, Option, Some, None}
+use Rattle.std.specs.Prelude.{Contains, slice_get}
 use Rattle.std.specs.List.{All, list_all}
 use Rattle.std.proofs.lemmas.Bool.{or_cases}
 use Rattle.std.proofs.lemmas.Int.{ints}
-use Rattle.std.proofs.lemmas.List.Elements.{All-contains, Contains-append_left}
+use Rattle.std.proofs.lemmas.List.Elements.{All-contains}
 use Rattle.std.proofs.lemmas.List.Sums.{AllPass-from_list_all}
 use Rattle.types.specs.Components.{components_of}
 use Rattle.types.specs.Forms.{Form}
@@ -18,7 +18,6 @@ use Rattle.typed_tree.specs.declared.tree.Selector.TheVariants.{Element, Field}
 use Rattle.typed_tree.specs.declared.tree.Tree.{Tree}
 use Rattle.typed_tree.specs.declared.tree.Whole.{Whole}
 use Rattle.typed_tree.specs.declared.tree.Whole.TheVariants.{Text, Variable as VariableOf}
-use Rattle.typed_tree.specs.Accesses as accesses
 use Rattle.typed_tree.specs.Accesses.{index_count}
 use Rattle.domain.specs.Facts.{Bound, Number as NumberBound, Plus}
 use Rattle.domain.specs.Interval.{HasMember, Interval}
@@ -26,7 +25,7 @@ use Rattle.meaning.specs.declared.store.Value.{Value}
 use Rattle.meaning.specs.declared.store.Value.TheVariants.{Number}
 use Rattle.meaning.specs.Integers.{is_integer_number}
 use Rattle.meaning.specs.Store.{Environment, Place, Store, part}
-use Rattle.abstract_state.specs.Holds.{HasNumber, HasValue, IsBound, IsIn, Moment, value_at}
+use Rattle.abstract_state.specs.Holds.{HasValue, IsBound, IsIn, Moment}
 use Rattle.abstract_state.specs.State.{integer}
 use Rattle.abstract_state.specs.Knows.{moment}
 use Rattle.leaf_rows.specs.Leaves.{Leaf, is_named, leaves_of}
@@ -34,7 +33,7 @@ use Rattle.leaf_rows.specs.Rows.{Parts, all_parts, first_index, index_at, rows_a
 use Rattle.leaf_rows.proofs.Accessed.{indexes-are}
 pub use Rattle.leaf_rows.proofs.Accessed.{RowsAre, rows-are}
 pub use Rattle.leaf_rows.proofs.Selected.{Matches}
-use Rattle.component_states.specs.Components.{At, Defined, Entire, Index, Inside, Reach, Stretched, at_index, between, row_at, with_defined}
+use Rattle.component_states.specs.Components.{At, Defined, Entire, Index, Inside, Reach, Stretch, Stretched, at_index, between, row_at, with_defined}
 use Rattle.component_states.specs.Holds.{HasComponent, IsOfRow, Knows}
 use Rattle.component_states.specs.States.{State, all_of_row, gives_component, gives_form, gives_index, gives_reached, gives_some, is_dead, over_components}
 use Rattle.component_states.specs.States.{range_stretch}
@@ -163,7 +162,8 @@ module _ (tree : Tree) (roots : ℕ) (env : Environment) (state : State) (store 
       → gives_component state (Stretched (record { row = row; first = NumberBound from; last = NumberBound to })) ≡ true
       → HasComponent (all_parts tree) m row steps
   between-has row from to number steps of_row first low high is =
-      let holds = given-holds (all_parts tree) roots env state store (Stretched (record { row = row; first = NumberBound from; last = NumberBound to })) known is in
+      let stretch : Stretch = record { row = row; first = NumberBound from; last = NumberBound to } in
+      let holds = given-holds (all_parts tree) roots env state store (Stretched stretch) known is in
       holds.4 steps number of_row first (subst (λ (n : ℤ). n ≤ℤ number) holds.2 low) (subst (λ (n : ℤ). number ≤ℤ n) holds.3 high)
 
   -- all of a row
@@ -240,7 +240,8 @@ all_defined-known rows roots env store (row ∷ used) has state known =
     (over_components (λ of_variables components. with_defined row components) state)
     (record {
       variables = known.variables;
-      components = with_defined-holds rows (moment env store) state.components row (λ steps of_row. has row steps (0, omega arith, refl) of_row) known.components;
+      components = with_defined-holds rows (moment env store) state.components row
+          (λ steps of_row. has row steps (0, omega arith, refl) of_row) known.components;
     })
 
 -- where all components of the type that is reached have values

@@ -1,6 +1,6 @@
 -- The rows of a program under an access: the components of each lie on the ways of its selectors, and the rows stand side by side with the leaves of the type
 -- there.
-use Rattle.std.proofs.Common.{arith, ◌≡◌, ⊎_elim, ◌∙◌, sym, ap, refl, subst, ℕ, zero, suc, ◌+◌, ◌<◌, ℤ, ◌≤ℤ◌, Bool, true, false, ◌&&◌, cond, nat_eq}
+use Rattle.std.proofs.Common.{arith, ◌≡◌, ⊎_elim, ◌∙◌, sym, ap, refl, subst, ℕ, zero, suc, ◌+◌, ◌<◌, ℤ, ◌≤ℤ◌, Bool, true, false, cond, nat_eq}
 use Rattle.std.proofs.Common.{List, [], ◌∷◌, ◌++◌, append-nil, length, map, filter, Option, Some, None}
 use Rattle.std.proofs.lemmas.Bool.{and_parts, cases_lt, eqb-true, false≢true}
 use Rattle.std.proofs.lemmas.List.{get_or_past, length-map}
@@ -14,8 +14,6 @@ use Rattle.types.specs.Components.{Steps, components_of}
 use Rattle.types.specs.Forms.{Array, Form, Record}
 use Rattle.types.specs.Types.{form_at}
 use Rattle.types.specs.declared.form.OrdinalRange.{OrdinalRange}
-use Rattle.types.specs.declared.form.Step.{Step}
-use Rattle.types.specs.declared.form.Step.TheVariants as step
 use Rattle.types.specs.declared.form.TypeId.{TypeId}
 use Rattle.types.proofs.Growing.{slice_get-left, slice_get-right}
 use Rattle.types.proofs.Once.{in_either}
@@ -23,7 +21,6 @@ use Rattle.typed_tree.specs.Accesses.{accessed, led}
 use Rattle.typed_tree.specs.declared.tree.Selector.{Selector}
 use Rattle.typed_tree.specs.declared.tree.Tree.{Tree}
 use Rattle.typed_tree.specs.declared.tree.Variable.{Variable}
-use Rattle.leaf_rows.specs.declared.part.Part.{Part}
 use Rattle.leaf_rows.specs.Leaves.{Leaf, LeafStep, begins, behind_elements, is_named, leaves_at, leaves_of, range_at}
 use Rattle.leaf_rows.specs.Rows.{Parts, Row, all_parts, components_in, first_index, has_components, index_at, is_structured, is_under, no_parts}
 use Rattle.leaf_rows.specs.Rows.{numbers_where, parts_of, rows_accessed, rows_from, rows_of, variable_rows}
@@ -31,7 +28,7 @@ use Rattle.leaf_rows.specs.View.{rows_count, variable_part}
 use Rattle.leaf_rows.proofs.Components.{Has, each-alone, each-indexed, each-named, in-field_leaf, mapped-at}
 use Rattle.leaf_rows.proofs.Leafed.{leafed_before, leaves_of_form}
 use Rattle.leaf_rows.proofs.Selected.{Behind, Matches, Reaches, behind-named, named-behind, path_of, reaches, structured-from}
-use Rattle.leaf_rows.proofs.Under.{IsPart, all_under, leaves_under}
+use Rattle.leaf_rows.proofs.Under.{all_under, leaves_under}
 use Rattle.leaf_rows.proofs.Variables.{length_variable, part_under, row_of, under_of}
 
 -- ---- items of lists
@@ -56,8 +53,8 @@ in-filter test (first ∷ items) item (suc k, is) passes = either (test first) (
 
 of-filter : {A : Type 0} (test : A → Bool) (items : List A) (item : A) → Contains (filter test items) item → Contains items item × (test item ≡ true)
 of-filter test items item inside = (
-    All-contains (Contains items) (filter test items) item (All-filter test (Contains items) items (All-contains_itself items)) inside,
-    All-contains (λ (x : _). test x ≡ true) (filter test items) item (filter_passes test items) inside,
+  All-contains (Contains items) (filter test items) item (All-filter test (Contains items) items (All-contains_itself items)) inside,
+  All-contains (λ (x : _). test x ≡ true) (filter test items) item (filter_passes test items) inside,
 )
 
 -- a number of those of which a test holds is that of such a row

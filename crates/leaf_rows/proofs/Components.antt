@@ -1,5 +1,5 @@
 -- The components of a type and its leaves: each component is named by a leaf, by one alone, and the first index on its way is one of the leaf's.
-use Rattle.std.proofs.Common.{arith, ◌≡◌, ⊎_elim, ◌∙◌, sym, ap, refl, subst, ℕ, zero, suc, ◌+◌, ◌<◌, ◌≤◌, ℤ, pos, negsuc, ◌+ℤ◌, ◌-ℤ◌, ◌≤ℤ◌, ◌<ℤ◌}
+use Rattle.std.proofs.Common.{arith, ◌≡◌, ⊎_elim, ◌∙◌, sym, ap, refl, subst, ℕ, zero, suc, ◌+◌, ◌<◌, ℤ, pos, negsuc, ◌+ℤ◌, ◌-ℤ◌, ◌≤ℤ◌, ◌<ℤ◌}
 use Rattle.std.proofs.Common.{Bool, true, ◌&&◌, List, [], ◌∷◌, ◌++◌, length, map, nat_eq, take, Option, Some, None}
 use Rattle.std.proofs.lemmas.Bool.{and_parts, cases_lt, eq-eqb, eqb-true, false≢true}
 use Rattle.std.proofs.lemmas.Int.{ints}
@@ -11,7 +11,6 @@ use Rattle.types.specs.Forms.{FieldForm, Form}
 use Rattle.types.specs.Forms.{Integer, Boolean, Char, Enumeration, Subrange, Array, Record}
 use Rattle.types.specs.Types.{form_at, form_range, natural, range_of, values_in}
 use Rattle.types.specs.declared.form.OrdinalRange.{OrdinalRange}
-use Rattle.types.specs.declared.form.Step.{Step}
 use Rattle.types.specs.declared.form.Step.TheVariants as step
 use Rattle.types.specs.declared.form.TypeId.{TypeId}
 use Rattle.types.proofs.Elements.{elements_components, value_at}
@@ -208,19 +207,17 @@ each-named types =
     (λ id index rows leaves each steps has.
     let found = in-element rows (values_at (laid_before types id) index) has.0 steps has.1 in
     let leaf = each found.1 found.4 in
-    let range = range_at (leafed_before types id) index in
-    (
-    behind_elements range leaf.0,
-    (leaf.1.0, map-at (behind_elements range) leaves leaf.1.0 leaf.0 leaf.1.1),
-    ap (is_named (Elements ∷ leaf.0.steps)) found.2 ∙ leaf.2,
+    let range = range_at (leafed_before types id) index in (
+      behind_elements range leaf.0,
+      (leaf.1.0, map-at (behind_elements range) leaves leaf.1.0 leaf.0 leaf.1.1),
+      ap (is_named (Elements ∷ leaf.0.steps)) found.2 ∙ leaf.2,
     ))
     (λ laid before fields each steps has.
     let found = in-field laid 0 fields has.0 steps has.1 in
-    let leaf = each found.1 found.2 found.5 in
-    (
-    behind_field (0 + found.0) leaf.0,
-    of-field_leaf before 0 fields found.0 found.1 leaf.0 found.3 leaf.1,
-    ap (is_named (FieldAt (0 + found.0) ∷ leaf.0.steps)) found.4 ∙ named-field (0 + found.0) leaf.0.steps found.2 leaf.2,
+    let leaf = each found.1 found.2 found.5 in (
+      behind_field (0 + found.0) leaf.0,
+      of-field_leaf before 0 fields found.0 found.1 leaf.0 found.3 leaf.1,
+      ap (is_named (FieldAt (0 + found.0) ∷ leaf.0.steps)) found.4 ∙ named-field (0 + found.0) leaf.0.steps found.2 leaf.2,
     ))
 
 -- ---- the first index

@@ -4,6 +4,6 @@ pub mod Counted
 pub mod Variables
 pub mod Naming
 pub mod Components
-pub mod Alike
 pub mod Selected
 pub mod Accessed
+pub mod Alike

@@ -1,9 +1,8 @@
 -- Where selectors lead from a value of a type: the components on their ways are those of the type there, and so are the leaves.
-use Rattle.std.proofs.Common.{arith, ◌≡◌, ◌∙◌, sym, ap, refl, subst, ℕ, zero, suc, ◌+◌, ◌<◌, ℤ, pos, ◌≤ℤ◌, Bool, true, false, ◌&&◌, nat_eq}
+use Rattle.std.proofs.Common.{arith, ◌≡◌, ◌∙◌, sym, ap, refl, subst, ℕ, zero, suc, ◌+◌, ◌<◌, ℤ, ◌≤ℤ◌, Bool, true, ◌&&◌, nat_eq}
 use Rattle.std.proofs.Common.{List, [], ◌∷◌, ◌++◌, map, Option, Some, None}
 use Rattle.std.proofs.lemmas.Bool.{and_parts, eq-eqb, eqb-true, false≢true}
 use Rattle.std.proofs.lemmas.Bool.Decides.{Decides-int_eq}
-use Rattle.std.proofs.lemmas.Int.{ints}
 use Rattle.std.proofs.lemmas.Option.{cond_some, none-some, same_Some}
 use Rattle.std.specs.Option.{option_and_then}
 use Rattle.std.specs.Ordering.{int_eq}
@@ -207,9 +206,9 @@ module _ (types : List Form) where
           rest = more.rest;
           steps_are = found.2 ∙ ap (λ (s : Steps). step.Element value ∷ s) more.steps_are;
           matches = (
-              subst (λ (n : ℤ). n ≤ℤ value) (sym is.first) bounds.0,
-              subst (λ (n : ℤ). value ≤ℤ n) (sym is.last) bounds.1,
-              more.matches,
+            subst (λ (n : ℤ). n ≤ℤ value) (sym is.first) bounds.0,
+            subst (λ (n : ℤ). value ≤ℤ n) (sym is.last) bounds.1,
+            more.matches,
           );
           of_type = more.of_type;
         }
