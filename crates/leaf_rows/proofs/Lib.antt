@@ -6,3 +6,4 @@ pub mod Naming
 pub mod Components
 pub mod Selected
 pub mod Accessed
+pub mod Alike
