@@ -14,7 +14,8 @@ use Rattle.abstract_state.specs.View.{said_form}
 use Rattle.structured_states.specs.declared.rounds.Round.{Round as KeptRound}
 use Rattle.structured_states.specs.declared.ways.End.{End as KeptEnd}
 use Rattle.structured_states.specs.declared.ways.Way.{Way as KeptWay}
-use Rattle.structured_states.specs.Loops.{Claims, Round, claims_of, or_else, rows_named, stretch_claim, with_own, without_own}
+use Rattle.structured_states.specs.Loops.{Claims, Round, claims_of, or_else, rows_named, stretch_claim}
+use Rattle.structured_states.specs.Loops.{with_own, without_own}
 use Rattle.structured_states.specs.Ways.{End, Way}
 
 -- claims that the checker has found, as the definitions see them
