@@ -1,14 +1,13 @@
 -- What is known behind a change of an entire variable holds, of variables and of components.
-use Rattle.std.proofs.Common.{◌≡◌, ◌∙◌, sym, ap, refl, subst, ℕ, ◌<◌, ℤ, List, Option, Some, None}
+use Rattle.std.proofs.Common.{◌≡◌, ◌∙◌, ap, ℕ, ◌<◌, ℤ, List, Option, Some, None}
 use Rattle.domain.specs.Facts.{Bound}
 use Rattle.domain.specs.Interval.{Interval}
 use Rattle.meaning.specs.declared.store.Value.{Value}
-use Rattle.meaning.specs.declared.store.Value.TheVariants.{Number}
-use Rattle.meaning.specs.Store.{Environment, Store, undefined, written}
+use Rattle.meaning.specs.Store.{Environment, Store, written}
 use Rattle.abstract_state.specs.State as variables
 use Rattle.abstract_state.specs.Changes.{assigned}
-use Rattle.abstract_state.specs.Loops.{replaced, with_undefined}
-use Rattle.abstract_state.specs.Holds.{HasNumber, IsBound, IsIn, value_at}
+use Rattle.abstract_state.specs.Loops.{replaced}
+use Rattle.abstract_state.specs.Holds.{HasNumber, IsBound, IsIn}
 use Rattle.abstract_state.specs.Knows as entire
 use Rattle.abstract_state.specs.Knows.{IsOfForm, Shows, moment}
 use Rattle.abstract_state.proofs.Changed.{assigned-known}

@@ -1,16 +1,12 @@
 -- What holds where a turn of a loop begins: what its turns leave, and the claims, of variables and of components.
-use Rattle.std.proofs.Common.{arith, ◌≡◌, ⊎_elim, ◌∙◌, sym, ap, refl, subst, ℕ, zero, suc, ◌+◌, ◌<◌, Bool, true, false, cond, ◌&&◌, ◌||◌, not, nat_eq}
-use Rattle.std.proofs.Common.{List, [], ◌∷◌, ◌++◌, Option, Some, None, get_or, length, map}
-use Rattle.std.specs.Prelude.{flat_map, slice_get, slice_index_or}
-use Rattle.std.specs.List.{All, Contains, list_all, list_any}
+use Rattle.std.proofs.Common.{arith, ◌≡◌, ◌∙◌, sym, ap, refl, subst, ℕ, zero, suc, ◌+◌, ◌<◌, Bool, true, false, cond, ◌&&◌, ◌||◌, nat_eq}
+use Rattle.std.proofs.Common.{List, [], ◌∷◌, get_or, length}
+use Rattle.std.specs.Prelude.{slice_index_or}
+use Rattle.std.specs.List.{All, Contains}
 use Rattle.std.proofs.lemmas.Bool.{and_parts, eqb-true, eq-eqb}
 use Rattle.std.proofs.lemmas.List.{get_or-map, length-map}
 use Rattle.std.proofs.lemmas.List.Elements.{All-cons, All-nil, Contains-append_left, Contains-append_right}
-use Rattle.types.specs.declared.form.Step.{Step}
-use Rattle.types.specs.Forms.{Form}
-use Rattle.types.specs.Types.{form_at, is_ordinal}
 use Rattle.typed_tree.specs.declared.tree.Tree.{Tree}
-use Rattle.typed_tree.specs.declared.tree.Variable.{Variable}
 use Rattle.domain.specs.Interval.{Interval}
 use Rattle.domain.specs.Facts.{Fact}
 use Rattle.meaning.specs.Store.{Environment, Store}
@@ -18,15 +14,14 @@ use Rattle.abstract_state.specs.Holds as entire
 use Rattle.abstract_state.specs.Knows.{IsKept, Shows, moment}
 use Rattle.abstract_state.specs.Loops.{gives_all, is_among}
 use Rattle.abstract_state.proofs.Looped.{given-all_known, head-known}
-use Rattle.leaf_rows.specs.Rows.{Parts, Row, all_parts, is_structured, is_under, no_parts, numbers_where, parts_of, rows_from, rows_of, rows_touched, rows_under}
+use Rattle.leaf_rows.specs.Rows.{Parts, Row, all_parts, is_under, no_parts, numbers_where, parts_of, rows_of, rows_touched, rows_under}
 use Rattle.component_states.specs.Components.{ComponentFact}
-use Rattle.component_states.specs.Holds.{ComponentsHold, Holds, Knows}
+use Rattle.component_states.specs.Holds.{Holds, Knows}
 use Rattle.component_states.specs.Laws.{AreComponents, AreEntire, AreTouched}
 use Rattle.component_states.specs.States.{State, gives_component, gives_components}
 use Rattle.component_states.proofs.Given.{given-holds}
 use Rattle.component_states.proofs.Looped.{heads-hold}
-use Rattle.component_states.proofs.Rows.{of_row-within}
-use Rattle.structured_states.specs.Loops.{Round, component_facts, gives_claims, head_of, is_ordinal_variable, limits_at, plain_facts, row_limits, touched}
+use Rattle.structured_states.specs.Loops.{Round, component_facts, gives_claims, head_of, limits_at, plain_facts, row_limits, touched}
 use Rattle.expression_checker.proofs.Keeping.{InTypes}
 
 -- ---- rows by their numbers

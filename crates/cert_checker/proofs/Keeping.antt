@@ -1,5 +1,6 @@
 -- What an assignment keeps of the store, and that it keeps values in the ranges of their types; so does what undefines a variable.
-use Rattle.std.proofs.Common.{◌≡◌, ◌≢◌, ⊎_elim, ◌∙◌, sym, ap, refl, subst, ℕ, ◌<◌, Bool, true, false, cond, ◌||◌, nat_eq, List, [], ◌∷◌, Option, Some, None, append-nil}
+use Rattle.std.proofs.Common.{◌≡◌, ◌≢◌, ⊎_elim, ◌∙◌, sym, ap, refl, subst, ℕ, ◌<◌, Bool, true, false, cond, ◌||◌, nat_eq, List, [], ◌∷◌, Option, Some, None}
+use Rattle.std.proofs.Common.{append-nil}
 use Rattle.std.specs.Prelude.{slice_index_or}
 use Rattle.std.specs.List.{Contains, list_all}
 use Rattle.std.proofs.lemmas.Bool.{cases_eq, eq-eqb, eqb-true, false_from_ne_true}
@@ -162,7 +163,8 @@ module _ (variables : ℕ) (env : Environment) (shows : Shows variables env) (st
   pub written-typed : (tree : Tree) (limits : List Interval) → AreComponents (all_parts tree) → InTypes tree limits env store
       → IsIn (limits_at limits root) v → IsIn integer v → InTypes tree limits env after
   written-typed tree limits inner typed inside whole = record {
-    components = λ row steps w of_row is. typed.components row steps w of_row (sym (component-same tree inner env root store after written-changes row steps of_row) ∙ is);
+    components = λ row steps w of_row is.
+        typed.components row steps w of_row (sym (component-same tree inner env root store after written-changes row steps of_row) ∙ is);
     ranges = λ other w is. ⊎_elim
         (λ same.
         let one : v ≡ w = some-same v w (sym own-value ∙ subst (λ (r : ℕ). value_at (moment env after) r [] ≡ Some w) (sym same) is) in
@@ -230,7 +232,8 @@ module _ (variables : ℕ) (env : Environment) (shows : Shows variables env) (st
 
   pub gone-typed : (tree : Tree) (limits : List Interval) → AreComponents (all_parts tree) → InTypes tree limits env store → InTypes tree limits env gone
   gone-typed tree limits inner typed = record {
-    components = λ row steps w of_row is. typed.components row steps w of_row (sym (component-same tree inner env root store gone gone-changes row steps of_row) ∙ is);
+    components = λ row steps w of_row is.
+        typed.components row steps w of_row (sym (component-same tree inner env root store gone gone-changes row steps of_row) ∙ is);
     ranges = λ other w is. ⊎_elim
         (λ same. absurd (gone-none w (subst (λ (r : ℕ). value_at (moment env gone) r [] ≡ Some w) (sym same) is)))
         (λ differ. typed.ranges other w (sym (gone-others other differ []) ∙ is)) (cases_eq root other);

@@ -1,10 +1,12 @@
 pub mod Among
 pub mod Changes
-pub mod Copied
+pub mod Controls
 pub mod Entered
 pub mod Heads
 pub mod Keeping
+pub mod SoundAssignments
 pub mod SoundCase
+pub mod SoundCopies
 pub mod SoundFor
 pub mod SoundForms
 pub mod SoundLoops
@@ -13,5 +15,7 @@ pub mod SoundStores
 pub mod Steps
 pub mod StepsCase
 pub mod StepsFor
+pub mod StepsStores
 pub mod Stored
 pub mod Targets
+pub mod Written

@@ -1,5 +1,6 @@
 -- For statements are sound: in each turn the control variable lies on its way, and the body leaves it as it is.
-use Rattle.std.proofs.Common.{arith, ◌≡◌, ⊎_elim, ◌∙◌, sym, ap, refl, subst, ℕ, ◌<◌, ℤ, ◌+ℤ◌, Bool, true, false, cond, ◌&&◌, ◌||◌, List, [], ◌∷◌, ◌++◌, Option, Some}
+use Rattle.std.proofs.Common.{arith, ◌≡◌, ⊎_elim, ◌∙◌, sym, ap, refl, subst, ℕ, ◌<◌, ℤ, ◌+ℤ◌, Bool, true, false, cond, ◌&&◌, ◌||◌, List, [], ◌∷◌, ◌++◌}
+use Rattle.std.proofs.Common.{Option, Some}
 use Rattle.std.proofs.Common.{None}
 use Rattle.std.specs.Ordering.{int_eq}
 use Rattle.std.proofs.lemmas.Int.{ints}
@@ -411,7 +412,8 @@ module _ (world : World) (env : Environment) (shows : Shows (variables_in world)
       last-good start u kept stands known forms inside in_first x_fits =
           good-then world (IsForetold world env (Passes last_test (Number y)) context last u.store) (Foretold world env context whole start) u.visited
           (effect.require last_test way.last.fits.site u) (λ done. rounds_action)
-          (within-sound world env (limits_of way.last.fits.range) way.last.fits.site (met way.last.form state.variables way.last.values) (Number y) last_test last_site
+          (within-sound world env (limits_of way.last.fits.range) way.last.fits.site (met way.last.form state.variables way.last.values)
+          (Number y) last_test last_site
           (is_in-limits way.last.fits.range (Number y)) (limits-is_in way.last.fits.range (Number y))
           (met-in (variables_in world) env u.store way.last.form state.variables way.last.values y forms.1 known inside) context first.after u
           (unbroken-left last.broken from_asked.broken (unbroken-right first.broken from_last.broken tests_unbroken))

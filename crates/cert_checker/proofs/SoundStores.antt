@@ -1,6 +1,6 @@
 -- Stores to components of rows are sound: what is known behind them holds.
-use Rattle.std.proofs.Common.{arith, ◌≡◌, ◌≢◌, ⊎_elim, ◌⊎◌, inl, inr, ◌∙◌, sym, ap, refl, subst, ℕ, ◌<◌, ℤ, ◌+ℤ◌, Bool, true, false, ◌||◌, nat_eq, List, [], ◌∷◌}
-use Rattle.std.proofs.Common.{Option, Some, None, length}
+use Rattle.std.proofs.Common.{◌≡◌, ◌≢◌, ⊎_elim, ◌⊎◌, inl, inr, ◌∙◌, sym, ap, refl, subst, ℕ, ℤ, ◌+ℤ◌, Bool, true, false, ◌||◌, nat_eq, List, [], ◌∷◌}
+use Rattle.std.proofs.Common.{Option, Some, None}
 use Rattle.std.specs.Prelude.{slice_index_or}
 use Rattle.std.specs.List.{Contains}
 use Rattle.std.proofs.lemmas.Bool.{cases_eq, eq-eqb}
@@ -14,17 +14,17 @@ use Rattle.meaning.specs.declared.store.Value.TheVariants.{Number}
 use Rattle.meaning.specs.Store.{Environment, Store}
 use Rattle.abstract_state.specs.State as variables
 use Rattle.abstract_state.specs.State.{integer}
-use Rattle.abstract_state.specs.Holds.{HasValue, IsBound, IsIn, value_at}
+use Rattle.abstract_state.specs.Holds.{IsBound, IsIn, value_at}
 use Rattle.abstract_state.specs.Knows as entire
 use Rattle.abstract_state.specs.Knows.{IsKept, moment}
 use Rattle.abstract_state.specs.Loops.{is_among}
 use Rattle.abstract_state.proofs.Ranged.{included-in}
-use Rattle.leaf_rows.specs.Rows.{Parts, all_parts, first_index, no_parts, rows_of}
+use Rattle.leaf_rows.specs.Rows.{Parts, all_parts, no_parts, rows_of}
 use Rattle.component_states.specs.Components.{At, Components, Entire, Index, Inside, Reach, all_stored}
-use Rattle.component_states.specs.Holds.{ComponentsHold, HasComponent, IsOfRow, component_at}
-use Rattle.component_states.specs.Laws.{AreApart, AreComponents, AreStored, IsIndex, IsReach, IsReached}
+use Rattle.component_states.specs.Holds.{ComponentsHold, IsOfRow, component_at}
+use Rattle.component_states.specs.Laws.{AreApart, AreComponents, AreStored, IsReach, IsReached}
 use Rattle.component_states.proofs.Stored.{stores-hold}
-use Rattle.structured_states.specs.Loops.{limits_at, row_limits}
+use Rattle.structured_states.specs.Loops.{row_limits}
 use Rattle.expression_checker.proofs.Keeping.{InTypes}
 use Rattle.cert_checker.specs.Walk.{Stores}
 use Rattle.cert_checker.proofs.Stored.{AreWritten, Pairs}
@@ -145,7 +145,8 @@ module _ (rows : List Parts) (env : Environment) (root : ℕ) (pairs : Pairs) (s
 
 -- an index of no form is one of those that aren't known
 unknown-index : (state : variables.State) (range : Interval) (stores : Stores) (known : Components)
-    → all_stored state (At (record { form = None; range = range })) stores known ≡ all_stored state (Inside (record { form = None; range = range })) stores known
+    → all_stored state (At (record { form = None; range = range })) stores known
+    ≡ all_stored state (Inside (record { form = None; range = range })) stores known
 unknown-index state range [] known = refl
 unknown-index state range (one ∷ stores) known =
     unknown-index state range stores (all_stored state (Inside (record { form = None; range = range })) (one ∷ []) known)

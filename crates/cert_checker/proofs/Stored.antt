@@ -1,10 +1,9 @@
 -- What stores of numbers to components of a variable leave: those components have them, and all else is as it was.
 use Rattle.std.proofs.Common.{arith, ◌≡◌, ◌≢◌, ⊎_elim, ◌⊎◌, inl, inr, ◌∙◌, sym, ap, refl, subst, ℕ, zero, suc, ◌<◌, ℤ, Bool, true, false, cond, ◌&&◌}
-use Rattle.std.proofs.Common.{nat_eq, List, [], ◌∷◌, ◌++◌, Option, Some, None, length, map}
+use Rattle.std.proofs.Common.{nat_eq, List, [], ◌∷◌, ◌++◌, Option, Some, None}
 use Rattle.std.specs.List.{Contains}
 use Rattle.std.proofs.lemmas.Bool.{and_parts, cases_eq, eqb-true, false_from_ne_true}
 use Rattle.std.proofs.lemmas.Int.{ints}
-use Rattle.std.specs.Ordering.{int_eq}
 use Rattle.std.specs.Cmp.Lexicographic.{pointwise}
 use Rattle.types.specs.declared.form.Step.{Step}
 use Rattle.types.specs.declared.form.Step.TheVariants.{Element, Field}
@@ -164,7 +163,7 @@ module _ (variables : ℕ) (env : Environment) (shows : Shows variables env) (st
   beside steps differ =
       own-part after steps
       ∙ ap (λ (same : Bool). cond same (Some (Number n)) (stored store (part place steps)))
-        (false_from_ne_true (place_eq (part place first) (part place steps)) (λ same. differ (parts-same place first steps same)))
+      (false_from_ne_true (place_eq (part place first) (part place steps)) (λ same. differ (parts-same place first steps same)))
       ∙ sym (own-part store steps)
 
   elsewhere : (other : ℕ) → root ≢ other → (steps : List Step) → value_at (moment env after) other steps ≡ value_at (moment env store) other steps
@@ -198,7 +197,11 @@ module _ (variables : ℕ) (env : Environment) (shows : Shows variables env) (st
         (λ same. subst (λ (p : List Step × ℤ). HasValue (moment env after) root p.0) same (Number n, written-here))
         (λ none. absurd (omega (arith, none.1))) (head-or_tail pair own [] inside);
     sure = λ own v inside is. ⊎_elim
-        (λ same. (pair, at-head pair [], ap (λ (p : List Step × ℤ). p.0) same,
-        here-is own.0 v (ap (λ (p : List Step × ℤ). p.0) same) is))
+        (λ same. (
+          pair,
+          at-head pair [],
+          ap (λ (p : List Step × ℤ). p.0) same,
+          here-is own.0 v (ap (λ (p : List Step × ℤ). p.0) same) is,
+        ))
         (λ none. absurd (omega (arith, none.1))) (head-or_tail pair own [] inside);
   }

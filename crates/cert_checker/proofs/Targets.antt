@@ -1,11 +1,10 @@
 -- What an access reaches of the rows under it, where numbers are stored to the components of a type there.
-use Rattle.std.proofs.Common.{arith, ◌≡◌, ⊎_elim, ◌∙◌, sym, ap, refl, subst, ℕ, zero, suc, ◌<◌, ◌≤◌, ℤ, true, List, [], ◌∷◌, ◌++◌, Option, Some, None}
-use Rattle.std.proofs.Common.{length, map}
-use Rattle.std.specs.Prelude.{slice_get, slice_index_or}
+use Rattle.std.proofs.Common.{arith, ◌≡◌, ⊎_elim, ◌∙◌, sym, ap, refl, subst, ℕ, zero, suc, ◌<◌, ℤ, true, List, [], ◌∷◌, ◌++◌, Some}
+use Rattle.std.proofs.Common.{length}
+use Rattle.std.specs.Prelude.{slice_get}
 use Rattle.std.specs.List.{Contains}
-use Rattle.std.proofs.lemmas.Option.{get_or_from_slice_get, none-some, same_Some, slice_get-get_or, slice_get_within}
+use Rattle.std.proofs.lemmas.Option.{get_or_from_slice_get, slice_get-get_or, slice_get_within}
 use Rattle.types.specs.Components.{components_of}
-use Rattle.types.specs.Forms.{Form}
 use Rattle.types.specs.declared.form.Step.{Step}
 use Rattle.types.specs.declared.form.Step.TheVariants as step
 use Rattle.types.specs.declared.form.TypeId.{TypeId}
@@ -13,17 +12,14 @@ use Rattle.typed_tree.specs.Accesses.{index_count}
 use Rattle.typed_tree.specs.declared.tree.Selector.{Selector}
 use Rattle.typed_tree.specs.declared.tree.Selector.TheVariants.{Element, Field}
 use Rattle.typed_tree.specs.declared.tree.Tree.{Tree}
-use Rattle.domain.specs.Facts.{Bound}
 use Rattle.domain.specs.Interval.{HasMember, Interval}
 use Rattle.meaning.specs.Store.{Environment, Store}
-use Rattle.abstract_state.specs.Holds.{IsBound}
-use Rattle.abstract_state.specs.Knows.{moment}
 use Rattle.leaf_rows.specs.Leaves.{Leaf, is_named, leaves_of}
 use Rattle.leaf_rows.specs.Rows.{all_parts, first_index, is_structured, rows_accessed, rows_of}
-use Rattle.component_states.specs.Components.{At, Entire, Index, Inside, Reach}
+use Rattle.component_states.specs.Components.{At, Entire, Inside, Reach}
 use Rattle.component_states.specs.Holds.{IsOfRow}
-use Rattle.component_states.specs.Laws.{IsIndex, IsReach, IsReached}
-use Rattle.expression_checker.proofs.SoundRows.{IsIndexOn, IsReachedBy, LieIn, Matches, RowsAre, first-then, one-way}
+use Rattle.component_states.specs.Laws.{IsReach, IsReached}
+use Rattle.expression_checker.proofs.SoundRows.{IsReachedBy, LieIn, Matches, RowsAre, first-then, one-way}
 use Rattle.cert_checker.specs.Walk.{Stores, alike, paired}
 use Rattle.cert_checker.proofs.SoundStores.{AreReached, AreTargets, IsFormed, bound-once}
 use Rattle.cert_checker.proofs.Stored.{Pairs, at-head, head-or_tail, in-tail}
@@ -160,7 +156,8 @@ only-way (Field position offset ∷ selectors) (step.Field a ∷ way) (step.Fiel
     ∙ ap (λ (w : List Step). step.Field b ∷ w) (only-way selectors way other number one matches.1 others.1 is at)
 
 -- where selectors take an index, the way has a first one
-pub has-first : (selectors : List Selector) (way : List Step) → index_count selectors ≡ 1 → Matches selectors way → (number : ℤ) × (first_index way ≡ Some number)
+pub has-first : (selectors : List Selector) (way : List Step) → index_count selectors ≡ 1 → Matches selectors way
+    → (number : ℤ) × (first_index way ≡ Some number)
 has-first [] way one matches = absurd (omega (arith, one))
 has-first (Element fits cells ∷ selectors) [] one matches = absurd matches
 has-first (Field position offset ∷ selectors) [] one matches = absurd matches

@@ -2,7 +2,7 @@
 -- rules that are broken, and the state at each entry into a statement or expression (ISO 7185:1990, 6.7, 6.8).
 -- It does not say that a program does what the walk says of it.
 use Rattle.std.specs.Prelude.{ℕ, ℤ, drop, slice_get, Bool, true, false, ◌&&◌, List, [], ◌∷◌, ◌++◌, Option, Some, None}
-use Rattle.std.specs.Prelude.{if◌then◌else◌, map, length, nat_eq}
+use Rattle.std.specs.Prelude.{◌||◌, if◌then◌else◌, map, length, nat_eq}
 use Rattle.std.specs.List.{list_all}
 use Rattle.std.specs.declared.alloc.Global.{Global}
 use Rattle.std.specs.declared.boxed.Box.{Box}
@@ -42,8 +42,8 @@ use Rattle.component_states.specs.States.{State, dead, joined_states, over_bound
 use Rattle.structured_states.specs.Cases.{arm_start, constants_before}
 use Rattle.structured_states.specs.Loops.{Round, all_claims, all_control, all_limits, all_list, claims_at, gives_claims}
 use Rattle.structured_states.specs.Loops.{head_of, limits_at, round_of, row_limits, touched, with_own, without_own}
-use Rattle.structured_states.specs.Ways.{End, Way, met, next, steady, turn_begun, turn_ended, way_of, way_out, where_counts}
-use Rattle.structured_states.specs.Ways.{with_values}
+use Rattle.structured_states.specs.Ways.{End, Way, met, next, steady, turn_begun, turn_ended, way_of, way_out}
+use Rattle.structured_states.specs.Ways.{where_counts, with_values}
 use Rattle.expression_checker.specs.declared.fault.Rule.{Rule}
 use Rattle.expression_checker.specs.declared.fault.Rule.TheVariants.{LoopEntry, LoopTurn, Changes}
 use Rattle.expression_checker.specs.Walk.{Breach, Context, Piece, Walked, Walking, ◌>>=◌, access_walk, enter, fitting}

@@ -47,8 +47,14 @@ pub fn check(alloc: Global, tree: &Tree, certificate: &Certificate) -> Result<Ve
     ensures refused { IfErr result (IsRefusedFor tree.now certificate.now) }
 
     // One pass: states are linked to the entries of the program, each once, and so many entries were counted.
+    ensures entries { LinksEntries tree.now certificate.now }
     ensures visits { IfOk result (λ verdict. verdict.visits ≡ length (entries_of tree.now)) }
 
+    // The runs of a well formed tree.
+    ensures closed_never_err { IfOk result (λ verdict. IsWellFormed tree.now → AreInOrder tree.now.sites.items
+        → ClosedNeverErr tree.now verdict.open_sites.items) }
+    ensures states_hold { IfOk result (λ _. IsWellFormed tree.now → AreNumbered tree.now
+        → StatesHold tree.now certificate.now) }
 {
     let rows = Rows::of(alloc, tree)?;
     if !names::is_known(&rows, certificate) {

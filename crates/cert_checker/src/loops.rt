@@ -1,4 +1,4 @@
-ghost use Rattle.std.specs.Prelude.{◌≡◌, ◌&&◌, None};
+ghost use Rattle.std.specs.Prelude.{◌≡◌, ◌&&◌, None, true, false};
 ghost use Rattle.domain.specs.Interval.{is_included};
 ghost use Rattle.abstract_state.specs.declared.known.Known.TheVariants.{Ordinal};
 ghost use Rattle.abstract_state.specs.Loops.{with_undefined};
@@ -45,21 +45,24 @@ impl<'a> Walk<'a> {
                 place,
             });
         }
-        round.head(
-            self.alloc,
-            &mut self.flow.state,
-            self.flow.rows,
-            &self.limits,
-        )?;
+        let rows = self.flow.rows;
+        round.head(self.alloc, &mut self.flow.state, rows, &self.limits)?;
         self.rounds.push(round)?;
         Ok(())
     }
 
     /// Goes on behind a loop, whose facts have to be given where a round of it ends.
-    pub(crate) fn leave_loop(&mut self, number: u32, place: Place, behind: State) -> Result<(), CheckFault>
+    pub(crate) fn leave_loop(
+        &mut self,
+        number: u32,
+        place: Place,
+        behind: State,
+    ) -> Result<(), CheckFault>
         ensures { LeavesLoop number place behind self.old result self.new }
     {
-        let is_given = self.round(number, None).is_given(&self.flow.state, self.flow.rows);
+        let is_given = self
+            .round(number, None)
+            .is_given(&self.flow.state, self.flow.rows);
         if !is_given {
             return Err(CheckFault::Broken {
                 rule: Rule::LoopTurn,

@@ -1,19 +1,18 @@
-ghost use Rattle.std.specs.Prelude.{◌≡◌, slice_get};
+ghost use Rattle.std.specs.Prelude.{◌≡◌, true, slice_get};
 ghost use Rattle.std.specs.List.{list_all};
 ghost use Rattle.types.specs.Types.{is_ordinal};
-ghost use Rattle.certificate.specs.Contents.{said_path};
-ghost use Rattle.leaf_rows.specs.Rows.{part_named};
-ghost use Rattle.structured_states.specs.Loops.{is_ordinal_variable};
 ghost use Rattle.cert_checker.specs.Names.{bound_is_known, claims_are_known, fact_is_known, is_array, is_known};
 ghost use Rattle.cert_checker.specs.Names.{is_variable, names, section_is_known, stands_in};
 
 use certificate::{Certificate, Fact, LoopClaims, Path, Section};
 use domain::facts::Bound;
 use leaf_rows::Rows;
+use structured_states::kept_claims::is_ordinal_variable;
 use typed_tree::tree::Tree;
 use types::{TypeForm, TypeId, TypeTable};
 
-/// Whether a certificate names blocks, loops, and variables and parts of them alone that are there, each loop under its block.
+/// Whether a certificate names blocks, loops, and variables and parts of them alone that are there, each loop under its
+/// block.
 pub(crate) fn is_known(rows: &Rows, certificate: &Certificate) -> bool
     ensures { result ≡ is_known rows.now certificate.now }
 {
@@ -139,15 +138,5 @@ fn bound_is_known(tree: &Tree, bound: Bound) -> bool
     match bound {
         Bound::Number(_) => true,
         Bound::Plus { root, .. } => is_ordinal_variable(tree, root),
-    }
-}
-
-/// Whether a variable is there, and of an ordinal type.
-fn is_ordinal_variable(tree: &Tree, root: u32) -> bool
-    ensures { result ≡ is_ordinal_variable tree.now root }
-{
-    match tree.variables.get(root as usize) {
-        None => false,
-        Some(variable) => tree.types.is_ordinal(variable.type_id),
     }
 }

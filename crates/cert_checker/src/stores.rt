@@ -1,24 +1,27 @@
-ghost use Rattle.std.specs.Prelude.{◌≡◌, ◌&&◌, Some, IfOk};
+ghost use Rattle.std.specs.Prelude.{◌≡◌, ◌&&◌, ◌||◌, Some, true, IfOk, length, nat_eq, slice_get};
 ghost use Rattle.std.specs.List.{list_all};
 ghost use Rattle.domain.specs.Interval.{is_included};
-ghost use Rattle.types.specs.Types.{have_one_length};
+ghost use Rattle.types.specs.Types.{have_one_length, is_same, string_length};
 ghost use Rattle.abstract_state.specs.declared.known.Known.TheVariants.{Ordinal};
 ghost use Rattle.abstract_state.specs.Conditions.{bound_form};
 ghost use Rattle.abstract_state.specs.View.{said_form};
-ghost use Rattle.leaf_rows.specs.Rows.{rows_of};
+ghost use Rattle.leaf_rows.specs.Rows.{is_structured, rows_of};
 ghost use Rattle.leaf_rows.specs.View.{numbers};
-ghost use Rattle.component_states.specs.View.{said_reach};
+ghost use Rattle.component_states.specs.Components.{all_stored};
+ghost use Rattle.component_states.specs.States.{over_components};
+ghost use Rattle.component_states.specs.View.{said_reach, viewed};
 ghost use Rattle.structured_states.specs.Loops.{all_list, limits_at, row_limits};
 ghost use Rattle.expression_checker.specs.Visits.{Visits};
 ghost use Rattle.expression_checker.specs.Walk.{index_pieces};
 ghost use Rattle.cert_checker.specs.declared.walk.Walk.{Walk};
 ghost use Rattle.cert_checker.specs.View.{Goes, context_of};
-ghost use Rattle.cert_checker.specs.Walk.{alike, asked, assign, assign_component, assign_to, assignment, change};
-ghost use Rattle.cert_checker.specs.Walk.{component_change, copy_to, copying, fits_whole, paired, store_to, stores_made};
+ghost use Rattle.cert_checker.specs.Walk.{alike, are_typed, asked, assign, assign_component, assign_to, assignment};
+ghost use Rattle.cert_checker.specs.Walk.{change, component_change, copy_to, copying, fits_whole, paired, store_to};
+ghost use Rattle.cert_checker.specs.Walk.{stores_made};
 
 use crate::walk::Walk;
 use abstract_state::{Known, bound_form, limits};
-use component_states::Reach;
+use component_states::{Reach, State};
 use domain::Domain;
 use domain::facts::Bound;
 use domain::interval::Interval;
@@ -29,7 +32,7 @@ use place::Place;
 use std::alloc::{AllocError, Global};
 use structured_states::rounds::{all_list, limits_at, row_limits};
 use typed_tree::tree::{Access, Expr, RangeTest, Whole};
-use types::TypeId;
+use types::{TypeId, TypeTable};
 
 // What statements store to variables and to components.
 impl<'a> Walk<'a> {
@@ -123,7 +126,7 @@ impl<'a> Walk<'a> {
     {
         let rows = self.flow.rows.accessed(target.root, &target.selectors);
         let stores = paired(self.alloc, rows, ranges)?;
-        let fits = fits_whole(self.flow.rows, type_id, value) && rows.count as usize == ranges.len();
+        let fits = fits_rows(self.flow.rows, type_id, value, rows, ranges);
         self.store_to(becomes, target.root, reach, fits, &stores)
     }
 
@@ -153,10 +156,7 @@ impl<'a> Walk<'a> {
         ensures { (visits : Visits)
             → Goes (stores_made root (said_reach reach) stores.now) self.old visits result self.new visits }
     {
-        for store in stores {
-            let (row, range) = *store;
-            self.flow.state.store(self.alloc, reach, row, range)?;
-        }
+        store_all(self.alloc, &mut self.flow.state, &reach, stores)?;
         let values = limits_at(&self.limits, root);
         self.flow.state.variables.touch(root, values);
         Ok(())
@@ -191,8 +191,15 @@ impl<'a> Walk<'a> {
     fn change(&self, place: Place, root: u32, values: Interval) -> Result<(), CheckFault>
         ensures { (visits : Visits) → Goes (change place root values) self.now visits result self.now visits }
     {
-        let fits = values.leq(&limits_at(&self.limits, root));
-        asked(self.is_listed(root) && fits, Rule::Changes, place)
+        asked(self.may_change(root, values), Rule::Changes, place)
+    }
+
+    /// Whether it is so.
+    fn may_change(&self, root: u32, values: Interval) -> bool
+        ensures { result ≡ (all_list root (context_of self.now).rounds
+            && is_included values (limits_at self.now.limits.items root)) }
+    {
+        self.is_listed(root) && values.leq(&limits_at(&self.limits, root))
     }
 
     /// Each loop round the walk lists the variable whose components are changed, by values of their types.
@@ -206,8 +213,15 @@ impl<'a> Walk<'a> {
         ensures { (visits : Visits)
             → Goes (component_change place root fits stores.now) self.now visits result self.now visits }
     {
-        let may_change = self.is_listed(root) && fits && are_typed(self.flow.rows, stores);
-        asked(may_change, Rule::Changes, place)
+        asked(self.may_store(root, fits, stores), Rule::Changes, place)
+    }
+
+    /// Whether it is so.
+    fn may_store(&self, root: u32, fits: bool, stores: &[(u32, Interval)]) -> bool
+        ensures { result
+            ≡ (all_list root (context_of self.now).rounds && (fits && are_typed (context_of self.now) stores.now)) }
+    {
+        self.is_listed(root) && fits && are_typed(self.flow.rows, stores)
     }
 
     /// Whether each loop round the walk lists a variable.
@@ -216,6 +230,23 @@ impl<'a> Walk<'a> {
     {
         all_list(&self.rounds, root)
     }
+}
+
+/// Values are stored to rows of components.
+fn store_all(
+    alloc: Global,
+    state: &mut State,
+    reach: &Reach,
+    stores: &[(u32, Interval)],
+) -> Result<(), AllocError>
+    ensures { IfOk result (λ _. viewed state.new
+        ≡ over_components (λ known. all_stored known (said_reach reach.now) stores.now) (viewed state.old)) }
+{
+    for store in stores {
+        let (row, range) = *store;
+        state.store(alloc, *reach, row, range)?;
+    }
+    Ok(())
 }
 
 /// A rule that is kept, or broken at a place.
@@ -244,11 +275,7 @@ fn is_typed(rows: &Rows, store: &(u32, Interval)) -> bool
 }
 
 /// The same range for each of some rows.
-fn alike(
-    alloc: Global,
-    range: Interval,
-    rows: Span,
-) -> Result<Vec<(u32, Interval)>, AllocError>
+fn alike(alloc: Global, range: Interval, rows: Span) -> Result<Vec<(u32, Interval)>, AllocError>
     ensures { IfOk result (λ stores. stores.items ≡ alike range (numbers rows)) }
 {
     let mut stores = Vec::new(alloc);
@@ -268,30 +295,59 @@ fn paired(
 {
     let mut stores = Vec::new(alloc);
     for row in rows.first..rows.end() {
-        if let Some(range) = ranges.get((row - rows.first) as usize) {
-            stores.push((row, *range))?;
+        if let Some(range) = range_at(ranges, row - rows.first) {
+            stores.push((row, range))?;
         }
     }
     Ok(stores)
+}
+
+fn range_at(ranges: &[Interval], place: u32) -> Option<Interval>
+    ensures { result ≡ slice_get ranges.now place }
+{
+    ranges.get(place as usize).copied()
+}
+
+/// Whether a whole value, with the ranges of its components, may be copied to rows of a type.
+fn fits_rows(rows: &Rows, target: TypeId, value: &Whole, span: Span, ranges: &[Interval]) -> bool
+    ensures { result ≡ (fits_whole rows.now.types target value.now
+        && nat_eq (length (numbers span)) (length ranges.now)) }
+{
+    fits_whole(rows, target, value) && span.count as usize == ranges.len()
 }
 
 /// Whether a whole value may be copied to a target of a type: it is of the same type, or a string as long.
 fn fits_whole(rows: &Rows, target: TypeId, value: &Whole) -> bool
     ensures { result ≡ fits_whole rows.now.types target value.now }
 {
-    let types = &rows.tree().types;
-    if !rows.is_structured(target) {
-        return false;
-    }
-    let length = types.string_length(target);
+    rows.is_structured(target) && is_alike(&rows.tree().types, target, value)
+}
+
+/// Whether it may, if the type is structured.
+fn is_alike(types: &TypeTable, target: TypeId, value: &Whole) -> bool
+    ensures { (is_structured types.now target && result) ≡ fits_whole types.now target value.now }
+{
     match value {
-        Whole::Text { characters, .. } => match length {
-            None => false,
-            Some(length) => length as usize == characters.len(),
-        },
-        Whole::Variable { type_id, .. } => {
-            target.same(*type_id) || have_one_length(length, types.string_length(*type_id))
-        }
+        Whole::Text { characters, .. } => has_length(types.string_length(target), characters),
+        Whole::Variable { type_id, .. } => is_as_long(types, target, *type_id),
+    }
+}
+
+/// Whether two types are the same, or of strings of equal length.
+fn is_as_long(types: &TypeTable, target: TypeId, other: TypeId) -> bool
+    ensures { result ≡ (is_same target other
+        || have_one_length (string_length types.now target) (string_length types.now other)) }
+{
+    target.same(other) || have_one_length(types.string_length(target), types.string_length(other))
+}
+
+/// Whether a string, if it is one, is as long as a text.
+fn has_length(count: Option<u32>, text: &[u8]) -> bool
+    ensures { result ≡ have_one_length count (Some (length text.now)) }
+{
+    match count {
+        None => false,
+        Some(count) => count as usize == text.len(),
     }
 }
 

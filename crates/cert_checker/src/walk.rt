@@ -1,8 +1,9 @@
-ghost use Rattle.std.specs.Prelude.{◌≡◌, [], map, IfOk, MatchResult};
+ghost use Rattle.std.specs.Prelude.{◌≡◌, [], true, false, map, slice_get, IfOk, MatchResult};
 ghost use Rattle.typed_tree.specs.Entries.{entries_of};
 ghost use Rattle.abstract_state.specs.declared.known.Known.TheVariants.{Ordinal};
+ghost use Rattle.component_states.specs.States.{over_variables};
 ghost use Rattle.component_states.specs.View.{said_reach, viewed};
-ghost use Rattle.structured_states.specs.Cases.{constants_before};
+ghost use Rattle.structured_states.specs.Cases.{arm_start, constants_before};
 ghost use Rattle.structured_states.specs.View.{said_way};
 ghost use Rattle.expression_checker.specs.Visits.{Visits, all_counted};
 ghost use Rattle.expression_checker.specs.View.{said_ranges, seen};
@@ -375,8 +376,7 @@ impl<'a> Walk<'a> {
             self.old visits.old result self.new visits.new }
     {
         for i in 0..arms.len() {
-            let mut start = base.copied(self.alloc)?;
-            begin_arm(&mut start.variables, index, constants, i);
+            let start = start_of(self.alloc, base, index, constants, i)?;
             self.arm(&arms[i], start, visits)?;
         }
         Ok(())
@@ -422,7 +422,11 @@ impl<'a> Walk<'a> {
     }
 
     /// What is known of an expression's value.
-    pub(crate) fn expression(&mut self, expression: &Expr, visits: &mut Visits) -> Result<Known, CheckFault>
+    pub(crate) fn expression(
+        &mut self,
+        expression: &Expr,
+        visits: &mut Visits,
+    ) -> Result<Known, CheckFault>
         ensures { Goes (value_walk expression.now) self.old visits.old result self.new visits.new }
     {
         self.flow.expression(expression, visits)
@@ -505,4 +509,21 @@ impl<'a> Walk<'a> {
         self.flow.test(closed, site, passed)?;
         Ok(mem::replace(&mut self.flow.state, State::dead(self.alloc)))
     }
+}
+
+/// What is known where the arm of a number is executed, by its row of constants.
+fn start_of(
+    alloc: Global,
+    base: &State,
+    index: Option<u32>,
+    rows: &[Vec<i32>],
+    number: usize,
+) -> Result<State, AllocError>
+    ensures { IfOk result (λ start. viewed start
+        ≡ over_variables (arm_start index (slice_get rows.now number)) (viewed base.now)) }
+{
+    let variables = arm_start(alloc, &base.variables, index, rows, number)?;
+    let mut start = base.copied(alloc)?;
+    start.variables = variables;
+    Ok(start)
 }

@@ -28,7 +28,8 @@ use Rattle.expression_checker.specs.Visits.{Visits, all_counted, counted}
 use Rattle.component_states.specs.Components.{Reach, Entire}
 use Rattle.component_states.specs.States.{State}
 use Rattle.abstract_state.specs.Forms.{bound_of}
-use Rattle.expression_checker.specs.Walk.{Context, Joint, Linked, Piece, Walking, Combination, numbers_of, operated, combined, width_test, piece_step, link_step, piece_of, joint_of, value_walk}
+use Rattle.expression_checker.specs.Walk.{Context, Joint, Linked, Piece, Walking, Combination, numbers_of, operated, combined, width_test}
+use Rattle.expression_checker.specs.Walk.{piece_step, link_step, piece_of, joint_of, value_walk}
 use Rattle.expression_checker.specs.Walk.{access_walk, behind_next, deeper, index_test, index_pieces, indexes_walk, link_walk, next_test, value_use, whole_walk}
 use Rattle.expression_checker.specs.Walk.{width_walk}
 use Rattle.expression_checker.specs.Walk.{written_walk, parameter_walk, in_turn}
@@ -213,7 +214,8 @@ all-entered_of [] = tt
 all-entered_of (index ∷ indexes) = (value-entered index, all-entered_of indexes)
 
 -- an access, and a whole value
-pub access-entered : (access : Access) (indexes : List Expr) → Enters (access_walk access (index_pieces indexes)) (access_entries access (index_entries indexes))
+pub access-entered : (access : Access) (indexes : List Expr)
+    → Enters (access_walk access (index_pieces indexes)) (access_entries access (index_entries indexes))
 access-entered access indexes = access-of access (index_pieces indexes) (index_entries indexes) (all-entered_of indexes)
 
 pub whole-entered : (value : Whole) (indexes : List Expr) → Enters (whole_walk value (index_pieces indexes)) (whole_entries value (index_entries indexes))

@@ -18,7 +18,8 @@ use Rattle.component_states.specs.View.{viewed}
 use Rattle.expression_checker.specs.declared.fault.CheckFault.{CheckFault}
 use Rattle.expression_checker.specs.declared.flow.Flow.{Flow}
 use Rattle.expression_checker.specs.Visits.{Visits, all_counted}
-use Rattle.expression_checker.specs.Walk.{Context, Walked, Walking, all_joined, component_use, is_covered, left_open, numbers_of, ranges_of, whole_use, with_used}
+use Rattle.expression_checker.specs.Walk.{Context, Walked, Walking, all_joined, component_use, is_covered, left_open, numbers_of, ranges_of}
+use Rattle.expression_checker.specs.Walk.{whole_use, with_used}
 use Rattle.expression_checker.specs.View.{Flows, Goes, opened}
 use Rattle.expression_checker.proofs.Steps.{Stops, breach-same}
 

@@ -266,7 +266,8 @@ pub sound-enter : (world : World) (env : Environment) → Shows (variables_in wo
 sound-enter world env shows number context state s unbroken part stands =
     let one : Linked = record { number = number; state = state } in
     let entered : Visit = record { number = number; environment = env; store = s.store } in
-    let meets : Meets world entered = (one, part.linked one (0, omega arith, refl), refl, state-holds (parts_in world) (variables_in world) env state s.store stands.known) in
+    let holds = state-holds (parts_in world) (variables_in world) env state s.store stands.known in
+    let meets : Meets world entered = (one, part.linked one (0, omega arith, refl), refl, holds) in
     let separate : Separate env (world.aliases 0) = none-shared env (world.aliases 0) shows.separate in
     record {
       errs = tt;

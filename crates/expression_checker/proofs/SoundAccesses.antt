@@ -1,7 +1,6 @@
 -- The walk over accesses and over whole values is sound, where that over their index expressions is.
-use Rattle.std.proofs.Common.{arith, ◌≡◌, ⊎_elim, ◌∙◌, sym, ap, refl, subst, ℕ, zero, suc, ◌+◌, ◌<◌, ℤ, pos, ◌≤ℤ◌, Bool, true, false, ◌&&◌, ◌||◌, nat_eq, nat_lt, nat_le, not}
-use Rattle.std.proofs.Common.{List, [], ◌∷◌}
-use Rattle.std.proofs.Common.{◌++◌, append-nil, append_assoc, length, length-append, map, Option, Some, None}
+use Rattle.std.proofs.Common.{arith, ◌≡◌, ⊎_elim, ◌∙◌, sym, ap, refl, subst, ℕ, zero, suc, ◌+◌, ◌<◌, ℤ, pos, ◌≤ℤ◌, Bool, true, false}
+use Rattle.std.proofs.Common.{◌&&◌, ◌||◌, nat_eq, nat_lt, nat_le, not, List, [], ◌∷◌, ◌++◌, append-nil, append_assoc, length, map, Option, Some, None}
 use Rattle.std.specs.Prelude.{slice_get, slice_index_or}
 use Rattle.std.specs.List.{All, Contains, list_all}
 use Rattle.std.specs.Option.{option_and_then}
@@ -30,7 +29,6 @@ use Rattle.typed_tree.specs.Accesses.{index_count, is_type, led}
 use Rattle.typed_tree.specs.WellFormed.{are_characters, is_character, is_value_of, is_well_formed_selector, is_well_formed_whole, is_whole, leads_to}
 use Rattle.typed_tree.specs.WellFormed.{leads_to_whole}
 use Rattle.domain.specs.Interval.{HasMember}
-use Rattle.meaning.specs.declared.outcome.Ending.TheVariants.{Error}
 use Rattle.meaning.specs.declared.store.Value.{Value}
 use Rattle.meaning.specs.declared.store.Value.TheVariants.{Number}
 use Rattle.meaning.specs.Store.{Environment, Place, Store, held, part}
@@ -59,9 +57,10 @@ use Rattle.expression_checker.specs.Walk as walk
 use Rattle.expression_checker.specs.Walk.{Context, Piece, Walking, access_walk, all_joined, deeper, index_test, indexes_walk, is_covered}
 use Rattle.expression_checker.specs.Walk.{range_in, ranges_of, text_range, value_use, whole_walk, with_used}
 use Rattle.expression_checker.proofs.Keeping.{InTypes, Keeps, keeps-itself}
-use Rattle.expression_checker.proofs.Sound.{World, variables_in, Any_value, Good, IsForetold, IsPartOf, Leaves, Sound, SoundFrom, Stands, alive, declared_in, errs-here}
-use Rattle.expression_checker.proofs.Sound.{false-true, good-give, good-then, good-weaker, nothing-new, open-here, sound-enter, sound-give, sound-given, sound-anywhere, sound-here}
-use Rattle.expression_checker.proofs.Sound.{nonempty-stands, parts_in, sound-named, sound-still, sound-then, sound-use, stands-as, types_in}
+use Rattle.expression_checker.proofs.Sound.{World, variables_in, Any_value, Good, IsForetold, IsPartOf, Leaves, Sound, SoundFrom, Stands, alive, declared_in}
+use Rattle.expression_checker.proofs.Sound.{errs-here, false-true, good-give, good-then, good-weaker, nothing-new, open-here, sound-enter, sound-give}
+use Rattle.expression_checker.proofs.Sound.{nonempty-stands, parts_in, sound-anywhere, sound-here, sound-named, sound-still, sound-then, sound-use}
+use Rattle.expression_checker.proofs.Sound.{stands-as, types_in}
 use Rattle.expression_checker.proofs.SoundOperations.{IsKnownOf, fitting-sound}
 use Rattle.expression_checker.proofs.SoundRows.{AreIntegers, IsIndexOn, IsReachedBy, IsWhole, Leads, LieIn, Matches, RowsAre, covered-row, first-behind}
 use Rattle.expression_checker.proofs.SoundRows.{first-then, joined-in, matches-then, reached-has, rows-are, used-known}
@@ -214,13 +213,15 @@ module _ (env : Environment) (store : Store) where
       → IsReachedBy env store before way reach
       → IsReachedBy env store (before ++ Element fits cells ∷ []) (way ++ step.Element number ∷ []) (deeper index reach)
   behind-element before way fits cells number index Entire inside form matches reached =
-      let e = counted-then before (Element fits cells ∷ []) in
-      (omega (arith, e, reached), record {
-        number = number;
-        is_first = first-behind before way number reached matches;
-        in_range = inside;
-        of_form = form;
-      })
+      let e = counted-then before (Element fits cells ∷ []) in (
+        omega (arith, e, reached),
+        record {
+          number = number;
+          is_first = first-behind before way number reached matches;
+          in_range = inside;
+          of_form = form;
+        },
+      )
   behind-element before way fits cells number index (At first) inside form matches reached = longer first way (step.Element number ∷ []) reached.1
   behind-element before way fits cells number index (Inside first) inside form matches reached = longer first way (step.Element number ∷ []) reached
 
@@ -491,11 +492,12 @@ module _ (world : World) (env : Environment) (shows : Shows (variables_in world)
           (all-good components t read.1 (λ rest among. opens rest (suc among.0, omega (arith, among.1), among.2)))
           (λ numbers u gives more.
           good-give world (AreRead before (first ∷ components)) (number_of v ∷ numbers) u (
-          more.0,
-          All-cons (HasMember integer) (number_of v) numbers (integer-number v (typed.integers root (way ++ first) v read.0)) more.1,
-          ap suc more.2,
-          pairs-then (λ rest n. value_at (moment env before) root (way ++ rest) ≡ Some (Number n)) first components (number_of v) numbers
-          (read.0 ∙ ap Some (sym (number-back v))) more.3)))
+            more.0,
+            All-cons (HasMember integer) (number_of v) numbers (integer-number v (typed.integers root (way ++ first) v read.0)) more.1,
+            ap suc more.2,
+            pairs-then (λ rest n. value_at (moment env before) root (way ++ rest) ≡ Some (Number n)) first components (number_of v) numbers
+                (read.0 ∙ ap Some (sym (number-back v))) more.3,
+          )))
 
     abbrev used_whole : Walking (List Interval)
     used_whole = walk.whole_rows_use id (rows root selectors) reach site

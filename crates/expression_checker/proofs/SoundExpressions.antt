@@ -293,7 +293,8 @@ module _ (world : World) (env : Environment) (shows : Shows (variables_in world)
       sound-then world env (IsWhole (types_in world) left) IsKnown (meaning.whole_of left left_values env) behind
       (walk.whole_walk left left_pieces) (λ done. walk.◌>>=◌ (walk.enter number) (λ done. walked)) (whole-sound left left_indexes.items one.0 left_sized)
       (λ b a tie. entered-sound world env shows IsKnown number (compares a) walked
-      (sound-then world env (IsWhole (types_in world) right) IsKnown (meaning.whole_of right right_values env) (λ b. effect.give (meaning.compared relation a b))
+      (sound-then world env (IsWhole (types_in world) right) IsKnown (meaning.whole_of right right_values env)
+      (λ b. effect.give (meaning.compared relation a b))
       (walk.whole_walk right right_pieces) (λ done. walk.ordinal truth_values) (whole-sound right right_indexes.items three.0 right_sized)
       (λ c b tie. given-sound world env truth_values (truth (meaning.relates relation (meaning.order_of a b) (pos 0)))
       (truth_values-has (meaning.relates relation (meaning.order_of a b) (pos 0))))))
@@ -324,14 +325,16 @@ module _ (world : World) (env : Environment) (shows : Shows (variables_in world)
   rolled-expr : (x : Expr-F Expr Link) → ExprLayer x → ValueIsSound (roll-Expr x)
   rolled-expr x =
       along-value
-      (fold-roll-Expr Bool Bool (expr_is_well_formed (declared_in world) (types_in world) world.sites) (link_is_well_formed (declared_in world) (types_in world) world.sites) x)
+      (fold-roll-Expr Bool Bool (expr_is_well_formed (declared_in world) (types_in world) world.sites)
+      (link_is_well_formed (declared_in world) (types_in world) world.sites) x)
       (fold-roll-Expr Evaluation meaning.Combination meaning.value_step meaning.link_step x)
       (ap (λ (piece : Piece). piece.walk) (fold-roll-Expr Piece Joint piece_step link_step x))
 
   rolled-link : (x : Link-F Expr Link) → LinkLayer x → LinkIsSound (roll-Link x)
   rolled-link x =
       along-link
-      (fold-roll-Link Bool Bool (expr_is_well_formed (declared_in world) (types_in world) world.sites) (link_is_well_formed (declared_in world) (types_in world) world.sites) x)
+      (fold-roll-Link Bool Bool (expr_is_well_formed (declared_in world) (types_in world) world.sites)
+      (link_is_well_formed (declared_in world) (types_in world) world.sites) x)
       (fold-roll-Link Evaluation meaning.Combination meaning.value_step meaning.link_step x)
       (ap (λ (joint : Joint). joint.combination) (fold-roll-Link Piece Joint piece_step link_step x))
 

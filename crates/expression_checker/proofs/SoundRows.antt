@@ -1,11 +1,11 @@
 -- What an access reaches of the rows of components, and what is known of the values there.
-use Rattle.std.proofs.Common.{arith, ◌≡◌, ⊎_elim, ◌⊎◌, inl, inr, ◌∙◌, sym, ap, refl, subst, ℕ, zero, suc, ◌<◌, ℤ, pos, ◌≤ℤ◌, Bool, true, false, cond, ◌||◌}
-use Rattle.std.proofs.Common.{List, [], ◌∷◌, ◌++◌, append-nil, append_assoc, length, map, Option, Some, None}
-use Rattle.std.specs.Prelude.{Contains, slice_get, slice_index_or}
+use Rattle.std.proofs.Common.{arith, ◌≡◌, ⊎_elim, ◌⊎◌, inl, inr, ◌∙◌, sym, ap, refl, subst, ℕ, zero, suc, ℤ, pos, ◌≤ℤ◌, Bool, true, false, cond}
+use Rattle.std.proofs.Common.{List, [], ◌∷◌, ◌++◌, length, map, Option, Some, None}
+use Rattle.std.specs.Prelude.{Contains, slice_get}
 use Rattle.std.specs.List.{All, list_all}
 use Rattle.std.proofs.lemmas.Bool.{or_cases}
 use Rattle.std.proofs.lemmas.Int.{ints}
-use Rattle.std.proofs.lemmas.List.Elements.{All-contains, Contains-append_left}
+use Rattle.std.proofs.lemmas.List.Elements.{All-contains}
 use Rattle.std.proofs.lemmas.List.Sums.{AllPass-from_list_all}
 use Rattle.types.specs.Components.{components_of}
 use Rattle.types.specs.Forms.{Form}
@@ -18,7 +18,6 @@ use Rattle.typed_tree.specs.declared.tree.Selector.TheVariants.{Element, Field}
 use Rattle.typed_tree.specs.declared.tree.Tree.{Tree}
 use Rattle.typed_tree.specs.declared.tree.Whole.{Whole}
 use Rattle.typed_tree.specs.declared.tree.Whole.TheVariants.{Text, Variable as VariableOf}
-use Rattle.typed_tree.specs.Accesses as accesses
 use Rattle.typed_tree.specs.Accesses.{index_count}
 use Rattle.domain.specs.Facts.{Bound, Number as NumberBound, Plus}
 use Rattle.domain.specs.Interval.{HasMember, Interval}
@@ -26,13 +25,15 @@ use Rattle.meaning.specs.declared.store.Value.{Value}
 use Rattle.meaning.specs.declared.store.Value.TheVariants.{Number}
 use Rattle.meaning.specs.Integers.{is_integer_number}
 use Rattle.meaning.specs.Store.{Environment, Place, Store, part}
-use Rattle.abstract_state.specs.Holds.{HasNumber, HasValue, IsBound, IsIn, Moment, value_at}
+use Rattle.abstract_state.specs.Holds.{HasValue, IsBound, IsIn, Moment}
 use Rattle.abstract_state.specs.State.{integer}
 use Rattle.abstract_state.specs.Knows.{moment}
 use Rattle.leaf_rows.specs.Leaves.{Leaf, is_named, leaves_of}
-use Rattle.leaf_rows.specs.Rows.{all_parts, first_index, index_at, is_structured, no_parts, rows_accessed, rows_of}
-use Rattle.leaf_rows.specs.Rows.{Parts}
-use Rattle.component_states.specs.Components.{At, Defined, Entire, Index, Inside, Reach, Stretched, at_index, between, row_at, with_defined}
+use Rattle.leaf_rows.specs.Rows.{Parts, all_parts, first_index, index_at, rows_accessed, rows_of}
+use Rattle.leaf_rows.proofs.Accessed.{indexes-are}
+pub use Rattle.leaf_rows.proofs.Accessed.{RowsAre, rows-are}
+pub use Rattle.leaf_rows.proofs.Selected.{Matches}
+use Rattle.component_states.specs.Components.{At, Defined, Entire, Index, Inside, Reach, Stretch, Stretched, at_index, between, row_at, with_defined}
 use Rattle.component_states.specs.Holds.{HasComponent, IsOfRow, Knows}
 use Rattle.component_states.specs.States.{State, all_of_row, gives_component, gives_form, gives_index, gives_reached, gives_some, is_dead, over_components}
 use Rattle.component_states.specs.States.{range_stretch}
@@ -43,17 +44,6 @@ use Rattle.expression_checker.specs.Walk.{all_defined, all_joined, is_covered, r
 use Rattle.expression_checker.proofs.Sound.{alive, false-true}
 
 -- ---- what an access reaches
-
--- steps go the way of selectors: each index lies in the range of its test
-abbrev pub Matches : List Selector → List Step → Type 0
-Matches [] [] = Unit {0}
-Matches [] (s ∷ way) = ⊥
-Matches (selector ∷ selectors) [] = ⊥
-Matches (Element fits cells ∷ selectors) (step.Element index ∷ way) =
-    (fits.range.first ≤ℤ index) × (index ≤ℤ fits.range.last) × Matches selectors way
-Matches (Element fits cells ∷ selectors) (step.Field place ∷ way) = ⊥
-Matches (Field position offset ∷ selectors) (step.Element index ∷ way) = ⊥
-Matches (Field position offset ∷ selectors) (step.Field place ∷ way) = (position ≡ place) × Matches selectors way
 
 -- the first index on a way is a number of the range, and what its form says
 pub record IsIndexOn (env : Environment) (store : Store) (index : Index) (way : List Step) : Type 0 where
@@ -97,37 +87,6 @@ AreOf types (VariableOf access type_id cells defined) ranges numbers =
 pub record IsWhole (types : List Form) (value : Whole) (ranges : List Interval) (numbers : List ℤ) : Type 0 where
   pub integers : AreIntegers numbers
   pub told : AreOf types value ranges numbers
-
--- ---- rows
-
--- what an access of a type has of the rows under it
-pub record RowsAre (tree : Tree) (root : ℕ) (selectors : List Selector) (id : TypeId) : Type 0 where
-  -- each of them is one of the variable
-  pub root_is : (row : ℕ) → Contains (rows_accessed (rows_of tree) root selectors) row → (slice_index_or (all_parts tree) row no_parts).root ≡ root
-  -- each component of one lies on a way of the selectors, at a component of the type
-  pub lies : (row : ℕ) (steps : List Step) → Contains (rows_accessed (rows_of tree) root selectors) row → IsOfRow (all_parts tree) row steps
-      → (way rest : List Step) × (steps ≡ way ++ rest) × Matches selectors way × Contains (components_of tree.types id) rest
-  -- each component of the type on such a way is one of a row, in a variable that is structured
-  pub covers : (way rest : List Step) → (selectors ≡ [] → is_structured tree.types id ≡ true) → Matches selectors way
-      → Contains (components_of tree.types id) rest
-      → (row : ℕ) × Contains (rows_accessed (rows_of tree) root selectors) row × IsOfRow (all_parts tree) row (way ++ rest)
-  -- and the row is that of the leaf which names it
-  pub placed : (way rest : List Step) (j row : ℕ) (leaf : Leaf) → Matches selectors way → Contains (components_of tree.types id) rest
-      → slice_get (leaves_of tree.types id) j ≡ Some leaf → is_named leaf.steps rest ≡ true
-      → slice_get (rows_accessed (rows_of tree) root selectors) j ≡ Some row → IsOfRow (all_parts tree) row (way ++ rest)
-
--- the first index on the way to a component of a row is one of its values
-abbrev pub IndexesAre : Tree → Type 0
-IndexesAre tree =
-    (row : ℕ) (steps : List Step) (range : OrdinalRange) → IsOfRow (all_parts tree) row steps → index_at (rows_of tree) row ≡ Some range
-    → (index : ℤ) × (first_index steps ≡ Some index) × (range.first ≤ℤ index) × (index ≤ℤ range.last)
-
-pub rows-are : (tree : Tree) (root : ℕ) (selectors : List Selector) (id : TypeId)
-    → accesses.accessed tree.variables.items tree.types root selectors ≡ Some id → RowsAre tree root selectors id
-rows-are tree root selectors id leads = ?
-
-pub indexes-are : (tree : Tree) → IndexesAre tree
-indexes-are tree = ?
 
 -- ---- ways
 
@@ -203,7 +162,8 @@ module _ (tree : Tree) (roots : ℕ) (env : Environment) (state : State) (store 
       → gives_component state (Stretched (record { row = row; first = NumberBound from; last = NumberBound to })) ≡ true
       → HasComponent (all_parts tree) m row steps
   between-has row from to number steps of_row first low high is =
-      let holds = given-holds (all_parts tree) roots env state store (Stretched (record { row = row; first = NumberBound from; last = NumberBound to })) known is in
+      let stretch : Stretch = record { row = row; first = NumberBound from; last = NumberBound to } in
+      let holds = given-holds (all_parts tree) roots env state store (Stretched stretch) known is in
       holds.4 steps number of_row first (subst (λ (n : ℤ). n ≤ℤ number) holds.2 low) (subst (λ (n : ℤ). number ≤ℤ n) holds.3 high)
 
   -- all of a row
@@ -280,7 +240,8 @@ all_defined-known rows roots env store (row ∷ used) has state known =
     (over_components (λ of_variables components. with_defined row components) state)
     (record {
       variables = known.variables;
-      components = with_defined-holds rows (moment env store) state.components row (λ steps of_row. has row steps (0, omega arith, refl) of_row) known.components;
+      components = with_defined-holds rows (moment env store) state.components row
+          (λ steps of_row. has row steps (0, omega arith, refl) of_row) known.components;
     })
 
 -- where all components of the type that is reached have values

@@ -19,7 +19,8 @@ use Rattle.types.specs.declared.form.TypeForm.TheVariants as kept
 use Rattle.types.specs.declared.form.TypeId.{TypeId}
 use Rattle.leaf_rows.specs.declared.leaf.Way.{Way}
 use Rattle.leaf_rows.specs.declared.leaf.Way.TheVariants.{Direct, Indexed}
-use Rattle.leaf_rows.specs.Leaves.{Leaf, Leafed, behind_elements, behind_field, entry_leaves, fields_leaves, form_leaves, leaf_next, leafed, leaves_at, leaves_of}
+use Rattle.leaf_rows.specs.Leaves.{Leaf, Leafed, behind_elements, behind_field, entry_leaves, fields_leaves, form_leaves, leaf_next}
+use Rattle.leaf_rows.specs.Leaves.{leafed, leaves_at, leaves_of}
 use Rattle.leaf_rows.specs.Leaves.{range_at, scalar}
 use Rattle.leaf_rows.specs.View.{count_at, count_in, form_count, leaf_counts, own_type, part_count, part_leaves, ranges_on, way_behind}
 use Rattle.leaf_rows.proofs.Leafed.{leafed_before, leaves_before, leaves_not_before, leaves_of_form, leaves_of_none, range_before, range_not_before}
@@ -118,7 +119,8 @@ fields_of_parts : (types : List Form) (id : TypeId) (position : ℕ) (fields : L
     → length (fields_leaves (leafed_before types id) position fields) ≡ sum_by (λ field. part_count (leaf_counts types) (own_type id field.type_id)) fields
 fields_of_parts types id position [] = refl
 fields_of_parts types id position (field ∷ fields) =
-    length-append (map (behind_field position) (leaves_at (leafed_before types id) field.type_id)) (fields_leaves (leafed_before types id) (position + 1) fields)
+    length-append (map (behind_field position) (leaves_at (leafed_before types id) field.type_id))
+    (fields_leaves (leafed_before types id) (position + 1) fields)
     ∙ ap (λ n. n + length (fields_leaves (leafed_before types id) (position + 1) fields))
     (length-map (leaves_at (leafed_before types id) field.type_id) (behind_field position) ∙ ap length (part_before types id field.type_id)
     ∙ sym (part_counted types (own_type id field.type_id)))

@@ -4,3 +4,6 @@ pub mod Counted
 pub mod Variables
 pub mod Naming
 pub mod Components
+pub mod Selected
+pub mod Accessed
+pub mod Alike

@@ -23,7 +23,8 @@ NamesOn tree path rest id part =
 
 module _ (tree : Tree) (path : Path) (rest : List fact.Step) (id : TypeId) (part next : Option Part) where
   step_on : (step : fact.Step) (to : LeafStep) (last : TypeId)
-      → ((steps : List LeafStep) → next_named tree.types (record { steps = steps; type_id = id }) step ≡ Some (record { steps = steps ++ to ∷ []; type_id = last }))
+      → ((steps : List LeafStep) → next_named tree.types (record { steps = steps; type_id = id }) step
+      ≡ Some (record { steps = steps ++ to ∷ []; type_id = last }))
       → next ≡ next_part tree.types part to → NamesOn tree path (step ∷ rest) id part → NamesOn tree path rest last next
   step_on step to last named moved (steps, so_far, under) = (
     steps ++ to ∷ [],

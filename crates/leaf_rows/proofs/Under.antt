@@ -10,7 +10,8 @@ use Rattle.std.specs.Prelude.{slice_get}
 use Rattle.types.specs.Forms.{FieldForm}
 use Rattle.types.specs.declared.form.OrdinalRange.{OrdinalRange}
 use Rattle.types.proofs.Growing.{slice_get-left, slice_get-right}
-use Rattle.leaf_rows.specs.Leaves.{Leaf, Leafed, LeafStep, Elements, FieldAt, begins, behind_elements, behind_field, fields_leaves, leaves_at, same_step, scalar}
+use Rattle.leaf_rows.specs.Leaves.{Leaf, Leafed, LeafStep, Elements, FieldAt, begins, behind_elements, behind_field, fields_leaves}
+use Rattle.leaf_rows.specs.Leaves.{leaves_at, same_step, scalar}
 
 -- the numbers of the leaves under steps, the first leaf having a number
 abbrev pub leaves_under : List LeafStep → ℕ → List Leaf → List ℕ
@@ -86,10 +87,10 @@ elements_part index leaves = record {
       under_elements index rest number leaves ∙ ap (λ n. leaves_under rest n leaves) e;
   each = λ k leaf is.
       let e : 0 + k ≡ k = omega arith in (
-      behind_elements index leaf,
-      ap (slice_get (map (behind_elements index) leaves)) e ∙ slice_get-map (behind_elements index) leaves k ∙ ap (option_map (behind_elements index)) is,
-      refl,
-      refl,
+        behind_elements index leaf,
+        ap (slice_get (map (behind_elements index) leaves)) e ∙ slice_get-map (behind_elements index) leaves k ∙ ap (option_map (behind_elements index)) is,
+        refl,
+        refl,
       );
 }
 
@@ -106,7 +107,7 @@ under_own : (position : ℕ) (rest : List LeafStep) (number : ℕ) (leaves : Lis
 under_own position rest number [] = refl
 under_own position rest number (leaf ∷ leaves) =
     ap (λ b. cond (b && begins rest leaf.steps) (number ∷ leaves_under (FieldAt position ∷ rest) (suc number) (map (behind_field position) leaves))
-       (leaves_under (FieldAt position ∷ rest) (suc number) (map (behind_field position) leaves))) (eq-eqb position position refl)
+    (leaves_under (FieldAt position ∷ rest) (suc number) (map (behind_field position) leaves))) (eq-eqb position position refl)
     ∙ ap (λ l. cond (begins rest leaf.steps) (number ∷ l) l) (under_own position rest (suc number) leaves)
 
 under_other : (position other : ℕ) (rest : List LeafStep) (number : ℕ) (leaves : List Leaf) → eqb position other ≡ false
@@ -114,7 +115,7 @@ under_other : (position other : ℕ) (rest : List LeafStep) (number : ℕ) (leav
 under_other position other rest number [] apart = refl
 under_other position other rest number (leaf ∷ leaves) apart =
     ap (λ b. cond (b && begins rest leaf.steps) (number ∷ leaves_under (FieldAt position ∷ rest) (suc number) (map (behind_field other) leaves))
-       (leaves_under (FieldAt position ∷ rest) (suc number) (map (behind_field other) leaves))) apart
+    (leaves_under (FieldAt position ∷ rest) (suc number) (map (behind_field other) leaves))) apart
     ∙ under_other position other rest (suc number) leaves apart
 
 unequal : (a b : ℕ) → (a ≡ b → ⊥) → eqb a b ≡ false
@@ -145,7 +146,7 @@ module _ (before : List Leafed) where
   under_later position later (field ∷ fields) rest number h =
       under-append (FieldAt position ∷ rest) number (map (behind_field later) (leaves_at before field.type_id)) (fields_leaves before (later + 1) fields)
       ∙ ap (λ l. l ++ leaves_under (FieldAt position ∷ rest) (number + length (map (behind_field later) (leaves_at before field.type_id)))
-              (fields_leaves before (later + 1) fields))
+      (fields_leaves before (later + 1) fields))
       (under_other position later rest number (leaves_at before field.type_id) (unequal position later (λ e. omega (arith, e, h))))
       ∙ under_later position (later + 1) fields rest (number + length (map (behind_field later) (leaves_at before field.type_id))) (omega (arith, h))
 
@@ -157,7 +158,8 @@ module _ (before : List Leafed) where
       let e : position + 0 ≡ position = omega arith in
       let z : number ≡ number + 0 = omega arith in
       ap (λ p. leaves_under (FieldAt p ∷ rest) number (fields_leaves before position (first ∷ fields))) e
-      ∙ under-append (FieldAt position ∷ rest) number (map (behind_field position) (leaves_at before first.type_id)) (fields_leaves before (position + 1) fields)
+      ∙ under-append (FieldAt position ∷ rest) number (map (behind_field position) (leaves_at before first.type_id))
+      (fields_leaves before (position + 1) fields)
       ∙ ap (λ l. leaves_under (FieldAt position ∷ rest) number (map (behind_field position) (leaves_at before first.type_id)) ++ l)
       (under_later position (position + 1) fields rest (number + length (map (behind_field position) (leaves_at before first.type_id))) (omega arith))
       ∙ append-nil (leaves_under (FieldAt position ∷ rest) number (map (behind_field position) (leaves_at before first.type_id)))
@@ -168,14 +170,14 @@ module _ (before : List Leafed) where
       let all = length-map (leaves_at before first.type_id) (behind_field position) in
       let e : position + suc n ≡ (position + 1) + n = omega arith in
       let z : number + length (map (behind_field position) (leaves_at before first.type_id)) + skipped fields n
-              ≡ number + (length (leaves_at before first.type_id) + skipped fields n) = omega (arith, all) in
+      ≡ number + (length (leaves_at before first.type_id) + skipped fields n) = omega (arith, all) in
       under-append (FieldAt (position + suc n) ∷ rest) number (map (behind_field position) (leaves_at before first.type_id))
       (fields_leaves before (position + 1) fields)
       ∙ ap (λ l. l ++ leaves_under (FieldAt (position + suc n) ∷ rest) (number + length (map (behind_field position) (leaves_at before first.type_id)))
-              (fields_leaves before (position + 1) fields))
+      (fields_leaves before (position + 1) fields))
       (under_other (position + suc n) position rest number (leaves_at before first.type_id) (unequal (position + suc n) position (λ e. omega (arith, e))))
       ∙ ap (λ p. leaves_under (FieldAt p ∷ rest) (number + length (map (behind_field position) (leaves_at before first.type_id)))
-              (fields_leaves before (position + 1) fields)) e
+      (fields_leaves before (position + 1) fields)) e
       ∙ under_field (position + 1) n fields field rest (number + length (map (behind_field position) (leaves_at before first.type_id))) is
       ∙ ap (λ n. leaves_under rest n (leaves_at before field.type_id)) z
 
@@ -187,9 +189,9 @@ module _ (before : List Leafed) where
       let e : 0 + k ≡ k = omega arith in
       let p : position ≡ position + 0 = omega arith in
       let own : slice_get (leaves_at before first.type_id) k ≡ Some leaf =
-          ap (λ (f : FieldForm). slice_get (leaves_at before f.type_id) k) (same_Some first field is) ∙ at in
+      ap (λ (f : FieldForm). slice_get (leaves_at before f.type_id) k) (same_Some first field is) ∙ at in
       let mapped : slice_get (map (behind_field position) (leaves_at before first.type_id)) k ≡ Some (behind_field position leaf) =
-          slice_get-map (behind_field position) (leaves_at before first.type_id) k ∙ ap (option_map (behind_field position)) own in
+      slice_get-map (behind_field position) (leaves_at before first.type_id) k ∙ ap (option_map (behind_field position)) own in
       ap (slice_get (fields_leaves before position (first ∷ fields))) e
       ∙ slice_get-left (map (behind_field position) (leaves_at before first.type_id)) (fields_leaves before (position + 1) fields) k
       (slice_get_within (map (behind_field position) (leaves_at before first.type_id)) k (behind_field position leaf) mapped)
@@ -197,7 +199,7 @@ module _ (before : List Leafed) where
   field_each position (suc n) (first ∷ fields) field k leaf is at =
       let all = length-map (leaves_at before first.type_id) (behind_field position) in
       let e : length (leaves_at before first.type_id) + skipped fields n + k
-              ≡ length (map (behind_field position) (leaves_at before first.type_id)) + (skipped fields n + k) = omega (arith, all) in
+      ≡ length (map (behind_field position) (leaves_at before first.type_id)) + (skipped fields n + k) = omega (arith, all) in
       let p : (position + 1) + n ≡ position + suc n = omega arith in
       ap (slice_get (fields_leaves before position (first ∷ fields))) e
       ∙ slice_get-right (map (behind_field position) (leaves_at before first.type_id)) (fields_leaves before (position + 1) fields) (skipped fields n + k)
@@ -225,10 +227,10 @@ module _ (before : List Leafed) where
       under-append (FieldAt (position + suc n) ∷ rest) number (map (behind_field position) (leaves_at before first.type_id))
       (fields_leaves before (position + 1) fields)
       ∙ ap (λ l. l ++ leaves_under (FieldAt (position + suc n) ∷ rest) (number + length (map (behind_field position) (leaves_at before first.type_id)))
-              (fields_leaves before (position + 1) fields))
+      (fields_leaves before (position + 1) fields))
       (under_other (position + suc n) position rest number (leaves_at before first.type_id) (unequal (position + suc n) position (λ e. omega (arith, e))))
       ∙ ap (λ p. leaves_under (FieldAt p ∷ rest) (number + length (map (behind_field position) (leaves_at before first.type_id)))
-              (fields_leaves before (position + 1) fields)) e
+      (fields_leaves before (position + 1) fields)) e
       ∙ no_field_from (position + 1) n fields rest (number + length (map (behind_field position) (leaves_at before first.type_id))) is
 
   pub no_field : (n : ℕ) (fields : List FieldForm) (rest : List LeafStep) (number : ℕ) → slice_get fields n ≡ None
@@ -243,7 +245,7 @@ module _ (before : List Leafed) where
   no_elements_from position (field ∷ fields) rest number =
       under-append (Elements ∷ rest) number (map (behind_field position) (leaves_at before field.type_id)) (fields_leaves before (position + 1) fields)
       ∙ ap (λ l. l ++ leaves_under (Elements ∷ rest) (number + length (map (behind_field position) (leaves_at before field.type_id)))
-              (fields_leaves before (position + 1) fields)) (none number (leaves_at before field.type_id))
+      (fields_leaves before (position + 1) fields)) (none number (leaves_at before field.type_id))
       ∙ no_elements_from (position + 1) fields rest (number + length (map (behind_field position) (leaves_at before field.type_id)))
     where
       none : (number : ℕ) (leaves : List Leaf) → leaves_under (Elements ∷ rest) number (map (behind_field position) leaves) ≡ []

@@ -19,7 +19,8 @@ use Rattle.leaf_rows.specs.declared.part.Part.{Part}
 use Rattle.leaf_rows.specs.declared.leaf.RowRanges.{RowRanges}
 use Rattle.leaf_rows.specs.Leaves.{Leaf, LeafStep, Elements, FieldAt, begins, behind_elements, fields_leaves, leaves_at, leaves_of, range_at, scalar}
 use Rattle.leaf_rows.specs.Rows.{Row, is_structured, rows_of, rows_under, is_under, numbers_where, rows_from, variable_rows}
-use Rattle.leaf_rows.specs.View.{AreKept, count_at, end_of, field_part, firsts_from, form_part, leaf_counts, next_part, own_type, part_by, part_count, part_leaves, part_rows}
+use Rattle.leaf_rows.specs.View.{AreKept, count_at, end_of, field_part, firsts_from, form_part, leaf_counts, next_part, own_type}
+use Rattle.leaf_rows.specs.View.{part_by, part_count, part_leaves, part_rows}
 use Rattle.leaf_rows.specs.View.{ranges_of, rows_count, typed_part, variable_part, variable_ranges}
 use Rattle.leaf_rows.proofs.Leafed.{leafed_before, leaves_of_form, leaves_of_none}
 use Rattle.leaf_rows.proofs.Counted.{array_counted, part_before, part_counted, record_counted, type_counted}
@@ -52,7 +53,7 @@ numbers_of_own : (root : ℕ) (steps : List LeafStep) (number : ℕ) (leaves : L
 numbers_of_own root steps number [] = refl
 numbers_of_own root steps number (leaf ∷ leaves) =
     ap (λ b. cond (b && begins steps leaf.steps) (number ∷ numbers_where (is_under root steps) (suc number) (map (row_of root) leaves))
-        (numbers_where (is_under root steps) (suc number) (map (row_of root) leaves))) (eq-eqb root root refl)
+    (numbers_where (is_under root steps) (suc number) (map (row_of root) leaves))) (eq-eqb root root refl)
     ∙ ap (λ l. cond (begins steps leaf.steps) (number ∷ l) l) (numbers_of_own root steps (suc number) leaves)
 
 numbers_of_other : (root other : ℕ) (steps : List LeafStep) (number : ℕ) (leaves : List Leaf) → eqb other root ≡ false
@@ -60,7 +61,7 @@ numbers_of_other : (root other : ℕ) (steps : List LeafStep) (number : ℕ) (le
 numbers_of_other root other steps number [] apart = refl
 numbers_of_other root other steps number (leaf ∷ leaves) apart =
     ap (λ b. cond (b && begins steps leaf.steps) (number ∷ numbers_where (is_under root steps) (suc number) (map (row_of other) leaves))
-        (numbers_where (is_under root steps) (suc number) (map (row_of other) leaves))) apart
+    (numbers_where (is_under root steps) (suc number) (map (row_of other) leaves))) apart
     ∙ numbers_of_other root other steps (suc number) leaves apart
 
 unequal : (a b : ℕ) → (a ≡ b → ⊥) → eqb a b ≡ false
@@ -135,7 +136,8 @@ module _ (types : List Form) where
   under_variable from (suc root) steps number (variable ∷ variables) =
       let e : from + suc root ≡ suc from + root = omega arith in
       numbers-append (is_under (from + suc root) steps) number (variable_rows types from variable) (rows_from types (suc from) variables)
-      ∙ ap (λ l. l ++ numbers_where (is_under (from + suc root) steps) (number + length (variable_rows types from variable)) (rows_from types (suc from) variables))
+      ∙ ap (λ l. l ++ numbers_where (is_under (from + suc root) steps) (number + length (variable_rows types from variable))
+      (rows_from types (suc from) variables))
       (other_variable (from + suc root) from steps number variable (unequal from (from + suc root) (λ e. omega (arith, e))))
       ∙ ap (λ r. numbers_where (is_under r steps) (number + length (variable_rows types from variable)) (rows_from types (suc from) variables)) e
       ∙ ap (λ n. numbers_where (is_under (suc from + root) steps) (number + n) (rows_from types (suc from) variables)) (length_variable from variable)
@@ -183,7 +185,7 @@ module _ (types : List Form) where
       let own = part_counted types (own_type id f.type_id) in
       let same = ap length (part_before types id f.type_id) in
       let e : first + part_count (leaf_counts types) (own_type id f.type_id) + skipped (leafed_before types id) fields n
-          ≡ first + (length (leaves_at (leafed_before types id) f.type_id) + skipped (leafed_before types id) fields n) = omega (arith, own, same) in
+      ≡ first + (length (leaves_at (leafed_before types id) f.type_id) + skipped (leafed_before types id) fields n) = omega (arith, own, same) in
       fields_under id (first + part_count (leaf_counts types) (own_type id f.type_id)) fields n rest position number field is
       ∙ ap (λ n. Some (record { first = n; type_id = own_type id field.type_id })) e
 
@@ -269,7 +271,8 @@ module _ (types : List Form) where
       omega (arith, own, ends)
   form_ends id first form is step = omega arith
 
-  typed_ends : (first : ℕ) (part : Option TypeId) (step : LeafStep) → end_of types (typed_part types first part step) ≤ first + part_count (leaf_counts types) part
+  typed_ends : (first : ℕ) (part : Option TypeId) (step : LeafStep) → end_of types (typed_part types first part step)
+      ≤ first + part_count (leaf_counts types) part
   typed_ends first None step = omega arith
   typed_ends first (Some id) step = form_ends id first (form_at types id) refl step
 
@@ -279,7 +282,8 @@ module _ (types : List Form) where
 
   -- ---- as they are built
 
-  pub ranges_of_variable : (root : ℕ) (variable : Variable) → map (λ row. ranges_of row.leaf) (variable_rows types root variable) ≡ variable_ranges types variable
+  pub ranges_of_variable : (root : ℕ) (variable : Variable) → map (λ row. ranges_of row.leaf) (variable_rows types root variable)
+      ≡ variable_ranges types variable
   ranges_of_variable root variable = by (is_structured types variable.type_id)
     where
       all : (leaves : List Leaf) → map (λ row. ranges_of row.leaf) (map (row_of root) leaves) ≡ map ranges_of leaves
@@ -312,7 +316,7 @@ module _ (types : List Form) where
       let all = length-append (variable_ranges types v) (flat_map (variable_ranges types) variables) in
       let own = length_ranges v in
       let e : first + rows_count types v + length (flat_map (variable_ranges types) variables)
-          ≡ first + length (variable_ranges types v ++ flat_map (variable_ranges types) variables) = omega (arith, all, own) in
+      ≡ first + length (variable_ranges types v ++ flat_map (variable_ranges types) variables) = omega (arith, all, own) in
       ap (λ l. first ∷ l) (firsts_push (first + rows_count types v) variables variable)
       ∙ ap (λ n. first ∷ (firsts_from types (first + rows_count types v) variables ++ n ∷ [])) e
 
@@ -338,4 +342,5 @@ ends_kept tree counts firsts rows kept root =
 pub found_kept : (tree : Tree) (counts firsts : List ℕ) (rows : List RowRanges) → AreKept tree counts firsts rows → (root : ℕ)
     → part_by tree.types (slice_get tree.variables.items root) (slice_get firsts root) ≡ variable_part tree.types 0 tree.variables.items root
 found_kept tree counts firsts rows kept root =
-    ap (λ l. part_by tree.types (slice_get tree.variables.items root) (slice_get l root)) kept.firsts_are ∙ sym (by_tables tree.types 0 tree.variables.items root)
+    ap (λ l. part_by tree.types (slice_get tree.variables.items root) (slice_get l root)) kept.firsts_are
+    ∙ sym (by_tables tree.types 0 tree.variables.items root)

@@ -1,5 +1,5 @@
--- The rows of a program as programs keep them: how many leaves each type has, where the rows of each variable begin, and
--- the ranges of each row. It says nothing of what the components of a row hold.
+-- The rows of a program as programs keep them: how many leaves each type has, where the rows of each variable begin,
+-- and the ranges of each row. It says nothing of what the components of a row hold.
 use Rattle.std.specs.Prelude.{◌≡◌, ℕ, zero, suc, ◌+◌, ◌<◌, ◌^◌, List, [], ◌∷◌, length, map, Option, Some, None}
 use Rattle.std.specs.Prelude.{if◌then◌else◌, nat_lt, slice_get, sum_by}
 use Rattle.std.specs.List.{range_with_len}

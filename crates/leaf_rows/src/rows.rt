@@ -2,7 +2,8 @@ ghost use Rattle.std.specs.Prelude.{◌≡◌, ◌<◌, ◌^◌, ◌++◌, [], I
 ghost use Rattle.typed_tree.specs.declared.tree.Tree.{Tree};
 ghost use Rattle.certificate.specs.Contents.{said_path};
 ghost use Rattle.leaf_rows.specs.Leaves.{Elements, FieldAt};
-ghost use Rattle.leaf_rows.specs.Rows.{index_at, is_structured, leaf_step, part_named, rows_accessed, rows_of, rows_under};
+ghost use Rattle.leaf_rows.specs.Rows.{index_at, is_structured, leaf_step, part_named, rows_accessed};
+ghost use Rattle.leaf_rows.specs.Rows.{rows_of, rows_under};
 ghost use Rattle.leaf_rows.specs.Rows.{values_at};
 ghost use Rattle.leaf_rows.specs.View.{AreKept, IsAnswerOf, end_of, next_part, numbers, part_by, part_rows};
 ghost use Rattle.leaf_rows.specs.View.{variable_part, variable_ranges};
@@ -253,11 +254,7 @@ fn first_at(firsts: &[u32], root: u32) -> Option<u32>
 }
 
 // A variable, if it is structured, by its first row.
-fn variable_part(
-    types: &TypeTable,
-    variable: Option<Variable>,
-    first: Option<u32>,
-) -> Option<Part>
+fn variable_part(types: &TypeTable, variable: Option<Variable>, first: Option<u32>) -> Option<Part>
     ensures { result ≡ part_by types.now variable first }
 {
     let variable = variable?;

@@ -14,9 +14,7 @@ ghost use Rattle.structured_states.specs.Loops.{gives_claims, head_of, limits_at
 ghost use Rattle.structured_states.specs.Loops.{row_limits, touched, type_limits};
 ghost use Rattle.structured_states.specs.View.{AreFound, head_round, is_own, kept_round, said_claims};
 
-use crate::kept_claims::{
-    component_facts, components_are_given, plain_are_given, plain_facts,
-};
+use crate::kept_claims::{component_facts, components_are_given, plain_are_given, plain_facts};
 use abstract_state::limits;
 use certificate::{Certificate, Fact as Claim, LoopClaims};
 use component_states::{ComponentFact, State};
@@ -96,7 +94,8 @@ impl<'a> Round<'a> {
     pub fn is_given(&self, state: &State, rows: &Rows) -> bool
         ensures { result ≡ gives_claims rows.now (viewed state.now) (said_claims self.now.claims).facts }
     {
-        plain_are_given(state, rows.tree(), self.facts()) && components_are_given(state, rows, self.facts())
+        plain_are_given(state, rows.tree(), self.facts())
+            && components_are_given(state, rows, self.facts())
     }
 
     /// Brings a state to its head.

@@ -19,8 +19,8 @@ pub loop-step-init : goal.loop-step-init
 loop-step-init c =
     let tree : Tree = c.args.self.now in
     let there : slice_get tree.variables.items c.args.path.now.root ≡ Some c.in_ok-type_id.field-0 =
-        ap (λ (l : List Variable). slice_get l c.args.path.now.root) (sym (c.deref.ensures.value ∙ ap (λ (t : Tree). t.variables.items) c.self.view_is))
-        ∙ sym c.in_ok-type_id.ensures in
+    ap (λ (l : List Variable). slice_get l c.args.path.now.root) (sym (c.deref.ensures.value ∙ ap (λ (t : Tree). t.variables.items) c.self.view_is))
+    ∙ sym c.in_ok-type_id.ensures in
     record {
       fits = c.variable-part.ensures.fits;
       so_far = (
@@ -36,40 +36,41 @@ loop-step-preserved c =
     let n = c.loop-step.step-index in
     let items : List Step = c.args.path.now.steps.items in
     let next : drop n items ≡ c.step-item.result ∷ drop (n + 1) items =
-        subst (λ (l : List Step). drop n l ≡ c.step-item.result ∷ drop (n + 1) l) c.deref-step-items.ensures.value
-        (drop_more c.deref-step-items.result.now n c.step-item.result c.loop-step-test.true
-        ∙ ap (λ x. x ∷ drop (n + 1) c.deref-step-items.result.now) (sym c.step-item.is)) in
-    let so_far : NamesOn tree (said_path c.args.path.now) (said_step c.step-item.result ∷ map said_step (drop (n + 1) items)) c.loop-step.type_id c.loop-step.part =
-        subst (λ l. NamesOn tree (said_path c.args.path.now) (map said_step l) c.loop-step.type_id c.loop-step.part) next c.loop-step.invariant.so_far in
+    subst (λ (l : List Step). drop n l ≡ c.step-item.result ∷ drop (n + 1) l) c.deref-step-items.ensures.value
+    (drop_more c.deref-step-items.result.now n c.step-item.result c.loop-step-test.true
+    ∙ ap (λ x. x ∷ drop (n + 1) c.deref-step-items.result.now) (sym c.step-item.is)) in
+    let so_far : NamesOn tree (said_path c.args.path.now) (said_step c.step-item.result ∷ map said_step (drop (n + 1) items))
+    c.loop-step.type_id c.loop-step.part =
+    subst (λ l. NamesOn tree (said_path c.args.path.now) (map said_step l) c.loop-step.type_id c.loop-step.part) next c.loop-step.invariant.so_far in
     let path = said_path c.args.path.now in
     let rest = map said_step (drop (n + 1) items) in
     elim c.match-step.branch [
-      in-Element+in_ok-type_id-in-Element w ↦
-        let e = w.in_ok-type_id-in-Element.field-0 in
-        let found : element_of tree.types c.loop-step.type_id ≡ Some e =
-            ap (λ (t : Tree). element_of t.types c.loop-step.type_id) (sym c.self.view_is) ∙ sym w.in_ok-type_id-in-Element.ensures in
-        let names : NamesOn tree path (fact.Elements ∷ rest) c.loop-step.type_id c.loop-step.part =
-            subst (λ (s : Step). NamesOn tree path (said_step s ∷ rest) c.loop-step.type_id c.loop-step.part) w.in-Element.is so_far in
-        record {
-          fits = subst (λ part. end_of tree.types part < 2 ^ 32) (sym w.part-is) w.elements-part.ensures.fits;
-          so_far =
-              subst (λ id. NamesOn tree path rest id c.match-step.part) (sym w.type_id-is)
-              (element_on tree path rest c.loop-step.type_id c.loop-step.part c.match-step.part e found (w.part-is ∙ w.elements-part.ensures.part) names);
-        }
-    | in-Field+in_ok-field-in-Field w ↦
-        let f = w.in_ok-field-in-Field.field in
-        let name : List ℕ = w.in-Field.name.items in
-        let found : field_of tree.types c.loop-step.type_id name ≡ Some f =
-            ap (λ (t : Tree). field_of t.types c.loop-step.type_id name) (sym c.self.view_is)
-            ∙ ap (field_of c.self.inside.tree.now.types c.loop-step.type_id) (sym w.deref-in-Field.ensures.value) ∙ sym w.in_ok-field-in-Field.ensures in
-        let names : NamesOn tree path (fact.Field name ∷ rest) c.loop-step.type_id c.loop-step.part =
-            subst (λ (s : Step). NamesOn tree path (said_step s ∷ rest) c.loop-step.type_id c.loop-step.part) w.in-Field.is so_far in
-        record {
-          fits = subst (λ part. end_of tree.types part < 2 ^ 32) (sym w.part-is) w.field-part.ensures.fits;
-          so_far =
-              subst (λ id. NamesOn tree path rest id c.match-step.part) (sym w.type_id-is)
-              (field_on tree path rest c.loop-step.type_id c.loop-step.part c.match-step.part name f found (w.part-is ∙ w.field-part.ensures.part) names);
-        }
+      | in-Element+in_ok-type_id-in-Element w ↦
+          let e = w.in_ok-type_id-in-Element.field-0 in
+          let found : element_of tree.types c.loop-step.type_id ≡ Some e =
+          ap (λ (t : Tree). element_of t.types c.loop-step.type_id) (sym c.self.view_is) ∙ sym w.in_ok-type_id-in-Element.ensures in
+          let names : NamesOn tree path (fact.Elements ∷ rest) c.loop-step.type_id c.loop-step.part =
+          subst (λ (s : Step). NamesOn tree path (said_step s ∷ rest) c.loop-step.type_id c.loop-step.part) w.in-Element.is so_far in
+          record {
+            fits = subst (λ part. end_of tree.types part < 2 ^ 32) (sym w.part-is) w.elements-part.ensures.fits;
+            so_far =
+                subst (λ id. NamesOn tree path rest id c.match-step.part) (sym w.type_id-is)
+                (element_on tree path rest c.loop-step.type_id c.loop-step.part c.match-step.part e found (w.part-is ∙ w.elements-part.ensures.part) names);
+          }
+      | in-Field+in_ok-field-in-Field w ↦
+          let f = w.in_ok-field-in-Field.field in
+          let name : List ℕ = w.in-Field.name.items in
+          let found : field_of tree.types c.loop-step.type_id name ≡ Some f =
+          ap (λ (t : Tree). field_of t.types c.loop-step.type_id name) (sym c.self.view_is)
+          ∙ ap (field_of c.self.inside.tree.now.types c.loop-step.type_id) (sym w.deref-in-Field.ensures.value) ∙ sym w.in_ok-field-in-Field.ensures in
+          let names : NamesOn tree path (fact.Field name ∷ rest) c.loop-step.type_id c.loop-step.part =
+          subst (λ (s : Step). NamesOn tree path (said_step s ∷ rest) c.loop-step.type_id c.loop-step.part) w.in-Field.is so_far in
+          record {
+            fits = subst (λ part. end_of tree.types part < 2 ^ 32) (sym w.part-is) w.field-part.ensures.fits;
+            so_far =
+                subst (λ id. NamesOn tree path rest id c.match-step.part) (sym w.type_id-is)
+                (field_on tree path rest c.loop-step.type_id c.loop-step.part c.match-step.part name f found (w.part-is ∙ w.field-part.ensures.part) names);
+          }
     ]
 
 pub returns : goal.returns

@@ -22,9 +22,9 @@ loop-variable-preserved c =
     let so_far = c.loop-variable.invariant in
     let item = slice_index_or all n no_variable in
     let more : take (n + 1) all ≡ take n all ++ item ∷ [] =
-        take_more all n no_variable (subst (λ (l : List Variable). n < length l) c.deref-variable-items.ensures.value c.loop-variable-test.true) in
+    take_more all n no_variable (subst (λ (l : List Variable). n < length l) c.deref-variable-items.ensures.value c.loop-variable-test.true) in
     let count : c.in_ok-row_number.field-0 ≡ 0 + length (flat_map (variable_ranges types) (take n all)) =
-        omega (arith, c.in_ok-row_number.ensures.number, c.len.ensures, c.loop-variable.rows.ok.0, ap length so_far.rows) in
+    omega (arith, c.in_ok-row_number.ensures.number, c.len.ensures, c.loop-variable.rows.ok.0, ap length so_far.rows) in
     record {
       firsts =
           c.in_ok-push.ensures.items ∙ ap (λ l. l ++ c.in_ok-row_number.field-0 ∷ []) so_far.firsts
@@ -45,7 +45,7 @@ invariant_of-result c =
     let n = c.loop-variable.variable-index in
     let so_far = c.loop-variable.invariant in
     let past : take n all ≡ all = all_taken all n (slice_get_past all n
-        (subst (λ (l : List Variable). length l ≤ n) c.deref-variable-items.ensures.value c.loop-variable-test.false)) in
+    (subst (λ (l : List Variable). length l ≤ n) c.deref-variable-items.ensures.value c.loop-variable-test.false)) in
     record {
       counts_are = c.in_ok-counts.ensures;
       firsts_are = so_far.firsts ∙ ap (firsts_from types 0) past;

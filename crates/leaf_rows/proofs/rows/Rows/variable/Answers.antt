@@ -22,12 +22,12 @@ returns-clause-fits c =
     let tree : Tree = c.self.inside.tree.now in
     let root = c.args.root in
     let same =
-        c.variable_part.ensures
-        ∙ ap (λ variable. part_by tree.types variable c.first_at.result)
-        (c.variable_at.ensures ∙ ap (λ (l : List Variable). slice_get l root) c.deref.ensures.value)
-        ∙ ap (part_by tree.types (slice_get tree.variables.items root)) (c.first_at.ensures ∙ ap (λ (l : List ℕ). slice_get l root) c.deref-2.ensures.value)
-        ∙ found_kept tree c.self.inside.counts.items c.self.inside.firsts.items c.self.inside.rows.items c.self.invariant root in
+    c.variable_part.ensures
+    ∙ ap (λ variable. part_by tree.types variable c.first_at.result)
+    (c.variable_at.ensures ∙ ap (λ (l : List Variable). slice_get l root) c.deref.ensures.value)
+    ∙ ap (part_by tree.types (slice_get tree.variables.items root)) (c.first_at.ensures ∙ ap (λ (l : List ℕ). slice_get l root) c.deref-2.ensures.value)
+    ∙ found_kept tree c.self.inside.counts.items c.self.inside.firsts.items c.self.inside.rows.items c.self.invariant root in
     let here : end_of tree.types c.variable_part.result < 2 ^ 32 =
-        subst (λ part. end_of tree.types part < 2 ^ 32) (sym same)
-        (ends_kept tree c.self.inside.counts.items c.self.inside.firsts.items c.self.inside.rows.items c.self.invariant root) in
+    subst (λ part. end_of tree.types part < 2 ^ 32) (sym same)
+    (ends_kept tree c.self.inside.counts.items c.self.inside.firsts.items c.self.inside.rows.items c.self.invariant root) in
     subst (λ (t : Tree). end_of t.types c.variable_part.result < 2 ^ 32) c.self.view_is here
