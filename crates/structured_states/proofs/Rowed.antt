@@ -1,21 +1,17 @@
 -- What claims say of components, row by row.
-use Rattle.std.proofs.Common.{arith, ◌≡◌, ◌∙◌, sym, ap, refl, ℕ, suc, ◌+◌, ◌-◌, ◌<◌, Bool, true, false, ◌&&◌, ◌||◌, List, [], ◌∷◌, ◌++◌, append_assoc}
-use Rattle.std.proofs.Common.{Option, Some, None, length, map, take, drop, drop-cons, add-one, get_or}
-use Rattle.std.proofs.lemmas.List.{append-nil}
-use Rattle.std.proofs.lemmas.Grind.{flat_map-append}
-use Rattle.std.specs.List.{cons_option, filter_map, list_all, list_any, range_with_len}
+use Rattle.std.proofs.Common.{arith, ◌≡◌, ◌∙◌, sym, ap, refl, ℕ, suc, ◌+◌, ◌-◌, ◌<◌, Bool, true, false, ◌&&◌, List, [], ◌∷◌, ◌++◌, append_assoc}
+use Rattle.std.proofs.Common.{Option, Some, None, length, map, drop, drop-cons, add-one, get_or}
+use Rattle.std.specs.List.{cons_option, filter_map, list_all, range_with_len}
 use Rattle.typed_tree.specs.declared.tree.Tree.{Tree}
 use Rattle.certificate.specs.declared.facts.Fact.{Fact as KeptFact}
-use Rattle.certificate.specs.declared.facts.Step.{Step as KeptStep}
-use Rattle.certificate.specs.Contents.{said_fact, said_step}
+use Rattle.certificate.specs.Contents.{said_fact}
 use Rattle.domain.specs.Facts.{Fact, Range, Defined, Stretch, Order}
 use Rattle.domain.specs.Interval.{Interval}
 use Rattle.leaf_rows.specs.Rows.{Row, rows_touched, rows_under}
 use Rattle.component_states.specs.Components.{ComponentFact, Components, with_range, with_touched}
 use Rattle.component_states.specs.States.{State, gives_component, gives_components, over_components}
-use Rattle.structured_states.specs.Loops.{component_claims, component_facts, is_elements}
+use Rattle.structured_states.specs.Loops.{component_claims, component_facts}
 use Rattle.structured_states.specs.View.{row_claim, rows_claimed}
-use Rattle.structured_states.proofs.Claims.{mapped-more}
 
 -- ---- rows with consecutive numbers
 
@@ -28,12 +24,6 @@ rows-next row last before = let e : last - row ≡ suc (last - (row + 1)) = omeg
 
 pub rows-all : (first count last : ℕ) → last ≡ first + count → rows_to first last ≡ range_with_len first count
 rows-all first count last is = let e : last - first ≡ count = omega arith in ap (range_with_len first) e
-
--- ---- paths
-
-pub any_said : (steps : List KeptStep) → list_any is_elements (map said_step steps) ≡ list_any (λ step. is_elements (said_step step)) steps
-any_said [] = refl
-any_said (step ∷ steps) = ap (λ rest. is_elements (said_step step) || rest) (any_said steps)
 
 -- ---- what a claim says of each row
 

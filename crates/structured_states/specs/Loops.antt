@@ -1,8 +1,8 @@
 -- What a certificate claims of a loop, and what the checker goes by where a turn of it begins (ISO 7185:1990, 6.8.3.6).
 -- It does not say that a loop keeps to that.
-use Rattle.std.specs.Prelude.{ℕ, List, [], ◌∷◌, ◌++◌, Option, Some, None, Bool, true, false, not, ◌&&◌, if◌then◌else◌}
+use Rattle.std.specs.Prelude.{ℕ, List, [], ◌∷◌, ◌++◌, Option, Some, None, Bool, false, not, ◌&&◌, if◌then◌else◌}
 use Rattle.std.specs.Prelude.{filter, flat_map, map, nat_eq, length, slice_get, slice_index_or}
-use Rattle.std.specs.List.{filter_map, list_all, list_any, range_with_len}
+use Rattle.std.specs.List.{filter_map, list_all, range_with_len}
 use Rattle.types.specs.declared.form.OrdinalRange.{OrdinalRange}
 use Rattle.types.specs.Forms.{Form}
 use Rattle.types.specs.Types.{is_ordinal, range_of}
@@ -12,7 +12,7 @@ use Rattle.typed_tree.specs.declared.tree.Variable.{Variable}
 use Rattle.certificate.specs.declared.Certificate.{Certificate}
 use Rattle.certificate.specs.Contents.{LoopClaims, Section, contents}
 use Rattle.domain.specs.Interval.{Interval, vacant}
-use Rattle.domain.specs.Facts.{Path, Step, Elements, Field, Fact, Range, Defined, Stretch, Order}
+use Rattle.domain.specs.Facts.{Path, Fact, Range, Defined, Stretch, Order}
 use Rattle.abstract_state.specs.State.{integer, is_entire, limits_of}
 use Rattle.abstract_state.specs.Loops as variables
 use Rattle.abstract_state.specs.Loops.{gives_all, is_among}
@@ -62,27 +62,13 @@ rows_in tree root (Some named) = rows_under (rows_of tree) root named.steps
 abbrev pub rows_named : Tree → Path → List ℕ
 rows_named tree path = rows_in tree path.root (part_named tree path)
 
--- a path leads through elements
-abbrev pub is_elements : Step → Bool
-is_elements Elements = true
-is_elements (Field name) = false
-
-abbrev pub passes_elements : Path → Bool
-passes_elements path = list_any is_elements path.steps
-
--- what a claim of a stretch says of a row: of first indexes alone it is known between which bounds they lie, so behind
--- an element it is one of all of the row
-abbrev pub stretch_claim : Tree → Path → components.Stretch → ComponentFact
-stretch_claim tree path stretch =
-    if passes_elements path then all_of_row (index_at (rows_of tree) stretch.row) stretch.row else Stretched stretch
-
 -- what a claim says of the rows of components that it names
 abbrev pub component_claims : Tree → Fact → List ComponentFact
 component_claims tree (Range path range) = map (λ row. components.Range row range) (rows_named tree path)
 component_claims tree (Defined path) =
     map (λ row. all_of_row (index_at (rows_of tree) row) row) (rows_named tree path)
 component_claims tree (Stretch path first last) =
-    map (λ row. stretch_claim tree path (record { row = row; first = first; last = last })) (rows_named tree path)
+    map (λ row. Stretched (record { row = row; first = first; last = last })) (rows_named tree path)
 component_claims tree (Order root other number) = []
 
 abbrev pub component_facts : Tree → List Fact → List ComponentFact

@@ -7,14 +7,14 @@ use Rattle.domain.specs.Facts.{Fact, Range, Defined, Stretch, Order}
 use Rattle.abstract_state.specs.State.{State, gives_fact}
 use Rattle.leaf_rows.specs.Rows.{index_at, rows_of}
 use Rattle.component_states.specs.Components as components
-use Rattle.component_states.specs.Components.{ComponentFact}
+use Rattle.component_states.specs.Components.{ComponentFact, Stretched}
 use Rattle.component_states.specs.States.{all_of_row}
 use Rattle.typed_tree.specs.declared.tree.Tree.{Tree}
 use Rattle.abstract_state.specs.View.{said_form}
 use Rattle.structured_states.specs.declared.rounds.Round.{Round as KeptRound}
 use Rattle.structured_states.specs.declared.ways.End.{End as KeptEnd}
 use Rattle.structured_states.specs.declared.ways.Way.{Way as KeptWay}
-use Rattle.structured_states.specs.Loops.{Claims, Round, claims_of, or_else, rows_named, stretch_claim}
+use Rattle.structured_states.specs.Loops.{Claims, Round, claims_of, or_else, rows_named}
 use Rattle.structured_states.specs.Loops.{with_own, without_own}
 use Rattle.structured_states.specs.Ways.{End, Way}
 
@@ -36,8 +36,7 @@ gives_some state (Some fact) = gives_fact state fact
 abbrev pub row_claim : Tree → Fact → ℕ → Option ComponentFact
 row_claim tree (Range path range) row = Some (components.Range row range)
 row_claim tree (Defined path) row = Some (all_of_row (index_at (rows_of tree) row) row)
-row_claim tree (Stretch path first last) row =
-    Some (stretch_claim tree path (record { row = row; first = first; last = last }))
+row_claim tree (Stretch path first last) row = Some (Stretched (record { row = row; first = first; last = last }))
 row_claim tree (Order root other number) row = None
 
 -- the rows that it names

@@ -1,17 +1,16 @@
 ghost use Rattle.std.specs.Prelude.{◌≡◌, ◌++◌, IfOk, map};
-ghost use Rattle.std.specs.List.{list_all, list_any};
+ghost use Rattle.std.specs.List.{list_all};
 ghost use Rattle.std.specs.Option.{option_map};
 ghost use Rattle.domain.specs.Facts.{said};
-ghost use Rattle.component_states.specs.View.{said_component, said_stretch, viewed};
+ghost use Rattle.component_states.specs.View.{said_component, viewed};
 ghost use Rattle.component_states.specs.States.{gives_components};
-ghost use Rattle.certificate.specs.Contents.{said_fact, said_path, said_step};
+ghost use Rattle.certificate.specs.Contents.{said_fact, said_path};
 ghost use Rattle.structured_states.specs.Loops.{component_claims, component_facts, is_ordinal_variable, names_entire};
-ghost use Rattle.structured_states.specs.Loops.{is_elements, passes_elements, plain, plain_facts, rows_named};
-ghost use Rattle.structured_states.specs.Loops.{stretch_claim};
+ghost use Rattle.structured_states.specs.Loops.{plain, plain_facts, rows_named};
 ghost use Rattle.structured_states.specs.View.{gives_some, row_claim, rows_claimed};
 ghost use Rattle.leaf_rows.specs.View.{numbers};
 
-use certificate::{Fact as Claim, Path, Step};
+use certificate::{Fact as Claim, Path};
 use component_states::{ComponentFact, State, Stretch, all_of_row};
 use domain::facts::Fact;
 use leaf_rows::{Rows, Span};
@@ -125,50 +124,12 @@ fn row_claim(rows: &Rows, claim: &Claim, row: u32) -> Option<ComponentFact>
     match claim {
         Claim::Range { range, .. } => Some(ComponentFact::Range { row, range: *range }),
         Claim::Defined { .. } => Some(all_of_row(rows.index(row), row)),
-        Claim::Stretch { path, first, last } => Some(stretch_claim(
-            rows,
-            path,
-            Stretch {
-                row,
-                first: *first,
-                last: *last,
-            },
-        )),
+        Claim::Stretch { first, last, .. } => Some(ComponentFact::Stretched(Stretch {
+            row,
+            first: *first,
+            last: *last,
+        })),
         Claim::Order { .. } => None,
-    }
-}
-
-/// What a claim of a stretch says of a row: behind an element it is one of all of the row.
-fn stretch_claim(rows: &Rows, path: &Path, stretch: Stretch) -> ComponentFact
-    ensures { said_component result ≡ stretch_claim rows.now (said_path path.now) (said_stretch stretch) }
-{
-    if passes_elements(path) {
-        all_of_row(rows.index(stretch.row), stretch.row)
-    } else {
-        ComponentFact::Stretched(stretch)
-    }
-}
-
-/// Whether a path leads through elements.
-#[tactic(auto, using(crate::proofs::Rowed::any_said))]
-fn passes_elements(path: &Path) -> bool
-    ensures { result ≡ passes_elements (said_path path.now) }
-{
-    some_are_elements(&path.steps)
-}
-
-fn some_are_elements(steps: &[Step]) -> bool
-    ensures { result ≡ list_any (λ step. is_elements (said_step step)) steps.now }
-{
-    steps.iter().any(|step| is_elements(step))
-}
-
-fn is_elements(step: &Step) -> bool
-    ensures { result ≡ is_elements (said_step step.now) }
-{
-    match step {
-        Step::Element => true,
-        Step::Field { .. } => false,
     }
 }
 
