@@ -1,6 +1,6 @@
 program sieve(output);
-{ The prime numbers up to 100, by Eratosthenes. With its certificate one place alone is named: no index can err, but
-  that each number up to 100 is marked before it is looked at isn't known. }
+{ The prime numbers up to 100, by Eratosthenes. With its certificate no place is named: no index can err, and each
+  number up to 100 is marked before it is looked at. }
 const
   last = 100;
 var

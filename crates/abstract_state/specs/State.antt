@@ -102,6 +102,11 @@ le known a b =
     || (is_below (bound_range (Live known) a) (bound_range (Live known) b)
     || list_any (says_at_most a b) known.facts)
 
+-- a bound is known to be at most another; at a dead point, each is
+abbrev pub at_most : State → Bound → Bound → Bool
+at_most Dead a b = true
+at_most (Live known) a b = le known a b
+
 -- a path to an entire variable
 abbrev pub is_entire : List Step → Bool
 is_entire [] = true

@@ -1,7 +1,7 @@
 ghost use Rattle.std.specs.Prelude.{◌≡◌, ◌-◌, ◌++◌, IfOk, Some, filter, length, map, replicate};
 ghost use Rattle.std.specs.List.{list_any};
 ghost use Rattle.domain.specs.Facts.{said, said_bound};
-ghost use Rattle.abstract_state.specs.State.{Live, bound_range, gives, is_dead, is_defined, joined_facts};
+ghost use Rattle.abstract_state.specs.State.{Live, at_most, bound_range, gives, is_dead, is_defined, joined_facts};
 ghost use Rattle.abstract_state.specs.State.{joined_states, le, limits_of, range_of, says_at_most, start, unless_empty};
 ghost use Rattle.abstract_state.specs.State.{with_defined, with_range};
 ghost use Rattle.abstract_state.specs.Changes.{assigned, with_change, with_equal, with_some};
@@ -101,6 +101,16 @@ impl State {
         match self {
             State::Dead => true,
             State::Live(facts) => facts.is_defined(root),
+        }
+    }
+
+    /// Whether a bound is known to be at most another; at a dead point each is.
+    pub fn knows_at_most(&self, left: Bound, right: Bound) -> bool
+        ensures { result ≡ at_most (viewed self.now) (said_bound left) (said_bound right) }
+    {
+        match self {
+            State::Dead => true,
+            State::Live(facts) => facts.le(left, right),
         }
     }
 

@@ -5,6 +5,7 @@ use Rattle.typed_tree.specs.declared.tree.Access.{Access}
 use Rattle.typed_tree.specs.declared.tree.Selector.{Selector}
 use Rattle.typed_tree.specs.declared.tree.RangeTest.{RangeTest}
 use Rattle.domain.specs.Facts.{Bound}
+use Rattle.domain.specs.Interval.{Interval}
 use Rattle.typed_tree.specs.declared.tree.Expr.{Expr}
 use Rattle.typed_tree.specs.declared.tree.Stmt.{Stmt}
 use Rattle.typed_tree.specs.declared.tree.Stmt.TheOpen.{Stmt-F}
@@ -17,35 +18,38 @@ use Rattle.certificate.specs.declared.Certificate.{Certificate}
 use Rattle.abstract_state.specs.declared.known.Known.{Known}
 use Rattle.abstract_state.specs.declared.known.Known.TheVariants.{Ordinal}
 use Rattle.cert_checker.specs.Promise.{LinksEntries}
-use Rattle.abstract_state.specs.State.{State, Dead, joined_states, limits_of, start}
-use Rattle.structured_states.specs.Loops.{claims_at, limits_at, round_of, touched, with_own, without_own}
+use Rattle.abstract_state.specs.State.{limits_of}
+use Rattle.component_states.specs.Components.{Reach}
+use Rattle.component_states.specs.States.{State, dead, joined_states, over_variables, start}
+use Rattle.leaf_rows.specs.Rows.{rows_of}
+use Rattle.structured_states.specs.Loops.{claims_at, head_of, round_of, with_own, without_own}
 use Rattle.structured_states.specs.Ways.{Way, turn_begun, way_of, where_counts}
-use Rattle.abstract_state.specs.Loops.{head}
 use Rattle.std.specs.declared.alloc.Global.{Global}
 use Rattle.std.specs.declared.vec.Vec.{Vec}
 use Rattle.abstract_state.specs.Conditions.{bound_form, condition_of}
 use Rattle.abstract_state.specs.Forms.{root_of}
 use Rattle.structured_states.specs.Cases.{arm_start, constants_before}
 use Rattle.place.specs.declared.Place.{Place}
-use Rattle.expression_checker.specs.Walk.{Context, Walking, ◌>>=◌, access_walk, index_walks, numbers_of, fitting, value_walk, parameter_walk, whole_walk}
-use Rattle.cert_checker.specs.Walk.{first_context, assign, assign_to, arms_walk, case_walk, change, for_round, for_turns, for_walk, index_test, loop_walk}
+use Rattle.expression_checker.specs.Walk.{Context, Walking, ◌>>=◌, access_walk, index_pieces, numbers_of, fitting, value_walk, parameter_walk, whole_walk}
+use Rattle.cert_checker.specs.Walk.{first_context, assign, assign_to, arms_walk, case_walk, for_round, for_turns, for_walk, index_test, loop_walk}
 use Rattle.cert_checker.specs.Walk.{steady_in}
 use Rattle.cert_checker.specs.Walk.{tested_way, while_round, repeat_round, statement_step, statement_walk, where_so, all_of, block_walk, program_walk}
 use Rattle.expression_checker.proofs.Entered.{Enters, access-entered, and_no_more, and_then, parameter-entered, value-entered, whole-entered}
 
-abbrev stores : Place → Access → RangeTest → Expr → Known → Walking (Unit {0})
-stores becomes target fits value known =
-    fitting fits known >>= λ passed.
-    (change becomes target.root (limits_of fits.range) >>= λ _. assign_to target.root target.selectors.items (bound_form value) passed)
+abbrev stores : Place → Access → RangeTest → Expr → Reach → Known → Walking (Unit {0})
+stores becomes target fits value reach known =
+    fitting fits known >>= assign_to becomes target.root target.selectors.items reach (limits_of fits.range) (bound_form value)
 
-assigned-silent : (root : ℕ) (selectors : List Selector) (form : Option Bound) (known : Known) → Enters (assign_to root selectors form known) []
-assigned-silent root [] form (Ordinal range) context state = refl
-assigned-silent root (selector ∷ selectors) form known context state = refl
+assigned-silent : (becomes : Place) (root : ℕ) (selectors : List Selector) (reach : Reach) (values : Interval) (form : Option Bound) (known : Known)
+    → Enters (assign_to becomes root selectors reach values form known) []
+assigned-silent becomes root [] reach values form (Ordinal range) context state = refl
+assigned-silent becomes root (selector ∷ selectors) reach values form (Ordinal range) context state = refl
 
-stores-silent : (becomes : Place) (target : Access) (fits : RangeTest) (value : Expr) (known : Known) → Enters (stores becomes target fits value known) []
-stores-silent becomes target fits value (Ordinal range) context state =
+stores-silent : (becomes : Place) (target : Access) (fits : RangeTest) (value : Expr) (reach : Reach) (known : Known)
+    → Enters (stores becomes target fits value reach known) []
+stores-silent becomes target fits value reach (Ordinal range) context state =
     let passed = fitting fits (Ordinal range) context state in
-    assigned-silent target.root target.selectors.items (bound_form value) passed.value context passed.after
+    assigned-silent becomes target.root target.selectors.items reach (limits_of fits.range) (bound_form value) passed.value context passed.after
 
 -- walks one after another enter what each enters
 all-entered : {X : Type 0} (walk : X → Walking (Unit {0})) (numbers : X → List ℕ) → ((x : X) → Enters (walk x) (numbers x)) → (xs : List X)
@@ -75,14 +79,14 @@ loop-entered number place control round numbers each context state =
     let loop = round_of context.tree context.claims number in
     let own = with_own control loop in
     let within : Context = record context { rounds = context.rounds ++ without_own control loop ∷ [] } in
-    let start = head (limits_at context.limits) (touched own) own.controls claims.facts state in
+    let start = head_of context.tree context.limits own claims.facts state in
     and_no_more (round within start).linked [] numbers (each within start) refl
 
 module _ (number : ℕ) (place : Place) (body : Walking (Unit {0})) (numbers : List ℕ) (each : Enters body numbers) where
   -- a for enters what its body does
   for_round-entered : (way : Way) → Enters (for_round way body) numbers
   for_round-entered way context state =
-      let begun = turn_begun way state in
+      let begun = over_variables (turn_begun way) state in
       and_no_more (body context begun).linked [] numbers (each context begun) refl
 
   turns_of-entered : (way : Way) → Enters (for_turns number place body way) numbers
@@ -94,16 +98,17 @@ module _ (number : ℕ) (place : Place) (body : Walking (Unit {0})) (numbers : L
 
   for-entered : (way : Way) → Enters (for_walk number place body way) numbers
   for-entered way context state =
-      let turns = for_turns number place body way context (where_counts true way state) in
+      let start = over_variables (where_counts true way) state in
+      let turns = for_turns number place body way context start in
       and_no_more (turns.linked ++ []) [] numbers
-      (and_no_more turns.linked [] numbers (turns_of-entered way context (where_counts true way state)) refl) refl
+      (and_no_more turns.linked [] numbers (turns_of-entered way context start) refl) refl
 
 -- the arms of a case
 arms-entered : (base : State) (index : Option ℕ) (rows : List (Vec ℤ Global)) (arms : List EnteredStmt)
     → Enters (arms_walk base index rows (map statement_walk (map (λ s. s.0) arms))) (joined (map entries_of_statement (map (λ s. s.0) arms)))
 arms-entered base index rows [] context state = refl
 arms-entered base index rows (arm ∷ arms) context state =
-    let start = arm_start index (slice_get rows 0) base in
+    let start = over_variables (arm_start index (slice_get rows 0)) base in
     let first = statement_walk arm.0 context start in
     let rest = arms_walk base index (drop 1 rows) (map statement_walk (map (λ s. s.0) arms)) context (joined_states state first.after) in
     and_then first.linked rest.linked _ _ (arm.1 context start) (arms-entered base index (drop 1 rows) arms context (joined_states state first.after))
@@ -136,16 +141,16 @@ statement-parts : (y : Stmt-F EnteredStmt)
     (statement_entries (map-Stmt Stmt (List ℕ) entries_of_statement (map-Stmt EnteredStmt Stmt (λ s. s.0) y)))
 statement-parts (Empty number) context state = refl
 statement-parts (Assign number becomes target indexes fits value) context state =
-    let reached = access_walk target (index_walks indexes.items) context state in
+    let reached = access_walk target (index_pieces indexes.items) context state in
     let first = value_walk value context reached.after in
-    let rest = stores becomes target fits value first.value context first.after in
+    let rest = stores becomes target fits value reached.value first.value context first.after in
     ap (λ numbers. number ∷ numbers)
     (and_then reached.linked (first.linked ++ rest.linked) _ _ (access-entered target indexes.items context state)
     (and_no_more first.linked rest.linked _ (value-entered value context reached.after)
-    (stores-silent becomes target fits value first.value context first.after)))
+    (stores-silent becomes target fits value reached.value first.value context first.after)))
 statement-parts (Copy number becomes target indexes type_id value value_indexes) context state =
-    let reached = access_walk target (index_walks indexes.items) context state in
-    let first = whole_walk value (index_walks value_indexes.items) context reached.after in
+    let reached = access_walk target (index_pieces indexes.items) context state in
+    let first = whole_walk value (index_pieces value_indexes.items) context reached.after in
     ap (λ numbers. number ∷ numbers)
     (and_then reached.linked (first.linked ++ []) _ _ (access-entered target indexes.items context state)
     (and_no_more first.linked [] _ (whole-entered value value_indexes.items context reached.after) refl))
@@ -203,12 +208,12 @@ statement-entered = ind-Stmt (λ s. Enters (statement_walk s) (entries_of_statem
 
 -- the walk over a block
 pub block-entered : (block : Block) → Enters (block_walk block) (entries_of_statement block.body)
-block-entered block context state = statement-entered block.body context (start (length context.tree.variables.items))
+block-entered block context state = statement-entered block.body context (start (length context.tree.variables.items) (length (rows_of context.tree)))
 
 -- and that over a program
 pub program-entered : (tree : Tree) (certificate : Certificate) → numbers_of (program_walk tree certificate).linked ≡ entries_of tree
 program-entered tree certificate =
-    all-entered block_walk (λ block. entries_of_statement block.body) block-entered tree.blocks.items (first_context tree certificate) Dead
+    all-entered block_walk (λ block. entries_of_statement block.body) block-entered tree.blocks.items (first_context tree certificate) dead
 
 pub links_entries : (tree : Tree) (certificate : Certificate) → LinksEntries tree certificate
 links_entries tree certificate = record { of_block = block-entered; of_program = program-entered tree certificate }

@@ -1,5 +1,7 @@
 -- What an assignment keeps of the store, and that it keeps values in the ranges of their types; so does what undefines a variable.
 use Rattle.std.proofs.Common.{◌≡◌, ◌≢◌, ⊎_elim, ◌∙◌, sym, ap, refl, subst, ℕ, ◌<◌, Bool, true, false, cond, ◌||◌, nat_eq, List, [], ◌∷◌, Option, Some, None}
+use Rattle.std.proofs.Common.{append-nil}
+use Rattle.std.specs.Prelude.{slice_index_or}
 use Rattle.std.specs.List.{Contains, list_all}
 use Rattle.std.proofs.lemmas.Bool.{cases_eq, eq-eqb, eqb-true, false_from_ne_true}
 use Rattle.std.proofs.lemmas.List.Folds.{list_any-append, list_all_at}
@@ -12,9 +14,50 @@ use Rattle.abstract_state.specs.Knows.{IsKept, Shows, moment}
 use Rattle.abstract_state.specs.Loops.{is_among}
 use Rattle.abstract_state.specs.State.{integer}
 use Rattle.expression_checker.proofs.Keeping.{InTypes, Keeps}
-use Rattle.abstract_state.proofs.Apart.{part, part-others, part-overlaps, place-itself, share-none, written-stored, other-kept}
+use Rattle.abstract_state.proofs.Apart.{part, part-overlaps, place-itself, share-none, written-stored, other-kept}
 use Rattle.abstract_state.proofs.Knows.{place_of, at-place, entire-value}
+use Rattle.typed_tree.specs.declared.tree.Tree.{Tree}
+use Rattle.leaf_rows.specs.Rows.{all_parts, no_parts}
+use Rattle.component_states.specs.Holds.{IsOfRow, component_at}
+use Rattle.component_states.specs.Laws.{AreComponents, OneChanges}
 use Rattle.structured_states.specs.Loops.{Round, all_control, all_list, limits_at, touched}
+use Rattle.cert_checker.proofs.Stored.{parts-same}
+
+-- ---- a change of an entire variable
+
+entry-apart : (env : Environment) → Separate env [] → (store : Store) (entry : Option Value) (a b : ℕ) (p : Place) → env.variables a ≡ Some p → a ≢ b
+    → (found : Option Place) → env.variables b ≡ found → (steps : List Step) → part_of ((p, entry) ∷ store) found steps ≡ part_of store found steps
+entry-apart env separate store entry a b p at_a differ None at_b steps = refl
+entry-apart env separate store entry a b p at_a differ (Some q) at_b steps =
+    ap (λ (same : Bool). cond same entry (stored store (part q steps)))
+    (false_from_ne_true (place_eq p (part q steps)) (λ same. share-none env separate a b p q at_a at_b differ (part-overlaps p q steps same)))
+
+-- its components stay as they are
+entry-above : (store : Store) (entry : Option Value) (p : Place) (steps : List Step) → (steps ≡ [] → ⊥)
+    → part_of ((p, entry) ∷ store) (Some p) steps ≡ part_of store (Some p) steps
+entry-above store entry p steps inner =
+    ap (λ (same : Bool). cond same entry (stored store (part p steps)))
+    (false_from_ne_true (place_eq p (part p steps)) (λ same. inner (sym (parts-same p [] steps
+    (ap (λ (own : List Step). place_eq (record p { steps = own }) (part p steps)) (append-nil p.steps) ∙ same)))))
+
+entry-changes : (variables : ℕ) (env : Environment) → Shows variables env → (store : Store) (root : ℕ) (entry : Option Value) → root < variables
+    → OneChanges env root store ((place_of env root, entry) ∷ store)
+entry-changes variables env shows store root entry within = record {
+  others = λ other steps apart. ⊎_elim
+      (λ same. subst (λ (r : ℕ). value_at (moment env ((place_of env root, entry) ∷ store)) r steps ≡ value_at (moment env store) r steps) same
+      (subst (λ (found : Option Place). part_of ((place_of env root, entry) ∷ store) found steps ≡ part_of store found steps)
+      (sym (at-place variables env shows root within)) (entry-above store entry (place_of env root) steps (λ none. apart (sym same) none))))
+      (λ differ.
+      entry-apart env shows.separate store entry root other (place_of env root) (at-place variables env shows root within) differ (env.variables other) refl
+      steps) (cases_eq root other);
+}
+
+-- no component of a row is changed
+pub component-same : (tree : Tree) → AreComponents (all_parts tree) → (env : Environment) (root : ℕ) (before after : Store)
+    → OneChanges env root before after → (row : ℕ) (steps : List Step) → IsOfRow (all_parts tree) row steps
+    → component_at (all_parts tree) (moment env after) row steps ≡ component_at (all_parts tree) (moment env before) row steps
+component-same tree inner env root before after changes row steps of_row =
+    changes.others (slice_index_or (all_parts tree) row no_parts).root steps (λ same none. inner row steps of_row none)
 
 -- ---- an assignment
 
@@ -113,8 +156,15 @@ module _ (variables : ℕ) (env : Environment) (shows : Shows variables env) (st
         defined = λ other among steps has. still-value store (place_of env root) v (env.variables other) steps has;
       }
 
-  pub written-typed : (limits : List Interval) → InTypes limits env store → IsIn (limits_at limits root) v → IsIn integer v → InTypes limits env after
-  written-typed limits typed inside whole = record {
+  -- its components stay as they are
+  pub written-changes : OneChanges env root store after
+  written-changes = entry-changes variables env shows store root (Some v) within
+
+  pub written-typed : (tree : Tree) (limits : List Interval) → AreComponents (all_parts tree) → InTypes tree limits env store
+      → IsIn (limits_at limits root) v → IsIn integer v → InTypes tree limits env after
+  written-typed tree limits inner typed inside whole = record {
+    components = λ row steps w of_row is.
+        typed.components row steps w of_row (sym (component-same tree inner env root store after written-changes row steps of_row) ∙ is);
     ranges = λ other w is. ⊎_elim
         (λ same.
         let one : v ≡ w = some-same v w (sym own-value ∙ subst (λ (r : ℕ). value_at (moment env after) r [] ≡ Some w) (sym same) is) in
@@ -136,42 +186,7 @@ listed-keeps env before behind root rounds kept listed round inside =
       defined = λ other among steps has. kept.defined other refl steps has;
     }
 
-module _ (variables : ℕ) (env : Environment) (shows : Shows variables env) (store : Store) (root : ℕ) (v : Value) (within : root < variables)
-    (first : List Step) where
-  abbrev after_part : Store
-  after_part = written store (part (place_of env root) first) v
-
-  beside : (other : ℕ) → root ≢ other → (steps : List Step) → value_at (moment env after_part) other steps ≡ value_at (moment env store) other steps
-  beside other differ steps =
-      part-others env shows.separate store v first root other (place_of env root) (at-place variables env shows root within) differ (env.variables other) refl
-      steps
-
-  pub part-kept : IsKept env (root ∷ []) [] store after_part
-  part-kept = record {
-    values = λ other among steps. beside other (apart-among root other (root ∷ []) (own-alone root) among) steps;
-    defined = λ other among steps has. still-value store (part (place_of env root) first) v (env.variables other) steps has;
-  }
-
-  pub part-typed : (limits : List Interval) → InTypes limits env store → IsIn (limits_at limits root) v → IsIn integer v → InTypes limits env after_part
-  part-typed limits typed inside whole = record {
-    ranges = λ other w is. ⊎_elim
-        (λ same.
-        subst (λ (r : ℕ). IsIn (limits_at limits r) w) same
-        (written-or store (part (place_of env root) first) v (IsIn (limits_at limits root)) inside (env.variables root) [] w
-        (λ u held. typed.ranges root u held) (subst (λ (r : ℕ). value_at (moment env after_part) r [] ≡ Some w) (sym same) is)))
-        (λ differ. typed.ranges other w (sym (beside other differ []) ∙ is)) (cases_eq root other);
-    integers = λ other steps w is.
-        integer-kept store (part (place_of env root) first) v whole (env.variables other) steps w (typed.integers other steps) is;
-  }
-
 -- ---- a variable becomes undefined
-
-entry-apart : (env : Environment) → Separate env [] → (store : Store) (entry : Option Value) (a b : ℕ) (p : Place) → env.variables a ≡ Some p → a ≢ b
-    → (found : Option Place) → env.variables b ≡ found → (steps : List Step) → part_of ((p, entry) ∷ store) found steps ≡ part_of store found steps
-entry-apart env separate store entry a b p at_a differ None at_b steps = refl
-entry-apart env separate store entry a b p at_a differ (Some q) at_b steps =
-    ap (λ (same : Bool). cond same entry (stored store (part q steps)))
-    (false_from_ne_true (place_eq p (part q steps)) (λ same. share-none env separate a b p q at_a at_b differ (part-overlaps p q steps same)))
 
 unless-gone : (same : Bool) (w : Value) (before : Option Value) → ((u : Value) → before ≡ Some u → IsIn integer u) → cond same None before ≡ Some w
     → IsIn integer w
@@ -212,8 +227,13 @@ module _ (variables : ℕ) (env : Environment) (shows : Shows variables env) (st
       let own = all-pass (λ (one : Round). is_among root one.controls) rounds round (is_among root round.controls) refl inside controls in
       gone-kept (touched round) round.controls (control-touched root round own) own
 
-  pub gone-typed : (limits : List Interval) → InTypes limits env store → InTypes limits env gone
-  gone-typed limits typed = record {
+  pub gone-changes : OneChanges env root store gone
+  gone-changes = entry-changes variables env shows store root None within
+
+  pub gone-typed : (tree : Tree) (limits : List Interval) → AreComponents (all_parts tree) → InTypes tree limits env store → InTypes tree limits env gone
+  gone-typed tree limits inner typed = record {
+    components = λ row steps w of_row is.
+        typed.components row steps w of_row (sym (component-same tree inner env root store gone gone-changes row steps of_row) ∙ is);
     ranges = λ other w is. ⊎_elim
         (λ same. absurd (gone-none w (subst (λ (r : ℕ). value_at (moment env gone) r [] ≡ Some w) (sym same) is)))
         (λ differ. typed.ranges other w (sym (gone-others other differ []) ∙ is)) (cases_eq root other);

@@ -1,5 +1,6 @@
 -- For statements are sound: in each turn the control variable lies on its way, and the body leaves it as it is.
-use Rattle.std.proofs.Common.{arith, ◌≡◌, ⊎_elim, ◌∙◌, sym, ap, refl, subst, ℕ, ◌<◌, ℤ, Bool, true, false, cond, ◌&&◌, ◌||◌, List, [], ◌∷◌, ◌++◌, Option, Some}
+use Rattle.std.proofs.Common.{arith, ◌≡◌, ⊎_elim, ◌∙◌, sym, ap, refl, subst, ℕ, ◌<◌, ℤ, ◌+ℤ◌, Bool, true, false, cond, ◌&&◌, ◌||◌, List, [], ◌∷◌, ◌++◌}
+use Rattle.std.proofs.Common.{Option, Some}
 use Rattle.std.proofs.Common.{None}
 use Rattle.std.specs.Ordering.{int_eq}
 use Rattle.std.proofs.lemmas.Int.{ints}
@@ -7,6 +8,7 @@ use Rattle.std.proofs.lemmas.Bool.{and_parts, and_from, eq-eqb}
 use Rattle.std.proofs.lemmas.List.Folds.{list_all-append}
 use Rattle.std.proofs.lemmas.List.Elements.{Contains-push_cases}
 use Rattle.place.specs.declared.Place.{Place as SourcePlace}
+use Rattle.typed_tree.specs.declared.tree.Tree.{Tree}
 use Rattle.typed_tree.specs.declared.tree.Direction.{Direction}
 use Rattle.typed_tree.specs.declared.tree.Direction.TheVariants.{To, DownTo}
 use Rattle.domain.specs.Interval.{Interval, HasMember, common, is_included}
@@ -18,29 +20,34 @@ use Rattle.meaning.specs.Effect.{Action, is_in}
 use Rattle.meaning.specs.Meaning as meaning
 use Rattle.meaning.specs.Store.{Environment, Place as StorePlace, Store, undefined, written}
 use Rattle.abstract_state.specs.declared.known.Known.TheVariants.{Ordinal}
-use Rattle.abstract_state.specs.State.{State, integer, limits_of}
+use Rattle.abstract_state.specs.State.{integer, limits_of}
 use Rattle.abstract_state.specs.Loops.{is_among, with_undefined}
 use Rattle.abstract_state.specs.Holds.{HasNumber, IsIn}
-use Rattle.abstract_state.specs.Knows.{IsKept, IsOfForm, Knows, Shows, moment}
-use Rattle.abstract_state.proofs.Changed.{assigned-known}
+use Rattle.abstract_state.specs.Knows as entire
+use Rattle.abstract_state.specs.Knows.{IsKept, IsOfForm, Shows, moment}
 use Rattle.abstract_state.proofs.Knows.{at-place, place_of}
-use Rattle.abstract_state.proofs.Looped.{replaced-known, undefined-known}
+use Rattle.abstract_state.proofs.Looped.{undefined-known}
+use Rattle.component_states.specs.States.{State, over_bound, over_change, over_variables}
+use Rattle.component_states.specs.Laws.{AreComponents, AreEntire}
+use Rattle.component_states.proofs.Changed.{changes-hold}
 use Rattle.domain.specs.contracts.interval.IntervalDomain.TheImpl.Laws.{meet_has_common-law, meet_has_left-law, meet_has_right-law}
 use Rattle.abstract_state.proofs.Ranged.{is_in-integer, included-in, is_in-limits, limits-is_in}
-use Rattle.structured_states.specs.Loops.{Round, all_control, limits_at, round_of, touched, with_own, without_own}
-use Rattle.structured_states.specs.Ways.{Way, met, turn_begun, turn_ended, way_out, where_counts, with_values}
+use Rattle.structured_states.specs.Loops.{Round, all_control, controls_inside, limits_at, round_of, touched, with_own, without_own}
+use Rattle.structured_states.specs.Ways as ways
+use Rattle.structured_states.specs.Ways.{Way, met, step, turn_begun, turn_ended, way_out, where_counts, with_values}
 use Rattle.expression_checker.specs.Walk as flow
 use Rattle.cert_checker.specs.Walk as walk
 use Rattle.expression_checker.specs.Walk.{Context, Walked, Walking, followed}
 use Rattle.cert_checker.specs.Walk.{steady_in}
 use Rattle.expression_checker.specs.declared.fault.Rule.TheVariants.{Changes}
 use Rattle.expression_checker.proofs.Keeping.{Keeps, keeps-itself, keeps-then}
-use Rattle.cert_checker.proofs.Keeping.{control-kept, gone-keeps, gone-kept, gone-none, gone-typed, own-value, written-typed}
+use Rattle.cert_checker.proofs.Keeping.{control-kept, gone-changes, gone-keeps, gone-kept, gone-none, gone-typed, own-value, written-typed}
+use Rattle.cert_checker.proofs.Changes.{assigned-knows, bound-knows, changed-known}
 use Rattle.structured_states.proofs.OnWay.{Between, MayBe, begun-known, counts-known, counts-ordered, ended-known, kept-may, met-in, next-between}
 use Rattle.structured_states.proofs.OnWay.{ordered-itself, untouched-form}
 use Rattle.expression_checker.proofs.Sound.{World, variables_in, IsPartOf, Stands, Good, IsForetold, Passes, Sound, Any_value, unbroken-left, unbroken-right}
 use Rattle.expression_checker.proofs.Sound.{part-left}
-use Rattle.expression_checker.proofs.Sound.{part-right, nothing-new, good-give, good-weaker, good-then, stands-as}
+use Rattle.expression_checker.proofs.Sound.{part-right, nothing-new, good-give, good-weaker, good-then, over-known, parts_in, stands-as}
 use Rattle.cert_checker.proofs.SoundLoops.{Foretold, RoundEnds, inner, kept-rule, loop-good, loop_begun, rounds-outer, rounds-own, turn-then, ways-good}
 use Rattle.cert_checker.proofs.SoundLoops.{with_head}
 use Rattle.expression_checker.proofs.SoundOperations.{within-sound}
@@ -89,7 +96,17 @@ all-controls root rounds one outer own =
     list_all-append (λ (round : Round). is_among root round.controls) rounds (one ∷ [])
     ∙ and_from (all_control root rounds) (is_among root one.controls && true) outer (and_from (is_among root one.controls) true own refl)
 
-module _ (world : World) (env : Environment) (shows : Shows (variables_in world) env) (number : ℕ) (execution : meaning.Execution) (body : Walking (Unit {0}))
+-- what a turn adds
+next-bound : (direction : Direction) (n : ℤ) → (n +ℤ step direction) ≡ next_value direction n
+next-bound To n = refl
+next-bound DownTo n = omega (arith, ints)
+
+-- the control variable of a loop and those inside it
+abbrev all_in : World → ℕ → ℕ → List ℕ
+all_in world number control = control ∷ controls_inside world.tree number
+
+module _ (world : World) (env : Environment) (shows : Shows (variables_in world) env) (inner_are : AreComponents (parts_in world)) (number : ℕ)
+    (execution : meaning.Execution) (body : Walking (Unit {0}))
     (one : Sound {A = Unit {0}} {B = Unit {0}} world env Any_value (execution env) body) where
   -- ---- the rounds
 
@@ -146,15 +163,21 @@ module _ (world : World) (env : Environment) (shows : Shows (variables_in world)
       body-kept = last-kept env context.rounds own start later (rounds-outer env context.rounds (without_own (Some way.control) loop) start later kept)
           (inside-kept env way.control loop start later (rounds-own env context.rounds (without_own (Some way.control) loop) start later kept))
 
+      abbrev again_state : State
+      again_state = over_change way.control (ways.next steady) (turn_ended steady) ended
+
+      abbrev out_state : State
+      out_state = over_bound way.control steady.last.form (way_out steady) ended
+
       abbrev Ends : Option ℤ → Type 0
-      Ends more = RoundEnds world env within rounds at Fits (turn_ended steady ended) (way_out steady ended) start more later
+      Ends more = RoundEnds world env within rounds at Fits again_state out_state start more later
 
       -- the last turn ends
       round-out : n ≡ y → Ends None
       round-out same =
           let forms = later-forms start later body-kept (fits.1, fits.2) in (
-            stands-as world env within ended (way_out steady ended) later stands
-                (replaced-known (variables_in world) env ended later way.control steady.last.form y
+            stands-as world env within ended out_state later stands
+                (bound-knows (parts_in world) (variables_in world) env ended later way.control steady.last.form y
                 (subst (λ (m : ℤ). HasNumber (moment env later) way.control m) same still) forms.1 stands.known),
             body-kept,
           )
@@ -167,12 +190,16 @@ module _ (world : World) (env : Environment) (shows : Shows (variables_in world)
           let forms = later-forms later (at m later) next_kept (later-forms start later body-kept (fits.1, fits.2)) in
           let between = next-between way.direction x y n fits.0 apart in (
             record {
+              tree_is = stands.tree_is;
               limits_are = stands.limits_are;
-              known = ended-known (variables_in world) env shows steady ended later x y n is_variable still in_last fits.0 apart (at-number m later) forms.1
-                  stands.known;
+              types_are = stands.types_are;
+              known = changed-known (parts_in world) inner_are (variables_in world) env shows way.control is_variable (ways.next steady) (turn_ended steady)
+                  (Number m) ended later (m, refl, (n, still, next-bound way.direction n)) stands.known
+                  (ended-known (variables_in world) env shows steady ended.variables later x y n is_variable still in_last fits.0 apart (at-number m later)
+                  forms.1 stands.known.variables);
               typed =
                   let inside = between-in way.direction (typed_values world way.control) x y m first_typed last_typed between in
-                  written-typed (variables_in world) env shows later way.control (Number m) is_variable world.limits stands.typed
+                  written-typed (variables_in world) env shows later way.control (Number m) is_variable world.tree world.limits inner_are stands.typed
                   (meet_has_right-law integer (limits_at world.limits way.control) m inside)
                   (meet_has_left-law integer (limits_at world.limits way.control) m inside);
             },
@@ -191,17 +218,20 @@ module _ (world : World) (env : Environment) (shows : Shows (variables_in world)
         (walk.for_round steady body within state).value (at n s.store)) s.visited (meaning.for_round way.control way.direction y execution env n s)
     round-good state n s unbroken part stands fits =
         let start = at n s.store in
-        let begun = turn_begun steady state in
+        let begun = over_variables (turn_begun steady) state in
         let first : Walked (Unit {0}) = body within begun in
         let ended = first.after in
-        let rest : Walked State = followed (walk.with_state (turn_ended steady ended) within ended)
-        (flow.give (way_out steady ended) within (turn_ended steady ended)) in
-        let P = RoundEnds world env within rounds at Fits (turn_ended steady ended) (way_out steady ended) start in
+        let again = over_change way.control (ways.next steady) (turn_ended steady) ended in
+        let out = over_bound way.control steady.last.form (way_out steady) ended in
+        let rest : Walked State = followed (walk.with_state again within ended) (flow.give out within again) in
+        let P = RoundEnds world env within rounds at Fits again out start in
         let more = value_behind way.direction y n in
         let next = λ (used : Unit {0}). effect.◌>>=◌ (execution env) (λ done. effect.give more) in
         let stored = record s { store = start } in
         let begun_stands = stands-as world env within state begun start stands
-        (begun-known (variables_in world) env start steady state x y n (at-number n s.store) in_first in_last fits.0 fits.1 fits.2 stands.known) in
+        (over-known (parts_in world) (variables_in world) env state (turn_begun steady) start stands.known
+        (begun-known (variables_in world) env start steady state.variables x y n (at-number n s.store) in_first in_last fits.0 fits.1 fits.2
+        stands.known.variables)) in
         subst (λ (place : Option StorePlace).
         Good world P s.visited (effect.◌>>=◌ (effect.store place (Number n)) (λ written. effect.◌>>=◌ effect.use_turn next) s))
         (sym (at-place (variables_in world) env shows way.control is_variable))
@@ -238,6 +268,7 @@ module _ (world : World) (env : Environment) (shows : Shows (variables_in world)
       (unbroken-right first.broken (last.broken ++ from_asked.broken) tests_unbroken)))
 
   module _ (place : SourcePlace) (context : Context) (state : State) (way : Way) (x y : ℤ) (is_variable : way.control < (variables_in world))
+      (controls_are : AreEntire (parts_in world) (all_in world number way.control))
       (first_site : way.first.fits.site < world.sites) (last_site : way.last.fits.site < world.sites)
       (counts : has_values way.direction x y ≡ true) where
     abbrev first : Walked Interval
@@ -318,10 +349,12 @@ module _ (world : World) (env : Environment) (shows : Shows (variables_in world)
           let later = later-forms context tested x y is_variable in_first in_last x_typed y_typed parts.0 v.store start begun_kept
           (untouched-form env v.store own way.first.form x forms.0, untouched-form env v.store own way.last.form y forms.1) in
           let start_stands : Stands world env context begun.after start = record {
+            tree_is = stands.tree_is;
             limits_are = stands.limits_are;
-            known = assigned-known (variables_in world) env shows last.after v.store way.control first.value way.first.form (Number x) is_variable stands.known
-                in_first (may-of_form v.store way.first.form x forms.0);
-            typed = written-typed (variables_in world) env shows v.store way.control (Number x) is_variable world.limits stands.typed
+            types_are = stands.types_are;
+            known = assigned-knows (parts_in world) inner_are (variables_in world) env shows way.control is_variable first.value way.first.form (Number x)
+                last.after v.store in_first (may-of_form v.store way.first.form x forms.0) stands.known;
+            typed = written-typed (variables_in world) env shows v.store way.control (Number x) is_variable world.tree world.limits inner_are stands.typed
                 (meet_has_right-law integer (limits_at world.limits way.control) x x_typed)
                 (meet_has_left-law integer (limits_at world.limits way.control) x x_typed);
           } in
@@ -336,7 +369,8 @@ module _ (world : World) (env : Environment) (shows : Shows (variables_in world)
           (loop-good world env shows number place (Some way.control) (meaning.for_round way.control way.direction y execution env)
           (walk.for_round (steady_in context number tested) body)
           (at context tested x y is_variable in_first in_last x_typed y_typed parts.0)
-          (Fits context tested x y is_variable in_first in_last x_typed y_typed parts.0) context begun.after x v
+          (Fits context tested x y is_variable in_first in_last x_typed y_typed parts.0) context begun.after x v inner_are
+          (subst (λ (tree : Tree). AreEntire (parts_in world) (way.control ∷ controls_inside tree number)) (sym stands.tree_is) controls_are)
           (λ n t unbroken part stands fits.
           round-good context tested x y is_variable in_first in_last x_typed y_typed parts.0 (loop_begun context number (Some way.control) begun.after) n t
           unbroken part stands fits)
@@ -371,16 +405,17 @@ module _ (world : World) (env : Environment) (shows : Shows (variables_in world)
 
       -- the test of the last bound, and then the rounds
       last-good : (start : Store) (u : effect.State) → Keeps env context.rounds start u.store → Stands world env context first.after u.store
-          → Knows (variables_in world) env state u.store
+          → entire.Knows (variables_in world) env state.variables u.store
           → Forms u.store → HasMember way.last.values y → IsIn first.value (Number x) → first_test ≡ true
           → Good world (Foretold world env context whole start) u.visited
           (effect.◌>>=◌ (effect.require last_test way.last.fits.site) (λ done. rounds_action) u)
       last-good start u kept stands known forms inside in_first x_fits =
           good-then world (IsForetold world env (Passes last_test (Number y)) context last u.store) (Foretold world env context whole start) u.visited
           (effect.require last_test way.last.fits.site u) (λ done. rounds_action)
-          (within-sound world env (limits_of way.last.fits.range) way.last.fits.site (met way.last.form state way.last.values) (Number y) last_test last_site
+          (within-sound world env (limits_of way.last.fits.range) way.last.fits.site (met way.last.form state.variables way.last.values)
+          (Number y) last_test last_site
           (is_in-limits way.last.fits.range (Number y)) (limits-is_in way.last.fits.range (Number y))
-          (met-in (variables_in world) env u.store way.last.form state way.last.values y forms.1 known inside) context first.after u
+          (met-in (variables_in world) env u.store way.last.form state.variables way.last.values y forms.1 known inside) context first.after u
           (unbroken-left last.broken from_asked.broken (unbroken-right first.broken from_last.broken tests_unbroken))
           (part-left world last from_asked (part-right world first from_last from-first)) stands)
           (λ done v is told.
@@ -402,31 +437,36 @@ module _ (world : World) (env : Environment) (shows : Shows (variables_in world)
       turns-good t stands forms in_first in_last =
           good-then world (IsForetold world env (Passes first_test (Number x)) context first t.store) (Foretold world env context whole t.store) t.visited
           (effect.require first_test way.first.fits.site t) (λ done. effect.◌>>=◌ (effect.require last_test way.last.fits.site) (λ done. rounds_action))
-          (within-sound world env (limits_of way.first.fits.range) way.first.fits.site (met way.first.form state way.first.values)
+          (within-sound world env (limits_of way.first.fits.range) way.first.fits.site (met way.first.form state.variables way.first.values)
           (Number x) first_test first_site
           (is_in-limits way.first.fits.range (Number x)) (limits-is_in way.first.fits.range (Number x))
-          (met-in (variables_in world) env t.store way.first.form state way.first.values x forms.0 stands.known in_first) context state t
+          (met-in (variables_in world) env t.store way.first.form state.variables way.first.values x forms.0 stands.known.variables in_first) context state t
           (unbroken-left first.broken from_last.broken tests_unbroken) (part-left world first from_last from-first) stands)
           (λ done u is told.
           let same = required-same first_test way.first.fits.site t u done is in
-          last-good t.store u told.kept told.stands (subst (λ (s : effect.State). Knows (variables_in world) env state s.store) same.1 stands.known)
+          last-good t.store u told.kept told.stands (subst (λ (s : effect.State). entire.Knows (variables_in world) env state.variables s.store) same.1
+          stands.known.variables)
           (subst (λ (s : effect.State). Forms s.store) same.1 forms) in_last told.tie.0 same.0)
 
   -- ---- the whole statement, from the values of its bounds
 
   module _ (place : SourcePlace) (context : Context) (state : State) (way : Way) (x y : ℤ) (is_variable : way.control < (variables_in world))
+      (controls_are : AreEntire (parts_in world) (all_in world number way.control))
       (first_site : way.first.fits.site < world.sites) (last_site : way.last.fits.site < world.sites) where
+    abbrev where_so : Bool → State
+    where_so b = over_variables (where_counts b way) state
+
     abbrev taken : Walked (Unit {0})
-    taken = walk.for_turns number place body way context (where_counts true way state)
+    taken = walk.for_turns number place body way context (where_so true)
 
     abbrev never : Walked (Unit {0})
-    never = flow.give tt context (where_counts false way state)
+    never = flow.give tt context (where_so false)
 
     abbrev both : Walked (Unit {0})
     both = walk.either_of taken never
 
     abbrev behind : Walked (Unit {0})
-    behind = walk.changed_by (with_undefined way.control) context both.after
+    behind = walk.changed_by (over_change way.control None (with_undefined way.control)) context both.after
 
     abbrev statement : Walked (Unit {0})
     statement = walk.for_walk number place body way context state
@@ -446,11 +486,17 @@ module _ (world : World) (env : Environment) (shows : Shows (variables_in world)
           gives = record {
             tie = tt;
             stands = record {
+              tree_is = stands.tree_is;
               limits_are = stands.limits_are;
-              known = undefined-known (variables_in world) env shows both.after way.control u.store gone
-                  (gone-kept (variables_in world) env shows u.store way.control is_variable own own (own-among way.control) (own-among way.control))
-                  (gone-none (variables_in world) env shows u.store way.control is_variable) stands.known;
-              typed = gone-typed (variables_in world) env shows u.store way.control is_variable world.limits stands.typed;
+              types_are = stands.types_are;
+              known = record {
+                variables = undefined-known (variables_in world) env shows both.after.variables way.control u.store gone
+                    (gone-kept (variables_in world) env shows u.store way.control is_variable own own (own-among way.control) (own-among way.control))
+                    (gone-none (variables_in world) env shows u.store way.control is_variable) stands.known.variables;
+                components = changes-hold (parts_in world) inner_are env way.control None both.after.components u.store gone
+                    (gone-changes (variables_in world) env shows u.store way.control is_variable) tt stands.known.components;
+              };
+              typed = gone-typed (variables_in world) env shows u.store way.control is_variable world.tree world.limits inner_are stands.typed;
             };
             kept = keeps-then env context.rounds start u.store gone kept
                 (gone-keeps (variables_in world) env shows u.store way.control is_variable context.rounds controls);
@@ -466,15 +512,16 @@ module _ (world : World) (env : Environment) (shows : Shows (variables_in world)
         let both_unbroken = unbroken-left both.broken behind.broken unbroken in
         let turns = meaning.for_rounds way.control way.first.fits way.direction way.last.fits execution env x y in
         let counts = has_values way.direction x y in
-        let stand : (b : Bool) → counts ≡ b → Stands world env context (where_counts b way state) t.store =
-        λ b is. stands-as world env context state (where_counts b way state) t.store stands
-        (counts-known (variables_in world) env t.store way b state x y is one other stands.known) in
-        let may = may-changed place context (where_counts true way state) way (unbroken-left taken.broken never.broken both_unbroken) in
+        let stand : (b : Bool) → counts ≡ b → Stands world env context (where_so b) t.store =
+        λ b is. stands-as world env context state (where_so b) t.store stands
+        (over-known (parts_in world) (variables_in world) env state (where_counts b way) t.store stands.known
+        (counts-known (variables_in world) env t.store way b state.variables x y is one other stands.known.variables)) in
+        let may = may-changed place context (where_so true) way (unbroken-left taken.broken never.broken both_unbroken) in
         good-then world (Foretold world env context both t.store) (Foretold world env context statement t.store) t.visited
         (cond counts turns (effect.give tt) t) (λ done. effect.undefine (env.variables way.control))
         (ways-good world env turns (effect.give tt) taken never counts context t
         (λ is unbroken part.
-        turns-good place context (where_counts true way state) way x y is_variable first_site last_site is unbroken part t (stand true is)
+        turns-good place context (where_so true) way x y is_variable controls_are first_site last_site is unbroken part t (stand true is)
         (one, other) in_first in_last)
         (λ is unbroken part.
         good-give world (Foretold world env context never t.store) tt t

@@ -1,7 +1,6 @@
 -- The branches of a conditional statement and the loops are sound. A loop is a head, a round and a way out: what holds at
 -- its head holds there again whenever a round ends that another follows.
 use Rattle.std.proofs.Common.{arith, ◌≡◌, sym, refl, subst, ℕ, zero, suc, Bool, true, false, cond, List, [], ◌∷◌, ◌++◌, Option, Some, None}
-use Rattle.std.specs.List.{All}
 use Rattle.std.proofs.lemmas.List.Elements.{Contains-append_left, Contains-append_right}
 use Rattle.domain.specs.Interval.{Interval}
 use Rattle.expression_checker.specs.declared.fault.Rule.{Rule}
@@ -16,17 +15,19 @@ use Rattle.meaning.specs.Effect as effect
 use Rattle.meaning.specs.Effect.{Action, and_then}
 use Rattle.meaning.specs.Meaning as meaning
 use Rattle.meaning.specs.Meaning.{is_so, value_of}
-use Rattle.abstract_state.specs.State.{State, joined_states}
-use Rattle.abstract_state.specs.Holds.{Holds, IsIn}
+use Rattle.abstract_state.specs.Holds.{IsIn}
+use Rattle.abstract_state.specs.Conditions.{branched}
 use Rattle.abstract_state.specs.declared.known.Known.{Known}
 use Rattle.abstract_state.specs.declared.known.Known.TheVariants.{Ordinal}
 use Rattle.abstract_state.proofs.Ranged.{IsKnown}
-use Rattle.abstract_state.proofs.Knows.{joined-known_one, joined-known_other}
 use Rattle.abstract_state.proofs.Refined.{branched-known}
-use Rattle.structured_states.specs.Loops.{Round, claims_at, limits_at, round_of, touched, with_own, without_own}
-use Rattle.abstract_state.specs.Loops.{gives_all, head}
-use Rattle.abstract_state.specs.Knows.{IsKept, Shows, moment}
-use Rattle.abstract_state.proofs.Looped.{given-all_known, head-known}
+use Rattle.typed_tree.specs.declared.tree.Tree.{Tree}
+use Rattle.component_states.specs.States.{State, joined_states}
+use Rattle.component_states.specs.Holds.{Knows}
+use Rattle.component_states.specs.Laws.{AreComponents, AreEntire}
+use Rattle.component_states.proofs.Joins.{join-holds}
+use Rattle.structured_states.specs.Loops.{Round, claims_at, controls_inside, gives_claims, head_of, limits_at, round_of, touched, with_own, without_own}
+use Rattle.abstract_state.specs.Knows.{IsKept, Shows}
 use Rattle.expression_checker.specs.Walk as flow
 use Rattle.cert_checker.specs.Walk as walk
 use Rattle.expression_checker.specs.Walk.{Context, Walked, Walking, followed, value_walk}
@@ -34,7 +35,8 @@ use Rattle.cert_checker.specs.Walk.{where_so}
 use Rattle.expression_checker.proofs.Keeping.{Keeps, InTypes, keeps-itself, keeps-then}
 use Rattle.expression_checker.proofs.Sound.{World, variables_in, IsPartOf, Stands, Good, IsForetold, Sound, Any_value, unbroken-left, unbroken-right}
 use Rattle.expression_checker.proofs.Sound.{part-left, part-right}
-use Rattle.expression_checker.proofs.Sound.{nothing-new, good-give, good-weaker, good-then, stands-as}
+use Rattle.expression_checker.proofs.Sound.{nothing-new, good-give, good-weaker, good-then, over-known, parts_in, stands-as}
+use Rattle.cert_checker.proofs.Heads.{AllHold, given-claims, head-of_known}
 
 -- ---- branches
 
@@ -44,7 +46,8 @@ pub chosen-stands : (world : World) (env : Environment) (condition : Expr) (know
     → Stands world env context (where_so (is_so v) condition known state) t.store
 chosen-stands world env condition (Ordinal range) v s t context state is inside stands =
     stands-as world env context state (where_so (is_so v) condition (Ordinal range) state) t.store stands
-    (branched-known (variables_in world) env condition s t v range state is inside stands.known)
+    (over-known (parts_in world) (variables_in world) env state (branched (is_so v) condition range) t.store stands.known
+    (branched-known (variables_in world) env condition s t v range state.variables is inside stands.known.variables))
 
 -- behind one of two ways the joined state holds
 abbrev pub Foretold : World → Environment → Context → Walked (Unit {0}) → Store → Unit {0} → Store → Type 0
@@ -55,7 +58,7 @@ one-way : (world : World) (env : Environment) (context : Context) (one other : W
 one-way world env context one other start store done told = record {
   tie = tt;
   stands = stands-as world env context one.after (joined_states one.after other.after) store told.stands
-      (joined-known_one (variables_in world) env one.after other.after store told.stands.known);
+      (join-holds.from_one (parts_in world) (variables_in world) env one.after other.after store told.stands.known);
   kept = told.kept;
 }
 
@@ -64,7 +67,7 @@ other-way : (world : World) (env : Environment) (context : Context) (one other :
 other-way world env context one other start store done told = record {
   tie = tt;
   stands = stands-as world env context other.after (joined_states one.after other.after) store told.stands
-      (joined-known_other (variables_in world) env one.after other.after store told.stands.known);
+      (join-holds.from_other (parts_in world) (variables_in world) env one.after other.after store told.stands.known);
   kept = told.kept;
 }
 
@@ -177,9 +180,6 @@ RoundEnds world env context rounds at Fits again out start =
 
 -- ---- the head of a loop
 
-abbrev AllHold : List Fact → Environment → Store → Type 0
-AllHold facts env store = All (λ fact. Holds fact (moment env store)) facts
-
 -- what a rule asks for, where it isn't broken
 pub kept-rule : (kept : Bool) (rule : Rule) (place : SourcePlace) → walk.breach_unless kept rule place ≡ [] → kept ≡ true
 kept-rule true rule place is = refl
@@ -213,11 +213,12 @@ with_head context number control = context.rounds ++ at_head context number cont
 abbrev pub loop_begun : Context → ℕ → Option ℕ → State → State
 loop_begun context number control state =
     let own = at_head context number control in
-    head (limits_at context.limits) (touched own) own.controls (claims_at context.claims number).facts state
+    head_of context.tree context.limits own (claims_at context.claims number).facts state
 
 module _ {A : Type 0} (world : World) (env : Environment) (shows : Shows (variables_in world) env) (context : Context) (number : ℕ) (control : Option ℕ)
     (state : State)
-    (start : Store) (at : A → Store → Store) (Fits : A → Store → Type 0) (again out : State) (stands : Stands world env context state start) where
+    (start : Store) (at : A → Store → Store) (Fits : A → Store → Type 0) (again out : State) (stands : Stands world env context state start)
+    (inner_are : AreComponents (parts_in world)) (controls_are : AreEntire (parts_in world) (at_head context number control).controls) where
   abbrev facts : List Fact
   facts = (claims_at context.claims number).facts
 
@@ -241,31 +242,46 @@ module _ {A : Type 0} (world : World) (env : Environment) (shows : Shows (variab
   AtOut store = Stands world env context out store × Keeps env context.rounds start store
 
   -- the loop's facts hold there, and nothing changed but what the loop touches: so the head holds
-  head-stands : (store : Store) → InTypes world.limits env store → Keeps env rounds start store → AllHold facts env store
+  head-stands : (store : Store) → InTypes world.tree world.limits env store → Keeps env rounds start store → AllHold world.tree facts env store
       → Stands world env within begun store
   head-stands store typed kept hold = record {
+    tree_is = stands.tree_is;
     limits_are = stands.limits_are;
-    known = head-known (variables_in world) env shows (limits_at context.limits) (touched own) own.controls facts state start store
+    types_are = stands.types_are;
+    known = subst (λ (tree : Tree). Knows (parts_in world) (variables_in world) env (head_of tree context.limits own facts state) store) (sym stands.tree_is)
+        (head-of_known world.tree inner_are (variables_in world) env shows context.limits own facts state start store controls_are
         (rounds-own env context.rounds own start store kept)
-        (λ root v among is. type-limits context.limits world.limits root v stands.limits_are (typed.ranges root v is)) hold stands.known;
+        (subst (λ (limits : List Interval). InTypes world.tree limits env store) (sym stands.limits_are) typed) hold stands.known);
     typed = typed;
   }
 
+  given-there : (given_state : State) (store : Store) → Knows (parts_in world) (variables_in world) env given_state store
+      → gives_claims context.tree given_state facts ≡ true → AllHold world.tree facts env store
+  given-there given_state store known given =
+      given-claims world.tree (variables_in world) env given_state store facts known
+      (subst (λ (tree : Tree). gives_claims tree given_state facts ≡ true) stands.tree_is given)
+
   -- behind a round
-  round-turns : gives_all again facts ≡ true → (before after : Store) → Keeps env rounds start before → (more : Option A)
+  round-turns : gives_claims context.tree again facts ≡ true → (before after : Store) → Keeps env rounds start before → (more : Option A)
       → RoundEnds world env within rounds at Fits again out before more after → Turns AtHead AtOut more after
   round-turns given before after kept None (stood, own_kept) = (
-    record { limits_are = stood.limits_are; known = stood.known; typed = stood.typed },
+    record {
+      tree_is = stood.tree_is;
+      limits_are = stood.limits_are;
+      types_are = stood.types_are;
+      known = stood.known;
+      typed = stood.typed;
+    },
     rounds-outer env context.rounds own start after (keeps-then env rounds start before after kept own_kept),
   )
   round-turns given before after kept (Some b) (stood, own_kept, fits) =
       let all = keeps-then env rounds start before (at b after) kept own_kept in
-      (head-stands (at b after) stood.typed all (given-all_known (variables_in world) env again (at b after) facts stood.known given), all, fits)
+      (head-stands (at b after) stood.typed all (given-there again (at b after) stood.known given), all, fits)
 
 -- a loop whose rounds are sound
 pub loop-good : {A : Type 0} (world : World) (env : Environment) → Shows (variables_in world) env → (number : ℕ) (place : SourcePlace) (control : Option ℕ)
     (round : effect.Round A) (walking : Walking State) (at : A → Store → Store) (Fits : A → Store → Type 0) (context : Context) (state : State) (a : A)
-    (s : effect.State)
+    (s : effect.State) → AreComponents (parts_in world) → AreEntire (parts_in world) (at_head context number control).controls
     → ((b : A) (t : effect.State) → (walking (inner context number control) (loop_begun context number control state)).broken ≡ []
     → IsPartOf world (walking (inner context number control) (loop_begun context number control state))
     → Stands world env (inner context number control) (loop_begun context number control state) (at b t.store) → Fits b (at b t.store)
@@ -275,7 +291,7 @@ pub loop-good : {A : Type 0} (world : World) (env : Environment) → Shows (vari
     → (walk.loop_walk number place control walking context state).broken ≡ [] → IsPartOf world (walk.loop_walk number place control walking context state)
     → Stands world env context state (at a s.store) → Fits a (at a s.store)
     → Good world (Foretold world env context (walk.loop_walk number place control walking context state) (at a s.store)) s.visited (effect.looped round a s)
-loop-good {A} world env shows number place control round walking at Fits context state a s each unbroken part stands fits =
+loop-good {A} world env shows number place control round walking at Fits context state a s inner_are controls_are each unbroken part stands fits =
     let facts = (claims_at context.claims number).facts in
     let own = at_head context number control in
     let begun = loop_begun context number control state in
@@ -290,17 +306,19 @@ loop-good {A} world env shows number place control round walking at Fits context
     let from_head = followed turn after_turn in
     let whole = walk.loop_walk number place control walking context state in
     let from_entry = unbroken-right entry.broken (turn.broken ++ (turned.broken ++ [])) unbroken in
-    let given = given-all_known (variables_in world) env state start facts stands.known
-    (kept-rule (gives_all state facts) LoopEntry place (unbroken-left entry.broken (turn.broken ++ (turned.broken ++ [])) unbroken)) in
-    let given_again = kept-rule (gives_all turn.after facts) LoopTurn place
+    let given = given-there world env shows context number control state start at Fits turn.after turn.value stands inner_are controls_are state start
+    stands.known (kept-rule (gives_claims context.tree state facts) LoopEntry place
+    (unbroken-left entry.broken (turn.broken ++ (turned.broken ++ [])) unbroken)) in
+    let given_again = kept-rule (gives_claims context.tree turn.after facts) LoopTurn place
     (unbroken-left turned.broken [] (unbroken-right turn.broken (turned.broken ++ []) from_entry)) in
     let turn_part : IsPartOf world turn = part-left world turn after_turn
     (part-right world entering from_head (part-right world entry (followed entering from_head) part)) in
-    let P = AtHead world env shows context number control state start at Fits turn.after turn.value stands in
-    let Q : Store → Type 0 = AtOut world env shows context number control state start at Fits turn.after turn.value stands in
+    let P = AtHead world env shows context number control state start at Fits turn.after turn.value stands inner_are controls_are in
+    let Q : Store → Type 0 = AtOut world env shows context number control state start at Fits turn.after turn.value stands inner_are controls_are in
     let begin_kept = keeps-itself env rounds start in
     let first : P a s.store = (
-      head-stands world env shows context number control state start at Fits turn.after turn.value stands start stands.typed begin_kept given,
+      head-stands world env shows context number control state start at Fits turn.after turn.value stands inner_are controls_are start
+          stands.typed begin_kept given,
       begin_kept,
       fits,
     ) in
@@ -308,7 +326,8 @@ loop-good {A} world env shows number place control round walking at Fits context
     λ b t holds.
     good-weaker world (RoundEnds world env within rounds at Fits turn.after turn.value (at b t.store)) (Turns P Q) t.visited (round b t)
     (λ more u is told.
-    round-turns world env shows context number control state start at Fits turn.after turn.value stands given_again (at b t.store) u.store holds.1 more told)
+    round-turns world env shows context number control state start at Fits turn.after turn.value stands inner_are controls_are given_again
+    (at b t.store) u.store holds.1 more told)
     (each b t (unbroken-left turn.broken (turned.broken ++ []) from_entry) turn_part holds.0 holds.2) in
     good-weaker world (λ (done : Unit {0}) store. Q store) (Foretold world env context whole start) s.visited (effect.looped round a s)
     (λ done t is so. record { tie = tt; stands = so.0; kept = so.1 })
@@ -324,14 +343,15 @@ plain-ends world env context again out start (Some a) store (stood, kept) = (sto
 -- a loop that is no for statement
 pub sound-loop : {A : Type 0} (world : World) (env : Environment) → Shows (variables_in world) env
     → (number : ℕ) (place : SourcePlace) (round : effect.Round A) (a : A)
-    (walking : Walking State)
+    (walking : Walking State) → AreComponents (parts_in world) → AreEntire (parts_in world) (controls_inside world.tree number)
     → ((b : A) → SoundRound world env (round b) walking)
     → Sound {A = Unit {0}} {B = Unit {0}} world env Any_value (effect.looped round a) (walk.loop_walk number place None walking)
-sound-loop {A} world env shows number place round a walking each context state s unbroken part stands =
+sound-loop {A} world env shows number place round a walking inner_are controls_are each context state s unbroken part stands =
     let within = inner context number None in
     let begun = loop_begun context number None state in
     let turn = walking within begun in
-    loop-good world env shows number place None round walking (λ b store. store) (λ b store. Unit {0}) context state a s
+    loop-good world env shows number place None round walking (λ b store. store) (λ b store. Unit {0}) context state a s inner_are
+    (subst (λ (tree : Tree). AreEntire (parts_in world) (controls_inside tree number)) (sym stands.tree_is) controls_are)
     (λ b t unbroken part holds fits.
     good-weaker world (EndsHold world env within turn.after turn.value t.store {A = A})
     (RoundEnds world env within within.rounds (λ b store. store) (λ b store. Unit {0}) turn.after turn.value t.store) t.visited (round b t)

@@ -1,10 +1,10 @@
 -- The walk over a program is sound for each of its runs: closed sites never err, and states hold.
 use Rattle.std.proofs.Common.{arith, ◌≡◌, ◌≢◌, ⊎_elim, inl, ◌∙◌, sym, ap, refl, subst, ℕ, zero, suc, ◌<◌, get_or, ◌==◌, Bool, true, false, ◌&&◌, cond, nat_eq}
-use Rattle.std.proofs.Common.{zero-add, List, [], ◌∷◌, map, filter, Option, Some, None, length}
-use Rattle.std.specs.Prelude.{slice_get}
+use Rattle.std.proofs.Common.{zero-add, List, [], ◌∷◌, map, filter, replicate, Option, Some, None, length}
+use Rattle.std.specs.Prelude.{flat_map, slice_get, slice_index_or}
 use Rattle.std.specs.List.{Contains, list_any, list_all, range_with_len}
-use Rattle.std.proofs.lemmas.Bool.{and_parts, eqb-true, eq-eqb}
-use Rattle.std.proofs.lemmas.List.{length-map, get_or-map, get_or_default}
+use Rattle.std.proofs.lemmas.Bool.{and_parts, cases_lt, eqb-true, eq-eqb, false≢true}
+use Rattle.std.proofs.lemmas.List.{length-map, length-replicate, get_or-map, get_or-replicate, get_or_default, get_or_past}
 use Rattle.std.proofs.lemmas.Option.{slice_get_past}
 use Rattle.std.proofs.lemmas.List.Folds.{list_any_at}
 use Rattle.std.proofs.lemmas.List.FromFn.{length-range_with_len, get_or-range_with_len}
@@ -22,16 +22,23 @@ use Rattle.meaning.specs.Store.{Environment, Place, overlap}
 use Rattle.meaning.specs.Effect as effect
 use Rattle.meaning.specs.Effect.{Reply, Visit}
 use Rattle.meaning.specs.Meaning.{run, run_of, first_state, ended, home_of, program_environment}
-use Rattle.abstract_state.specs.State.{Dead, start}
 use Rattle.expression_checker.specs.Walk.{Context, Linked, Walked, numbers_of}
 use Rattle.cert_checker.specs.Walk.{block_walk, all_of, begin, first_context, statement_walk, program_walk}
-use Rattle.abstract_state.specs.Holds.{Separate, StateHolds, part_of}
+use Rattle.abstract_state.specs.Holds.{Separate, part_of}
+use Rattle.abstract_state.specs.Knows.{Shows, moment}
 use Rattle.meaning.specs.declared.store.Value.{Value}
 use Rattle.cert_checker.specs.Promise.{open_in, AreNumbered, ClosedNeverErr, HoldsAt, StatesHold}
 use Rattle.expression_checker.specs.Visits.{moment_of, visits_of}
-use Rattle.abstract_state.proofs.Knows.{Shows, Knows, known-start}
+use Rattle.abstract_state.proofs.Knows.{known-start}
+use Rattle.leaf_rows.specs.Rows.{Parts, no_parts, parts_of, rows_of}
+use Rattle.component_states.specs.Components.{RowState, no_row, no_values, row_at}
+use Rattle.component_states.specs.Holds.{ComponentsHold, Knows, StateHolds}
+use Rattle.component_states.specs.States.{dead, start}
 use Rattle.structured_states.specs.Loops.{all_limits}
-use Rattle.expression_checker.proofs.Sound.{World, variables_in, IsPartOf, Meets, New, ErrsWithin, unbroken-left, part-left, part-right}
+use Rattle.expression_checker.proofs.Sound.{World, declared_in, parts_in, types_in, variables_in, IsPartOf, Meets, New, ErrsWithin, Stands}
+use Rattle.expression_checker.proofs.Sound.{part-left, part-right, unbroken-left}
+use Rattle.typed_tree.specs.Loops.{AreLoops, loops_of_statement}
+use Rattle.cert_checker.proofs.Controls.{loops-parts}
 use Rattle.cert_checker.proofs.SoundForms.{statement-sound}
 
 -- ---- the environment of a program
@@ -80,11 +87,10 @@ program-shows tree well = record {
 
 abbrev program_world : Tree → Certificate → World
 program_world tree certificate = record {
+  tree = tree;
   limits = all_limits tree;
   ids = (program_walk tree certificate).open_ids;
   sites = length tree.sites.items;
-  declared = tree.variables.items;
-  types = tree.types;
   linked = (program_walk tree certificate).linked;
   aliases = λ block. [];
 }
@@ -99,37 +105,77 @@ none-at : (found : Option Place) (steps : List Step) (v : Value) → part_of [] 
 none-at None steps v is = cc
 none-at (Some p) steps v is = cc
 
+-- no row is known at first: none of its components has a value
+row-none : (rows row : ℕ) → row_at (no_values rows) row ≡ no_row
+row-none rows row =
+    ⊎_elim (λ within. get_or-replicate rows row no_row no_row within)
+    (λ beyond. let many = length-replicate rows no_row in get_or_past (replicate rows no_row) row no_row (omega (arith, many, beyond)))
+    (cases_lt row rows)
+
+undefined-row : (rows row : ℕ) → (row_at (no_values rows) row).is_defined ≡ true → ⊥
+undefined-row rows row is = let none = ap (λ (r : RowState). r.is_defined) (row-none rows row) in false≢true (sym none ∙ is)
+
+components-start : (parts : List Parts) (env : Environment) (rows : ℕ) → length parts ≡ rows → ComponentsHold parts (no_values rows) (moment env [])
+components-start parts env rows same = record {
+  count = let many = length-replicate rows no_row in omega (arith, same, many);
+  ranges = λ row steps v of_row is. absurd (none-at (env.variables (slice_index_or parts row no_parts).root) steps v is);
+  defined = λ row is. absurd (undefined-row rows row is);
+  stretches = λ stretch inside. absurd (omega (arith, inside.1));
+}
+
+start-knows : (parts : List Parts) (roots : ℕ) (env : Environment) (rows : ℕ) → length parts ≡ rows → Knows parts roots env (start roots rows) []
+start-knows parts roots env rows same = record { variables = known-start env roots; components = components-start parts env rows same }
+
+-- a walk over blocks goes by the program of the world
+pub record GoesBy (world : World) (env : Environment) (context : Context) : Type 0 where
+  pub tree_is : context.tree ≡ world.tree
+  pub limits_are : context.limits ≡ world.limits
+  pub types_are : env.types ≡ types_in world
+
+-- the start of a block
+begun-stands : (world : World) (env : Environment) (context : Context) → GoesBy world env context
+    → Stands world env context (start (length context.tree.variables.items) (length (rows_of context.tree))) []
+begun-stands world env context goes = record {
+  tree_is = goes.tree_is;
+  limits_are = goes.limits_are;
+  types_are = goes.types_are;
+  known = subst (λ (tree : Tree). Knows (parts_in world) (variables_in world) env (start (length tree.variables.items) (length (rows_of tree))) [])
+      (sym goes.tree_is)
+      (start-knows (parts_in world) (variables_in world) env (length (rows_of world.tree)) (length-map (rows_of world.tree) (parts_of world.tree)));
+  typed = record {
+    ranges = λ root v is. absurd (none-at (env.variables root) [] v is);
+    components = λ row steps v of_row is. absurd (none-at (env.variables (slice_index_or (parts_in world) row no_parts).root) steps v is);
+    integers = λ root steps v is. absurd (none-at (env.variables root) steps v is);
+  };
+}
+
+abbrev loops_in : List Block → List (ℕ × List ℕ)
+loops_in blocks = flat_map (λ block. loops_of_statement block.body) blocks
+
 blocks-foretold : (world : World) (env : Environment) → Shows (variables_in world) env → (blocks : List Block) (context : Context) (input : List ℕ) (turns : ℕ)
-    → context.limits ≡ world.limits → length context.tree.variables.items ≡ (variables_in world)
-    → list_all (is_well_formed_block world.declared world.types world.sites) blocks ≡ true
-    → (all_of (map block_walk blocks) context Dead).broken ≡ [] → IsPartOf world (all_of (map block_walk blocks) context Dead)
+    → GoesBy world env context → list_all (is_well_formed_block (declared_in world) (types_in world) world.sites) blocks ≡ true
+    → AreLoops world.tree.loops.items (loops_in blocks)
+    → (all_of (map block_walk blocks) context dead).broken ≡ [] → IsPartOf world (all_of (map block_walk blocks) context dead)
     → Foretold world (run_of (slice_get blocks 0) env (first_state input turns))
-blocks-foretold world env shows [] context input turns same variables well unbroken part = record { errs = tt; new = λ visit inside. inl inside }
-blocks-foretold world env shows (block ∷ blocks) context input turns same variables well unbroken part =
-    let begun = start (length context.tree.variables.items) in
-    let first : Walked (Unit {0}) = block_walk block context Dead in
+blocks-foretold world env shows [] context input turns goes well loops unbroken part = record { errs = tt; new = λ visit inside. inl inside }
+blocks-foretold world env shows (block ∷ blocks) context input turns goes well loops unbroken part =
+    let begun = start (length context.tree.variables.items) (length (rows_of context.tree)) in
+    let first : Walked (Unit {0}) = block_walk block context dead in
     let body : Walked (Unit {0}) = statement_walk block.body context begun in
     let rest : Walked (Unit {0}) = all_of (map block_walk blocks) context first.after in
-    let is_well = is_well_formed_block world.declared world.types world.sites in
+    let is_well = is_well_formed_block (declared_in world) (types_in world) world.sites in
     let parts = and_parts (is_well block) (list_all is_well blocks) well in
-    let known = known-start env (length context.tree.variables.items) in
-    let good = statement-sound world env shows block.body parts.0 context begun (first_state input turns) (unbroken-left first.broken rest.broken unbroken)
-    (part-right world (begin block context Dead) body (part-left world first rest part))
-    (record {
-      limits_are = same;
-      known = subst (λ n. Knows n env begun []) variables known;
-      typed = record {
-        ranges = λ root v is. absurd (none-at (env.variables root) [] v is);
-        integers = λ root steps v is. absurd (none-at (env.variables root) steps v is);
-      };
-    }) in
+    let own = loops-parts world.tree.loops.items (loops_of_statement block.body) (loops_in blocks) loops in
+    let good = statement-sound world env shows block.body parts.0 own.0 context begun (first_state input turns)
+    (unbroken-left first.broken rest.broken unbroken) (part-right world (begin block context dead) body (part-left world first rest part))
+    (begun-stands world env context goes) in
     record { errs = good.errs; new = good.new }
 
 pub program-foretold : (tree : Tree) (certificate : Certificate) (input : List ℕ) (turns : ℕ) → (program_walk tree certificate).broken ≡ [] → IsWellFormed tree
     → Foretold (program_world tree certificate) (run tree input turns)
 program-foretold tree certificate input turns unbroken well =
     blocks-foretold (program_world tree certificate) (program_environment tree) (program-shows tree well) tree.blocks.items
-    (first_context tree certificate) input turns refl refl well.blocks unbroken
+    (first_context tree certificate) input turns (record { tree_is = refl; limits_are = refl; types_are = refl }) well.blocks well.loops unbroken
     (record { ids = λ id inside. inside; linked = λ one inside. inside })
 
 -- ---- numbers that are places
@@ -204,11 +250,11 @@ linked-once linked n are a b in_a in_b same =
 -- a visit meets one state that is linked to it, and so each
 holds-at : (world : World) → ((a b : Linked) → Contains world.linked a → Contains world.linked b → a.number ≡ b.number → a ≡ b) → (visit : Visit)
     → Meets world visit
-    → HoldsAt world.linked visit
+    → HoldsAt (parts_in world) world.linked visit
 holds-at world once visit meets = record {
   is_linked = (meets.0, meets.1, meets.2);
   holds = λ one listed numbered.
-      subst (λ (l : Linked). StateHolds l.state (moment_of visit)) (once meets.0 one meets.1 listed (meets.2 ∙ sym numbered)) meets.3;
+      subst (λ (l : Linked). StateHolds (parts_in world) l.state (moment_of visit)) (once meets.0 one meets.1 listed (meets.2 ∙ sym numbered)) meets.3;
 }
 
 -- at each entry of a run the states that are linked to it hold

@@ -1,11 +1,9 @@
 -- What the checker did over a piece of a program, from what it did over the parts of the piece.
-use Rattle.std.proofs.Common.{rules, ◌≡◌, ◌≤◌, Bool, true, false, ◌&&◌, Option, Some, None, Result, Ok, Err, ℕ, ◌+◌, List, [], ◌∷◌, ◌++◌, length, map, refl}
+use Rattle.std.proofs.Common.{rules, ◌≡◌, ◌≤◌, Bool, true, false, Option, Some, None, Result, Ok, Err, ℕ, ◌+◌, List, [], ◌∷◌, ◌++◌, length, map, refl}
 use Rattle.std.proofs.Common.{sym, ap, ◌∙◌, subst, append_assoc, append-nil, ◌<◌, get_or, drop}
 use Rattle.std.specs.Result.{IsErr, IsErrAnd}
 use Rattle.std.specs.Prelude.{MatchResult}
 use Rattle.place.specs.declared.Place.{Place as SourcePlace}
-use Rattle.typed_tree.specs.declared.tree.Access.{Access}
-use Rattle.typed_tree.specs.declared.tree.RangeTest.{RangeTest}
 use Rattle.typed_tree.specs.declared.tree.Expr.{Expr}
 use Rattle.typed_tree.specs.declared.tree.Stmt.{Stmt}
 use Rattle.typed_tree.specs.declared.tree.Stmt.TheVariants as stmt
@@ -14,36 +12,26 @@ use Rattle.std.specs.declared.boxed.Box.{Box}
 use Rattle.std.specs.declared.vec.Vec.{Vec}
 use Rattle.std.specs.declared.alloc.Global.{Global}
 use Rattle.expression_checker.specs.declared.fault.CheckFault.{CheckFault}
-use Rattle.expression_checker.specs.declared.fault.CheckFault.TheVariants.{Broken}
 use Rattle.abstract_state.specs.declared.known.Known.{Known}
 use Rattle.expression_checker.specs.Visits.{Visits, all_counted}
 use Rattle.cert_checker.specs.declared.walk.Walk.{Walk}
-use Rattle.domain.specs.Interval.{Interval, is_included}
-use Rattle.abstract_state.specs.declared.state.State.{State as Kept}
-use Rattle.abstract_state.specs.View.{viewed}
-use Rattle.abstract_state.specs.Conditions.{bound_form}
-use Rattle.abstract_state.specs.State.{State, joined_states, limits_of}
-use Rattle.expression_checker.specs.Walk.{Context, Walked, Walking, fitting, ◌>>=◌, give}
-use Rattle.expression_checker.specs.Walk.{access_walk, enter, index_walks, value_walk, followed, numbers_of}
-use Rattle.expression_checker.specs.Walk.{first_breach, IsBreachOf}
-use Rattle.typed_tree.specs.declared.tree.Selector.{Selector}
-use Rattle.std.specs.Bool.{◌==◌}
-use Rattle.std.proofs.Common.{arith}
-use Rattle.std.proofs.lemmas.Bool.{eqb-true}
-use Rattle.domain.specs.Facts.{Bound}
-use Rattle.cert_checker.specs.Walk.{assign, assign_to, change, statement_walk, all_of, assignment, block_walk, branches, breach_unless, facts_given}
+use Rattle.component_states.specs.declared.state.State.{State as Kept}
+use Rattle.component_states.specs.View.{viewed}
+use Rattle.component_states.specs.States.{State, joined_states}
+use Rattle.expression_checker.specs.Walk.{Context, Walked, Walking, ◌>>=◌, give}
+use Rattle.expression_checker.specs.Walk.{enter, value_walk, followed, numbers_of}
+use Rattle.expression_checker.specs.Walk.{IsBreachOf}
+use Rattle.cert_checker.specs.Walk.{asked, statement_walk, all_of, block_walk, branches, breach_unless, enter_head, facts_given}
 use Rattle.cert_checker.specs.Walk.{first_context}
-use Rattle.cert_checker.specs.Walk.{program_walk, here, loop_walk, parted, repeat_round, while_round, with_state, where_so}
-use Rattle.structured_states.specs.View.{kept_round}
+use Rattle.cert_checker.specs.Walk.{program_walk, here, inside, loop_walk, parted, repeat_round, while_round, with_state, where_so}
 use Rattle.cert_checker.specs.View.{at_state, claims_in, context_of, else_walk, AtHead, IsBegun, IsMoved, LeavesLoop, loop_in, Meets, Parts, Walks}
 use Rattle.cert_checker.specs.View.{Goes}
-use Rattle.structured_states.specs.Loops.{Claims, Round, all_list, claims_at, limits_at, touched, with_own, without_own}
-use Rattle.abstract_state.specs.Loops.{gives_all, head, is_among}
-use Rattle.std.specs.List.{list_all}
-use Rattle.std.proofs.lemmas.List.Folds.{list_all-map}
+use Rattle.structured_states.specs.Loops.{Claims, Round, claims_at, gives_claims, head_of, with_own, without_own}
 use Rattle.typed_tree.specs.declared.tree.Tree.{Tree}
+use denote.Ref.{Bor}
 use Rattle.certificate.specs.declared.Certificate.{Certificate}
-use Rattle.expression_checker.specs.declared.fault.Rule.TheVariants.{LoopEntry, LoopTurn, Changes}
+use Rattle.expression_checker.specs.declared.fault.Rule.{Rule}
+use Rattle.expression_checker.specs.declared.fault.Rule.TheVariants.{LoopEntry, LoopTurn}
 use Rattle.structured_states.proofs.Claims.{item-cut, drop-past}
 use Rattle.expression_checker.specs.declared.flow.Flow.{Flow}
 use Rattle.expression_checker.specs.View.{Flows, Goes as FlowGoes}
@@ -89,8 +77,13 @@ walks-give value old visits = record { context_is = refl; flows = flows-give (co
 -- what the checker did over an expression, whatever it goes by
 pub lifted : {A : Type 0} (walking : Walking A) (old : Walk) (flow : Flow) (before after : Visits) (result : Result A CheckFault)
     → FlowGoes walking old.flow before result flow after → Goes walking old before result (record old { flow = flow }) after
-lifted walking old flow before after (Ok value) goes = record { context_is = refl; flows = goes (context_of old) }
-lifted walking old flow before after (Err fault) goes = goes (context_of old)
+lifted walking old flow before after (Ok value) goes =
+    let one = goes (context_of old) refl in
+    record {
+      context_is = ap (λ (rows : Bor Tree). record (context_of old) { tree = rows.now }) one.rows_are;
+      flows = one;
+    }
+lifted walking old flow before after (Err fault) goes = goes (context_of old) refl
 
 -- the first piece was walked over: what the checker did over the next is what it did over both
 pub goes-then : {A B : Type 0} (first : Walking A) (next : A → Walking B)
@@ -110,6 +103,33 @@ goes-stopped first next old new before after fault is = breach-first (context_of
 pub goes-as : {A : Type 0} (walk form : Walking A) (old new : Walk) (before after : Visits) (result : Result A CheckFault) → walk ≡ form
     → Goes form old before result new after → Goes walk old before result new after
 goes-as walk form old new before after result is goes = subst (λ w. Goes w old before result new after) (sym is) goes
+
+-- two walks that are the same from here
+pub goes-here : {A : Type 0} (walk form : Walking A) (old new : Walk) (before after : Visits) (result : Result A CheckFault)
+    → walk (context_of old) (viewed old.flow.state) ≡ form (context_of old) (viewed old.flow.state)
+    → Goes form old before result new after → Goes walk old before result new after
+goes-here walk form old new before after (Ok value) is one = record {
+  context_is = one.context_is;
+  flows = record {
+    rows_are = one.flows.rows_are;
+    value_is = one.flows.value_is ∙ ap (λ w. w.value) (sym is);
+    state_is = one.flows.state_is ∙ ap (λ w. w.after) (sym is);
+    open_is = one.flows.open_is ∙ ap (λ w. old.flow.open_ids.items ++ w.open_ids) (sym is);
+    visits_are = one.flows.visits_are ∙ ap (λ w. all_counted (numbers_of w.linked) before) (sym is);
+    unbroken = ap (λ w. w.broken) is ∙ one.flows.unbroken;
+  };
+}
+goes-here walk form old new before after (Err fault) is one =
+    breach-same (form (context_of old) (viewed old.flow.state)) (walk (context_of old) (viewed old.flow.state)) fault (ap (λ w. w.broken) (sym is)) one
+
+-- what a rule asks for where the checker is
+pub asked-goes : (walk : Walking (Unit {0})) (kept is_kept : Bool) (rule : Rule) (place : SourcePlace) (old : Walk) (visits : Visits)
+    (result : Result (Unit {0}) CheckFault)
+    → walk (context_of old) (viewed old.flow.state) ≡ asked kept rule place (context_of old) (viewed old.flow.state) → is_kept ≡ kept
+    → Goes (asked is_kept rule place) old visits result old visits → Goes walk old visits result old visits
+asked-goes walk kept is_kept rule place old visits result walk_is is goes =
+    goes-here walk (asked is_kept rule place) old old visits visits result
+    (walk_is ∙ ap (λ k. asked k rule place (context_of old) (viewed old.flow.state)) (sym is)) goes
 
 -- by the fault that is handed on
 pub given-up : {A : Type 0} (walk : Walking A) (old new : Walk) (before after : Visits) (fault : CheckFault) (result : Result A CheckFault)
@@ -148,31 +168,6 @@ pub all-end : {X : Type 0} (walk : X → Walking (Unit {0})) (items : List X) (i
 all-end {X} walk items i old visits past =
     subst (λ (ls : List X). Goes (all_of (map walk ls)) old visits (Ok tt) old visits) (sym (drop-past items i past)) (walks-give tt old visits)
 
--- ---- the assignment to a variable
-
--- an assignment from its target's entry on
-pub assignment-done : (becomes : SourcePlace) (target : Access) (indexes : List Expr) (fits : RangeTest) (value : Expr) (values : Interval)
-    (old entered valued : Walk) (before entries after : Visits) (known : Known) (result : Result (Unit {0}) CheckFault) (new : Walk)
-    → values ≡ limits_of fits.range
-    → Walks (access_walk target (index_walks indexes)) old before entered entries tt → Walks (value_walk value) entered entries valued after known
-    → Goes (fitting fits known >>= λ passed. (change becomes target.root values >>= λ _.
-    assign_to target.root target.selectors.items (bound_form value) passed)) valued after result new after
-    → Goes (assignment becomes target (index_walks indexes) fits value) old before result new after
-assignment-done becomes target indexes fits value values old entered valued before entries after known result new is one two three =
-    let stored = λ (values : Interval) (known : Known). fitting fits known >>= λ passed.
-    (change becomes target.root values >>= λ _. assign_to target.root target.selectors.items (bound_form value) passed) in
-    let rest = stored (limits_of fits.range) in
-    goes-then (access_walk target (index_walks indexes)) (λ _. value_walk value >>= rest) old entered new before entries after tt result one
-    (goes-then (value_walk value) rest entered valued new entries after after known result two
-    (subst (λ (v : Interval). Goes (stored v known) valued after result new after) is three))
-
--- an access without selectors is to an entire variable
-pub assigned-entire : (root : ℕ) (selectors : List Selector) (form : Option Bound) (passed : Known) → (length selectors == 0) ≡ true
-    → assign_to root selectors form passed ≡ assign root form passed
-assigned-entire root [] form passed is = refl
-assigned-entire root (selector ∷ selectors) form passed is =
-    let none = eqb-true (length (selector ∷ selectors)) 0 is in absurd (omega (arith, none))
-
 -- ---- branches
 
 -- from where only the state of the checker was moved, a piece is walked from that state
@@ -203,6 +198,8 @@ branches-walk one_state other_state one_walk other_walk old taken mid start done
     record {
       context_is = ap context_of met.only_state ∙ two.context_is ∙ ap context_of to_no.only_state ∙ context;
       flows = record {
+        rows_are = ap (λ (w : Walk). w.flow.rows) met.only_state ∙ two.flows.rows_are ∙ ap (λ (w : Walk). w.flow.rows) to_no.only_state
+            ∙ one.flows.rows_are ∙ ap (λ (w : Walk). w.flow.rows) to_yes.only_state;
         value_is = refl;
         state_is = met.says ∙ ap (λ s. joined_states s (viewed done.flow.state)) first_after ∙ ap (joined_states first.after) second_after;
         open_is = ap (λ (w : Walk). w.flow.open_ids.items) met.only_state ∙ two.flows.open_is
@@ -265,7 +262,32 @@ if-begun statement number condition consequence alternative inner old entered va
     (goes-as (chosen known) (branches condition (statement_walk inner) (else_walk alternative) known) valued new after end result
     (ap (λ s. branches condition (statement_walk s) (else_walk alternative) known) (sym inner_is)) three)))
 
+-- the checker gave up in the condition
+pub if-stopped : (statement : Stmt) (number : ℕ) (condition : Expr) (consequence : Box Stmt Global) (alternative : Option (Box Stmt Global))
+    (old entered new : Walk) (before between after : Visits) (fault : CheckFault)
+    → statement ≡ stmt.If number condition consequence alternative → Walks (enter number) old before entered between tt
+    → IsBreachOf (value_walk condition (context_of entered) (viewed entered.flow.state)) fault
+    → Goes (statement_walk statement) old before (Err fault) new after
+if-stopped statement number condition consequence alternative old entered new before between after fault is one stopped =
+    let chosen = branches condition (statement_walk consequence.value) (else_walk alternative) in
+    goes-as (statement_walk statement) (enter number >>= λ _. (value_walk condition >>= chosen)) old new before after (Err fault)
+    (ap statement_walk is ∙ statement-If number condition consequence alternative)
+    (goes-then (enter number) (λ _. value_walk condition >>= chosen) old entered new before between after tt (Err fault) one
+    (goes-stopped (value_walk condition) chosen entered new between after fault stopped))
+
 -- ---- loops
+
+-- the facts of a loop weren't given where it is entered
+pub loop-not_entered : (number : ℕ) (place : SourcePlace) (control : Option ℕ) (walking : Walking State) (old new : Walk) (before after : Visits)
+    (fault : CheckFault)
+    → IsBreachOf (facts_given LoopEntry place (claims_in number old).facts (context_of old) (viewed old.flow.state)) fault
+    → Goes (loop_walk number place control walking) old before (Err fault) new after
+loop-not_entered number place control walking old new before after fault is =
+    let facts = (claims_in number old).facts in
+    let loop = loop_in number old in
+    let rest = enter_head (with_own control loop) facts >>= λ _. (inside (without_own control loop) walking >>= λ behind.
+    (facts_given LoopTurn place facts >>= λ _. with_state behind)) in
+    breach-first (context_of old) (facts_given LoopEntry place facts) (λ _. rest) (viewed old.flow.state) fault is
 
 module _ (number : ℕ) (place : SourcePlace) (control : Option ℕ) (walking : Walking State) (old headed : Walk)
     (at_head : AtHead number control old headed) where
@@ -279,7 +301,7 @@ module _ (number : ℕ) (place : SourcePlace) (control : Option ℕ) (walking : 
   inner_context = record (context_of old) { rounds = (context_of old).rounds ++ without_own control (loop_in number old) ∷ [] }
 
   abbrev turn : Walked State
-  turn = walking inner_context (head (limits_at old.limits.items) (touched own) own.controls claims.facts (viewed old.flow.state))
+  turn = walking inner_context (head_of old.flow.rows.now old.limits.items own claims.facts (viewed old.flow.state))
 
   abbrev whole : Walked (Unit {0})
   whole = loop_walk number place control walking (context_of old) (viewed old.flow.state)
@@ -315,23 +337,30 @@ module _ (number : ℕ) (place : SourcePlace) (control : Option ℕ) (walking : 
     value-same : viewed behind ≡ turn.value
     value-same = one.flows.value_is ∙ ap (λ w. w.value) turn-same
 
+    tree-same : rounded.flow.rows.now ≡ old.flow.rows.now
+    tree-same = ap (λ (context : Context). context.tree) context-within
+
     turn-unbroken : turn.broken ≡ []
     turn-unbroken = ap (λ w. w.broken) (sym turn-same) ∙ one.flows.unbroken
 
     -- the whole breaks no rule but that which is asked behind a round
-    whole-broken : whole.broken ≡ breach_unless (gives_all turn.after claims.facts) LoopTurn place ++ []
-    whole-broken = entered-unbroken ∙ ap (λ b. b ++ (breach_unless (gives_all turn.after claims.facts) LoopTurn place ++ [])) turn-unbroken
+    whole-broken : whole.broken ≡ breach_unless (gives_claims old.flow.rows.now turn.after claims.facts) LoopTurn place ++ []
+    whole-broken =
+        entered-unbroken
+        ∙ ap (λ b. b ++ (breach_unless (gives_claims old.flow.rows.now turn.after claims.facts) LoopTurn place ++ [])) turn-unbroken
 
     pub loop-done : (result : Result (Unit {0}) CheckFault) (new : Walk) → LeavesLoop number place behind rounded result new
         → Goes (loop_walk number place control walking) old before result new after
     loop-done (Ok value) new left =
         let behind_loop = left (context_of old).rounds (without_own control (loop_in number old)) (ap (λ (context : Context). context.rounds) context-within) in
-        let given : gives_all turn.after claims.facts ≡ true =
-        ap (λ (s : State). gives_all s claims.facts) (sym after-same)
-        ∙ ap (λ (c : Claims). gives_all (viewed rounded.flow.state) c.facts) (sym claims-same) ∙ behind_loop.given in
+        let given : gives_claims old.flow.rows.now turn.after claims.facts ≡ true =
+        ap (λ (s : State). gives_claims old.flow.rows.now s claims.facts) (sym after-same)
+        ∙ ap (λ (c : Claims). gives_claims old.flow.rows.now (viewed rounded.flow.state) c.facts) (sym claims-same)
+        ∙ ap (λ tree. gives_claims tree (viewed rounded.flow.state) (claims_in number rounded).facts) (sym tree-same) ∙ behind_loop.given in
         record {
           context_is = behind_loop.context_is ∙ ap (λ (context : Context). record context { rounds = (context_of old).rounds }) context-within;
           flows = record {
+            rows_are = behind_loop.rows_are ∙ one.flows.rows_are ∙ at_head.rows_are;
             value_is = refl;
             state_is = behind_loop.state_is ∙ value-same;
             open_is = ap (λ (ids : Vec ℕ Global). ids.items) behind_loop.open_is ∙ one.flows.open_is
@@ -345,9 +374,10 @@ module _ (number : ℕ) (place : SourcePlace) (control : Option ℕ) (walking : 
         }
     loop-done (Err fault) new is =
         breach-same (facts_given LoopTurn place (claims_in number rounded).facts (context_of rounded) (viewed rounded.flow.state)) whole fault
-        (ap (λ (c : Claims). breach_unless (gives_all (viewed rounded.flow.state) c.facts) LoopTurn place) claims-same
-        ∙ ap (λ (s : State). breach_unless (gives_all s claims.facts) LoopTurn place) after-same
-        ∙ sym (append-nil (breach_unless (gives_all turn.after claims.facts) LoopTurn place)) ∙ sym whole-broken) is
+        (ap (λ (c : Claims). breach_unless (gives_claims rounded.flow.rows.now (viewed rounded.flow.state) c.facts) LoopTurn place) claims-same
+        ∙ ap (λ tree. breach_unless (gives_claims tree (viewed rounded.flow.state) claims.facts) LoopTurn place) tree-same
+        ∙ ap (λ (s : State). breach_unless (gives_claims old.flow.rows.now s claims.facts) LoopTurn place) after-same
+        ∙ sym (append-nil (breach_unless (gives_claims old.flow.rows.now turn.after claims.facts) LoopTurn place)) ∙ sym whole-broken) is
 
 -- a loop from its entry on
 pub while-begun : (statement : Stmt) (number loop_number : ℕ) (place : SourcePlace) (condition : Expr) (body : Box Stmt Global) (inner : Stmt)
@@ -392,6 +422,7 @@ while_round-done condition body known old valued taken new before between after 
     walks-then (value_walk condition) rest old valued new before between after known (viewed behind) one (record {
       context_is = two.context_is ∙ ap context_of parts.0.only_state;
       flows = record {
+        rows_are = two.flows.rows_are ∙ ap (λ (w : Walk). w.flow.rows) parts.0.only_state;
         value_is = parts.1;
         state_is = two.flows.state_is ∙ ap (λ w. w.after) same;
         open_is = two.flows.open_is
@@ -417,6 +448,7 @@ repeat_round-done body condition known old bodied valued taken new before betwee
     (walks-then (value_walk condition) rest bodied valued new between after after known (viewed behind) two (record {
       context_is = ap context_of only ∙ ap context_of parts.0.only_state;
       flows = record {
+        rows_are = ap (λ (w : Walk). w.flow.rows) only ∙ ap (λ (w : Walk). w.flow.rows) parts.0.only_state;
         value_is = ap viewed behind_is ∙ parts.0.says;
         state_is = ap viewed again_is ∙ parts.1;
         open_is = ap (λ (w : Walk). w.flow.open_ids.items) only ∙ ap (λ (w : Walk). w.flow.open_ids.items) parts.0.only_state
@@ -426,66 +458,19 @@ repeat_round-done body condition known old bodied valued taken new before betwee
       };
     }))
 
--- ---- a change of a variable, and the whole program
-
-pub change-done : (place : SourcePlace) (root : ℕ) (values : Interval) (walk : Walk) (visits : Visits) (fits listed : Bool)
-    → fits ≡ is_included values (limits_at walk.limits.items root)
-    → listed ≡ list_all (λ round. is_among root (kept_round round).changes) walk.rounds.items → fits ≡ true → listed ≡ true
-    → Walks (change place root values) walk visits walk visits tt
-change-done place root values walk visits fits listed fits_is listed_is fit list =
-    let all = list_all-map (λ (round : Round). is_among root round.changes) kept_round walk.rounds.items ∙ sym listed_is in
-    record {
-      context_is = refl;
-      flows = record {
-        value_is = refl;
-        state_is = refl;
-        open_is = sym (append-nil walk.flow.open_ids.items);
-        visits_are = refl;
-        unbroken = ap (λ l. breach_unless (l && is_included values (limits_at walk.limits.items root)) Changes place) (all ∙ list)
-            ∙ ap (λ f. breach_unless f Changes place) (sym fits_is ∙ fit);
-      };
-    }
-
-and-false : (a b : Bool) → b ≡ false → (a && b) ≡ false
-and-false true b is = is
-and-false false b is = refl
-
--- the test of what a change asks
-asked-same : (root : ℕ) (values : Interval) (walk : Walk) (listed : Bool)
-    → listed ≡ list_all (λ round. is_among root (kept_round round).changes) walk.rounds.items
-    → (all_list root (context_of walk).rounds && is_included values (limits_at walk.limits.items root))
-    ≡ (listed && is_included values (limits_at walk.limits.items root))
-asked-same root values walk listed listed_is =
-    ap (λ l. l && is_included values (limits_at walk.limits.items root))
-    (list_all-map (λ (round : Round). is_among root round.changes) kept_round walk.rounds.items ∙ sym listed_is)
-
--- a loop doesn't list the variable
-pub unlisted : (place : SourcePlace) (root : ℕ) (values : Interval) (walk : Walk) (visits : Visits) (listed : Bool)
-    → listed ≡ list_all (λ round. is_among root (kept_round round).changes) walk.rounds.items → listed ≡ false
-    → Goes {A = Unit {0}} (change place root values) walk visits (Err (Broken Changes place)) walk visits
-unlisted place root values walk visits listed listed_is none =
-    let fits = is_included values (limits_at walk.limits.items root) in
-    ap (λ l. first_breach (breach_unless l Changes place)) (asked-same root values walk listed listed_is ∙ ap (λ l. l && fits) none)
-
--- the value isn't tested for the variable's type
-pub unfit : (place : SourcePlace) (root : ℕ) (values : Interval) (walk : Walk) (visits : Visits) (fits : Bool)
-    → fits ≡ is_included values (limits_at walk.limits.items root) → fits ≡ false
-    → Goes {A = Unit {0}} (change place root values) walk visits (Err (Broken Changes place)) walk visits
-unfit place root values walk visits fits fits_is none =
-    ap (λ l. first_breach (breach_unless l Changes place))
-    (and-false (all_list root (context_of walk).rounds) (is_included values (limits_at walk.limits.items root)) (sym fits_is ∙ none))
+-- ---- the whole program
 
 module _ (tree : Tree) (certificate : Certificate) (begun : Walk) (start : IsBegun tree certificate begun) where
-  pub program-same : all_of (map block_walk begun.tree.now.blocks.items) (context_of begun) (viewed begun.flow.state) ≡ program_walk tree certificate
+  pub program-same : all_of (map block_walk begun.flow.rows.now.blocks.items) (context_of begun) (viewed begun.flow.state) ≡ program_walk tree certificate
   program-same =
       ap (λ (context : Context). all_of (map block_walk context.tree.blocks.items) context (viewed begun.flow.state)) start.context_is
       ∙ ap (all_of (map block_walk tree.blocks.items) (first_context tree certificate)) start.state_is
 
-  module _ (new : Walk) (before after : Visits) (walked : Walks (all_of (map block_walk begun.tree.now.blocks.items)) begun before new after tt) where
+  module _ (new : Walk) (before after : Visits) (walked : Walks (all_of (map block_walk begun.flow.rows.now.blocks.items)) begun before new after tt) where
     pub program-open : new.flow.open_ids.items ≡ (program_walk tree certificate).open_ids
     program-open =
         walked.flows.open_is
-        ∙ ap (λ ids. ids ++ (all_of (map block_walk begun.tree.now.blocks.items) (context_of begun) (viewed begun.flow.state)).open_ids) start.open_is
+        ∙ ap (λ ids. ids ++ (all_of (map block_walk begun.flow.rows.now.blocks.items) (context_of begun) (viewed begun.flow.state)).open_ids) start.open_is
         ∙ ap (λ w. w.open_ids) program-same
 
     pub program-visits : after ≡ all_counted (numbers_of (program_walk tree certificate).linked) before
@@ -495,15 +480,15 @@ module _ (tree : Tree) (certificate : Certificate) (begun : Walk) (start : IsBeg
     program-unbroken = ap (λ w. w.broken) (sym program-same) ∙ walked.flows.unbroken
 
   pub program-stopped : (fault : CheckFault)
-      → IsBreachOf (all_of (map block_walk begun.tree.now.blocks.items) (context_of begun) (viewed begun.flow.state)) fault
+      → IsBreachOf (all_of (map block_walk begun.flow.rows.now.blocks.items) (context_of begun) (viewed begun.flow.state)) fault
       → IsBreachOf (program_walk tree certificate) fault
   program-stopped fault is =
-      breach-same (all_of (map block_walk begun.tree.now.blocks.items) (context_of begun) (viewed begun.flow.state)) (program_walk tree certificate) fault
+      breach-same (all_of (map block_walk begun.flow.rows.now.blocks.items) (context_of begun) (viewed begun.flow.state)) (program_walk tree certificate) fault
       (ap (λ w. w.broken) program-same) is
 
   pub program-given_up : {A : Type 0} (P : A → Type 0) (result : Result A CheckFault) (fault : CheckFault)
       → IsErr result × IsErrAnd result (λ e. e ≡ fault)
-      → IsBreachOf (all_of (map block_walk begun.tree.now.blocks.items) (context_of begun) (viewed begun.flow.state)) fault
+      → IsBreachOf (all_of (map block_walk begun.flow.rows.now.blocks.items) (context_of begun) (viewed begun.flow.state)) fault
       → MatchResult result P (IsBreachOf (program_walk tree certificate))
   program-given_up P (Ok a) fault left is = absurd left.1
   program-given_up P (Err other) fault left is =

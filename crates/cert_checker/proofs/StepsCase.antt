@@ -17,9 +17,9 @@ use Rattle.expression_checker.specs.Visits.{Visits, all_counted}
 use Rattle.cert_checker.specs.declared.walk.Walk.{Walk}
 use Rattle.abstract_state.specs.declared.known.Known.{Known}
 use Rattle.abstract_state.specs.declared.known.Known.TheVariants.{Ordinal}
-use Rattle.abstract_state.specs.declared.state.State.{State as Kept}
-use Rattle.abstract_state.specs.View.{viewed}
-use Rattle.abstract_state.specs.State.{State, Dead, joined_states}
+use Rattle.component_states.specs.declared.state.State.{State as Kept}
+use Rattle.component_states.specs.View.{viewed}
+use Rattle.component_states.specs.States.{State, dead, joined_states, over_variables}
 use Rattle.abstract_state.specs.Conditions.{condition_of}
 use Rattle.abstract_state.specs.Forms.{root_of}
 use Rattle.structured_states.specs.Cases.{arm_start, constants_before}
@@ -86,19 +86,20 @@ pub index-done : (site : ℕ) (constants : List ℤ) (range : Interval) (closed 
     (visits : Visits)
     → closed ≡ is_covered range constants → passed ≡ common range (hull constants)
     → Walks (tested closed site passed) old visits mid visits value
-    → base ≡ mid.flow.state → viewed new.flow.state ≡ Dead → new ≡ at_state new.flow.state mid
+    → base ≡ mid.flow.state → viewed new.flow.state ≡ dead → new ≡ at_state new.flow.state mid
     → Walks (index_test site constants range) old visits new visits (viewed base)
-index-done site constants range closed passed value base old mid new visits closed_is passed_is one base_is dead only =
+index-done site constants range closed passed value base old mid new visits closed_is passed_is one base_is dead_is only =
     let first = tested (is_covered range constants) site (common range (hull constants)) in
-    let rest = here >>= λ base. (with_state Dead >>= λ _. give base) in
+    let rest = here >>= λ base. (with_state dead >>= λ _. give base) in
     walks-then first (λ _. rest) old mid new visits visits visits value (viewed base)
     (subst (λ c. Walks (tested c site (common range (hull constants))) old visits mid visits value) closed_is
     (subst (λ p. Walks (tested closed site p) old visits mid visits value) passed_is one))
     (record {
       context_is = ap context_of only;
       flows = record {
+        rows_are = ap (λ (w : Walk). w.flow.rows) only;
         value_is = ap viewed base_is;
-        state_is = dead;
+        state_is = dead_is;
         open_is = ap (λ (w : Walk). w.flow.open_ids.items) only ∙ sym (append-nil mid.flow.open_ids.items);
         visits_are = refl;
         unbroken = refl;
@@ -114,7 +115,7 @@ pub index-stopped : (site : ℕ) (constants : List ℤ) (range : Interval) (clos
 index-stopped site constants range closed passed old new visits fault (Ok base) closed_is passed_is left stopped = absurd left.1
 index-stopped site constants range closed passed old new visits fault (Err other) closed_is passed_is left stopped =
     let first = tested (is_covered range constants) site (common range (hull constants)) in
-    let rest = here >>= λ base. (with_state Dead >>= λ _. give base) in
+    let rest = here >>= λ base. (with_state dead >>= λ _. give base) in
     subst (λ f. Goes {A = State} (index_test site constants range) old visits (Err f) new visits) (sym left.1)
     (goes-stopped first (λ _. rest) old new visits visits fault
     (subst (λ c. IsBreachOf (tested c site (common range (hull constants)) (context_of old) (viewed old.flow.state)) fault) closed_is
@@ -138,6 +139,7 @@ module _ (start : Kept) (arm : Walking (Unit {0})) (old begun : Walk) (begins : 
   arm-done behind done new before after (Ok value) behind_is one met = record {
     context_is = ap context_of met.only_state ∙ one.context_is ∙ ap context_of only;
     flows = record {
+      rows_are = ap (λ (w : Walk). w.flow.rows) met.only_state ∙ one.flows.rows_are ∙ ap (λ (w : Walk). w.flow.rows) only;
       value_is = refl;
       state_is = met.says ∙ ap (λ s. joined_states s (viewed done.flow.state)) (ap viewed behind_is)
           ∙ ap (joined_states (viewed old.flow.state)) (one.flows.state_is ∙ ap (λ w. w.after) same);
@@ -177,18 +179,18 @@ arms_from base index rows arms i = arms_walk base index (drop i rows) (map state
 
 from-cut : (base : State) (index : Option ℕ) (rows : List (Vec ℤ Global)) (arms : List Stmt) (i : ℕ) (arm : Stmt) → i < length arms → arm ≡ get_or arms i arm
     → arms_from base index rows arms i
-    ≡ (arm_walk (arm_start index (slice_get rows i) base) (statement_walk arm) >>= λ _. arms_from base index rows arms (i + 1))
+    ≡ (arm_walk (over_variables (arm_start index (slice_get rows i)) base) (statement_walk arm) >>= λ _. arms_from base index rows arms (i + 1))
 from-cut base index rows arms i arm inside is =
     ap (λ (l : List Stmt). arms_walk base index (drop i rows) (map statement_walk l)) (item-cut arms i arm inside is)
-    ∙ ap (λ row. arm_walk (arm_start index row base) (statement_walk arm) >>= λ _.
+    ∙ ap (λ row. arm_walk (over_variables (arm_start index row) base) (statement_walk arm) >>= λ _.
     arms_walk base index (drop 1 (drop i rows)) (map statement_walk (drop (i + 1) arms))) (get-drop rows i)
-    ∙ ap (λ more. arm_walk (arm_start index (slice_get rows i) base) (statement_walk arm) >>= λ _.
+    ∙ ap (λ more. arm_walk (over_variables (arm_start index (slice_get rows i)) base) (statement_walk arm) >>= λ _.
     arms_walk base index more (map statement_walk (drop (i + 1) arms))) (rw add-one (drop-more rows i))
 
 module _ (base : State) (index : Option ℕ) (rows : List (Vec ℤ Global)) (arms : List Stmt) (i : ℕ) (arm : Stmt) (inside : i < length arms)
-    (is : arm ≡ get_or arms i arm) (start : State) (start_is : start ≡ arm_start index (slice_get rows i) base) where
+    (is : arm ≡ get_or arms i arm) (start : State) (start_is : start ≡ over_variables (arm_start index (slice_get rows i)) base) where
   abbrev first : Walking (Unit {0})
-  first = arm_walk (arm_start index (slice_get rows i) base) (statement_walk arm)
+  first = arm_walk (over_variables (arm_start index (slice_get rows i)) base) (statement_walk arm)
 
   pub arms-step : (old mid new : Walk) (before between after : Visits) (value : Unit {0}) (result : Result (Unit {0}) CheckFault)
       → Walks (arm_walk start (statement_walk arm)) old before mid between value

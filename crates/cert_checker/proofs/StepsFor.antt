@@ -1,5 +1,5 @@
 -- What the checker did over a for statement, from what it did over the parts of it.
-use Rattle.std.proofs.Common.{rules, ◌≡◌, refl, sym, subst, ap, ◌∙◌, ℕ, true, false, [], ◌++◌, append-nil, Some, Result, Ok, Err}
+use Rattle.std.proofs.Common.{rules, ◌≡◌, refl, sym, subst, ap, ◌∙◌, ℕ, Bool, true, false, [], ◌++◌, append-nil, None, Some, Result, Ok, Err}
 use Rattle.std.specs.declared.boxed.Box.{Box}
 use Rattle.std.specs.declared.alloc.Global.{Global}
 use Rattle.place.specs.declared.Place.{Place as SourcePlace}
@@ -13,21 +13,21 @@ use Rattle.expression_checker.specs.declared.fault.CheckFault.{CheckFault}
 use Rattle.expression_checker.specs.Visits.{Visits, all_counted}
 use Rattle.cert_checker.specs.declared.walk.Walk.{Walk}
 use Rattle.abstract_state.specs.declared.known.Known.{Known}
-use Rattle.abstract_state.specs.declared.state.State.{State as Kept}
-use Rattle.abstract_state.specs.View.{viewed}
-use Rattle.abstract_state.specs.State.{State, joined_states, limits_of}
+use Rattle.abstract_state.specs.State.{limits_of}
+use Rattle.component_states.specs.declared.state.State.{State as Kept}
+use Rattle.component_states.specs.View.{viewed}
+use Rattle.component_states.specs.States.{State, joined_states, over_bound, over_change, over_variables}
 use Rattle.abstract_state.specs.Loops.{with_undefined}
 use Rattle.expression_checker.specs.Walk.{IsBreachOf, Walked, Walking, ◌>>=◌, enter, give, numbers_of, value_walk, within}
 use Rattle.std.specs.Result.{IsErr, IsErrAnd}
 use Rattle.domain.specs.Interval.{Interval}
 use Rattle.abstract_state.specs.declared.known.Known.TheVariants.{Ordinal}
 use Rattle.structured_states.specs.declared.ways.Way.{Way as KeptWay}
-use Rattle.structured_states.specs.Ways.{End, Way, end_of, met, turn_begun, turn_ended, way_of, way_out, where_counts, with_values}
+use Rattle.structured_states.specs.Ways.{End, Way, end_of, met, next, turn_begun, turn_ended, way_of, way_out, where_counts, with_values}
 use Rattle.cert_checker.specs.Walk.{assign, changed_by, control_change, for_round, for_turns, for_walk, loop_walk, parted, rounds_of, statement_walk, steady_in}
 use Rattle.cert_checker.specs.Walk.{tested_end, tested_way}
 use Rattle.cert_checker.specs.View.{Goes, IsMoved, Moves, Parts, Walks, context_of, said_tested}
-use Rattle.expression_checker.proofs.Steps.{breach-same}
-use Rattle.cert_checker.proofs.Steps.{branches-stopped, goes-as, goes-stopped, goes-then, moved-same, walks-give}
+use Rattle.cert_checker.proofs.Steps.{branches-stopped, goes-as, goes-here, goes-stopped, goes-then, moved-same, walks-give}
 
 pub statement-For : (number loop_number : ℕ) (place : SourcePlace) (control : ℕ) (first : Expr) (first_fits : RangeTest) (direction : Direction) (last : Expr)
     (last_fits : RangeTest) (body : Box Stmt Global)
@@ -60,6 +60,22 @@ for-begun statement number loop_number place control first first_fits direction 
     (ap (λ s. for_walk loop_number place (statement_walk s) (way_of control direction first first_fits last last_fits from to)) (sym inner_is)
     ∙ ap (for_walk loop_number place (statement_walk inner)) (sym way_is)) four))))
 
+-- the checker gave up in the first bound
+pub for-first_stopped : (statement : Stmt) (number loop_number : ℕ) (place : SourcePlace) (control : ℕ) (first : Expr) (first_fits : RangeTest)
+    (direction : Direction) (last : Expr) (last_fits : RangeTest) (body : Box Stmt Global) (old entered new : Walk) (before between after : Visits)
+    (fault : CheckFault)
+    → statement ≡ stmt.For number loop_number place control first first_fits direction last last_fits body
+    → Walks (enter number) old before entered between tt → IsBreachOf (value_walk first (context_of entered) (viewed entered.flow.state)) fault
+    → Goes (statement_walk statement) old before (Err fault) new after
+for-first_stopped statement number loop_number place control first first_fits direction last last_fits body old entered new before between after fault is
+    one stopped =
+    let rest = λ (from : Known). value_walk last >>= λ to.
+    for_walk loop_number place (statement_walk body.value) (way_of control direction first first_fits last last_fits from to) in
+    goes-as (statement_walk statement) (enter number >>= λ _. (value_walk first >>= rest)) old new before after (Err fault)
+    (ap statement_walk is ∙ statement-For number loop_number place control first first_fits direction last last_fits body)
+    (goes-then (enter number) (λ _. value_walk first >>= rest) old entered new before between after tt (Err fault) one
+    (goes-stopped (value_walk first) rest entered new between after fault stopped))
+
 -- the checker gave up in the last bound
 pub for-last_stopped : (statement : Stmt) (number loop_number : ℕ) (place : SourcePlace) (control : ℕ) (first : Expr) (first_fits : RangeTest)
     (direction : Direction) (last : Expr) (last_fits : RangeTest) (body : Box Stmt Global) (from : Known) (old entered begun new : Walk)
@@ -78,37 +94,29 @@ for-last_stopped statement number loop_number place control first first_fits dir
     (goes-then (value_walk first) rest entered begun new between middle after from (Err fault) two
     (goes-stopped (value_walk last) (walked from) begun new middle after fault stopped)))
 
--- two walks that are the same from here
-pub goes-here : {A : Type 0} (walk form : Walking A) (old new : Walk) (before after : Visits) (result : Result A CheckFault)
-    → walk (context_of old) (viewed old.flow.state) ≡ form (context_of old) (viewed old.flow.state)
-    → Goes form old before result new after → Goes walk old before result new after
-goes-here walk form old new before after (Ok value) is one = record {
-  context_is = one.context_is;
-  flows = record {
-    value_is = one.flows.value_is ∙ ap (λ w. w.value) (sym is);
-    state_is = one.flows.state_is ∙ ap (λ w. w.after) (sym is);
-    open_is = one.flows.open_is ∙ ap (λ w. old.flow.open_ids.items ++ w.open_ids) (sym is);
-    visits_are = one.flows.visits_are ∙ ap (λ w. all_counted (numbers_of w.linked) before) (sym is);
-    unbroken = ap (λ w. w.broken) is ∙ one.flows.unbroken;
-  };
-}
-goes-here walk form old new before after (Err fault) is one =
-    breach-same (form (context_of old) (viewed old.flow.state)) (walk (context_of old) (viewed old.flow.state)) fault (ap (λ w. w.broken) (sym is)) one
+-- what is known where there are values, and where there are none
+abbrev pub counting : Bool → Way → State → State
+counting counts way = over_variables (where_counts counts way)
+
+-- and behind both
+abbrev pub left_undefined : Way → State → State
+left_undefined way = over_change way.control None (with_undefined way.control)
 
 -- where there are values and where there are none, and behind both
 pub for-done : (number : ℕ) (place : SourcePlace) (body : Walking (Unit {0})) (way : Way) (never : Kept) (old taken mid new : Walk) (before after : Visits)
     (result : Result (Unit {0}) CheckFault)
-    → Parts (where_counts true way) (where_counts false way) old (Ok never) taken → Walks (for_turns number place body way) taken before mid after tt
-    → Moves (λ state. with_undefined way.control (joined_states state (viewed never))) mid result new
+    → Parts (counting true way) (counting false way) old (Ok never) taken → Walks (for_turns number place body way) taken before mid after tt
+    → Moves (λ state. left_undefined way (joined_states state (viewed never))) mid result new
     → Goes (for_walk number place body way) old before result new after
 for-done number place body way never old taken mid new before after (Ok value) parts one left =
     let turns = for_turns number place body way in
-    let first : Walked (Unit {0}) = turns (context_of old) (where_counts true way (viewed old.flow.state)) in
-    let same = moved-same turns (where_counts true way (viewed old.flow.state)) old taken parts.0 in
-    let undefined = with_undefined way.control in
+    let first : Walked (Unit {0}) = turns (context_of old) (counting true way (viewed old.flow.state)) in
+    let same = moved-same turns (counting true way (viewed old.flow.state)) old taken parts.0 in
+    let undefined = left_undefined way in
     record {
       context_is = ap context_of left.only_state ∙ one.context_is ∙ ap context_of parts.0.only_state;
       flows = record {
+        rows_are = ap (λ (w : Walk). w.flow.rows) left.only_state ∙ one.flows.rows_are ∙ ap (λ (w : Walk). w.flow.rows) parts.0.only_state;
         value_is = refl;
         state_is = left.says ∙ ap (λ s. undefined (joined_states s (viewed never))) (one.flows.state_is ∙ ap (λ w. w.after) same)
             ∙ ap (λ s. undefined (joined_states first.after s)) parts.1;
@@ -126,33 +134,34 @@ for-done number place body way never old taken mid new before after (Err fault) 
 
 pub for-stopped : (number : ℕ) (place : SourcePlace) (body : Walking (Unit {0})) (way : Way) (never : Kept) (old taken new : Walk) (before after : Visits)
     (fault : CheckFault)
-    → Parts (where_counts true way) (where_counts false way) old (Ok never) taken
+    → Parts (counting true way) (counting false way) old (Ok never) taken
     → IsBreachOf (for_turns number place body way (context_of taken) (viewed taken.flow.state)) fault
     → Goes (for_walk number place body way) old before (Err fault) new after
 for-stopped number place body way never old taken new before after fault parts is =
     let turns = for_turns number place body way in
-    let both = parted (where_counts true way) (where_counts false way) turns (give tt) in
-    goes-stopped both (λ _. changed_by (with_undefined way.control)) old new before after fault
-    (branches-stopped (where_counts true way) (where_counts false way) turns (give tt) old taken new before after never fault parts is)
+    let both = parted (counting true way) (counting false way) turns (give tt) in
+    goes-stopped both (λ _. changed_by (left_undefined way)) old new before after fault
+    (branches-stopped (counting true way) (counting false way) turns (give tt) old taken new before after never fault parts is)
 
 -- a round of a for
-module _ (way : Way) (body : Walking (Unit {0})) (old begun : Walk) (moved : IsMoved (turn_begun way (viewed old.flow.state)) old begun) where
+module _ (way : Way) (body : Walking (Unit {0})) (old begun : Walk) (moved : IsMoved (over_variables (turn_begun way) (viewed old.flow.state)) old begun) where
   abbrev was : Walked (Unit {0})
-  was = body (context_of old) (turn_begun way (viewed old.flow.state))
+  was = body (context_of old) (over_variables (turn_begun way) (viewed old.flow.state))
 
   same : body (context_of begun) (viewed begun.flow.state) ≡ was
-  same = moved-same body (turn_begun way (viewed old.flow.state)) old begun moved
+  same = moved-same body (over_variables (turn_begun way) (viewed old.flow.state)) old begun moved
 
   pub for_round-done : (bodied new : Walk) (before after : Visits) (behind : Kept) → Walks body begun before bodied after tt
-      → Parts (turn_ended way) (way_out way) bodied (Ok behind) new
+      → Parts (over_change way.control (next way) (turn_ended way)) (over_bound way.control way.last.form (way_out way)) bodied (Ok behind) new
       → Walks (for_round way body) old before new after (viewed behind)
   for_round-done bodied new before after behind one parts =
       let after_is = one.flows.state_is ∙ ap (λ w. w.after) same in
       record {
         context_is = ap context_of parts.0.only_state ∙ one.context_is ∙ ap context_of moved.only_state;
         flows = record {
-          value_is = parts.1 ∙ ap (way_out way) after_is;
-          state_is = parts.0.says ∙ ap (turn_ended way) after_is;
+          rows_are = ap (λ (w : Walk). w.flow.rows) parts.0.only_state ∙ one.flows.rows_are ∙ ap (λ (w : Walk). w.flow.rows) moved.only_state;
+          value_is = parts.1 ∙ ap (over_bound way.control way.last.form (way_out way)) after_is;
+          state_is = parts.0.says ∙ ap (over_change way.control (next way) (turn_ended way)) after_is;
           open_is = ap (λ (w : Walk). w.flow.open_ids.items) parts.0.only_state ∙ one.flows.open_is
               ∙ ap (λ (w : Walk). w.flow.open_ids.items ++ (body (context_of begun) (viewed begun.flow.state)).open_ids) moved.only_state
               ∙ ap (λ w. old.flow.open_ids.items ++ w.open_ids) same ∙ ap (λ ids. old.flow.open_ids.items ++ ids) (sym (append-nil was.open_ids));
@@ -193,15 +202,16 @@ module _ (place : SourcePlace) (way : Way) (old : Walk) where
   tests-go new visits result one =
       goes-here (tested_way place way) (tested_end start way.first >>= from_first) old new visits visits result refl one
 
-  pub tests-first : (new : Walk) (visits : Visits) (fault : CheckFault) (range : Interval) → range ≡ met way.first.form start way.first.values
+  pub tests-first : (new : Walk) (visits : Visits) (fault : CheckFault) (range : Interval) → range ≡ met way.first.form start.variables way.first.values
       → IsBreachOf (first_test range (context_of old) start) fault → Goes {A = Way} (tested_way place way) old visits (Err fault) new visits
   tests-first new visits fault range is stopped =
       tests-go new visits (Err fault)
       (goes-stopped (tested_end start way.first) from_first old new visits visits fault
       (subst (λ r. IsBreachOf (first_test r (context_of old) start) fault) is stopped))
 
-  module _ (one : Walk) (visits : Visits) (first_range last_range first : Interval) (first_is : first_range ≡ met way.first.form start way.first.values)
-      (last_is : last_range ≡ met way.last.form start way.last.values) (passed : Walks (first_test first_range) old visits one visits first) where
+  module _ (one : Walk) (visits : Visits) (first_range last_range first : Interval)
+      (first_is : first_range ≡ met way.first.form start.variables way.first.values)
+      (last_is : last_range ≡ met way.last.form start.variables way.last.values) (passed : Walks (first_test first_range) old visits one visits first) where
     first-goes : (new : Walk) (result : Result Way CheckFault) → Goes (from_first first) one visits result new visits
         → Goes (tested_way place way) old visits result new visits
     first-goes new result then =

@@ -1,13 +1,18 @@
 -- What a certificate may name of a program: its blocks, its loops, each under its block, its variables, and in facts
--- those of ordinal types (ISO 7185:1990, 6.2.2, 6.4.2, 6.5, 6.8.3.6). It does not say that what is claimed of them
+-- parts of them (ISO 7185:1990, 6.2.2, 6.4.2, 6.5, 6.8.3.6). It does not say that what is claimed of them
 -- holds.
-use Rattle.std.specs.Prelude.{ℕ, Bool, false, ◌&&◌, List, Option, Some, None, length, nat_eq, nat_lt, slice_get}
+use Rattle.std.specs.Prelude.{ℕ, Bool, true, false, ◌&&◌, List, Option, Some, None, length, nat_eq, nat_lt, slice_get}
 use Rattle.std.specs.List.{list_all}
 use Rattle.typed_tree.specs.declared.tree.Tree.{Tree}
 use Rattle.typed_tree.specs.declared.tree.Loop.{Loop}
-use Rattle.typed_tree.specs.declared.tree.Variable.{Variable}
-use Rattle.types.specs.Forms.{Form}
-use Rattle.types.specs.Types.{is_ordinal}
+use Rattle.types.specs.Forms.{Form, Array}
+use Rattle.types.specs.Types.{form_at, is_ordinal}
+use Rattle.types.specs.declared.form.TypeId.{TypeId}
+use Rattle.domain.specs.declared.facts.Bound.{Bound}
+use Rattle.domain.specs.declared.facts.Bound.TheVariants.{Number, Plus}
+use Rattle.leaf_rows.specs.Rows.{Named, part_named}
+use Rattle.structured_states.specs.Loops.{is_ordinal_variable}
+use Rattle.certificate.specs.Contents.{said_path}
 use Rattle.certificate.specs.declared.Certificate.{Certificate}
 use Rattle.certificate.specs.declared.LoopClaims.{LoopClaims}
 use Rattle.certificate.specs.declared.Section.{Section}
@@ -19,24 +24,33 @@ use Rattle.certificate.specs.declared.facts.Fact.TheVariants.{Range, Defined, St
 abbrev pub is_variable : Tree → ℕ → Bool
 is_variable tree root = nat_lt root (length tree.variables.items)
 
--- it is there, and of an ordinal type
-abbrev pub has_ordinals : List Form → Option Variable → Bool
-has_ordinals types None = false
-has_ordinals types (Some variable) = is_ordinal types variable.type_id
+-- a path names a part that is there, of whose type a test holds
+abbrev pub is_named : (TypeId → Bool) → Option Named → Bool
+is_named test None = false
+is_named test (Some named) = test named.type_id
 
--- a variable is one of the program's, of an ordinal type
-abbrev pub is_ordinal_variable : Tree → ℕ → Bool
-is_ordinal_variable tree root = has_ordinals tree.types (slice_get tree.variables.items root)
+abbrev pub names : Tree → (TypeId → Bool) → Path → Bool
+names tree test path = is_named test (part_named tree (said_path path))
 
--- a path names an entire variable of an ordinal type: nothing is claimed of fields and elements
-abbrev pub path_is_known : Tree → Path → Bool
-path_is_known tree path = is_ordinal_variable tree path.root && nat_eq (length path.steps.items) 0
+abbrev pub has_elements : Option Form → Bool
+has_elements (Some (Array packed index element)) = true
+has_elements form = false
 
--- a fact names variables of the program that are of ordinal types; a stretch names elements
+abbrev pub is_array : List Form → TypeId → Bool
+is_array types id = has_elements (form_at types id)
+
+-- the variable of a bound, if it has one, is of an ordinal type
+abbrev pub bound_is_known : Tree → Bound → Bool
+bound_is_known tree (Number number) = true
+bound_is_known tree (Plus root number) = is_ordinal_variable tree root
+
+-- a fact names parts of variables: a range those of an ordinal type, a stretch elements; its bounds and the variables
+-- of an order are of ordinal types
 abbrev pub fact_is_known : Tree → Fact → Bool
-fact_is_known tree (Range path range) = path_is_known tree path
-fact_is_known tree (Defined path) = path_is_known tree path
-fact_is_known tree (Stretch path first last) = false
+fact_is_known tree (Range path range) = names tree (is_ordinal tree.types) path
+fact_is_known tree (Defined path) = names tree (λ id. true) path
+fact_is_known tree (Stretch path first last) =
+    names tree (is_array tree.types) path && (bound_is_known tree first && bound_is_known tree last)
 fact_is_known tree (Order root other number) = is_ordinal_variable tree root && is_ordinal_variable tree other
 
 -- a loop is there, and stands in a block

@@ -11,14 +11,16 @@ use Rattle.typed_tree.specs.Entries.{entries_of, entries_of_statement}
 use Rattle.meaning.specs.declared.outcome.Ending.TheVariants.{Error}
 use Rattle.meaning.specs.Effect.{Visit}
 use Rattle.meaning.specs.Meaning.{run, meaning}
-use Rattle.abstract_state.specs.State.{State}
+use Rattle.component_states.specs.States.{State}
 use Rattle.expression_checker.specs.declared.fault.CheckFault.{CheckFault}
 use Rattle.expression_checker.specs.declared.fault.CheckFault.TheVariants.{Memory, Foreign, Broken}
 use Rattle.cert_checker.specs.Names.{is_known}
 use Rattle.expression_checker.specs.Visits.{moment_of, visits_of}
 use Rattle.expression_checker.specs.Walk.{Context, IsBreachOf, Linked, numbers_of}
 use Rattle.cert_checker.specs.Walk.{block_walk, program_walk}
-use Rattle.abstract_state.specs.Holds.{StateHolds, Separate}
+use Rattle.abstract_state.specs.Holds.{Separate}
+use Rattle.component_states.specs.Holds.{StateHolds}
+use Rattle.leaf_rows.specs.Rows.{Parts, all_parts}
 
 -- the sites of the table that the walk leaves open, in the order of the table
 abbrev pub open_in : List ℕ → List Site → List Site
@@ -55,14 +57,15 @@ pub record LinksEntries (tree : Tree) (certificate : Certificate) : Type 0 where
 abbrev pub AreNumbered : Tree → Type 0
 AreNumbered tree = entries_of tree ≡ range_with_len 0 (length (entries_of tree))
 
--- a state is linked to the number of an entry, and each that is linked to it holds there
-pub record HoldsAt (linked : List Linked) (visit : Visit) : Type 0 where
+-- a state is linked to the number of an entry, and each that is linked to it holds there, of rows with these components
+pub record HoldsAt (rows : List Parts) (linked : List Linked) (visit : Visit) : Type 0 where
   pub is_linked : (one : Linked) × Contains linked one × (one.number ≡ visit.number)
-  pub holds : (one : Linked) → Contains linked one → one.number ≡ visit.number → StateHolds one.state (moment_of visit)
+  pub holds :
+      (one : Linked) → Contains linked one → one.number ≡ visit.number → StateHolds rows one.state (moment_of visit)
 
 -- whenever a run enters a statement or expression, the states that are linked to it hold, and no two variables share a
 -- place
 abbrev pub StatesHold : Tree → Certificate → Type 0
 StatesHold tree certificate =
     (input : List ℕ) (turns : ℕ) (visit : Visit) → Contains (visits_of (run tree input turns)) visit
-    → HoldsAt (program_walk tree certificate).linked visit × Separate visit.environment []
+    → HoldsAt (all_parts tree) (program_walk tree certificate).linked visit × Separate visit.environment []

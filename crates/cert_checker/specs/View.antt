@@ -8,19 +8,18 @@ use Rattle.typed_tree.specs.declared.tree.Tree.{Tree}
 use Rattle.typed_tree.specs.declared.tree.Stmt.{Stmt}
 use Rattle.expression_checker.specs.declared.fault.CheckFault.{CheckFault}
 use Rattle.expression_checker.specs.declared.fault.CheckFault.TheVariants.{Memory}
-use Rattle.abstract_state.specs.declared.state.State.{State as Kept}
-use Rattle.abstract_state.specs.View.{viewed}
+use Rattle.component_states.specs.declared.state.State.{State as Kept}
+use Rattle.component_states.specs.View.{viewed}
 use Rattle.structured_states.specs.View.{kept_round, said_claims, said_way}
 use Rattle.expression_checker.specs.Visits.{Visits}
 use Rattle.cert_checker.specs.declared.walk.Walk.{Walk}
 use Rattle.structured_states.specs.declared.rounds.Round.{Round as KeptRound}
 use Rattle.structured_states.specs.declared.ways.Way.{Way as KeptWay}
-use Rattle.structured_states.specs.Loops.{Claims, Round, claims_at, controls_inside, limits_at, round_of, touched}
+use Rattle.structured_states.specs.Loops.{Claims, Round, claims_at, controls_inside, gives_claims, head_of, round_of}
 use Rattle.structured_states.specs.Loops.{with_own, without_own}
 use Rattle.structured_states.specs.Ways.{Way}
-use Rattle.abstract_state.specs.Loops.{gives_all, head}
 use Rattle.place.specs.declared.Place.{Place}
-use Rattle.abstract_state.specs.State.{State, Dead, joined_states}
+use Rattle.component_states.specs.States.{State, dead, joined_states}
 use Rattle.expression_checker.specs.View.{Flows}
 use Rattle.expression_checker.specs.Walk.{Context, IsBreachOf, Walking, give}
 use Rattle.cert_checker.specs.Walk.{facts_given, first_context, statement_walk}
@@ -29,7 +28,7 @@ use Rattle.expression_checker.specs.declared.fault.Rule.TheVariants.{LoopEntry, 
 -- what a walk of the checker goes by
 abbrev pub context_of : Walk → Context
 context_of walk = record {
-  tree = walk.tree.now;
+  tree = walk.flow.rows.now;
   limits = walk.limits.items;
   claims = map said_claims walk.claims.items;
   rounds = map kept_round walk.rounds.items;
@@ -96,23 +95,23 @@ claims_in number walk = claims_at (map said_claims walk.claims.items) number
 pub record IsLoop (number : ℕ) (control : Option ℕ) (walk : Walk) (round : KeptRound) : Type 0 where
   pub own_is : round.own ≡ control
   pub claims_are : said_claims round.claims ≡ claims_in number walk
-  pub controls_are : round.controls.now ≡ controls_inside walk.tree.now number
+  pub controls_are : round.controls.now ≡ controls_inside walk.flow.rows.now number
 
 -- the loop of a number in the program of the checker
 abbrev pub loop_in : ℕ → Walk → Round
-loop_in number walk = round_of walk.tree.now (map said_claims walk.claims.items) number
+loop_in number walk = round_of walk.flow.rows.now (map said_claims walk.claims.items) number
 
 -- the checker came to the head of a loop, whose facts were given
 pub record AtHead (number : ℕ) (control : Option ℕ) (old new : Walk) : Type 0 where
-  pub given : gives_all (viewed old.flow.state) (claims_in number old).facts ≡ true
+  pub given : gives_claims old.flow.rows.now (viewed old.flow.state) (claims_in number old).facts ≡ true
   pub context_is : context_of new
       ≡ record (context_of old) {
         rounds = (context_of old).rounds ++ without_own control (loop_in number old) ∷ [];
       }
+  pub rows_are : new.flow.rows ≡ old.flow.rows
   pub state_is : viewed new.flow.state
-      ≡ head (limits_at old.limits.items) (touched (with_own control (loop_in number old)))
-      (with_own control (loop_in number old)).controls
-      (claims_in number old).facts (viewed old.flow.state)
+      ≡ head_of old.flow.rows.now old.limits.items (with_own control (loop_in number old)) (claims_in number old).facts
+      (viewed old.flow.state)
   pub open_is : new.flow.open_ids ≡ old.flow.open_ids
 
 -- the checker came to the head of a loop of a number and a place, or its facts weren't given, or it found no memory
@@ -123,8 +122,9 @@ EntersLoop number place control old (Err fault) new =
 
 -- the checker came behind a loop, whose facts were given
 pub record IsBehind (number : ℕ) (behind : Kept) (rounds : List Round) (old new : Walk) : Type 0 where
-  pub given : gives_all (viewed old.flow.state) (claims_in number old).facts ≡ true
+  pub given : gives_claims old.flow.rows.now (viewed old.flow.state) (claims_in number old).facts ≡ true
   pub context_is : context_of new ≡ record (context_of old) { rounds = rounds }
+  pub rows_are : new.flow.rows ≡ old.flow.rows
   pub state_is : viewed new.flow.state ≡ viewed behind
   pub open_is : new.flow.open_ids ≡ old.flow.open_ids
 
@@ -139,5 +139,5 @@ LeavesLoop number place behind old (Err fault) new =
 -- the checker before the first block
 pub record IsBegun (tree : Tree) (certificate : Certificate) (walk : Walk) : Type 0 where
   pub context_is : context_of walk ≡ first_context tree certificate
-  pub state_is : viewed walk.flow.state ≡ Dead
+  pub state_is : viewed walk.flow.state ≡ dead
   pub open_is : walk.flow.open_ids.items ≡ []

@@ -2,12 +2,16 @@
 -- rules that are broken, and the state at each entry into a statement or expression (ISO 7185:1990, 6.7, 6.8).
 -- It does not say that a program does what the walk says of it.
 use Rattle.std.specs.Prelude.{ℕ, ℤ, drop, slice_get, Bool, true, false, ◌&&◌, List, [], ◌∷◌, ◌++◌, Option, Some, None}
-use Rattle.std.specs.Prelude.{if◌then◌else◌, map, length}
+use Rattle.std.specs.Prelude.{◌||◌, if◌then◌else◌, map, length, nat_eq}
+use Rattle.std.specs.List.{list_all}
 use Rattle.std.specs.declared.alloc.Global.{Global}
 use Rattle.std.specs.declared.boxed.Box.{Box}
 use Rattle.std.specs.declared.vec.Vec.{Vec}
 use Rattle.place.specs.declared.Place.{Place}
+use Rattle.types.specs.Forms.{Form}
+use Rattle.types.specs.Types.{have_one_length, is_same, string_length}
 use Rattle.types.specs.declared.form.OrdinalRange.{OrdinalRange}
+use Rattle.types.specs.declared.form.TypeId.{TypeId}
 use Rattle.certificate.specs.declared.Certificate.{Certificate}
 use Rattle.typed_tree.specs.declared.tree.Tree.{Tree}
 use Rattle.typed_tree.specs.declared.tree.Block.{Block}
@@ -15,6 +19,7 @@ use Rattle.typed_tree.specs.declared.tree.Access.{Access}
 use Rattle.typed_tree.specs.declared.tree.RangeTest.{RangeTest}
 use Rattle.typed_tree.specs.declared.tree.Selector.{Selector}
 use Rattle.typed_tree.specs.declared.tree.Whole.{Whole}
+use Rattle.typed_tree.specs.declared.tree.Whole.TheVariants.{Text, Variable as VariableOf}
 use Rattle.typed_tree.specs.declared.tree.Expr.{Expr}
 use Rattle.typed_tree.specs.declared.tree.Stmt.{Stmt}
 use Rattle.typed_tree.specs.declared.tree.Stmt.TheOpen.{Stmt-F}
@@ -26,20 +31,23 @@ use Rattle.domain.specs.Numbers.{hull, is_covered}
 use Rattle.domain.specs.Facts.{Bound, Fact}
 use Rattle.abstract_state.specs.declared.known.Known.{Known}
 use Rattle.abstract_state.specs.declared.known.Known.TheVariants.{Ordinal}
-use Rattle.abstract_state.specs.State.{State, Dead, integer, start, joined_states, limits_of}
+use Rattle.abstract_state.specs.State.{limits_of}
 use Rattle.abstract_state.specs.Changes.{assigned}
 use Rattle.abstract_state.specs.Conditions.{bound_form, branched, condition_of}
 use Rattle.abstract_state.specs.Forms.{root_of}
-use Rattle.abstract_state.specs.Loops.{gives_all, head, with_touched, with_undefined}
+use Rattle.abstract_state.specs.Loops.{with_touched, with_undefined}
+use Rattle.leaf_rows.specs.Rows.{is_structured, rows_accessed, rows_of}
+use Rattle.component_states.specs.Components.{Reach, all_stored}
+use Rattle.component_states.specs.States.{State, dead, joined_states, over_bound, over_change, over_variables, start}
 use Rattle.structured_states.specs.Cases.{arm_start, constants_before}
-use Rattle.structured_states.specs.Loops.{Round, all_claims, all_control, all_limits, all_list, claims_at, limits_at}
-use Rattle.structured_states.specs.Loops.{round_of, touched, with_own, without_own}
-use Rattle.structured_states.specs.Ways.{End, Way, met, steady, turn_begun, turn_ended, way_of, way_out, where_counts}
-use Rattle.structured_states.specs.Ways.{with_values}
+use Rattle.structured_states.specs.Loops.{Round, all_claims, all_control, all_limits, all_list, claims_at, gives_claims}
+use Rattle.structured_states.specs.Loops.{head_of, limits_at, round_of, row_limits, touched, with_own, without_own}
+use Rattle.structured_states.specs.Ways.{End, Way, met, next, steady, turn_begun, turn_ended, way_of, way_out}
+use Rattle.structured_states.specs.Ways.{where_counts, with_values}
 use Rattle.expression_checker.specs.declared.fault.Rule.{Rule}
 use Rattle.expression_checker.specs.declared.fault.Rule.TheVariants.{LoopEntry, LoopTurn, Changes}
-use Rattle.expression_checker.specs.Walk.{Breach, Context, Walked, Walking, ◌>>=◌, access_walk, enter, fitting}
-use Rattle.expression_checker.specs.Walk.{followed, give, index_walks, parameter_walk, tested, value_walk, whole_walk}
+use Rattle.expression_checker.specs.Walk.{Breach, Context, Piece, Walked, Walking, ◌>>=◌, access_walk, enter, fitting}
+use Rattle.expression_checker.specs.Walk.{followed, give, index_pieces, parameter_walk, tested, value_walk, whole_walk}
 use Rattle.expression_checker.specs.Walk.{within}
 
 -- another state from here on
@@ -55,29 +63,95 @@ abbrev pub asked : Bool → Rule → Place → Walking (Unit {0})
 asked kept rule place context state =
     record { value = tt; after = state; open_ids = []; broken = breach_unless kept rule place; linked = [] }
 
--- a variable is changed at a place by values of a range, which are ones of its type; those of a structured type are
--- integers. Each loop round the place lists it
+-- a variable is changed at a place by values of a range, which are ones of its type. Each loop round the place lists it
 abbrev pub change : Place → ℕ → Interval → Walking (Unit {0})
 change place root values context =
     asked (all_list root context.rounds && is_included values (limits_at context.limits root)) Changes place context
 
 -- the assignment of a value to a variable, perhaps of a bound form
 abbrev pub assign : ℕ → Option Bound → Known → Walking (Unit {0})
-assign root form (Ordinal range) context state = with_state (assigned root range form state) context state
+assign root form (Ordinal range) context state =
+    with_state (over_change root form (assigned root range form) state) context state
 
--- components of a variable got values, of which nothing is known
-abbrev pub components_changed : ℕ → Walking (Unit {0})
-components_changed root context state =
-    with_state (with_touched (limits_at context.limits) root state) context state
+-- the rows of a variable that get values, each with their range
+abbrev pub Stores : Type 0
+Stores = List (ℕ × Interval)
 
--- the assignment of a value to what is accessed
-abbrev pub assign_to : ℕ → List Selector → Option Bound → Known → Walking (Unit {0})
-assign_to root [] form passed = assign root form passed
-assign_to root (selector ∷ selectors) form passed = components_changed root
+-- the values of stores are ones of the types of their rows
+abbrev pub are_typed : Context → Stores → Bool
+are_typed context stores =
+    list_all (λ one. is_included one.1 (row_limits (rows_of context.tree) one.0)) stores
+
+-- components of a variable are changed at a place. Each loop round the place lists it
+abbrev pub component_change : Place → ℕ → Bool → Stores → Walking (Unit {0})
+component_change place root fits stores context =
+    asked (all_list root context.rounds && (fits && are_typed context stores)) Changes place context
+
+-- values were stored to what is reached of a variable
+abbrev pub stored_to : ℕ → Reach → Stores → Context → State → State
+stored_to root reach stores context state = record {
+  variables = with_touched (limits_at context.limits) root state.variables;
+  components = all_stored state.variables reach stores state.components;
+}
+
+abbrev pub stores_made : ℕ → Reach → Stores → Walking (Unit {0})
+stores_made root reach stores context state = with_state (stored_to root reach stores context state) context state
+
+-- values are stored at a place, if they fit
+abbrev pub store_to : Place → ℕ → Reach → Bool → Stores → Walking (Unit {0})
+store_to place root reach fits stores = do
+  _ ← component_change place root fits stores
+  stores_made root reach stores
+
+-- the rows under what is accessed
+abbrev pub target_rows : Context → ℕ → List Selector → List ℕ
+target_rows context root selectors = rows_accessed (rows_of context.tree) root selectors
+
+-- the same range for each row
+abbrev pub alike : Interval → List ℕ → Stores
+alike range rows = map (λ row. (row, range)) rows
+
+-- the assignment of a value to a component
+abbrev pub assign_component : Place → ℕ → List Selector → Reach → Known → Walking (Unit {0})
+assign_component place root selectors reach (Ordinal range) context =
+    store_to place root reach true (alike range (target_rows context root selectors)) context
+
+-- the assignment of a value, which lies in a range, to what is accessed
+abbrev pub assign_to : Place → ℕ → List Selector → Reach → Interval → Option Bound → Known → Walking (Unit {0})
+assign_to place root [] reach values form passed = do
+  _ ← change place root values
+  assign root form passed
+assign_to place root (selector ∷ selectors) reach values form passed =
+    assign_component place root (selector ∷ selectors) reach passed
+
+-- a whole value may be copied to a target of a structured type: it is of the same type, or a string as long
+abbrev pub fits_whole : List Form → TypeId → Whole → Bool
+fits_whole types target (Text number text) =
+    is_structured types target && have_one_length (string_length types target) (Some (length text.items))
+fits_whole types target (VariableOf access type_id cells defined) =
+    is_structured types target
+    && (is_same target type_id || have_one_length (string_length types target) (string_length types type_id))
+
+-- rows with their ranges
+abbrev pub paired : List ℕ → List Interval → Stores
+paired [] ranges = []
+paired (row ∷ rows) [] = []
+paired (row ∷ rows) (range ∷ ranges) = (row, range) ∷ paired rows ranges
+
+-- components of these ranges are copied to rows
+abbrev pub copy_rows : Place → ℕ → Reach → Bool → List ℕ → List Interval → Walking (Unit {0})
+copy_rows place root reach fits rows ranges =
+    store_to place root reach (fits && nat_eq (length rows) (length ranges)) (paired rows ranges)
+
+-- a whole value is copied to what is accessed
+abbrev pub copy_to : Place → ℕ → List Selector → Reach → TypeId → Whole → List Interval → Walking (Unit {0})
+copy_to place root selectors reach type_id value ranges context =
+    copy_rows place root reach (fits_whole context.tree.types type_id value) (target_rows context root selectors)
+    ranges context
 
 -- the start of a block: each variable of the program is one of its own
 abbrev pub begin : Block → Walking (Unit {0})
-begin block context = with_state (start (length context.tree.variables.items)) context
+begin block context = with_state (start (length context.tree.variables.items) (length (rows_of context.tree))) context
 
 -- statements, or values that are written, one after another
 abbrev pub all_of : List (Walking (Unit {0})) → Walking (Unit {0})
@@ -87,21 +161,19 @@ all_of (statement ∷ statements) = do
   all_of statements
 
 -- an assignment: the target is accessed, and then comes the value
-abbrev pub assignment : Place → Access → List (Walking Known) → RangeTest → Expr → Walking (Unit {0})
+abbrev pub assignment : Place → Access → List Piece → RangeTest → Expr → Walking (Unit {0})
 assignment becomes target indexes fits value = do
-  _ ← access_walk target indexes
+  reach ← access_walk target indexes
   known ← value_walk value
   passed ← fitting fits known
-  _ ← change becomes target.root (limits_of fits.range)
-  assign_to target.root target.selectors.items (bound_form value) passed
+  assign_to becomes target.root target.selectors.items reach (limits_of fits.range) (bound_form value) passed
 
 -- an assignment of a whole value: the target is accessed, and then come the components, one after another
-abbrev pub copying : Place → Access → List (Walking Known) → Whole → List (Walking Known) → Walking (Unit {0})
-copying becomes target indexes value value_indexes = do
-  _ ← access_walk target indexes
-  _ ← whole_walk value value_indexes
-  _ ← change becomes target.root integer
-  components_changed target.root
+abbrev pub copying : Place → Access → List Piece → TypeId → Whole → List Piece → Walking (Unit {0})
+copying becomes target indexes type_id value value_indexes = do
+  reach ← access_walk target indexes
+  ranges ← whole_walk value value_indexes
+  copy_to becomes target.root target.selectors.items reach type_id value ranges
 
 -- two pieces of which a run takes one, each walked from its own state; behind them the states are joined
 abbrev pub either_of : Walked (Unit {0}) → Walked (Unit {0}) → Walked (Unit {0})
@@ -109,7 +181,7 @@ either_of one other = record (followed one other) { after = joined_states one.af
 
 -- the state where a condition has a truth value
 abbrev pub where_so : Bool → Expr → Known → State → State
-where_so truth condition (Ordinal range) state = branched truth condition range state
+where_so truth condition (Ordinal range) state = over_variables (branched truth condition range) state
 
 -- two ways from a state, each of them taken from what is known there
 abbrev pub parted : (one_state other_state : State → State) → (one other : Walking (Unit {0})) → Walking (Unit {0})
@@ -152,12 +224,12 @@ repeat_round body condition = do
 
 -- the facts of a loop are given at a point
 abbrev pub facts_given : Rule → Place → List Fact → Walking (Unit {0})
-facts_given rule place facts context state = asked (gives_all state facts) rule place context state
+facts_given rule place facts context state = asked (gives_claims context.tree state facts) rule place context state
 
 -- the state at the head of a loop, where a turn begins
 abbrev pub enter_head : Round → List Fact → Walking (Unit {0})
 enter_head round facts context state =
-    with_state (head (limits_at context.limits) (touched round) round.controls facts state) context state
+    with_state (head_of context.tree context.limits round facts state) context state
 
 -- inside a loop
 abbrev pub inside : {A : Type 0} → Round → Walking A → Walking A
@@ -199,7 +271,7 @@ control_change place root first last context = asked (may_control context root f
 
 -- the test of a bound: where its value lies that passes
 abbrev pub tested_end : State → End → Walking Interval
-tested_end start end = within (limits_of end.fits.range) end.fits.site (met end.form start end.values)
+tested_end start end = within (limits_of end.fits.range) end.fits.site (met end.form start.variables end.values)
 
 -- the tests of both bounds, by what is known where there are values
 abbrev pub tested_way : Place → Way → Walking Way
@@ -213,11 +285,11 @@ tested_way place way = do
 -- a round of a for: a turn, and then the control variable is the last bound, or has its next value
 abbrev pub for_round : Way → Walking (Unit {0}) → Walking State
 for_round way body = do
-  _ ← changed_by (turn_begun way)
+  _ ← changed_by (over_variables (turn_begun way))
   _ ← body
   ended ← here
-  _ ← with_state (turn_ended way ended)
-  give (way_out way ended)
+  _ ← with_state (over_change way.control (next way) (turn_ended way) ended)
+  give (over_bound way.control way.last.form (way_out way) ended)
 
 -- the way through the loop of a number, whose turns leave the forms of untouched bounds as they are
 abbrev pub steady_in : Context → ℕ → Way → Way
@@ -239,8 +311,9 @@ for_turns number place body way = do
 -- a for, from the values of its bounds: behind it the control variable is undefined
 abbrev pub for_walk : ℕ → Place → Walking (Unit {0}) → Way → Walking (Unit {0})
 for_walk number place body way = do
-  _ ← parted (where_counts true way) (where_counts false way) (for_turns number place body way) (give tt)
-  changed_by (with_undefined way.control)
+  _ ← parted (over_variables (where_counts true way)) (over_variables (where_counts false way))
+      (for_turns number place body way) (give tt)
+  changed_by (over_change way.control None (with_undefined way.control))
 
 -- ---- case statements
 
@@ -250,7 +323,7 @@ abbrev pub index_test : ℕ → List ℤ → Interval → Walking State
 index_test site constants range = do
   _ ← tested (is_covered range constants) site (common range (hull constants))
   base ← here
-  _ ← with_state Dead
+  _ ← with_state dead
   give base
 
 -- an arm, from what is known where it is executed; behind it the way meets those through the arms before
@@ -262,7 +335,7 @@ arm_walk start arm context behind =
 abbrev pub arms_walk : State → Option ℕ → List (Vec ℤ Global) → List (Walking (Unit {0})) → Walking (Unit {0})
 arms_walk base index rows [] = give tt
 arms_walk base index rows (arm ∷ arms) = do
-  _ ← arm_walk (arm_start index (slice_get rows 0) base) arm
+  _ ← arm_walk (over_variables (arm_start index (slice_get rows 0)) base) arm
   arms_walk base index (drop 1 rows) arms
 
 -- a case, from the value of its index
@@ -276,10 +349,10 @@ abbrev pub statement_step : Stmt-F (Walking (Unit {0})) → Walking (Unit {0})
 statement_step (Empty number) = enter number
 statement_step (Assign number becomes target indexes fits value) = do
   _ ← enter number
-  assignment becomes target (index_walks indexes.items) fits value
+  assignment becomes target (index_pieces indexes.items) fits value
 statement_step (Copy number becomes target indexes type_id value value_indexes) = do
   _ ← enter number
-  copying becomes target (index_walks indexes.items) value (index_walks value_indexes.items)
+  copying becomes target (index_pieces indexes.items) type_id value (index_pieces value_indexes.items)
 statement_step (Write number name parameters ends_line) = do
   _ ← enter number
   all_of (map parameter_walk parameters.items)
@@ -323,4 +396,4 @@ first_context tree certificate =
 
 -- the walk over a program by a certificate, block by block
 abbrev pub program_walk : Tree → Certificate → Walked (Unit {0})
-program_walk tree certificate = all_of (map block_walk tree.blocks.items) (first_context tree certificate) Dead
+program_walk tree certificate = all_of (map block_walk tree.blocks.items) (first_context tree certificate) dead

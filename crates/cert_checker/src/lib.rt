@@ -9,13 +9,16 @@ ghost use Rattle.cert_checker.specs.Promise.{AreNumbered, ClosedNeverErr, IsRefu
 ghost use Rattle.cert_checker.specs.Promise.{Valid};
 ghost use Rattle.cert_checker.specs.Walk.{program_walk};
 
+mod loops;
 mod names;
 mod open_sites;
+mod stores;
 mod walk;
 
 use certificate::Certificate;
 use expression_checker::fault::CheckFault;
 use expression_checker::visits::Visits;
+use leaf_rows::Rows;
 use open_sites::open_sites;
 use std::alloc::Global;
 use typed_tree::site::Site;
@@ -53,11 +56,12 @@ pub fn check(alloc: Global, tree: &Tree, certificate: &Certificate) -> Result<Ve
     ensures states_hold { IfOk result (λ _. IsWellFormed tree.now → AreNumbered tree.now
         → StatesHold tree.now certificate.now) }
 {
-    if !names::is_known(tree, certificate) {
+    let rows = Rows::of(alloc, tree)?;
+    if !names::is_known(&rows, certificate) {
         return Err(CheckFault::Foreign);
     }
     let mut visits = Visits::new();
-    let walked = walk::program(alloc, tree, certificate, &mut visits);
+    let walked = walk::program(alloc, &rows, certificate, &mut visits);
     let entries = visits.finish(tree, &walked);
     Ok(Verdict {
         open_sites: open_sites(alloc, &tree.sites, walked?)?,

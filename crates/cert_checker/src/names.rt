@@ -1,59 +1,59 @@
-ghost use Rattle.std.specs.Prelude.{◌≡◌, slice_get};
+ghost use Rattle.std.specs.Prelude.{◌≡◌, true, slice_get};
 ghost use Rattle.std.specs.List.{list_all};
-ghost use Rattle.cert_checker.specs.Names.{claims_are_known, fact_is_known, is_known, is_ordinal_variable, is_variable};
-ghost use Rattle.cert_checker.specs.Names.{path_is_known, section_is_known, stands_in};
+ghost use Rattle.types.specs.Types.{is_ordinal};
+ghost use Rattle.cert_checker.specs.Names.{bound_is_known, claims_are_known, fact_is_known, is_array, is_known};
+ghost use Rattle.cert_checker.specs.Names.{is_variable, names, section_is_known, stands_in};
 
 use certificate::{Certificate, Fact, LoopClaims, Path, Section};
+use domain::facts::Bound;
+use leaf_rows::Rows;
+use structured_states::kept_claims::is_ordinal_variable;
 use typed_tree::tree::Tree;
+use types::{TypeForm, TypeId, TypeTable};
 
-/// Whether a certificate names blocks, loops and variables of the program alone, each loop under its block.
-pub(crate) fn is_known(tree: &Tree, certificate: &Certificate) -> bool
-    ensures { result ≡ is_known tree.now certificate.now }
+/// Whether a certificate names blocks, loops, and variables and parts of them alone that are there, each loop under its
+/// block.
+pub(crate) fn is_known(rows: &Rows, certificate: &Certificate) -> bool
+    ensures { result ≡ is_known rows.now certificate.now }
 {
-    sections_are_known(tree, &certificate.sections)
+    sections_are_known(rows, &certificate.sections)
 }
 
-fn sections_are_known(tree: &Tree, sections: &[Section]) -> bool
-    ensures { result ≡ list_all (section_is_known tree.now) sections.now }
+fn sections_are_known(rows: &Rows, sections: &[Section]) -> bool
+    ensures { result ≡ list_all (section_is_known rows.now) sections.now }
 {
     sections
         .iter()
-        .all(|section| section_is_known(tree, section))
+        .all(|section| section_is_known(rows, section))
 }
 
-fn section_is_known(tree: &Tree, section: &Section) -> bool
-    ensures { result ≡ section_is_known tree.now section.now }
+fn section_is_known(rows: &Rows, section: &Section) -> bool
+    ensures { result ≡ section_is_known rows.now section.now }
 {
-    (section.block as usize) < tree.blocks.len()
-        && loops_are_known(tree, section.block, &section.loops)
+    (section.block as usize) < rows.tree().blocks.len()
+        && loops_are_known(rows, section.block, &section.loops)
 }
 
-fn loops_are_known(tree: &Tree, block: u32, loops: &[LoopClaims]) -> bool
-    ensures { result ≡ list_all (claims_are_known tree.now block) loops.now }
+fn loops_are_known(rows: &Rows, block: u32, loops: &[LoopClaims]) -> bool
+    ensures { result ≡ list_all (claims_are_known rows.now block) loops.now }
 {
     loops
         .iter()
-        .all(|claims| claims_are_known(tree, block, claims))
+        .all(|claims| claims_are_known(rows, block, claims))
 }
 
-fn claims_are_known(tree: &Tree, block: u32, claims: &LoopClaims) -> bool
-    ensures { result ≡ claims_are_known tree.now block claims.now }
+fn claims_are_known(rows: &Rows, block: u32, claims: &LoopClaims) -> bool
+    ensures { result ≡ claims_are_known rows.now block claims.now }
 {
-    stands_in(tree, block, claims.number)
-        && are_variables(tree, &claims.changes)
-        && facts_are_known(tree, &claims.facts)
+    stands_in(rows.tree(), block, claims.number)
+        && are_variables(rows.tree(), &claims.changes)
+        && facts_are_known(rows, &claims.facts)
 }
 
 fn are_variables(tree: &Tree, roots: &[u32]) -> bool
     ensures { result ≡ list_all (is_variable tree.now) roots.now }
 {
     roots.iter().all(|root| is_variable(tree, *root))
-}
-
-fn facts_are_known(tree: &Tree, facts: &[Fact]) -> bool
-    ensures { result ≡ list_all (fact_is_known tree.now) facts.now }
-{
-    facts.iter().all(|fact| fact_is_known(tree, fact))
 }
 
 /// Whether a loop is there, and stands in a block.
@@ -67,38 +67,76 @@ fn stands_in(tree: &Tree, block: u32, number: u32) -> bool
     }
 }
 
-fn fact_is_known(tree: &Tree, fact: &Fact) -> bool
-    ensures { result ≡ fact_is_known tree.now fact.now }
+fn is_variable(tree: &Tree, root: u32) -> bool
+    ensures { result ≡ is_variable tree.now root }
 {
+    (root as usize) < tree.variables.len()
+}
+
+fn facts_are_known(rows: &Rows, facts: &[Fact]) -> bool
+    ensures { result ≡ list_all (fact_is_known rows.now) facts.now }
+{
+    facts.iter().all(|fact| fact_is_known(rows, fact))
+}
+
+fn fact_is_known(rows: &Rows, fact: &Fact) -> bool
+    ensures { result ≡ fact_is_known rows.now fact.now }
+{
+    let tree = rows.tree();
     match fact {
-        Fact::Range { path, .. } => path_is_known(tree, path),
-        Fact::Defined { path } => path_is_known(tree, path),
-        Fact::Stretch { .. } => false,
+        Fact::Range { path, .. } => names_ordinals(rows, path),
+        Fact::Defined { path } => names_part(rows, path),
+        Fact::Stretch { path, first, last } => {
+            names_arrays(rows, path) && bound_is_known(tree, *first) && bound_is_known(tree, *last)
+        }
         Fact::Order { root, other, .. } => {
             is_ordinal_variable(tree, *root) && is_ordinal_variable(tree, *other)
         }
     }
 }
 
-/// Whether a path names an entire variable of an ordinal type.
-fn path_is_known(tree: &Tree, path: &Path) -> bool
-    ensures { result ≡ path_is_known tree.now path.now }
+/// Whether a path names a part.
+fn names_part(rows: &Rows, path: &Path) -> bool
+    ensures { result ≡ names rows.now (λ _. true) path.now }
 {
-    is_ordinal_variable(tree, path.root) && path.steps.is_empty()
+    rows.named(path).is_some()
 }
 
-/// Whether a variable is there, and of an ordinal type.
-fn is_ordinal_variable(tree: &Tree, root: u32) -> bool
-    ensures { result ≡ is_ordinal_variable tree.now root }
+/// Whether it names one of an ordinal type.
+fn names_ordinals(rows: &Rows, path: &Path) -> bool
+    ensures { result ≡ names rows.now (is_ordinal rows.now.types) path.now }
 {
-    match tree.variables.get(root as usize) {
+    match rows.named(path) {
         None => false,
-        Some(variable) => tree.types.is_ordinal(variable.type_id),
+        Some(part) => rows.tree().types.is_ordinal(part.type_id),
     }
 }
 
-fn is_variable(tree: &Tree, root: u32) -> bool
-    ensures { result ≡ is_variable tree.now root }
+/// Whether it names an array.
+fn names_arrays(rows: &Rows, path: &Path) -> bool
+    ensures { result ≡ names rows.now (is_array rows.now.types) path.now }
 {
-    (root as usize) < tree.variables.len()
+    match rows.named(path) {
+        None => false,
+        Some(part) => is_array(&rows.tree().types, part.type_id),
+    }
+}
+
+fn is_array(types: &TypeTable, id: TypeId) -> bool
+    ensures { result ≡ is_array types.now id }
+{
+    match types.form(id) {
+        Some(TypeForm::Array { .. }) => true,
+        _ => false,
+    }
+}
+
+/// Whether the variable of a bound, if it has one, is there and of an ordinal type.
+fn bound_is_known(tree: &Tree, bound: Bound) -> bool
+    ensures { result ≡ bound_is_known tree.now bound }
+{
+    match bound {
+        Bound::Number(_) => true,
+        Bound::Plus { root, .. } => is_ordinal_variable(tree, root),
+    }
 }

@@ -1,72 +1,64 @@
-ghost use Rattle.std.specs.Prelude.{◌≡◌, ◌&&◌, [], true, false, map, IfOk, MatchResult};
-ghost use Rattle.domain.specs.Interval.{is_included};
+ghost use Rattle.std.specs.Prelude.{◌≡◌, [], true, false, map, slice_get, IfOk, MatchResult};
 ghost use Rattle.typed_tree.specs.Entries.{entries_of};
 ghost use Rattle.abstract_state.specs.declared.known.Known.TheVariants.{Ordinal};
-ghost use Rattle.abstract_state.specs.Conditions.{bound_form};
-ghost use Rattle.abstract_state.specs.Loops.{with_undefined};
-ghost use Rattle.abstract_state.specs.State.{joined_states, limits_of};
-ghost use Rattle.abstract_state.specs.View.{said_form, viewed};
-ghost use Rattle.structured_states.specs.Cases.{constants_before};
-ghost use Rattle.structured_states.specs.Loops.{limits_at};
+ghost use Rattle.component_states.specs.States.{over_variables};
+ghost use Rattle.component_states.specs.View.{said_reach, viewed};
+ghost use Rattle.structured_states.specs.Cases.{arm_start, constants_before};
 ghost use Rattle.structured_states.specs.View.{said_way};
-ghost use Rattle.structured_states.specs.Ways.{turn_begun, turn_ended, way_out, where_counts};
 ghost use Rattle.expression_checker.specs.Visits.{Visits, all_counted};
-ghost use Rattle.expression_checker.specs.Walk.{IsBreachOf, access_walk, enter, index_walks, parameter_walk};
-ghost use Rattle.expression_checker.specs.Walk.{value_walk};
-ghost use Rattle.expression_checker.specs.Walk.{whole_walk, within};
-ghost use Rattle.cert_checker.specs.View.{EntersLoop, Goes, IsBegun, IsLoop, LeavesLoop, Meets, Moves, Parts};
-ghost use Rattle.cert_checker.specs.View.{context_of, else_walk, said_state, said_tested};
-ghost use Rattle.cert_checker.specs.Walk.{all_of, arm_walk, arms_walk, assign, assign_to, assignment, block_walk};
-ghost use Rattle.cert_checker.specs.Walk.{case_walk, change, components_changed, control_change};
-ghost use Rattle.cert_checker.specs.Walk.{copying, for_round, for_turns, for_walk, index_test, may_control};
-ghost use Rattle.cert_checker.specs.Walk.{program_walk, repeat_round, rounds_of, statement_walk, steady_in, tested_way};
+ghost use Rattle.expression_checker.specs.View.{said_ranges, seen};
+ghost use Rattle.expression_checker.specs.Walk.{IsBreachOf, access_walk, enter, index_pieces, parameter_walk};
+ghost use Rattle.expression_checker.specs.Walk.{value_walk, whole_walk};
+ghost use Rattle.cert_checker.specs.View.{Goes, IsBegun, Meets, Parts};
+ghost use Rattle.cert_checker.specs.View.{else_walk, said_state};
+ghost use Rattle.cert_checker.specs.Walk.{all_of, arm_walk, arms_walk, block_walk, case_walk, for_round, for_turns};
+ghost use Rattle.cert_checker.specs.Walk.{for_walk, index_test, program_walk, repeat_round, rounds_of, statement_walk};
 ghost use Rattle.cert_checker.specs.Walk.{where_so, while_round};
 
-use abstract_state::{Known, State, bound_form, entire, limits};
+use abstract_state::{Known, entire};
 use certificate::{Certificate, LoopClaims};
+use component_states::{Reach, State};
 use domain::Domain;
 use domain::interval::Interval;
-use expression_checker::fault::{CheckFault, Rule};
+use expression_checker::fault::CheckFault;
 use expression_checker::flow::Flow;
 use expression_checker::visits::Visits;
+use leaf_rows::Rows;
 use place::Place;
 use std::alloc::{AllocError, Global};
 use std::mem;
 use structured_states::cases::{arm_start, constants_before, covers};
-use structured_states::rounds::{
-    Round, all_claims, all_control, all_limits, all_list, claims_at, controls_inside, limits_at,
-};
+use structured_states::rounds::{Round, all_claims, all_limits};
 use structured_states::ways::{End, Way};
-use typed_tree::tree::{Access, Block, Expr, RangeTest, Stmt, Tree, Whole, WriteParameter};
+use typed_tree::tree::{Access, Block, Expr, Stmt, Whole, WriteParameter};
 
 /// A walk over the statements of a program, in the order in which they are run. The counter of entries is lent to it.
 #[derive(Drop)]
 pub(crate) struct Walk<'a> {
-    alloc: Global,
-    tree: &'a Tree,
+    pub(crate) alloc: Global,
     /// The values of the variables' types, by root number.
-    limits: Vec<Interval>,
+    pub(crate) limits: Vec<Interval>,
     /// What the certificate claims of the loops, by their numbers.
-    claims: Vec<Option<&'a LoopClaims>>,
+    pub(crate) claims: Vec<Option<&'a LoopClaims>>,
     /// The loops round the walk, the outermost first.
-    rounds: Vec<Round<'a>>,
-    /// What is known where the walk is, and which sites it left open.
-    flow: Flow,
+    pub(crate) rounds: Vec<Round<'a>>,
+    /// The program's rows, what is known where the walk is, and which sites it left open.
+    pub(crate) flow: Flow<'a>,
 }
 
 /// Walks over a program, block by block; the ids of the sites that it leaves open.
 pub(crate) fn program<'a>(
     alloc: Global,
-    tree: &'a Tree,
+    rows: &'a Rows<'a>,
     certificate: &'a Certificate,
     visits: &mut Visits,
 ) -> Result<Vec<u32>, CheckFault>
-    ensures sites { IfOk result (λ ids. ids.items ≡ (program_walk tree.now certificate.now).open_ids) }
-    ensures entries { IfOk result (λ _. visits.new ≡ all_counted (entries_of tree.now) visits.old) }
-    ensures rules { MatchResult result (λ _. (program_walk tree.now certificate.now).broken ≡ [])
-        (IsBreachOf (program_walk tree.now certificate.now)) }
+    ensures sites { IfOk result (λ ids. ids.items ≡ (program_walk rows.now certificate.now).open_ids) }
+    ensures entries { IfOk result (λ _. visits.new ≡ all_counted (entries_of rows.now) visits.old) }
+    ensures rules { MatchResult result (λ _. (program_walk rows.now certificate.now).broken ≡ [])
+        (IsBreachOf (program_walk rows.now certificate.now)) }
 {
-    let mut walk = Walk::new(alloc, tree, certificate)?;
+    let mut walk = Walk::new(alloc, rows, certificate)?;
     walk.blocks(visits)?;
     let flow = walk.flow;
     Ok(flow.open_ids)
@@ -76,29 +68,31 @@ impl<'a> Walk<'a> {
     /// Before the first block.
     fn new(
         alloc: Global,
-        tree: &'a Tree,
+        rows: &'a Rows<'a>,
         certificate: &'a Certificate,
     ) -> Result<Walk<'a>, AllocError>
-        ensures { IfOk result (IsBegun tree.now certificate.now) }
+        ensures { IfOk result (IsBegun rows.now certificate.now) }
     {
+        let tree = rows.tree();
         Ok(Walk {
             alloc,
-            tree,
             limits: all_limits(alloc, tree)?,
             claims: all_claims(alloc, tree, certificate)?,
             rounds: Vec::new(alloc),
             flow: Flow {
-                state: State::Dead,
+                rows,
+                state: State::dead(alloc),
                 open_ids: Vec::new(alloc),
             },
         })
     }
 
     fn blocks(&mut self, visits: &mut Visits) -> Result<(), CheckFault>
-        ensures { Goes (all_of (map block_walk self.old.tree.now.blocks.items))
+        ensures { Goes (all_of (map block_walk self.old.flow.rows.now.blocks.items))
             self.old visits.old result self.new visits.new }
     {
-        for block in &self.tree.blocks {
+        let tree = self.flow.rows.tree();
+        for block in &tree.blocks {
             self.block(block, visits)?;
         }
         Ok(())
@@ -107,7 +101,9 @@ impl<'a> Walk<'a> {
     fn block(&mut self, block: &Block, visits: &mut Visits) -> Result<(), CheckFault>
         ensures { Goes (block_walk block.now) self.old visits.old result self.new visits.new }
     {
-        self.flow.state = State::undefined(self.alloc, self.tree.variables.len())?;
+        let rows = self.flow.rows;
+        let roots = rows.tree().variables.len();
+        self.flow.state = State::undefined(self.alloc, roots, rows.count())?;
         self.statement(&block.body, visits)
     }
 
@@ -133,12 +129,20 @@ impl<'a> Walk<'a> {
                 becomes,
                 target,
                 indexes,
+                type_id,
                 value,
                 value_indexes,
-                ..
             } => {
                 self.enter(*number, visits)?;
-                self.copying(*becomes, target, indexes, value, value_indexes, visits)
+                self.copying(
+                    *becomes,
+                    target,
+                    indexes,
+                    *type_id,
+                    value,
+                    value_indexes,
+                    visits,
+                )
             }
             Stmt::Write {
                 number,
@@ -372,7 +376,7 @@ impl<'a> Walk<'a> {
             self.old visits.old result self.new visits.new }
     {
         for i in 0..arms.len() {
-            let start = arm_start(self.alloc, base, index, constants, i)?;
+            let start = start_of(self.alloc, base, index, constants, i)?;
             self.arm(&arms[i], start, visits)?;
         }
         Ok(())
@@ -404,91 +408,6 @@ impl<'a> Walk<'a> {
         }
     }
 
-    /// The value has to lie in the range of the target's type.
-    fn assignment(
-        &mut self,
-        becomes: Place,
-        target: &Access,
-        indexes: &[Expr],
-        fits: RangeTest,
-        value: &Expr,
-        visits: &mut Visits,
-    ) -> Result<(), CheckFault>
-        ensures { Goes (assignment becomes target.now (index_walks indexes.now) fits value.now)
-            self.old visits.old result self.new visits.new }
-    {
-        self.access(target, indexes, visits)?;
-        let known = self.expression(value, visits)?;
-        let passed = self.flow.fitting(fits, known)?;
-        self.change(becomes, target.root, limits(fits.range))?;
-        self.store(target, value, passed)
-    }
-
-    /// What is accessed gets the value of an expression.
-    fn store(&mut self, target: &Access, value: &Expr, passed: Known) -> Result<(), CheckFault>
-        ensures { (visits : Visits)
-            → Goes (assign_to target.now.root target.now.selectors.items (bound_form value.now) passed)
-            self.old visits result self.new visits }
-    {
-        if target.selectors.is_empty() {
-            self.assign(target.root, value, passed)
-        } else {
-            self.components_changed(target.root)
-        }
-    }
-
-    /// An assignment of a whole value.
-    fn copying(
-        &mut self,
-        becomes: Place,
-        target: &Access,
-        indexes: &[Expr],
-        value: &Whole,
-        value_indexes: &[Expr],
-        visits: &mut Visits,
-    ) -> Result<(), CheckFault>
-        ensures { Goes (copying becomes target.now (index_walks indexes.now) value.now (index_walks value_indexes.now))
-            self.old visits.old result self.new visits.new }
-    {
-        self.access(target, indexes, visits)?;
-        self.whole_value(value, value_indexes, visits)?;
-        self.change(becomes, target.root, Interval::INTEGER)?;
-        self.components_changed(target.root)
-    }
-
-    /// Components of a variable got values.
-    fn components_changed(&mut self, root: u32) -> Result<(), CheckFault>
-        ensures { (visits : Visits) → Goes (components_changed root) self.old visits result self.new visits }
-    {
-        self.flow.state.touch(root, limits_at(&self.limits, root));
-        Ok(())
-    }
-
-    /// A variable gets the value of an expression.
-    fn assign(&mut self, root: u32, value: &Expr, passed: Known) -> Result<(), CheckFault>
-        ensures { (visits : Visits)
-            → Goes (assign root (bound_form value.now) passed) self.old visits result self.new visits }
-    {
-        let range = passed.range();
-        self.flow.state.assign(root, range, bound_form(value))?;
-        Ok(())
-    }
-
-    /// Each loop round the walk lists the variable that is changed, by values of its type.
-    fn change(&mut self, place: Place, root: u32, values: Interval) -> Result<(), CheckFault>
-        ensures { (visits : Visits) → Goes (change place root values) self.old visits result self.new visits }
-    {
-        let fits = values.leq(&limits_at(&self.limits, root));
-        if fits && all_list(&self.rounds, root) {
-            Ok(())
-        } else {
-            Err(CheckFault::Broken {
-                rule: Rule::Changes,
-                place,
-            })
-        }
-    }
-
     fn parameters(
         &mut self,
         parameters: &[WriteParameter],
@@ -503,33 +422,38 @@ impl<'a> Walk<'a> {
     }
 
     /// What is known of an expression's value.
-    fn expression(&mut self, expression: &Expr, visits: &mut Visits) -> Result<Known, CheckFault>
+    pub(crate) fn expression(
+        &mut self,
+        expression: &Expr,
+        visits: &mut Visits,
+    ) -> Result<Known, CheckFault>
         ensures { Goes (value_walk expression.now) self.old visits.old result self.new visits.new }
     {
         self.flow.expression(expression, visits)
     }
 
     /// A variable access.
-    fn access(
+    pub(crate) fn access(
         &mut self,
         access: &Access,
         indexes: &[Expr],
         visits: &mut Visits,
-    ) -> Result<(), CheckFault>
-        ensures { Goes (access_walk access.now (index_walks indexes.now)) self.old visits.old result
-            self.new visits.new }
+    ) -> Result<Reach, CheckFault>
+        ensures { Goes (access_walk access.now (index_pieces indexes.now)) self.old visits.old
+            (seen said_reach result) self.new visits.new }
     {
         self.flow.access(access, indexes, visits)
     }
 
     /// A whole value.
-    fn whole_value(
+    pub(crate) fn whole_value(
         &mut self,
         value: &Whole,
         indexes: &[Expr],
         visits: &mut Visits,
-    ) -> Result<(), CheckFault>
-        ensures { Goes (whole_walk value.now (index_walks indexes.now)) self.old visits.old result self.new visits.new }
+    ) -> Result<Vec<Interval>, CheckFault>
+        ensures { Goes (whole_walk value.now (index_pieces indexes.now)) self.old visits.old
+            (seen said_ranges result) self.new visits.new }
     {
         self.flow.whole_value(value, indexes, visits)
     }
@@ -545,190 +469,24 @@ impl<'a> Walk<'a> {
 // Where a condition parts the walk, and where its ways meet.
 impl<'a> Walk<'a> {
     /// Goes on where a condition is true; the state where it is false.
-    fn part(&mut self, condition: &Expr, known: Known) -> Result<State, CheckFault>
+    pub(crate) fn part(&mut self, condition: &Expr, known: Known) -> Result<State, CheckFault>
         ensures { Parts (where_so true condition.now known) (where_so false condition.now known)
             self.old result self.new }
     {
         let range = known.range();
         let mut otherwise = self.flow.state.copied(self.alloc)?;
-        otherwise.branch(condition, range, false)?;
-        self.flow.state.branch(condition, range, true)?;
+        otherwise.variables.branch(condition, range, false)?;
+        self.flow.state.variables.branch(condition, range, true)?;
         Ok(otherwise)
     }
 
     /// Goes on where the way that was walked before meets the one that was walked now.
-    fn meet(&mut self, before: State) -> Result<(), CheckFault>
+    pub(crate) fn meet(&mut self, before: State) -> Result<(), CheckFault>
         ensures { Meets before self.old result self.new }
     {
         let now = mem::replace(&mut self.flow.state, before);
         self.flow.state.join(self.alloc, now)?;
         Ok(())
-    }
-}
-
-// Where a loop begins and ends.
-impl<'a> Walk<'a> {
-    /// Goes on at the head of a loop, whose facts have to be given here.
-    fn enter_loop(
-        &mut self,
-        number: u32,
-        place: Place,
-        control: Option<u32>,
-    ) -> Result<(), CheckFault>
-        ensures { EntersLoop number place control self.old result self.new }
-    {
-        let round = self.round(number, control);
-        if !round.is_given(&self.flow.state) {
-            return Err(CheckFault::Broken {
-                rule: Rule::LoopEntry,
-                place,
-            });
-        }
-        round.head(self.alloc, &mut self.flow.state, &self.limits)?;
-        self.rounds.push(round)?;
-        Ok(())
-    }
-
-    /// Goes on behind a loop, whose facts have to be given where a round of it ends.
-    fn leave_loop(&mut self, number: u32, place: Place, behind: State) -> Result<(), CheckFault>
-        ensures { LeavesLoop number place behind self.old result self.new }
-    {
-        let is_given = self.round(number, None).is_given(&self.flow.state);
-        if !is_given {
-            return Err(CheckFault::Broken {
-                rule: Rule::LoopTurn,
-                place,
-            });
-        }
-        self.rounds.pop();
-        self.flow.state = behind;
-        Ok(())
-    }
-
-    /// The loop of a number, perhaps of a for statement with a control variable.
-    fn round(&self, number: u32, control: Option<u32>) -> Round<'a>
-        ensures { IsLoop number control self.now result }
-    {
-        Round {
-            claims: claims_at(&self.claims, number),
-            controls: controls_inside(self.tree, number),
-            own: control,
-        }
-    }
-}
-
-// What a for does with its control variable.
-impl<'a> Walk<'a> {
-    /// Goes on where there are values; the state where there are none.
-    fn part_way(&mut self, way: &Way) -> Result<State, CheckFault>
-        ensures { Parts (where_counts true (said_way way.now)) (where_counts false (said_way way.now))
-            self.old result self.new }
-    {
-        let mut never = self.flow.state.copied(self.alloc)?;
-        way.relate(&mut never, false)?;
-        way.relate(&mut self.flow.state, true)?;
-        Ok(never)
-    }
-
-    /// Goes on behind both ways, where the control variable is undefined.
-    fn leave_way(&mut self, control: u32, never: State) -> Result<(), CheckFault>
-        ensures { Moves (λ state. with_undefined control (joined_states state (viewed never)))
-            self.old result self.new }
-    {
-        self.flow.state.join(self.alloc, never)?;
-        self.flow.state.undefine(control);
-        Ok(())
-    }
-
-    /// The tests of both bounds.
-    fn tested_way(&mut self, place: Place, way: Way) -> Result<Way, CheckFault>
-        ensures { (visits : Visits)
-            → Goes (tested_way place (said_way way)) self.old visits (said_tested result) self.new visits }
-    {
-        let first = way.first.met(&self.flow.state);
-        let last = way.last.met(&self.flow.state);
-        let first = self.tested_end(way.first.fits, first)?;
-        let last = self.tested_end(way.last.fits, last)?;
-        self.control_change(place, &way)?;
-        Ok(way.with_values(first, last))
-    }
-
-    /// The test of a bound whose value lies in a range.
-    fn tested_end(&mut self, fits: RangeTest, range: Interval) -> Result<Interval, CheckFault>
-        ensures { (visits : Visits)
-            → Goes (within (limits_of fits.range) fits.site range) self.old visits result self.new visits }
-    {
-        self.flow.within(limits(fits.range), fits.site, range)
-    }
-
-    /// In each loop round the walk is a for statement that the variable controls, and its values are of its type.
-    fn control_change(&mut self, place: Place, way: &Way) -> Result<(), CheckFault>
-        ensures { (visits : Visits) → Goes (control_change place way.now.control way.now.first.fits.range
-            way.now.last.fits.range) self.old visits result self.new visits }
-    {
-        if self.may_control(way) {
-            Ok(())
-        } else {
-            Err(CheckFault::Broken {
-                rule: Rule::Changes,
-                place,
-            })
-        }
-    }
-
-    /// Whether it is so.
-    fn may_control(&self, way: &Way) -> bool
-        ensures { result ≡ may_control (context_of self.now) way.now.control way.now.first.fits.range
-            way.now.last.fits.range }
-    {
-        all_control(&self.rounds, way.control) && self.fits(way)
-    }
-
-    /// Whether both bounds are tested for the control variable's type.
-    fn fits(&self, way: &Way) -> bool
-        ensures { result ≡ (is_included (limits_of way.now.first.fits.range)
-            (limits_at self.now.limits.items way.now.control)
-            && is_included (limits_of way.now.last.fits.range) (limits_at self.now.limits.items way.now.control)) }
-    {
-        let own = limits_at(&self.limits, way.control);
-        limits(way.first.fits.range).leq(&own) && limits(way.last.fits.range).leq(&own)
-    }
-
-    /// The control variable is the first bound.
-    fn begin_way(&mut self, way: &Way) -> Result<(), CheckFault>
-        ensures { (visits : Visits)
-            → Goes (assign way.now.control (said_form way.now.first.form) (Ordinal way.now.first.values))
-            self.old visits result self.new visits }
-    {
-        self.flow
-            .state
-            .assign(way.control, way.first.values, way.first.form)?;
-        Ok(())
-    }
-
-    /// The way with the forms of its bounds that the turns of its loop leave as they are.
-    fn steady_in(&self, number: u32, way: Way) -> Way
-        ensures { said_way result ≡ steady_in (context_of self.now) number (said_way way) }
-    {
-        way.steady(&self.round(number, Some(way.control)))
-    }
-
-    /// Goes on where a turn begins.
-    fn begin_turn(&mut self, way: &Way) -> Result<(), CheckFault>
-        ensures { Moves (turn_begun (said_way way.now)) self.old result self.new }
-    {
-        way.begin_turn(&mut self.flow.state)?;
-        Ok(())
-    }
-
-    /// Goes on where another turn follows; the state where none does.
-    fn end_turn(&mut self, way: &Way) -> Result<State, CheckFault>
-        ensures { Parts (turn_ended (said_way way.now)) (way_out (said_way way.now)) self.old result self.new }
-    {
-        let mut out = self.flow.state.copied(self.alloc)?;
-        out.replace(self.alloc, way.control, way.last.form)?;
-        way.end_turn(&mut self.flow.state)?;
-        Ok(out)
     }
 }
 
@@ -749,6 +507,23 @@ impl<'a> Walk<'a> {
         let passed = range.meet(&Interval::hull(&constants));
         let closed = covers(self.alloc, &constants, range)?;
         self.flow.test(closed, site, passed)?;
-        Ok(mem::replace(&mut self.flow.state, State::Dead))
+        Ok(mem::replace(&mut self.flow.state, State::dead(self.alloc)))
     }
+}
+
+/// What is known where the arm of a number is executed, by its row of constants.
+fn start_of(
+    alloc: Global,
+    base: &State,
+    index: Option<u32>,
+    rows: &[Vec<i32>],
+    number: usize,
+) -> Result<State, AllocError>
+    ensures { IfOk result (λ start. viewed start
+        ≡ over_variables (arm_start index (slice_get rows.now number)) (viewed base.now)) }
+{
+    let variables = arm_start(alloc, &base.variables, index, rows, number)?;
+    let mut start = base.copied(alloc)?;
+    start.variables = variables;
+    Ok(start)
 }

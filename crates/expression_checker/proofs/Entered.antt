@@ -25,9 +25,12 @@ use Rattle.typed_tree.specs.Entries.{entries_of_written, index_entries}
 use Rattle.abstract_state.specs.declared.known.Known.{Known}
 use Rattle.abstract_state.specs.declared.known.Known.TheVariants.{Ordinal}
 use Rattle.expression_checker.specs.Visits.{Visits, all_counted, counted}
-use Rattle.abstract_state.specs.State.{State}
-use Rattle.expression_checker.specs.Walk.{Context, Linked, Walking, Combination, numbers_of, operated, combined, width_test, value_step, link_step, value_walk}
-use Rattle.expression_checker.specs.Walk.{access_walk, behind_next, index_test, index_walks, indexes_walk, link_walk, next_test, value_use, whole_walk}
+use Rattle.component_states.specs.Components.{Reach, Entire}
+use Rattle.component_states.specs.States.{State}
+use Rattle.abstract_state.specs.Forms.{bound_of}
+use Rattle.expression_checker.specs.Walk.{Context, Joint, Linked, Piece, Walking, Combination, numbers_of, operated, combined, width_test}
+use Rattle.expression_checker.specs.Walk.{piece_step, link_step, piece_of, joint_of, value_walk}
+use Rattle.expression_checker.specs.Walk.{access_walk, behind_next, deeper, index_test, index_pieces, indexes_walk, link_walk, next_test, value_use, whole_walk}
 use Rattle.expression_checker.specs.Walk.{width_walk}
 use Rattle.expression_checker.specs.Walk.{written_walk, parameter_walk, in_turn}
 
@@ -76,69 +79,76 @@ combined-silent dyadic.And (Ordinal left) (Ordinal right) context state = refl
 combined-silent dyadic.Or (Ordinal left) (Ordinal right) context state = refl
 combined-silent (dyadic.Relation relation) (Ordinal left) (Ordinal right) context state = refl
 
-turns-entered : (links : List EnteredLink) → EntersFrom (in_turn (map link_walk (map (λ l. l.0) links))) (joined (map entries_of_link (map (λ l. l.0) links)))
+-- the walks of operators with their operands
+abbrev combinations : List EnteredLink → List Combination
+combinations links = map (λ joint. joint.combination) (map joint_of (map (λ l. l.0) links))
+
+turns-entered : (links : List EnteredLink) → EntersFrom (in_turn (combinations links)) (joined (map entries_of_link (map (λ l. l.0) links)))
 turns-entered [] left context state = refl
 turns-entered (link ∷ links) left context state =
     let first = link_walk link.0 left context state in
-    let rest = in_turn (map link_walk (map (λ l. l.0) links)) first.value context first.after in
+    let rest = in_turn (combinations links) first.value context first.after in
     and_then first.linked rest.linked _ _ (link.1 left context state) (turns-entered links first.value context first.after)
 
 -- ---- accesses and whole values
 
 -- index expressions link states to these
-abbrev AllEnter : List (Walking Known) → List (List ℕ) → Type 0
+abbrev AllEnter : List Piece → List (List ℕ) → Type 0
 AllEnter [] [] = Unit {0}
-AllEnter (walk ∷ walks) (numbers ∷ rows) = Enters walk numbers × AllEnter walks rows
-AllEnter walks rows = ⊥
+AllEnter (piece ∷ pieces) (numbers ∷ rows) = Enters piece.walk numbers × AllEnter pieces rows
+AllEnter pieces rows = ⊥
 
 tested-silent : (fits : Option RangeTest) (known : Known) → Enters (index_test fits known) []
 tested-silent None known context state = refl
 tested-silent (Some fits) (Ordinal range) context state = refl
 
-indexes-entered : (selectors : List Selector) (walks : List (Walking Known)) (rows : List (List ℕ)) → AllEnter walks rows
-    → Enters (indexes_walk selectors walks) (joined rows)
-indexes-entered selectors [] [] all context state = refl
-indexes-entered selectors (walk ∷ walks) (numbers ∷ rows) all context state =
-    let first = walk context state in
+indexes-entered : (selectors : List Selector) (pieces : List Piece) (reach : Reach) (rows : List (List ℕ)) → AllEnter pieces rows
+    → Enters (indexes_walk selectors pieces reach) (joined rows)
+indexes-entered selectors [] reach [] all context state = refl
+indexes-entered selectors (piece ∷ pieces) reach (numbers ∷ rows) all context state =
+    let first = piece.walk context state in
     let test = index_test (next_test selectors) first.value context first.after in
-    let rest = indexes_walk (behind_next selectors) walks context test.after in
+    let next = deeper (record { form = bound_of piece.form; range = test.value }) reach in
+    let rest = indexes_walk (behind_next selectors) pieces next context test.after in
     and_then first.linked (test.linked ++ rest.linked) numbers (joined rows) (all.0 context state)
     (and_then test.linked rest.linked [] (joined rows) (tested-silent (next_test selectors) first.value context first.after)
-    (indexes-entered (behind_next selectors) walks rows all.1 context test.after))
-indexes-entered selectors [] (numbers ∷ rows) all context state = absurd all
-indexes-entered selectors (walk ∷ walks) [] all context state = absurd all
+    (indexes-entered (behind_next selectors) pieces next rows all.1 context test.after))
+indexes-entered selectors [] reach (numbers ∷ rows) all context state = absurd all
+indexes-entered selectors (piece ∷ pieces) reach [] all context state = absurd all
 
-access-of : (access : Access) (walks : List (Walking Known)) (rows : List (List ℕ)) → AllEnter walks rows
-    → Enters (access_walk access walks) (access_entries access rows)
-access-of access walks rows all context state =
-    ap (λ (numbers : List ℕ). access.number ∷ numbers) (indexes-entered access.selectors.items walks rows all context state)
+access-of : (access : Access) (pieces : List Piece) (rows : List (List ℕ)) → AllEnter pieces rows
+    → Enters (access_walk access pieces) (access_entries access rows)
+access-of access pieces rows all context state =
+    ap (λ (numbers : List ℕ). access.number ∷ numbers)
+    (indexes-entered access.selectors.items pieces Entire rows all context state)
 
-used-silent : (root : ℕ) (selectors : List Selector) (site : ℕ) → Enters (value_use root selectors site) []
-used-silent root [] site context state = refl
-used-silent root (selector ∷ selectors) site context state = refl
+used-silent : (root : ℕ) (selectors : List Selector) (reach : Reach) (site : ℕ) → Enters (value_use root selectors reach site) []
+used-silent root [] reach site context state = refl
+used-silent root (selector ∷ selectors) reach site context state = refl
 
-whole-of : (value : Whole) (walks : List (Walking Known)) (rows : List (List ℕ)) → AllEnter walks rows
-    → Enters (whole_walk value walks) (whole_entries value rows)
-whole-of (Text number text) walks rows all context state = refl
-whole-of (VariableOf access type_id cells defined) walks rows all context state =
-    and_no_more (access_walk access walks context state).linked [] (access_entries access rows) (access-of access walks rows all context state) refl
+whole-of : (value : Whole) (pieces : List Piece) (rows : List (List ℕ)) → AllEnter pieces rows
+    → Enters (whole_walk value pieces) (whole_entries value rows)
+whole-of (Text number text) pieces rows all context state = refl
+whole-of (VariableOf access type_id cells defined) pieces rows all context state =
+    and_no_more (access_walk access pieces context state).linked [] (access_entries access rows) (access-of access pieces rows all context state) refl
 
-all-entered : (parts : List EnteredExpr) → AllEnter (map value_walk (map (λ e. e.0) parts)) (map entries_of_expression (map (λ e. e.0) parts))
+all-entered : (parts : List EnteredExpr) → AllEnter (index_pieces (map (λ e. e.0) parts)) (map entries_of_expression (map (λ e. e.0) parts))
 all-entered [] = tt
 all-entered (one ∷ parts) = (one.1, all-entered parts)
 
 value-parts : (y : Expr-F EnteredExpr EnteredLink)
-    → Enters (value_step
-    (map-Expr Expr Link (Walking Known) Combination value_walk link_walk (map-Expr EnteredExpr EnteredLink Expr Link (λ e. e.0) (λ l. l.0) y)))
+    → Enters (piece_step
+    (map-Expr Expr Link Piece Joint piece_of joint_of (map-Expr EnteredExpr EnteredLink Expr Link (λ e. e.0) (λ l. l.0) y))).walk
     (expression_entries
     (map-Expr Expr Link (List ℕ) (List ℕ) entries_of_expression entries_of_link (map-Expr EnteredExpr EnteredLink Expr Link (λ e. e.0) (λ l. l.0) y)))
 value-parts (Constant number value) context state = refl
 value-parts (Variable access indexes defined) context state =
-    let walks = map value_walk (map (λ (e : EnteredExpr). e.0) indexes.items) in
+    let pieces = index_pieces (map (λ (e : EnteredExpr). e.0) indexes.items) in
     let rows = map entries_of_expression (map (λ (e : EnteredExpr). e.0) indexes.items) in
-    let begun = access_walk access walks context state in
-    and_no_more begun.linked (value_use access.root access.selectors.items defined context begun.after).linked (access_entries access rows)
-    (access-of access walks rows (all-entered indexes.items) context state) (used-silent access.root access.selectors.items defined context begun.after)
+    let begun = access_walk access pieces context state in
+    let selectors = access.selectors.items in
+    and_no_more begun.linked (value_use access.root selectors begun.value defined context begun.after).linked (access_entries access rows)
+    (access-of access pieces rows (all-entered indexes.items) context state) (used-silent access.root selectors begun.value defined context begun.after)
 value-parts (MonadicOf number operation operand) context state =
     let begun = value_walk operand.value.0 context state in
     let after = operated operation begun.value context begun.after in
@@ -146,23 +156,23 @@ value-parts (MonadicOf number operation operand) context state =
     (operated-silent operation begun.value context begun.after))
 value-parts (Chain first rest) context state =
     let begun = value_walk first.value.0 context state in
-    let after = in_turn (map link_walk (map (λ l. l.0) rest.items)) begun.value context begun.after in
+    let after = in_turn (combinations rest.items) begun.value context begun.after in
     and_then begun.linked after.linked _ _ (first.value.1 context state) (turns-entered rest.items begun.value context begun.after)
 value-parts (Compare number relation left left_indexes right right_indexes) context state =
-    let walks = map value_walk (map (λ (e : EnteredExpr). e.0) left_indexes.items) in
+    let pieces = index_pieces (map (λ (e : EnteredExpr). e.0) left_indexes.items) in
     let rows = map entries_of_expression (map (λ (e : EnteredExpr). e.0) left_indexes.items) in
-    let right_walks = map value_walk (map (λ (e : EnteredExpr). e.0) right_indexes.items) in
+    let right_pieces = index_pieces (map (λ (e : EnteredExpr). e.0) right_indexes.items) in
     let right_rows = map entries_of_expression (map (λ (e : EnteredExpr). e.0) right_indexes.items) in
-    let begun = whole_walk left walks context state in
-    let end = whole_walk right right_walks context begun.after in
+    let begun = whole_walk left pieces context state in
+    let end = whole_walk right right_pieces context begun.after in
     and_then begun.linked (record { number = number; state = begun.after } ∷ (end.linked ++ [])) (whole_entries left rows)
-    (number ∷ whole_entries right right_rows) (whole-of left walks rows (all-entered left_indexes.items) context state)
+    (number ∷ whole_entries right right_rows) (whole-of left pieces rows (all-entered left_indexes.items) context state)
     (ap (λ (numbers : List ℕ). number ∷ numbers) (and_no_more end.linked [] (whole_entries right right_rows)
-    (whole-of right right_walks right_rows (all-entered right_indexes.items) context begun.after) refl))
+    (whole-of right right_pieces right_rows (all-entered right_indexes.items) context begun.after) refl))
 
 link-parts : (y : Link-F EnteredExpr EnteredLink)
     → EntersFrom
-    (link_step (map-Link Expr Link (Walking Known) Combination value_walk link_walk (map-Link EnteredExpr EnteredLink Expr Link (λ e. e.0) (λ l. l.0) y)))
+    (link_step (map-Link Expr Link Piece Joint piece_of joint_of (map-Link EnteredExpr EnteredLink Expr Link (λ e. e.0) (λ l. l.0) y))).combination
     (link_entries
     (map-Link Expr Link (List ℕ) (List ℕ) entries_of_expression entries_of_link (map-Link EnteredExpr EnteredLink Expr Link (λ e. e.0) (λ l. l.0) y)))
 link-parts y left context state =
@@ -175,16 +185,16 @@ link-parts y left context state =
 pub value-entered : (e : Expr) → Enters (value_walk e) (entries_of_expression e)
 value-entered = ind-Expr (λ e. Enters (value_walk e) (entries_of_expression e)) (λ l. EntersFrom (link_walk l) (entries_of_link l))
     (λ x y is context state.
-    ap (λ (walk : Walking Known). numbers_of (walk context state).linked)
-    (fold-roll-Expr (Walking Known) Combination value_step link_step x
-    ∙ ap (λ z. value_step (map-Expr Expr Link (Walking Known) Combination value_walk link_walk z)) (sym is))
+    ap (λ (piece : Piece). numbers_of (piece.walk context state).linked)
+    (fold-roll-Expr Piece Joint piece_step link_step x
+    ∙ ap (λ z. piece_step (map-Expr Expr Link Piece Joint piece_of joint_of z)) (sym is))
     ∙ value-parts y context state
     ∙ ap (λ z. expression_entries (map-Expr Expr Link (List ℕ) (List ℕ) entries_of_expression entries_of_link z)) is
     ∙ sym (fold-roll-Expr (List ℕ) (List ℕ) expression_entries link_entries x))
     (λ x y is left context state.
-    ap (λ (walk : Combination). numbers_of (walk left context state).linked)
-    (fold-roll-Link (Walking Known) Combination value_step link_step x
-    ∙ ap (λ z. link_step (map-Link Expr Link (Walking Known) Combination value_walk link_walk z)) (sym is))
+    ap (λ (joint : Joint). numbers_of (joint.combination left context state).linked)
+    (fold-roll-Link Piece Joint piece_step link_step x
+    ∙ ap (λ z. link_step (map-Link Expr Link Piece Joint piece_of joint_of z)) (sym is))
     ∙ link-parts y left context state
     ∙ ap (λ z. link_entries (map-Link Expr Link (List ℕ) (List ℕ) entries_of_expression entries_of_link z)) is
     ∙ sym (fold-roll-Link (List ℕ) (List ℕ) expression_entries link_entries x))
@@ -199,22 +209,24 @@ width-entered (Some width) context state =
     let test = width_test width.site first.value context first.after in
     and_no_more first.linked test.linked _ (value-entered width.value context state) (test-silent width.site first.value context first.after)
 
-all-entered_of : (indexes : List Expr) → AllEnter (index_walks indexes) (index_entries indexes)
+all-entered_of : (indexes : List Expr) → AllEnter (index_pieces indexes) (index_entries indexes)
 all-entered_of [] = tt
 all-entered_of (index ∷ indexes) = (value-entered index, all-entered_of indexes)
 
 -- an access, and a whole value
-pub access-entered : (access : Access) (indexes : List Expr) → Enters (access_walk access (index_walks indexes)) (access_entries access (index_entries indexes))
-access-entered access indexes = access-of access (index_walks indexes) (index_entries indexes) (all-entered_of indexes)
+pub access-entered : (access : Access) (indexes : List Expr)
+    → Enters (access_walk access (index_pieces indexes)) (access_entries access (index_entries indexes))
+access-entered access indexes = access-of access (index_pieces indexes) (index_entries indexes) (all-entered_of indexes)
 
-pub whole-entered : (value : Whole) (indexes : List Expr) → Enters (whole_walk value (index_walks indexes)) (whole_entries value (index_entries indexes))
-whole-entered value indexes = whole-of value (index_walks indexes) (index_entries indexes) (all-entered_of indexes)
+pub whole-entered : (value : Whole) (indexes : List Expr) → Enters (whole_walk value (index_pieces indexes)) (whole_entries value (index_entries indexes))
+whole-entered value indexes = whole-of value (index_pieces indexes) (index_entries indexes) (all-entered_of indexes)
 
 -- a value that is written, and its width
 written-entered : (value : Written) → Enters (written_walk value) (entries_of_written value)
 written-entered (written.Ordinal value representation) context state =
     and_no_more (value_walk value context state).linked [] _ (value-entered value context state) refl
-written-entered (written.String value indexes) context state = whole-entered value indexes.items context state
+written-entered (written.String value indexes) context state =
+    and_no_more (whole_walk value (index_pieces indexes.items) context state).linked [] _ (whole-entered value indexes.items context state) refl
 
 pub parameter-entered : (parameter : WriteParameter) → Enters (parameter_walk parameter) (entries_of_parameter parameter)
 parameter-entered parameter context state =

@@ -1,8 +1,11 @@
 pub mod Entered
+pub mod Forms
 pub mod Held
+pub mod RowUses
 pub mod Keeping
 pub mod Sound
 pub mod SoundAccesses
 pub mod SoundExpressions
 pub mod SoundOperations
+pub mod SoundRows
 pub mod Steps

@@ -6,35 +6,51 @@ use Rattle.std.specs.List.{Contains}
 use Rattle.std.proofs.lemmas.List.Elements.{Contains-append_left, Contains-append_right, Contains-push_cases}
 use Rattle.domain.specs.Interval.{Interval}
 use Rattle.types.specs.Forms.{Form}
+use Rattle.typed_tree.specs.declared.tree.Tree.{Tree}
 use Rattle.typed_tree.specs.declared.tree.Variable.{Variable}
 use Rattle.meaning.specs.declared.outcome.Ending.TheVariants.{Error}
 use Rattle.meaning.specs.declared.store.Value.{Value}
 use Rattle.meaning.specs.Store.{Environment, Place, Store, stored}
 use Rattle.meaning.specs.Effect as effect
 use Rattle.meaning.specs.Effect.{Action, Reply, Visit, and_then}
-use Rattle.abstract_state.specs.State.{State, Dead, Live, is_dead, is_defined, range_of, with_defined}
-use Rattle.abstract_state.specs.Holds.{IsIn, StateHolds, Separate}
+use Rattle.abstract_state.specs.State as variables
+use Rattle.abstract_state.specs.State.{is_defined, range_of, unless_empty}
+use Rattle.abstract_state.specs.Holds.{IsIn, Separate}
+use Rattle.abstract_state.specs.Knows as entire
+use Rattle.abstract_state.specs.Knows.{Shows, moment}
 use Rattle.abstract_state.proofs.Ranged.{IsKnown}
-use Rattle.abstract_state.proofs.Knows.{Shows, Knows, place_of, at-place, known-holds, read-in, defined-stored, nonempty-known, used-known}
+use Rattle.abstract_state.proofs.Knows.{place_of, at-place, known-holds, read-in, defined-stored, nonempty-known, used-known}
+use Rattle.leaf_rows.specs.Rows.{Parts, all_parts}
+use Rattle.component_states.specs.States.{State, is_dead, over_variables}
+use Rattle.component_states.specs.Holds.{Knows, StateHolds}
 use Rattle.expression_checker.specs.Walk as walk
 use Rattle.expression_checker.specs.Walk.{Breach, Context, Linked, Walked, Walking, followed, left_open}
 use Rattle.expression_checker.specs.Visits.{moment_of, visits_of}
 use Rattle.expression_checker.proofs.Keeping.{InTypes, Keeps, keeps-itself, keeps-then}
 
--- what is fixed for a program: the values of its variables' types, the sites that the whole walk leaves open, how many sites the program has, its
--- variables and types, the states that the whole walk links, and the pairs of aliases of each block by its number
+-- what is fixed for a program: the program, the values of its variables' types, the sites that the whole walk leaves open, how many sites the program
+-- has, the states that the whole walk links, and the pairs of aliases of each block by its number
 pub record World : Type 0 where
+  pub tree : Tree
   pub limits : List Interval
   pub ids : List ℕ
   pub sites : ℕ
-  pub declared : List Variable
-  pub types : List Form
   pub linked : List Linked
   pub aliases : ℕ → List (ℕ × ℕ)
 
--- how many variables the program has
+-- the variables of the program, how many there are, and its types
+abbrev pub declared_in : World → List Variable
+declared_in world = world.tree.variables.items
+
 abbrev pub variables_in : World → ℕ
-variables_in world = length world.declared
+variables_in world = length (declared_in world)
+
+abbrev pub types_in : World → List Form
+types_in world = world.tree.types
+
+-- the components of each of its rows
+abbrev pub parts_in : World → List Parts
+parts_in world = all_parts world.tree
 
 -- a piece's walk is part of the world
 pub record IsPartOf {A : Type 0} (world : World) (walked : Walked A) : Type 0 where
@@ -43,13 +59,15 @@ pub record IsPartOf {A : Type 0} (world : World) (walked : Walked A) : Type 0 wh
 
 -- a walk goes by the world's program; its state holds, and each value lies in the range of its variable's type
 pub record Stands (world : World) (env : Environment) (context : Context) (state : State) (store : Store) : Type 0 where
+  pub tree_is : context.tree ≡ world.tree
   pub limits_are : context.limits ≡ world.limits
-  pub known : Knows (variables_in world) env state store
-  pub typed : InTypes world.limits env store
+  pub types_are : env.types ≡ types_in world
+  pub known : Knows (parts_in world) (variables_in world) env state store
+  pub typed : InTypes world.tree world.limits env store
 
 -- a state of the world is linked to the entry, and it holds there
 abbrev pub Meets : World → Visit → Type 0
-Meets world visit = (one : Linked) × Contains world.linked one × (one.number ≡ visit.number) × StateHolds one.state (moment_of visit)
+Meets world visit = (one : Linked) × Contains world.linked one × (one.number ≡ visit.number) × StateHolds (parts_in world) one.state (moment_of visit)
 
 -- each visit that is new meets a state of the world, and its environment has no variables that share a place, but for
 -- the aliases of its block
@@ -87,6 +105,17 @@ Sound world env R action walking =
     (context : Context) (state : State) (s : effect.State) → (walking context state).broken ≡ [] → IsPartOf world (walking context state)
     → Stands world env context state s.store
     → Good world (IsForetold world env R context (walking context state) s.store) s.visited (action s)
+
+-- the same from states of one store
+abbrev pub SoundFrom : {A B : Type 0} → World → Environment → Store → (B → A → Type 0) → Action A → Walking B → Type 0
+SoundFrom world env store R action walking =
+    (context : Context) (state : State) (s : effect.State) → s.store ≡ store → (walking context state).broken ≡ []
+    → IsPartOf world (walking context state) → Stands world env context state s.store
+    → Good world (IsForetold world env R context (walking context state) s.store) s.visited (action s)
+
+-- a piece leaves the store as it is
+abbrev pub Leaves : {A : Type 0} → Action A → Type 0
+Leaves {A} action = (s t : effect.State) (a : A) → action s ≡ effect.Gives a t → t.store ≡ s.store
 
 -- no tie between two values
 abbrev pub Any_value : {A B : Type 0} → B → A → Type 0
@@ -153,6 +182,32 @@ sound-then world env R S action next walking walk_next one two context state s u
     (λ c u gives then. record { tie = then.tie; stands = then.stands; kept = keeps-then env context.rounds s.store t.store u.store told.kept then.kept })
     (two first.value a told.tie context first.after t (unbroken-right first.broken second.broken unbroken) (part-right world first second part) told.stands))
 
+-- from each store, or from one
+pub sound-anywhere : {A B : Type 0} (world : World) (env : Environment) (R : B → A → Type 0) (action : Action A) (walking : Walking B)
+    → ((store : Store) → SoundFrom world env store R action walking) → Sound world env R action walking
+sound-anywhere world env R action walking one context state s unbroken part stands = one s.store context state s refl unbroken part stands
+
+pub sound-here : {A B : Type 0} (world : World) (env : Environment) (store : Store) (R : B → A → Type 0) (action : Action A) (walking : Walking B)
+    → Sound world env R action walking → SoundFrom world env store R action walking
+sound-here world env store R action walking one context state s same unbroken part stands = one context state s unbroken part stands
+
+-- a piece that leaves the store as it is, and then another; what the first reply gives is told
+pub sound-still : {A B C D : Type 0} (world : World) (env : Environment) (store : Store) (R : B → A → Type 0) (S : D → C → Type 0)
+    (action : Action A) (next : A → Action C) (walking : Walking B) (walk_next : B → Walking D)
+    → SoundFrom world env store R action walking → Leaves action
+    → ((b : B) (a : A) (s t : effect.State) → action s ≡ effect.Gives a t → s.store ≡ store → R b a → SoundFrom world env store S (next a) (walk_next b))
+    → SoundFrom world env store S (effect.◌>>=◌ action next) (walk.◌>>=◌ walking walk_next)
+sound-still world env store R S action next walking walk_next one leaves two context state s same unbroken part stands =
+    let first = walking context state in
+    let second = walk_next first.value context first.after in
+    good-then world (IsForetold world env R context first s.store) (IsForetold world env S context (followed first second) s.store) s.visited (action s) next
+    (one context state s same (unbroken-left first.broken second.broken unbroken) (part-left world first second part) stands)
+    (λ a t is told.
+    good-weaker world (IsForetold world env S context second t.store) (IsForetold world env S context (followed first second) s.store) t.visited (next a t)
+    (λ c u gives then. record { tie = then.tie; stands = then.stands; kept = keeps-then env context.rounds s.store t.store u.store told.kept then.kept })
+    (two first.value a s t is same told.tie context first.after t (leaves s t a is ∙ same) (unbroken-right first.broken second.broken unbroken)
+    (part-right world first second part) told.stands))
+
 -- the run goes on with a value of which the walk doesn't know
 pub sound-given : {A B C : Type 0} (world : World) (env : Environment) (R : B → A → Type 0) (S : B → C → Type 0) (f : A → C)
     → ((b : B) (a : A) → R b a → S b (f a))
@@ -194,6 +249,14 @@ sound-give world env R a b tie context state s unbroken part stands =
     good-give world (IsForetold world env R context (walk.give b context state) s.store) a s
     (record { tie = tie; stands = stands; kept = keeps-itself env context.rounds s.store })
 
+-- a state that is known holds
+pub state-holds : (rows : List Parts) (roots : ℕ) (env : Environment) (state : State) (store : Store) → Knows rows roots env state store
+    → StateHolds rows state (moment env store)
+state-holds rows roots env state store known = record {
+  variables = known-holds roots env state.variables store known.variables;
+  components = known.components;
+}
+
 none-shared : (env : Environment) (pairs : List (ℕ × ℕ)) → Separate env [] → Separate env pairs
 none-shared env pairs separate a b p q at_a at_b differ overlaps =
     ⊎_elim (λ listed. absurd (omega (arith, listed.1))) (λ listed. absurd (omega (arith, listed.1))) (separate a b p q at_a at_b differ overlaps)
@@ -203,7 +266,8 @@ pub sound-enter : (world : World) (env : Environment) → Shows (variables_in wo
 sound-enter world env shows number context state s unbroken part stands =
     let one : Linked = record { number = number; state = state } in
     let entered : Visit = record { number = number; environment = env; store = s.store } in
-    let meets : Meets world entered = (one, part.linked one (0, omega arith, refl), refl, known-holds (variables_in world) env state s.store stands.known) in
+    let holds = state-holds (parts_in world) (variables_in world) env state s.store stands.known in
+    let meets : Meets world entered = (one, part.linked one (0, omega arith, refl), refl, holds) in
     let separate : Separate env (world.aliases 0) = none-shared env (world.aliases 0) shows.separate in
     record {
       errs = tt;
@@ -230,9 +294,28 @@ none-some v is = cc
 
 -- another state that holds
 pub stands-as : (world : World) (env : Environment) (context : Context) (state other : State) (store : Store) → Stands world env context state store
-    → Knows (variables_in world) env other store
+    → Knows (parts_in world) (variables_in world) env other store
     → Stands world env context other store
-stands-as world env context state other store stands known = record { limits_are = stands.limits_are; known = known; typed = stands.typed }
+stands-as world env context state other store stands known = record {
+  tree_is = stands.tree_is;
+  limits_are = stands.limits_are;
+  types_are = stands.types_are;
+  known = known;
+  typed = stands.typed;
+}
+
+-- what is known of variables changes, and holds still
+pub over-known : (rows : List Parts) (roots : ℕ) (env : Environment) (state : State) (change : variables.State → variables.State) (store : Store)
+    → Knows rows roots env state store → entire.Knows roots env (change state.variables) store → Knows rows roots env (over_variables change state) store
+over-known rows roots env state change store known changed = record { variables = changed; components = known.components }
+
+-- no run goes on from an empty range
+pub nonempty-stands : (world : World) (env : Environment) (context : Context) (range : Interval) (state : State) (store : Store) (v : Value) → IsIn range v
+    → Stands world env context state store → Stands world env context (over_variables (unless_empty range) state) store
+nonempty-stands world env context range state store v inside stands =
+    stands-as world env context state (over_variables (unless_empty range) state) store stands
+    (over-known (parts_in world) (variables_in world) env state (unless_empty range) store stands.known
+    (nonempty-known (variables_in world) env range state.variables store v inside stands.known.variables))
 
 good-use : (world : World) (env : Environment) → Shows (variables_in world) env → (root site : ℕ) → root < (variables_in world) → site < world.sites
     → (context : Context) (state : State) (s : effect.State) → IsPartOf world (walk.use_of root site context state)
@@ -240,20 +323,26 @@ good-use : (world : World) (env : Environment) → Shows (variables_in world) en
     → (found : Option Value) → stored s.store (place_of env root) ≡ found
     → Good world (IsForetold world env IsKnown context (walk.use_of root site context state) s.store) s.visited (effect.fetched found site s)
 good-use world env shows root site within below context state s part stands None is =
-    let unclosed : is_defined state root ≡ true → ⊥ = λ closed.
-    let at = defined-stored (variables_in world) env shows state s.store root within stands.known closed in none-some at.0 (sym is ∙ at.1) in
+    let unclosed : is_defined state.variables root ≡ true → ⊥ = λ closed.
+    let at = defined-stored (variables_in world) env shows state.variables s.store root within stands.known.variables closed in
+    none-some at.0 (sym is ∙ at.1) in
     record {
-      errs = errs-here world site (part.ids site (open-here site (is_defined state root) unclosed)) below;
+      errs = errs-here world site (part.ids site (open-here site (is_defined state.variables root) unclosed)) below;
       new = nothing-new world s.visited;
       gives = tt;
     }
 good-use world env shows root site within below context state s part stands (Some v) is =
-    let inside : IsIn (range_of state root) v = read-in (variables_in world) env shows state s.store root v within stands.known is in
-    let used = used-known (variables_in world) env shows state s.store root v within stands.known is in
-    let known = nonempty-known (variables_in world) env (range_of state root) (with_defined root state) s.store v inside used in
+    let n = variables_in world in
+    let known = stands.known.variables in
+    let range = range_of state.variables root in
+    let inside : IsIn range v = read-in n env shows state.variables s.store root v within known is in
+    let used = used-known n env shows state.variables s.store root v within known is in
+    let nonempty = nonempty-known n env range (variables.with_defined root state.variables) s.store v inside used in
+    let change = λ (known : variables.State). unless_empty (range_of known root) (variables.with_defined root known) in
+    let after = over-known (parts_in world) n env state change s.store stands.known nonempty in
     good-give world (IsForetold world env IsKnown context (walk.use_of root site context state) s.store) v s (record {
       tie = inside;
-      stands = stands-as world env context state (walk.use_of root site context state).after s.store stands known;
+      stands = stands-as world env context state (walk.use_of root site context state).after s.store stands after;
       kept = keeps-itself env context.rounds s.store;
     })
 
@@ -269,12 +358,19 @@ sound-use world env shows root site within below =
 abbrev pub Passes : Bool → Value → Interval → Unit {0} → Type 0
 Passes test v range done = IsIn range v × (test ≡ true)
 
+-- a state that holds is no dead one
+pub alive : (roots : ℕ) (env : Environment) (state : variables.State) (store : Store) → entire.Knows roots env state store
+    → variables.is_dead state ≡ false
+alive roots env variables.Dead store known = absurd known
+alive roots env (variables.Live facts) store known = refl
+
 -- where a site is closed, no run comes or the test holds
-pub closed-passes : (variables : ℕ) (env : Environment) (state : State) (store : Store) (closed test : Bool) → Knows variables env state store
+pub closed-passes : (rows : List Parts) (roots : ℕ) (env : Environment) (state : State) (store : Store) (closed test : Bool)
+    → Knows rows roots env state store
     → (closed ≡ true → test ≡ true)
     → (is_dead state || closed) ≡ true → test ≡ true
-closed-passes variables env Dead store closed test known holds is = absurd known
-closed-passes variables env (Live facts) store closed test known holds is = holds is
+closed-passes rows roots env state store closed test known holds is =
+    holds (subst (λ (dead : Bool). (dead || closed) ≡ true) (alive roots env state.variables store known.variables) is)
 
 pub false-true : ◌≡◌ {A = Bool} false true → ⊥
 false-true is = cc
@@ -285,16 +381,14 @@ pub sound-tested : (world : World) (env : Environment) (closed : Bool) (site : �
     → Sound world env (Passes test v) (effect.require test site) (walk.tested closed site passed)
 sound-tested world env closed site passed v true below holds lets context state s unbroken part stands =
     let inside : IsIn passed v = lets refl in
-    let after = (walk.tested closed site passed context state).after in
     good-give world (IsForetold world env (Passes true v) context (walk.tested closed site passed context state) s.store) tt s (record {
       tie = (inside, refl);
-      stands = stands-as world env context state after s.store stands
-          (nonempty-known (variables_in world) env passed state s.store v inside stands.known);
+      stands = nonempty-stands world env context passed state s.store v inside stands;
       kept = keeps-itself env context.rounds s.store;
     })
 sound-tested world env closed site passed v false below holds lets context state s unbroken part stands =
     let unclosed : (is_dead state || closed) ≡ true
-    → ⊥ = λ is. false-true (closed-passes (variables_in world) env state s.store closed false stands.known holds is) in
+    → ⊥ = λ is. false-true (closed-passes (parts_in world) (variables_in world) env state s.store closed false stands.known holds is) in
     record {
       errs = errs-here world site (part.ids site (open-here site (is_dead state || closed) unclosed)) below;
       new = nothing-new world s.visited;

@@ -1,20 +1,22 @@
 -- The walk over accesses and over whole values is sound, where that over their index expressions is.
-use Rattle.std.proofs.Common.{arith, ◌≡◌, ◌∙◌, sym, ap, refl, subst, ℕ, suc, ◌+◌, ◌<◌, ℤ, pos, Bool, true, false, ◌&&◌, ◌||◌, nat_eq, nat_lt, nat_le, not}
-use Rattle.std.proofs.Common.{List, [], ◌∷◌}
-use Rattle.std.proofs.Common.{◌++◌, append-nil, append_assoc, length, length-append, map, Option, Some, None}
-use Rattle.std.specs.Prelude.{slice_get}
+use Rattle.std.proofs.Common.{arith, ◌≡◌, ⊎_elim, ◌∙◌, sym, ap, refl, subst, ℕ, zero, suc, ◌+◌, ◌<◌, ℤ, pos, ◌≤ℤ◌, Bool, true, false}
+use Rattle.std.proofs.Common.{◌&&◌, ◌||◌, nat_eq, nat_lt, nat_le, not, List, [], ◌∷◌, ◌++◌, append-nil, append_assoc, length, map, Option, Some, None}
+use Rattle.std.specs.Prelude.{slice_get, slice_index_or}
 use Rattle.std.specs.List.{All, Contains, list_all}
 use Rattle.std.specs.Option.{option_and_then}
 use Rattle.std.proofs.lemmas.Int.{ints}
-use Rattle.std.proofs.lemmas.Bool.{and_parts, eqb-true, ltb-true}
+use Rattle.std.proofs.lemmas.Bool.{and_parts, eqb-true, ltb-true, or_cases}
 use Rattle.std.proofs.lemmas.List.Elements.{All-cons, All-nil}
-use Rattle.std.proofs.lemmas.Option.{slice_get_within}
+use Rattle.std.proofs.lemmas.Option.{get_or_from_slice_get, none-some, same_Some, slice_get-get_or, slice_get_within}
 use Rattle.types.specs.Forms.{Form}
 use Rattle.types.specs.declared.form.TypeId.{TypeId}
 use Rattle.types.specs.declared.form.Step.{Step}
 use Rattle.types.specs.declared.form.Step.TheVariants as step
 use Rattle.types.specs.Components.{components_of}
 use Rattle.types.specs.Types.{is_ordinal, is_same}
+use Rattle.types.proofs.Scalars.{ordinal_component}
+use Rattle.std.specs.declared.alloc.Global.{Global}
+use Rattle.std.specs.declared.vec.Vec.{Vec}
 use Rattle.typed_tree.specs.declared.tree.Access.{Access}
 use Rattle.typed_tree.specs.declared.tree.RangeTest.{RangeTest}
 use Rattle.typed_tree.specs.declared.tree.Selector.{Selector}
@@ -24,10 +26,9 @@ use Rattle.typed_tree.specs.declared.tree.Whole.{Whole}
 use Rattle.typed_tree.specs.declared.tree.Whole.TheVariants.{Text, Variable as VariableOf}
 use Rattle.typed_tree.specs.Accesses as accesses
 use Rattle.typed_tree.specs.Accesses.{index_count, is_type, led}
-use Rattle.typed_tree.specs.WellFormed.{is_character, is_value_of, is_well_formed_selector, is_well_formed_whole, is_whole, leads_to}
+use Rattle.typed_tree.specs.WellFormed.{are_characters, is_character, is_value_of, is_well_formed_selector, is_well_formed_whole, is_whole, leads_to}
 use Rattle.typed_tree.specs.WellFormed.{leads_to_whole}
 use Rattle.domain.specs.Interval.{HasMember}
-use Rattle.meaning.specs.declared.outcome.Ending.TheVariants.{Error}
 use Rattle.meaning.specs.declared.store.Value.{Value}
 use Rattle.meaning.specs.declared.store.Value.TheVariants.{Number}
 use Rattle.meaning.specs.Store.{Environment, Place, Store, held, part}
@@ -36,18 +37,33 @@ use Rattle.meaning.specs.Effect.{fetch, fetch_all, is_in, number_of}
 use Rattle.meaning.specs.Meaning.{Evaluation, accessed, selected, whole_of}
 use Rattle.abstract_state.specs.declared.known.Known.{Known}
 use Rattle.abstract_state.specs.declared.known.Known.TheVariants.{Ordinal}
-use Rattle.abstract_state.specs.State.{State, integer, is_dead, unless_empty}
-use Rattle.abstract_state.specs.Holds.{IsIn, part_of, value_at}
-use Rattle.abstract_state.specs.Knows.{moment}
-use Rattle.abstract_state.proofs.Ranged.{IsKnown}
-use Rattle.abstract_state.proofs.Knows.{Shows, nonempty-known}
+use Rattle.domain.specs.Facts.{Bound}
+use Rattle.domain.specs.Interval.{Interval}
+use Rattle.types.specs.declared.form.OrdinalRange.{OrdinalRange}
+use Rattle.meaning.specs.Integers.{is_integer_number, is_within}
+use Rattle.abstract_state.specs.Forms.{bound_of}
+use Rattle.abstract_state.specs.State.{integer}
+use Rattle.abstract_state.specs.Holds.{HasValue, IsBound, IsIn, Moment, part_of, value_at}
+use Rattle.abstract_state.specs.Knows.{IsOfForm, Shows, moment}
+use Rattle.abstract_state.proofs.Ranged.{IsKnown, constant-in, is_within-has}
+use Rattle.component_states.specs.Components.{At, Entire, Index, Inside, Reach}
+use Rattle.component_states.specs.States.{State, is_dead}
+use Rattle.typed_tree.specs.declared.tree.Tree.{Tree}
+use Rattle.leaf_rows.specs.Rows.{is_structured, rows_accessed, rows_of}
+use Rattle.component_states.specs.Components.{row_at}
+use Rattle.component_states.specs.Holds.{IsOfRow, Knows}
+use Rattle.component_states.proofs.Joins.{in-left, in-right}
 use Rattle.expression_checker.specs.Walk as walk
-use Rattle.expression_checker.specs.Walk.{Context, Walking, access_walk, index_test, indexes_walk, value_use, whole_walk}
-use Rattle.expression_checker.proofs.Keeping.{Keeps, keeps-itself}
-use Rattle.expression_checker.proofs.Sound.{World, variables_in, Any_value, Good, IsForetold, IsPartOf, Sound, Stands, closed-passes, errs-here, false-true}
-use Rattle.expression_checker.proofs.Sound.{good-give, good-then, good-weaker, nothing-new, open-here, sound-enter, sound-give, sound-given, sound-named}
-use Rattle.expression_checker.proofs.Sound.{sound-then, sound-use, stands-as}
+use Rattle.expression_checker.specs.Walk.{Context, Piece, Walking, access_walk, all_joined, deeper, index_test, indexes_walk, is_covered}
+use Rattle.expression_checker.specs.Walk.{range_in, ranges_of, text_range, value_use, whole_walk, with_used}
+use Rattle.expression_checker.proofs.Keeping.{InTypes, Keeps, keeps-itself}
+use Rattle.expression_checker.proofs.Sound.{World, variables_in, Any_value, Good, IsForetold, IsPartOf, Leaves, Sound, SoundFrom, Stands, alive, declared_in}
+use Rattle.expression_checker.proofs.Sound.{errs-here, false-true, good-give, good-then, good-weaker, nothing-new, open-here, sound-enter, sound-give}
+use Rattle.expression_checker.proofs.Sound.{nonempty-stands, parts_in, sound-anywhere, sound-here, sound-named, sound-still, sound-then, sound-use}
+use Rattle.expression_checker.proofs.Sound.{stands-as, types_in}
 use Rattle.expression_checker.proofs.SoundOperations.{IsKnownOf, fitting-sound}
+use Rattle.expression_checker.proofs.SoundRows.{AreIntegers, IsIndexOn, IsReachedBy, IsWhole, Leads, LieIn, Matches, RowsAre, covered-row, first-behind}
+use Rattle.expression_checker.proofs.SoundRows.{first-then, joined-in, matches-then, reached-has, rows-are, used-known}
 
 -- ---- parts of a place
 
@@ -62,19 +78,6 @@ part-then (Some p) first second = ap (λ (steps : List Step). Some (record p { s
 pub part-held : (store : Store) (place : Option Place) (steps : List Step) → held store (part place steps) ≡ part_of store place steps
 part-held store None steps = refl
 part-held store (Some p) steps = refl
-
--- a place is that of a part of a variable, to which so many steps lead
-abbrev pub Reaches : Environment → ℕ → ℕ → Option Place → Type 0
-Reaches env root count place = (steps : List Step) × (place ≡ part (env.variables root) steps) × (length steps ≡ count)
-
-no-steps : (steps : List Step) → length steps ≡ 0 → steps ≡ []
-no-steps [] is = refl
-no-steps (s ∷ steps) is = absurd (omega (arith, is))
-
--- the place of an entire variable
-pub reaches-entire : (env : Environment) (root : ℕ) (place : Option Place) → Reaches env root 0 place → place ≡ env.variables root
-reaches-entire env root place (steps, place_is, none) =
-    place_is ∙ ap (part (env.variables root)) (no-steps steps none) ∙ part-none (env.variables root)
 
 -- ---- what is well formed
 
@@ -114,9 +117,6 @@ module _ (variables : List Variable) (types : List Form) (sites : ℕ) (wanted :
 
 -- ---- rows of integers
 
-abbrev pub AreIntegers : List ℤ → Type 0
-AreIntegers row = All (HasMember integer) row
-
 character-integer : (c : ℕ) → is_character c ≡ true → HasMember integer (pos c)
 character-integer c is = let small = ltb-true c 128 is in (omega (arith, ints), omega (arith, ints, small))
 
@@ -127,213 +127,539 @@ characters-integers (c ∷ characters) well =
     All-cons (HasMember integer) (pos c) (map pos characters) (character-integer c parts.0) (characters-integers characters parts.1)
 
 -- a field takes no index
-field-same : (position : ℕ) (offset : ℕ) (selectors : List Selector) (walks : List (Walking Known))
-    → indexes_walk (Field position offset ∷ selectors) walks ≡ indexes_walk selectors walks
-field-same position offset selectors [] = refl
-field-same position offset selectors (index ∷ walks) = refl
+field-same : (position : ℕ) (offset : ℕ) (selectors : List Selector) (pieces : List Piece) (reach : Reach)
+    → indexes_walk (Field position offset ∷ selectors) pieces reach ≡ indexes_walk selectors pieces reach
+field-same position offset selectors [] reach = refl
+field-same position offset selectors (index ∷ pieces) reach = refl
+
+-- ---- replies
+
+gives-state : {A : Type 0} (a b : A) (s t : effect.State) → effect.Gives a s ≡ effect.Gives b t → t ≡ s
+gives-state a b s t is = cc
+
+entered-leaves : (number : ℕ) (env : Environment) → Leaves (effect.enter number env)
+entered-leaves number env s t done is = ap (λ (u : effect.State). u.store)
+    (gives-state tt done (record s { visited = s.visited ++ record { number = number; environment = env; store = s.store } ∷ [] }) t is)
+
+required-leaves : (test : Bool) (site : ℕ) → Leaves (effect.require test site)
+required-leaves true site s t done is = ap (λ (u : effect.State). u.store) (gives-state tt done s t is)
+required-leaves false site s t done is = absurd (cc)
+
+required-true : (test : Bool) (site : ℕ) (s t : effect.State) (done : Unit {0}) → effect.require test site s ≡ effect.Gives done t → test ≡ true
+required-true true site s t done is = refl
+required-true false site s t done is = absurd (cc)
+
+-- ---- index expressions
+
+-- the walk over one is sound, it leaves the store as it is, and its value is of its form
+pub record IndexIsSound (world : World) (env : Environment) (evaluation : Evaluation) (piece : Piece) : Type 0 where
+  pub sound : Sound world env IsKnown (evaluation env) piece.walk
+  pub leaves : Leaves (evaluation env)
+  pub form : (s t : effect.State) (v : Value) → evaluation env s ≡ effect.Gives v t → IsOfForm (moment env t.store) (bound_of piece.form) v
+
+abbrev pub AllSound : World → Environment → List Evaluation → List Piece → Type 0
+AllSound world env [] [] = Unit {0}
+AllSound world env (evaluation ∷ evaluations) (piece ∷ pieces) = IndexIsSound world env evaluation piece × AllSound world env evaluations pieces
+AllSound world env evaluations pieces = ⊥
+
+known-range : (known : Known) (v : Value) → IsKnown known v → IsIn (range_in known) v
+known-range (Ordinal range) v inside = inside
+
+-- an index that passed its test, and what is known of it
+in-test : (range : OrdinalRange) (v : Value) → is_in range v ≡ true → (range.first ≤ℤ number_of v) × (number_of v ≤ℤ range.last)
+in-test range (Number n) passes =
+    is_within-has range.first range.last n (and_parts (is_integer_number n) (is_within range.first range.last n) passes).1
+
+number-in : (range : Interval) (v : Value) → IsIn range v → HasMember range (number_of v)
+number-in range (Number n) inside = inside
+
+of-form : (m : Moment) (form : Option Bound) (v : Value) → IsOfForm m form v → (b : Bound) → form ≡ Some b → IsBound m b (number_of v)
+of-form m None v is b same = absurd (cc)
+of-form m (Some own) (Number n) (k, number, bound) b same =
+    let one : n ≡ k = cc in
+    let two : own ≡ b = cc in
+    subst (λ (c : Bound). IsBound m c n) two (subst (λ (x : ℤ). IsBound m own x) (sym one) bound)
+
+counted-then : (first second : List Selector) → index_count (first ++ second) ≡ index_count first + index_count second
+counted-then [] second = let e : index_count second ≡ 0 + index_count second = omega arith in e
+counted-then (Element fits cells ∷ first) second =
+    let e : suc (index_count first + index_count second) ≡ suc (index_count first) + index_count second = omega arith in
+    ap suc (counted-then first second) ∙ e
+counted-then (Field position offset ∷ first) second = counted-then first second
+
+module _ (env : Environment) (store : Store) where
+  longer : (index : Index) (way more : List Step) → IsIndexOn env store index way → IsIndexOn env store index (way ++ more)
+  longer index way more on = record {
+    number = on.number;
+    is_first = first-then way more on.number on.is_first;
+    in_range = on.in_range;
+    of_form = on.of_form;
+  }
+
+  -- behind a field
+  behind-field : (before : List Selector) (way : List Step) (position offset : ℕ) (reach : Reach) → IsReachedBy env store before way reach
+      → IsReachedBy env store (before ++ Field position offset ∷ []) (way ++ step.Field position ∷ []) reach
+  behind-field before way position offset Entire reached =
+      let e = counted-then before (Field position offset ∷ []) in omega (arith, e, reached)
+  behind-field before way position offset (At index) reached =
+      let e = counted-then before (Field position offset ∷ []) in
+      let count = reached.0 in
+      (omega (arith, e, count), longer index way (step.Field position ∷ []) reached.1)
+  behind-field before way position offset (Inside index) reached = longer index way (step.Field position ∷ []) reached
+
+  -- behind an element
+  behind-element : (before : List Selector) (way : List Step) (fits : RangeTest) (cells : ℕ) (number : ℤ) (index : Index) (reach : Reach)
+      → HasMember index.range number → ((b : Bound) → index.form ≡ Some b → IsBound (moment env store) b number) → Matches before way
+      → IsReachedBy env store before way reach
+      → IsReachedBy env store (before ++ Element fits cells ∷ []) (way ++ step.Element number ∷ []) (deeper index reach)
+  behind-element before way fits cells number index Entire inside form matches reached =
+      let e = counted-then before (Element fits cells ∷ []) in (
+        omega (arith, e, reached),
+        record {
+          number = number;
+          is_first = first-behind before way number reached matches;
+          in_range = inside;
+          of_form = form;
+        },
+      )
+  behind-element before way fits cells number index (At first) inside form matches reached = longer first way (step.Element number ∷ []) reached.1
+  behind-element before way fits cells number index (Inside first) inside form matches reached = longer first way (step.Element number ∷ []) reached
+
+-- ---- what is found
+
+in-program : (world : World) (context : Context) (P : Context → Type 0) → context.tree ≡ world.tree → P (record context { tree = world.tree }) → P context
+in-program world context P is so = subst (λ (tree : Tree). P (record context { tree = tree })) (sym is) so
+
+type-of : (wanted : TypeId → Bool) (found : Option TypeId) → is_type wanted found ≡ true → (id : TypeId) × (found ≡ Some id) × (wanted id ≡ true)
+type-of wanted None is = absurd (false-true is)
+type-of wanted (Some id) is = (id, refl, is)
+
+alone : {A : Type 0} (x y : A) → Contains (x ∷ []) y → x ≡ y
+alone x y (zero, within, at) = at
+alone x y (suc k, within, at) = absurd (omega (arith, within))
+
+get-contains : {A : Type 0} (xs : List A) (k : ℕ) (x : A) → slice_get xs k ≡ Some x → Contains xs x
+get-contains xs k x is = (k, slice_get_within xs k x is, get_or_from_slice_get xs k x x is)
+
+contains-get : {A : Type 0} (xs : List A) (x : A) → (inside : Contains xs x) → slice_get xs inside.0 ≡ Some x
+contains-get xs x inside = slice_get-get_or xs inside.0 x inside.1 ∙ ap Some inside.2
+
+mapped-at : {A B : Type 0} (f : A → B) (xs : List A) (k : ℕ) (y : B) → slice_get (map f xs) k ≡ Some y → (x : A) × (slice_get xs k ≡ Some x) × (f x ≡ y)
+mapped-at f [] k y is = absurd (none-some y is)
+mapped-at f (x ∷ xs) zero y is = (x, refl, same_Some (f x) y is)
+mapped-at f (x ∷ xs) (suc k) y is = mapped-at f xs k y is
+
+same-type : (a b : TypeId) → is_same a b ≡ true → a ≡ b
+same-type a b is = ap (λ (n : ℕ). record { index = n }) (eqb-true a.index b.index is)
+
+number-back : (v : Value) → Number (number_of v) ≡ v
+number-back (Number n) = refl
 
 integer-number : (v : Value) → IsIn integer v → HasMember integer (number_of v)
 integer-number (Number n) inside = inside
 
--- the walks over index expressions are sound
-abbrev pub AllSound : World → Environment → List Evaluation → List (Walking Known) → Type 0
-AllSound world env [] [] = Unit {0}
-AllSound world env (evaluation ∷ evaluations) (walk ∷ walks) = Sound world env IsKnown (evaluation env) walk × AllSound world env evaluations walks
-AllSound world env evaluations walks = ⊥
+no-way : (way : List Step) → Matches [] way → way ≡ []
+no-way [] matches = refl
+no-way (s ∷ way) matches = absurd matches
 
--- a row of integers, whatever the walk gives
-abbrev pub RowOfIntegers : Unit {0} → List ℤ → Type 0
-RowOfIntegers done row = AreIntegers row
+-- what is so of each pair of steps and their number
+pairs-then : (P : List Step → ℤ → Type 0) (first : List Step) (components : List (List Step)) (m : ℤ) (numbers : List ℤ) → P first m
+    → ((k : ℕ) (rest : List Step) (n : ℤ) → slice_get components k ≡ Some rest → slice_get numbers k ≡ Some n → P rest n)
+    → (k : ℕ) (rest : List Step) (n : ℤ) → slice_get (first ∷ components) k ≡ Some rest → slice_get (m ∷ numbers) k ≡ Some n → P rest n
+pairs-then P first components m numbers one more zero rest n is at =
+    subst (λ (steps : List Step). P steps n) (same_Some first rest is) (subst (P first) (same_Some m n at) one)
+pairs-then P first components m numbers one more (suc k) rest n is at = more k rest n is at
+
+-- the characters of a string lie in its range
+text-in : (text : List ℕ) → All (HasMember (text_range text)) (map pos text)
+text-in [] = All-nil (HasMember (text_range []))
+text-in (c ∷ text) =
+    let own : Interval = record { first = pos c; last = pos c } in
+    All-cons (HasMember (text_range (c ∷ text))) (pos c) (map pos text) (in-left own (text_range text) (Number (pos c)) (constant-in (pos c)))
+    (λ k d within. in-right own (text_range text) (Number (slice_index_or (map pos text) k d)) (text-in text k d within))
 
 module _ (world : World) (env : Environment) (shows : Shows (variables_in world) env) where
   abbrev tests_are_well : List Selector → Bool
-  tests_are_well selectors = list_all (is_well_formed_selector world.declared world.types world.sites) selectors
+  tests_are_well selectors = list_all (is_well_formed_selector (declared_in world) (types_in world) world.sites) selectors
 
-  -- an index is tested
+  -- an index is tested: it lies in the range that passes
+  abbrev LiesIn : Value → Interval → Unit {0} → Type 0
+  LiesIn v range done = IsIn range v
+
   tested-sound : (fits : RangeTest) (known : Known) (v : Value) → fits.site < world.sites → IsKnown known v
-      → Sound {B = Unit {0}} world env Any_value (effect.require (is_in fits.range v) fits.site) (index_test (Some fits) known)
+      → Sound world env (LiesIn v) (effect.require (is_in fits.range v) fits.site) (index_test (Some fits) known)
   tested-sound fits known v below inside =
-      sound-named world env (IsKnownOf v) Any_value (λ passed. tt {0}) (λ passed done tie. tt) (effect.require (is_in fits.range v) fits.site)
+      sound-named world env (IsKnownOf v) (LiesIn v) range_in (λ passed done tie. known-range passed v tie) (effect.require (is_in fits.range v) fits.site)
       (walk.fitting fits known) (fitting-sound world env fits known v below inside)
 
-  abbrev Arrives : ℕ → ℕ → Unit {0} → Option Place → Type 0
-  Arrives root count done place = Reaches env root count place
-
-  -- the selectors behind some steps
-  selected-sound : (selectors : List Selector) (evaluations : List Evaluation) (walks : List (Walking Known)) → AllSound world env evaluations walks
-      → length evaluations ≡ index_count selectors → tests_are_well selectors ≡ true → (root : ℕ) (steps : List Step) (place : Option Place)
-      → place ≡ part (env.variables root) steps
-      → Sound world env (Arrives root (length steps + length selectors)) (selected selectors evaluations env place) (indexes_walk selectors walks)
-  selected-sound [] [] [] all count tests root steps place place_is =
-      sound-give {B = Unit {0}} world env (Arrives root (length steps + 0)) place tt (steps, place_is, omega arith)
-  selected-sound [] (evaluation ∷ evaluations) walks all count tests root steps place place_is = absurd (omega (arith, count))
-  selected-sound [] [] (w ∷ walks) all count tests root steps place place_is = absurd all
-  selected-sound (Field position offset ∷ selectors) evaluations walks all count tests root steps place place_is =
-      let more = steps ++ step.Field position ∷ [] in
+  -- the selectors behind some
+  selected-sound : (root : ℕ) (selectors : List Selector) (evaluations : List Evaluation) (pieces : List Piece) → AllSound world env evaluations pieces
+      → length evaluations ≡ index_count selectors → tests_are_well selectors ≡ true
+      → (store : Store) (before : List Selector) (way : List Step) (reach : Reach) (place : Option Place)
+      → place ≡ part (env.variables root) way → Matches before way → IsReachedBy env store before way reach
+      → SoundFrom world env store (Leads env root (before ++ selectors) store) (selected selectors evaluations env place) (indexes_walk selectors pieces reach)
+  selected-sound root [] [] [] all count tests store before way reach place place_is matches reached =
+      let R = λ (list : List Selector). Leads env root list store in
+      let leads : R (before ++ []) reach place =
+      subst (λ (list : List Selector). R list reach place) (sym (append-nil before))
+      (record { way = way; place_is = place_is; matches = matches; reached = reached }) in
+      sound-here world env store (R (before ++ [])) (effect.give place) (walk.give reach) (sound-give world env (R (before ++ [])) place reach leads)
+  selected-sound root [] (evaluation ∷ evaluations) pieces all count tests store before way reach place place_is matches reached =
+      absurd (omega (arith, count))
+  selected-sound root [] [] (piece ∷ pieces) all count tests store before way reach place place_is matches reached = absurd all
+  selected-sound root (Field position offset ∷ selectors) evaluations pieces all count tests store before way reach place place_is matches reached =
+      let more = way ++ step.Field position ∷ [] in
       let inner = part place (step.Field position ∷ []) in
       let inner_is : inner ≡ part (env.variables root) more =
-      ap (λ (p : Option Place). part p (step.Field position ∷ [])) place_is ∙ part-then (env.variables root) steps (step.Field position ∷ []) in
-      let many : length more + length selectors ≡ length steps + suc (length selectors) = omega (arith, length-append steps (step.Field position ∷ [])) in
-      subst (λ (w : Walking (Unit {0})). Sound world env (Arrives root (length steps + suc (length selectors))) (selected selectors evaluations env inner) w)
-      (sym (field-same position offset selectors walks))
-      (subst (λ (n : ℕ). Sound world env (Arrives root n) (selected selectors evaluations env inner) (indexes_walk selectors walks)) many
-      (selected-sound selectors evaluations walks all count tests root more inner inner_is))
-  selected-sound (Element fits cells ∷ selectors) [] walks all count tests root steps place place_is = absurd (omega (arith, count))
-  selected-sound (Element fits cells ∷ selectors) (evaluation ∷ evaluations) [] all count tests root steps place place_is = absurd all
-  selected-sound (Element fits cells ∷ selectors) (evaluation ∷ evaluations) (index ∷ walks) all count tests root steps place place_is =
-      let R = Arrives root (length steps + suc (length selectors)) in
-      let first = and_parts (is_well_formed_selector world.declared world.types world.sites (Element fits cells)) (tests_are_well selectors) tests in
+      ap (λ (p : Option Place). part p (step.Field position ∷ [])) place_is ∙ part-then (env.variables root) way (step.Field position ∷ []) in
+      let own : List Selector = Field position offset ∷ [] in
+      let gone = matches-then before own way (step.Field position ∷ []) matches (refl, tt) in
+      subst (λ (w : Walking Reach).
+      SoundFrom world env store (Leads env root (before ++ Field position offset ∷ selectors) store) (selected selectors evaluations env inner) w)
+      (sym (field-same position offset selectors pieces reach))
+      (subst (λ (list : List Selector). SoundFrom world env store (Leads env root list store) (selected selectors evaluations env inner)
+      (indexes_walk selectors pieces reach)) (append_assoc before own selectors)
+      (selected-sound root selectors evaluations pieces all count tests store (before ++ own) more reach inner inner_is gone
+      (behind-field env store before way position offset reach reached)))
+  selected-sound root (Element fits cells ∷ selectors) [] pieces all count tests store before way reach place place_is matches reached =
+      absurd (omega (arith, count))
+  selected-sound root (Element fits cells ∷ selectors) (evaluation ∷ evaluations) [] all count tests store before way reach place place_is matches reached =
+      absurd all
+  selected-sound root (Element fits cells ∷ selectors) (evaluation ∷ evaluations) (index ∷ pieces) all count tests store before way reach place place_is
+      matches reached =
+      let R = Leads env root (before ++ Element fits cells ∷ selectors) store in
+      let first = and_parts (is_well_formed_selector (declared_in world) (types_in world) world.sites (Element fits cells)) (tests_are_well selectors) tests in
       let site = and_parts (nat_lt fits.site world.sites) (is_whole fits.range.first && is_whole fits.range.last) first.0 in
+      let test = λ (v : Value). effect.require (is_in fits.range v) fits.site in
       let inner_of = λ (v : Value). part place (step.Element (number_of v) ∷ []) in
-      sound-then world env IsKnown R (evaluation env)
-      (λ v. effect.◌>>=◌ (effect.require (is_in fits.range v) fits.site) (λ tested. selected selectors evaluations env (inner_of v))) index
-      (λ known. walk.◌>>=◌ (index_test (Some fits) known) (λ done. indexes_walk selectors walks)) all.0
-      (λ known v inside.
-      let more = steps ++ step.Element (number_of v) ∷ [] in
+      let reached_by = λ (range : Interval). deeper (record { form = bound_of index.form; range = range }) reach in
+      let own : List Selector = Element fits cells ∷ [] in
+      sound-still world env store IsKnown R (evaluation env)
+      (λ v. effect.◌>>=◌ (test v) (λ tested. selected selectors evaluations env (inner_of v))) index.walk
+      (λ known. walk.◌>>=◌ (index_test (Some fits) known) (λ range. indexes_walk selectors pieces (reached_by range)))
+      (sound-here world env store IsKnown (evaluation env) index.walk all.0.sound) all.0.leaves
+      (λ known v s t is from inside.
+      let form : IsOfForm (moment env store) (bound_of index.form) v =
+      subst (λ (x : Store). IsOfForm (moment env x) (bound_of index.form) v) (all.0.leaves s t v is ∙ from) (all.0.form s t v is) in
+      let more = way ++ step.Element (number_of v) ∷ [] in
       let inner_is : inner_of v ≡ part (env.variables root) more =
-      ap (λ (p : Option Place). part p (step.Element (number_of v) ∷ [])) place_is
-      ∙ part-then (env.variables root) steps (step.Element (number_of v) ∷ []) in
-      let many : length more + length selectors ≡ length steps + suc (length selectors) =
-      omega (arith, length-append steps (step.Element (number_of v) ∷ [])) in
-      sound-then world env Any_value R (effect.require (is_in fits.range v) fits.site) (λ tested. selected selectors evaluations env (inner_of v))
-      (index_test (Some fits) known) (λ done. indexes_walk selectors walks) (tested-sound fits known v (ltb-true fits.site world.sites site.0) inside)
-      (λ done tested tie.
-      subst (λ (n : ℕ). Sound world env (Arrives root n) (selected selectors evaluations env (inner_of v)) (indexes_walk selectors walks)) many
-      (selected-sound selectors evaluations walks all.1 (omega (arith, count)) first.1 root more (inner_of v) inner_is)))
+      ap (λ (p : Option Place). part p (step.Element (number_of v) ∷ [])) place_is ∙ part-then (env.variables root) way (step.Element (number_of v) ∷ []) in
+      sound-still world env store (LiesIn v) R (test v) (λ tested. selected selectors evaluations env (inner_of v)) (index_test (Some fits) known)
+      (λ range. indexes_walk selectors pieces (reached_by range))
+      (sound-here world env store (LiesIn v) (test v) (index_test (Some fits) known)
+      (tested-sound fits known v (ltb-true fits.site world.sites site.0) inside)) (required-leaves (is_in fits.range v) fits.site)
+      (λ range tested t u passes same lies.
+      let bounds = in-test fits.range v (required-true (is_in fits.range v) fits.site t u tested passes) in
+      let gone : Matches (before ++ own) more =
+      matches-then before own way (step.Element (number_of v) ∷ []) matches (bounds.0, bounds.1, tt) in
+      subst (λ (list : List Selector). SoundFrom world env store (Leads env root list store) (selected selectors evaluations env (inner_of v))
+      (indexes_walk selectors pieces (reached_by range))) (append_assoc before own selectors)
+      (selected-sound root selectors evaluations pieces all.1 (omega (arith, count)) first.1 store (before ++ own) more (reached_by range) (inner_of v) inner_is
+      gone (behind-element env store before way fits cells (number_of v) (record { form = bound_of index.form; range = range }) reach
+      (number-in range v lies) (of-form (moment env store) (bound_of index.form) v form) matches reached))))
 
   -- an access
-  pub reached-sound : (access : Access) (evaluations : List Evaluation) (walks : List (Walking Known)) → AllSound world env evaluations walks
-      → length evaluations ≡ index_count access.selectors.items → tests_are_well access.selectors.items ≡ true
-      → Sound world env (Arrives access.root (length access.selectors.items)) (accessed access evaluations env) (access_walk access walks)
-  reached-sound access evaluations walks all count tests =
-      sound-then world env Any_value (Arrives access.root (length access.selectors.items)) (effect.enter access.number env)
-      (λ done. selected access.selectors.items evaluations env (env.variables access.root)) (walk.enter access.number)
-      (λ done. indexes_walk access.selectors.items walks) (sound-enter world env shows access.number)
-      (λ b a tie.
-      subst (λ (n : ℕ). Sound world env (Arrives access.root n) (selected access.selectors.items evaluations env (env.variables access.root))
-      (indexes_walk access.selectors.items walks)) (let none : length {A = Step} [] + length access.selectors.items ≡ length access.selectors.items =
-      omega arith in none)
-      (selected-sound access.selectors.items evaluations walks all count tests access.root [] (env.variables access.root)
-      (sym (part-none (env.variables access.root)))))
+  pub reached-sound : (access : Access) (evaluations : List Evaluation) (pieces : List Piece) → AllSound world env evaluations pieces
+      → length evaluations ≡ index_count access.selectors.items → tests_are_well access.selectors.items ≡ true → (store : Store)
+      → SoundFrom world env store (Leads env access.root access.selectors.items store) (accessed access evaluations env) (access_walk access pieces)
+  reached-sound access evaluations pieces all count tests store =
+      let selectors = access.selectors.items in
+      sound-still world env store Any_value (Leads env access.root selectors store) (effect.enter access.number env)
+      (λ done. selected selectors evaluations env (env.variables access.root)) (walk.enter access.number)
+      (λ done. indexes_walk selectors pieces Entire)
+      (sound-here world env store Any_value (effect.enter access.number env) (walk.enter access.number) (sound-enter world env shows access.number))
+      (entered-leaves access.number env)
+      (λ b a s t is from tie.
+      selected-sound access.root selectors evaluations pieces all count tests store [] [] Entire (env.variables access.root)
+      (sym (part-none (env.variables access.root))) tt refl)
 
-  -- ---- what nothing is known of
+  -- ---- uses
 
-  -- a site that a test of nothing leaves open
-  open-site : (site : ℕ) (context : Context) (state : State) (s : effect.State) → site < world.sites
-      → IsPartOf world (walk.tested false site integer context state) → Stands world env context state s.store → (id : ℕ)
-      → Error site ≡ Error id → Contains world.ids id × (id < world.sites)
-  open-site site context state s below part stands =
-      let unclosed : (is_dead state || false) ≡ true → ⊥ =
-      λ is. false-true (closed-passes (variables_in world) env state s.store false false stands.known (λ closed. closed) is) in
-      errs-here world site (part.ids site (open-here site (is_dead state || false) unclosed)) below
+  abbrev rows : ℕ → List Selector → List ℕ
+  rows root selectors = rows_accessed (rows_of world.tree) root selectors
 
-  still-stands : (site : ℕ) (context : Context) (state : State) (store : Store) (v : Value) → IsIn integer v → Stands world env context state store
-      → Stands world env context (walk.tested false site integer context state).after store
-  still-stands site context state store v inside stands =
-      stands-as world env context state (unless_empty integer state) store stands
-      (nonempty-known (variables_in world) env integer state store v inside stands.known)
+  abbrev inside : Context → Context
+  inside context = record context { tree = world.tree }
 
-  -- a part of a variable is read
-  abbrev IsRead : Store → Value → Store → Type 0
-  IsRead before v after = IsIn integer v × (after ≡ before)
+  held-at : (store : Store) (root : ℕ) (way rest : List Step) (place : Option Place) → place ≡ part (env.variables root) way
+      → held store (part place rest) ≡ value_at (moment env store) root (way ++ rest)
+  held-at store root way rest place place_is =
+      ap (λ (p : Option Place). held store (part p rest)) place_is ∙ ap (held store) (part-then (env.variables root) way rest)
+      ∙ part-held store (env.variables root) (way ++ rest)
 
-  part-good : (root : ℕ) (steps : List Step) (site : ℕ) (context : Context) (state : State) (s : effect.State) → site < world.sites
-      → IsPartOf world (walk.tested false site integer context state) → Stands world env context state s.store → (found : Option Value)
-      → value_at (moment env s.store) root steps ≡ found → Good world (IsRead s.store) s.visited (effect.fetched found site s)
-  part-good root steps site context state s below part stands None is =
-      record { errs = open-site site context state s below part stands; new = nothing-new world s.visited; gives = tt }
-  part-good root steps site context state s below part stands (Some v) is =
-      good-give world (IsRead s.store) v s (stands.typed.integers root steps v is, refl)
+  -- what an access of a type reaches
+  module _ (root : ℕ) (selectors : List Selector) (id : TypeId) (laws : RowsAre world.tree root selectors id) (site : ℕ) (below : site < world.sites)
+      (reach : Reach) (way : List Step) (matches : Matches selectors way) where
+    -- each component that is given has a value
+    given-has : (state : State) (store : Store) → Knows (parts_in world) (variables_in world) env state store → IsReachedBy env store selectors way reach
+        → (selectors ≡ [] → is_structured (types_in world) id ≡ true) → is_covered world.tree state reach (rows root selectors) ≡ true
+        → (rest : List Step) → Contains (components_of (types_in world) id) rest → HasValue (moment env store) root (way ++ rest)
+    given-has state store known reached structured covered rest of_type =
+        let row = laws.covers way rest structured matches of_type in
+        subst (λ (r : ℕ). HasValue (moment env store) r (way ++ rest)) (laws.root_is row.0 row.1)
+        (reached-has world.tree (variables_in world) env state store known selectors row.0 way rest reach reached row.2
+        (covered-row world.tree state reach (rows root selectors) row.0 covered row.1))
 
-  read-good : (root : ℕ) (steps : List Step) (place : Option Place) → place ≡ part (env.variables root) steps → (site : ℕ) (context : Context) (state : State)
-      (s : effect.State) → site < world.sites → IsPartOf world (walk.tested false site integer context state) → Stands world env context state s.store
-      → Good world (IsRead s.store) s.visited (fetch place site s)
-  read-good root steps place place_is site context state s below part stands =
-      part-good root steps site context state s below part stands (held s.store place)
-      (sym (part-held s.store (env.variables root) steps) ∙ ap (held s.store) (sym place_is))
+    -- the value of a component of a row lies in the row's range
+    row-in : (state : State) (store : Store) → Knows (parts_in world) (variables_in world) env state store → (row : ℕ) (rest : List Step) (v : Value)
+        → Contains (rows root selectors) row → IsOfRow (parts_in world) row (way ++ rest) → value_at (moment env store) root (way ++ rest) ≡ Some v
+        → IsIn (row_at state.components row).range v
+    row-in state store known row rest v among of_row at =
+        known.components.ranges row (way ++ rest) v of_row
+        (subst (λ (r : ℕ). value_at (moment env store) r (way ++ rest) ≡ Some v) (sym (laws.root_is row among)) at)
 
-  -- its value is an integer
-  component-sound : (root : ℕ) (steps : List Step) (place : Option Place) → place ≡ part (env.variables root) steps → (site : ℕ) → site < world.sites
-      → Sound world env IsKnown (fetch place site) (walk.component_use site)
-  component-sound root steps place place_is site below =
-      sound-named world env (λ passed v. IsIn passed v) IsKnown (λ passed. Ordinal passed) (λ passed v inside. inside) (fetch place site)
-      (walk.tested false site integer)
-      (λ context state s unbroken part stands.
-      good-weaker world (IsRead s.store)
-      (IsForetold world env (λ passed v. IsIn passed v) context (walk.tested false site integer context state) s.store) s.visited (fetch place site s)
-      (λ v t is read. record {
-        tie = read.0;
-        stands = still-stands site context state t.store v read.0 (subst (Stands world env context state) (sym read.1) stands);
-        kept = subst (λ (store : Store). Keeps env context.rounds s.store store) (sym read.1) (keeps-itself env context.rounds s.store);
-      })
-      (read-good root steps place place_is site context state s below part stands))
+    -- ---- an ordinal
+
+    module _ (scalar : components_of (types_in world) id ≡ [] ∷ []) (structured : selectors ≡ [] → is_structured (types_in world) id ≡ true) where
+      abbrev used : Walking Known
+      used = walk.rows_use (rows root selectors) reach site
+
+      itself : Contains (components_of (types_in world) id) []
+      itself = subst (λ (components : List (List Step)). Contains components []) (sym scalar) (0, omega arith, refl)
+
+      no-rest : (rest : List Step) → Contains (components_of (types_in world) id) rest → [] ≡ rest
+      no-rest rest of_type = alone [] rest (subst (λ (components : List (List Step)). Contains components rest) scalar of_type)
+
+      rows-good : (context : Context) (state : State) (s : effect.State) → IsReachedBy env s.store selectors way reach
+          → IsPartOf world (used (inside context) state) → Stands world env context state s.store → (found : Option Value)
+          → value_at (moment env s.store) root (way ++ []) ≡ found
+          → Good world (IsForetold world env IsKnown context (used (inside context) state) s.store) s.visited (effect.fetched found site s)
+      rows-good context state s reached part stands None is =
+          let unclosed : is_covered world.tree state reach (rows root selectors) ≡ true → ⊥ = λ covered.
+          let has = given-has state s.store stands.known reached structured covered [] itself in none-some has.0 (sym is ∙ has.1) in
+          record {
+            errs = errs-here world site (part.ids site (open-here site (is_covered world.tree state reach (rows root selectors)) unclosed)) below;
+            new = nothing-new world s.visited;
+            gives = tt;
+          }
+      rows-good context state s reached part stands (Some v) is =
+          let row = laws.covers way [] structured matches itself in
+          let lies = joined-in state (rows root selectors) row.0 v row.1 (row-in state s.store stands.known row.0 [] v row.1 row.2 is) in
+          let has : (rest : List Step) → Contains (components_of (types_in world) id) rest → HasValue (moment env s.store) root (way ++ rest) =
+          λ rest of_type. (v, subst (λ (steps : List Step). value_at (moment env s.store) root (way ++ steps) ≡ Some v) (no-rest rest of_type) is) in
+          let known = used-known world.tree (variables_in world) env s.store root selectors id laws way matches reach reached has state stands.known in
+          let behind = with_used reach (rows root selectors) state in
+          good-give world (IsForetold world env IsKnown context (used (inside context) state) s.store) v s (record {
+            tie = lies;
+            stands = nonempty-stands world env context (all_joined (ranges_of state (rows root selectors))) behind s.store v lies
+                (stands-as world env context state behind s.store stands known);
+            kept = keeps-itself env context.rounds s.store;
+          })
+
+    -- ---- a whole value
+
+    -- the components that were read
+    abbrev AreRead : Store → List (List Step) → List ℤ → Store → Type 0
+    AreRead before components numbers after =
+        (after ≡ before) × AreIntegers numbers × (length numbers ≡ length components)
+        × ((k : ℕ) (rest : List Step) (n : ℤ) → slice_get components k ≡ Some rest → slice_get numbers k ≡ Some n
+        → value_at (moment env before) root (way ++ rest) ≡ Some (Number n))
+
+    module _ (place : Option Place) (place_is : place ≡ part (env.variables root) way) (before : Store)
+        (typed : InTypes world.tree world.limits env before) where
+      abbrev IsRead : List Step → Value → Store → Type 0
+      IsRead rest v after = (value_at (moment env before) root (way ++ rest) ≡ Some v) × (after ≡ before)
+
+      found-good : (rest : List Step) (s : effect.State) → s.store ≡ before → (found : Option Value) → value_at (moment env before) root (way ++ rest) ≡ found
+          → (found ≡ None → Contains world.ids site) → Good world (IsRead rest) s.visited (effect.fetched found site s)
+      found-good rest s same None is opens = record {
+        errs = errs-here world site (opens refl) below;
+        new = nothing-new world s.visited;
+        gives = tt;
+      }
+      found-good rest s same (Some v) is opens = good-give world (IsRead rest) v s (is, same)
+
+      one-good : (rest : List Step) (s : effect.State) → s.store ≡ before
+          → (value_at (moment env before) root (way ++ rest) ≡ None → Contains world.ids site)
+          → Good world (IsRead rest) s.visited (fetch (part place rest) site s)
+      one-good rest s same opens =
+          subst (λ (found : Option Value). Good world (IsRead rest) s.visited (effect.fetched found site s))
+          (sym (held-at s.store root way rest place place_is ∙ ap (λ (x : Store). value_at (moment env x) root (way ++ rest)) same))
+          (found-good rest s same (value_at (moment env before) root (way ++ rest)) refl opens)
+
+      all-good : (components : List (List Step)) (s : effect.State) → s.store ≡ before
+          → ((rest : List Step) → Contains components rest → value_at (moment env before) root (way ++ rest) ≡ None → Contains world.ids site)
+          → Good world (AreRead before components) s.visited (fetch_all place components site s)
+      all-good [] s same opens =
+          good-give world (AreRead before []) [] s (same, All-nil (HasMember integer), refl, λ k rest n is at. absurd (none-some rest is))
+      all-good (first ∷ components) s same opens =
+          good-then world (IsRead first) (AreRead before (first ∷ components)) s.visited (fetch (part place first) site s)
+          (λ v. effect.◌>>=◌ (fetch_all place components site) (λ numbers. effect.give (number_of v ∷ numbers)))
+          (one-good first s same (opens first (0, omega arith, refl)))
+          (λ v t is read.
+          good-then world (AreRead before components) (AreRead before (first ∷ components)) t.visited (fetch_all place components site t)
+          (λ numbers. effect.give (number_of v ∷ numbers))
+          (all-good components t read.1 (λ rest among. opens rest (suc among.0, omega (arith, among.1), among.2)))
+          (λ numbers u gives more.
+          good-give world (AreRead before (first ∷ components)) (number_of v ∷ numbers) u (
+            more.0,
+            All-cons (HasMember integer) (number_of v) numbers (integer-number v (typed.integers root (way ++ first) v read.0)) more.1,
+            ap suc more.2,
+            pairs-then (λ rest n. value_at (moment env before) root (way ++ rest) ≡ Some (Number n)) first components (number_of v) numbers
+                (read.0 ∙ ap Some (sym (number-back v))) more.3,
+          )))
+
+    abbrev used_whole : Walking (List Interval)
+    used_whole = walk.whole_rows_use id (rows root selectors) reach site
+
+    -- what was read lies in the ranges, row by row
+    read-in : (state : State) (store after : Store) (numbers : List ℤ) → Knows (parts_in world) (variables_in world) env state store
+        → AreRead store (components_of (types_in world) id) numbers after → LieIn (types_in world) id (ranges_of state (rows root selectors)) numbers
+    read-in state store after numbers known read k j rest leaf n range of_type of_leaf named at ranged =
+        let row = mapped-at (λ (r : ℕ). (row_at state.components r).range) (rows root selectors) j range ranged in
+        let of_row = laws.placed way rest j row.0 leaf matches (get-contains (components_of (types_in world) id) k rest of_type) of_leaf named row.1 in
+        let lies = row-in state store known row.0 rest (Number n) (get-contains (rows root selectors) j row.0 row.1) of_row (read.3 k rest n of_type at) in
+        subst (λ (r : Interval). HasMember r n) row.2 lies
+
+    read-has : (store after : Store) (numbers : List ℤ) → AreRead store (components_of (types_in world) id) numbers after
+        → (rest : List Step) → Contains (components_of (types_in world) id) rest → HasValue (moment env store) root (way ++ rest)
+    read-has store after numbers read rest among =
+        let components = components_of (types_in world) id in
+        let within : among.0 < length numbers = omega (arith, among.1, read.2) in
+        let n = slice_index_or numbers among.0 (pos 0) in
+        (Number n, read.3 among.0 rest n (contains-get components rest among) (slice_get-get_or numbers among.0 (pos 0) within))
+
+    abbrev closed : State → Bool
+    closed state = is_dead state || (is_structured (types_in world) id && is_covered world.tree state reach (rows root selectors))
+
+    whole-open : (context : Context) (state : State) (store : Store) → IsReachedBy env store selectors way reach
+        → IsPartOf world (used_whole (inside context) state) → Stands world env context state store
+        → (rest : List Step) → Contains (components_of (types_in world) id) rest → value_at (moment env store) root (way ++ rest) ≡ None
+        → Contains world.ids site
+    whole-open context state store reached part stands rest among none =
+        let structured = is_structured (types_in world) id in
+        let covered = is_covered world.tree state reach (rows root selectors) in
+        let unclosed : closed state ≡ true → ⊥ = λ is.
+        ⊎_elim (λ dead. false-true (sym (alive (variables_in world) env state.variables store stands.known.variables) ∙ dead))
+        (λ both.
+        let each = and_parts structured covered both in
+        let has = given-has state store stands.known reached (λ entire. each.0) each.1 rest among in none-some has.0 (sym none ∙ has.1))
+        (or_cases (is_dead state) (structured && covered) is) in
+        part.ids site (open-here site (closed state) unclosed)
+
+    whole-good : (value : Whole) → ((ranges : List Interval) (numbers : List ℤ) → AreIntegers numbers
+        → length numbers ≡ length (components_of (types_in world) id) → LieIn (types_in world) id ranges numbers
+        → IsWhole (types_in world) value ranges numbers)
+        → (place : Option Place) → place ≡ part (env.variables root) way → (context : Context) (state : State) (s : effect.State)
+        → IsReachedBy env s.store selectors way reach → IsPartOf world (used_whole (inside context) state) → Stands world env context state s.store
+        → Good world (IsForetold world env (IsWhole (types_in world) value) context (used_whole (inside context) state) s.store) s.visited
+        (fetch_all place (components_of (types_in world) id) site s)
+    whole-good value so place place_is context state s reached part stands =
+        let components = components_of (types_in world) id in
+        let behind = with_used reach (rows root selectors) state in
+        good-weaker world (AreRead s.store components)
+        (IsForetold world env (IsWhole (types_in world) value) context (used_whole (inside context) state) s.store) s.visited
+        (fetch_all place components site s)
+        (λ numbers t gives read.
+        let known = used-known world.tree (variables_in world) env s.store root selectors id laws way matches reach reached
+        (read-has s.store t.store numbers read) state stands.known in
+        record {
+          tie = so (ranges_of state (rows root selectors)) numbers read.1 read.2 (read-in state s.store t.store numbers stands.known read);
+          stands = subst (λ (store : Store). Stands world env context behind store) (sym read.0)
+              (stands-as world env context state behind s.store stands known);
+          kept = subst (λ (store : Store). Keeps env context.rounds s.store store) (sym read.0) (keeps-itself env context.rounds s.store);
+        })
+        (all-good place place_is s.store stands.typed components s refl (whole-open context state s.store reached part stands))
+
+  -- ---- what is accessed
+
+  abbrev access_type : ℕ → List Selector → Option TypeId
+  access_type root selectors = accesses.accessed (declared_in world) (types_in world) root selectors
+
+  -- the use of a component
+  component-sound : (root : ℕ) (selectors : List Selector) (id : TypeId) → access_type root selectors ≡ Some id → is_ordinal (types_in world) id ≡ true
+      → (selectors ≡ [] → ⊥) → (site : ℕ) → site < world.sites → (store : Store) (reach : Reach) (place : Option Place)
+      → Leads env root selectors store reach place
+      → SoundFrom world env store IsKnown (fetch place site) (walk.component_use root selectors reach site)
+  component-sound root selectors id of_type ordinal some site below store reach place leads context state s same unbroken walked stands =
+      let walking = walk.component_use root selectors reach site in
+      let scalar = ordinal_component (types_in world) id ordinal in
+      let reached : IsReachedBy env s.store selectors leads.way reach =
+      subst (λ (x : Store). IsReachedBy env x selectors leads.way reach) (sym same) leads.reached in
+      let place_is : part place [] ≡ place = part-none place in
+      in-program world context (λ (c : Context). IsPartOf world (walking c state)
+      → Good world (IsForetold world env IsKnown context (walking c state) s.store) s.visited (fetch place site s)) stands.tree_is
+      (λ inside_walked.
+      subst (λ (found : Option Value). Good world (IsForetold world env IsKnown context (walking (inside context) state) s.store) s.visited
+      (effect.fetched found site s)) (sym (held-at s.store root leads.way [] place leads.place_is) ∙ ap (held s.store) place_is)
+      (rows-good root selectors id (rows-are world.tree root selectors id of_type) site below reach leads.way leads.matches scalar
+      (λ none. absurd (some none)) context state s reached inside_walked stands (value_at (moment env s.store) root (leads.way ++ [])) refl)) walked
+
+  some-selector : (selector : Selector) (selectors : List Selector) → selector ∷ selectors ≡ [] → ⊥
+  some-selector selector selectors is = cc
 
   -- the value of what is accessed
-  pub used-sound : (root : ℕ) (selectors : List Selector) (site : ℕ) (place : Option Place) → root < variables_in world → site < world.sites
-      → Reaches env root (length selectors) place → Sound world env IsKnown (fetch place site) (value_use root selectors site)
-  used-sound root [] site place within below reaches =
-      subst (λ (p : Option Place). Sound world env IsKnown (fetch p site) (walk.use_of root site)) (sym (reaches-entire env root place reaches))
-      (sound-use world env shows root site within below)
-  used-sound root (selector ∷ selectors) site place within below (steps, place_is, many) = component-sound root steps place place_is site below
+  pub used-sound : (root : ℕ) (selectors : List Selector) (site : ℕ) → is_type (is_ordinal (types_in world)) (access_type root selectors) ≡ true
+      → root < variables_in world → site < world.sites → (store : Store) (reach : Reach) (place : Option Place) → Leads env root selectors store reach place
+      → SoundFrom world env store IsKnown (fetch place site) (value_use root selectors reach site)
+  used-sound root [] site typed within below store reach place leads =
+      let entire : place ≡ env.variables root = leads.place_is ∙ ap (part (env.variables root)) (no-way leads.way leads.matches)
+      ∙ part-none (env.variables root) in
+      subst (λ (p : Option Place). SoundFrom world env store IsKnown (fetch p site) (walk.use_of root site)) (sym entire)
+      (sound-here world env store IsKnown (fetch (env.variables root) site) (walk.use_of root site) (sound-use world env shows root site within below))
+  used-sound root (selector ∷ selectors) site typed within below store reach place leads =
+      let id = type-of (is_ordinal (types_in world)) (access_type root (selector ∷ selectors)) typed in
+      component-sound root (selector ∷ selectors) id.0 id.1 id.2 (some-selector selector selectors) site below store reach place leads
 
-  -- ---- whole values
+  -- the components of a whole value
+  components-sound : (root : ℕ) (selectors : List Selector) (id : TypeId) → access_type root selectors ≡ Some id → (site : ℕ) → site < world.sites
+      → (value : Whole) → ((ranges : List Interval) (numbers : List ℤ) → AreIntegers numbers → length numbers ≡ length (components_of (types_in world) id)
+      → LieIn (types_in world) id ranges numbers → IsWhole (types_in world) value ranges numbers)
+      → (store : Store) (reach : Reach) (place : Option Place) → Leads env root selectors store reach place
+      → SoundFrom world env store (IsWhole (types_in world) value) (fetch_all place (components_of env.types id) site)
+      (walk.whole_use id root selectors reach site)
+  components-sound root selectors id of_type site below value so store reach place leads context state s same unbroken part stands =
+      let R = IsWhole (types_in world) value in
+      let walking = walk.whole_use id root selectors reach site in
+      let reached : IsReachedBy env s.store selectors leads.way reach =
+      subst (λ (x : Store). IsReachedBy env x selectors leads.way reach) (sym same) leads.reached in
+      subst (λ (types : List Form). Good world (IsForetold world env R context (walking context state) s.store) s.visited
+      (fetch_all place (components_of types id) site s)) (sym stands.types_are)
+      (in-program world context (λ (c : Context). IsPartOf world (walking c state)
+      → Good world (IsForetold world env R context (walking c state) s.store) s.visited (fetch_all place (components_of (types_in world) id) site s))
+      stands.tree_is
+      (λ part. whole-good root selectors id (rows-are world.tree root selectors id of_type) site below reach leads.way leads.matches value so place
+      leads.place_is context state s reached part stands) part)
 
-  abbrev AreRead : Store → List ℤ → Store → Type 0
-  AreRead before row after = AreIntegers row × (after ≡ before)
-
-  all-good : (root : ℕ) (before : List Step) (place : Option Place) → place ≡ part (env.variables root) before → (components : List (List Step)) (site : ℕ)
-      (context : Context) (state : State) (s : effect.State) → site < world.sites → IsPartOf world (walk.tested false site integer context state)
-      → Stands world env context state s.store → Good world (AreRead s.store) s.visited (fetch_all place components site s)
-  all-good root before place place_is [] site context state s below part stands =
-      good-give world (AreRead s.store) [] s (All-nil (HasMember integer), refl)
-  all-good root before place place_is (steps ∷ components) site context state s below walked stands =
-      let own : part place steps ≡ part (env.variables root) (before ++ steps) =
-      ap (λ (p : Option Place). part p steps) place_is ∙ part-then (env.variables root) before steps in
-      good-then world (IsRead s.store) (AreRead s.store) s.visited (fetch (part place steps) site s)
-      (λ v. effect.◌>>=◌ (fetch_all place components site) (λ numbers. effect.give (number_of v ∷ numbers)))
-      (read-good root (before ++ steps) (part place steps) own site context state s below walked stands)
-      (λ v t is read.
-      good-then world (AreRead t.store) (AreRead s.store) t.visited (fetch_all place components site t) (λ numbers. effect.give (number_of v ∷ numbers))
-      (all-good root before place place_is components site context state t below walked (subst (Stands world env context state) (sym read.1) stands))
-      (λ numbers u gives rest.
-      good-give world (AreRead s.store) (number_of v ∷ numbers) u
-      (All-cons (HasMember integer) (number_of v) numbers (integer-number v read.0) rest.0, rest.1 ∙ read.1)))
-
-  components-sound : (root count : ℕ) (place : Option Place) → Reaches env root count place → (components : List (List Step)) (site : ℕ) → site < world.sites
-      → Sound world env RowOfIntegers (fetch_all place components site) (walk.components_use site)
-  components-sound root count place (before, place_is, many) components site below =
-      sound-named world env (λ passed row. AreIntegers row) RowOfIntegers (λ passed. tt {0}) (λ passed row are. are) (fetch_all place components site)
-      (walk.tested false site integer)
-      (λ context state s unbroken part stands.
-      good-weaker world (AreRead s.store)
-      (IsForetold world env (λ passed row. AreIntegers row) context (walk.tested false site integer context state) s.store) s.visited
-      (fetch_all place components site s)
-      (λ row t is read. record {
-        tie = read.0;
-        stands = still-stands site context state t.store (Number (pos 0)) (character-integer 0 refl)
-            (subst (Stands world env context state) (sym read.1) stands);
-        kept = subst (λ (store : Store). Keeps env context.rounds s.store store) (sym read.1) (keeps-itself env context.rounds s.store);
-      })
-      (all-good root before place place_is components site context state s below part stands))
-
-  pub whole-good : (value : Whole) (evaluations : List Evaluation) (walks : List (Walking Known)) → AllSound world env evaluations walks
-      → is_well_formed_whole world.declared world.types world.sites value (length evaluations) ≡ true
-      → Sound world env RowOfIntegers (whole_of value evaluations env) (whole_walk value walks)
-  whole-good (Text number text) evaluations walks all well =
+  -- a whole value: a string, or what is accessed
+  pub string-sound : (number : ℕ) (text : Vec ℕ Global) → are_characters text.items ≡ true
+      → Sound world env (IsWhole (types_in world) (Text number text)) (whole_of (Text number text) [] env) (whole_walk (Text number text) [])
+  string-sound number text well =
       let parts = and_parts (nat_le (length text.items) 65536) (list_all is_character text.items) well in
-      sound-given world env Any_value RowOfIntegers (λ done. map pos text.items) (λ b a tie. characters-integers text.items parts.1)
-      (effect.enter number env) (walk.enter number) (sound-enter world env shows number)
-  whole-good (VariableOf access type_id cells defined) evaluations walks all well =
+      let R = IsWhole (types_in world) (Text number text) in
+      sound-then world env Any_value R (effect.enter number env) (λ done. effect.give (map pos text.items)) (walk.enter number)
+      (λ done. walk.give (text_range text.items ∷ [])) (sound-enter world env shows number)
+      (λ b a tie. sound-give world env R (map pos text.items) (text_range text.items ∷ [])
+      (record { integers = characters-integers text.items parts.1; told = (refl, refl, text-in text.items) }))
+
+  pub stored-sound : (access : Access) (type_id : TypeId) (cells defined : ℕ) (evaluations : List Evaluation) (pieces : List Piece)
+      → AllSound world env evaluations pieces → Leaves (accessed access evaluations env)
+      → is_well_formed_whole (declared_in world) (types_in world) world.sites (VariableOf access type_id cells defined) (length evaluations) ≡ true
+      → Sound world env (IsWhole (types_in world) (VariableOf access type_id cells defined))
+      (whole_of (VariableOf access type_id cells defined) evaluations env) (whole_walk (VariableOf access type_id cells defined) pieces)
+  stored-sound access type_id cells defined evaluations pieces all leaves well =
+      let value : Whole = VariableOf access type_id cells defined in
       let selectors = access.selectors.items in
-      let leads = leads_to_whole world.declared world.types world.sites type_id access.root selectors (length evaluations) in
-      let sized = is_value_of world.declared world.types world.sites type_id cells in
-      let parts = and_parts leads (sized && nat_lt defined world.sites) well in
+      let n = length evaluations in
+      let leads_there = leads_to_whole (declared_in world) (types_in world) world.sites type_id access.root selectors n in
+      let sized = is_value_of (declared_in world) (types_in world) world.sites type_id cells in
+      let parts = and_parts leads_there (sized && nat_lt defined world.sites) well in
       let site = and_parts sized (nat_lt defined world.sites) parts.1 in
-      let wanted = λ (id : TypeId). is_same id type_id && not (is_ordinal world.types id) in
-      sound-then world env (Arrives access.root (length selectors)) RowOfIntegers (accessed access evaluations env)
-      (λ place. fetch_all place (components_of env.types type_id) defined) (access_walk access walks) (λ done. walk.components_use defined)
-      (reached-sound access evaluations walks all
-      (leads-count world.declared world.types world.sites wanted access.root selectors (length evaluations) parts.0)
-      (leads-tests world.declared world.types world.sites wanted access.root selectors (length evaluations) parts.0))
-      (λ done place reaches.
-      components-sound access.root (length selectors) place reaches (components_of env.types type_id) defined (ltb-true defined world.sites site.1))
+      let wanted = λ (id : TypeId). is_same id type_id && not (is_ordinal (types_in world) id) in
+      let found = type-of wanted (access_type access.root selectors)
+      (leads-type (declared_in world) (types_in world) world.sites wanted access.root selectors n parts.0) in
+      let same = same-type found.0 type_id (and_parts (is_same found.0 type_id) (not (is_ordinal (types_in world) found.0)) found.2).0 in
+      let R = IsWhole (types_in world) value in
+      let action = accessed access evaluations env in
+      let next = λ (place : Option Place). fetch_all place (components_of env.types type_id) defined in
+      let walking = access_walk access pieces in
+      let walk_next = λ (reach : Reach). walk.whole_use type_id access.root selectors reach defined in
+      sound-anywhere world env R (effect.◌>>=◌ action next) (walk.◌>>=◌ walking walk_next)
+      (λ store.
+      sound-still world env store (Leads env access.root selectors store) R action next walking walk_next
+      (reached-sound access evaluations pieces all
+      (leads-count (declared_in world) (types_in world) world.sites wanted access.root selectors n parts.0)
+      (leads-tests (declared_in world) (types_in world) world.sites wanted access.root selectors n parts.0) store) leaves
+      (λ reach place s t is from leads.
+      components-sound access.root selectors type_id (found.1 ∙ ap (λ (id : TypeId). Some id) same) defined (ltb-true defined world.sites site.1) value
+      (λ ranges numbers integers many lie. record { integers = integers; told = (many, lie) }) store reach place leads))

@@ -1,5 +1,6 @@
 -- The walk over expressions is sound, form by form, and so is that over values that are written.
-use Rattle.std.proofs.Common.{◌≡◌, ◌∙◌, sym, subst, ℕ, ◌<◌, ℤ, pos, Bool, true, ◌&&◌, nat_eq, nat_lt, length, List, [], ◌∷◌, map, Option, Some, None}
+use Rattle.std.proofs.Common.{◌≡◌, ◌∙◌, ap, refl, sym, subst, ℕ, ◌<◌, ℤ, pos, Bool, true, ◌&&◌, nat_eq, nat_lt, length, List, [], ◌∷◌, map, Option, Some, None}
+use Rattle.std.proofs.Common.{ap₂}
 use Rattle.std.proofs.lemmas.Bool.{and_parts, ltb-true}
 use Rattle.typed_tree.specs.declared.tree.Width.{Width}
 use Rattle.typed_tree.specs.declared.tree.WriteParameter.{WriteParameter}
@@ -24,7 +25,7 @@ use Rattle.typed_tree.specs.WellFormed.{whole_indexes}
 use Rattle.meaning.specs.declared.store.Value.{Value}
 use Rattle.meaning.specs.declared.store.Value.TheVariants.{Number}
 use Rattle.meaning.specs.Integers.{truth}
-use Rattle.meaning.specs.Store.{Environment}
+use Rattle.meaning.specs.Store.{Environment, Store}
 use Rattle.meaning.specs.Effect as effect
 use Rattle.meaning.specs.Effect.{is_positive, row_text, text_of}
 use Rattle.meaning.specs.Meaning as meaning
@@ -34,13 +35,19 @@ use Rattle.domain.specs.Interval.{truth_values}
 use Rattle.abstract_state.specs.declared.known.Known.{Known}
 use Rattle.abstract_state.specs.declared.known.Known.TheVariants.{Ordinal}
 use Rattle.expression_checker.specs.Walk as walk
-use Rattle.expression_checker.specs.Walk.{Walking, value_walk, link_walk, parameter_walk, width_walk}
+use Rattle.expression_checker.specs.Walk.{Joint, Piece, Walking, joint_of, link_step, link_walk, parameter_walk, piece_of, piece_step, value_walk, width_walk}
 use Rattle.abstract_state.proofs.Ranged.{IsKnown, constant-in, truth_values-has}
-use Rattle.abstract_state.proofs.Knows.{Shows}
+use Rattle.domain.specs.Facts.{Bound}
+use Rattle.abstract_state.specs.Conditions.{Condition, Conjunct, bound_form, condition_of, condition_step, conjunct_of, link_condition, operand_of}
+use Rattle.abstract_state.specs.Forms.{Form, Operand, bound_of, chain_form, sign_form}
+use Rattle.abstract_state.specs.Knows.{IsOfForm, Shows, moment}
+use Rattle.abstract_state.proofs.Refined.{access-kept, expression-kept, form-known}
+use Rattle.component_states.specs.Components.{Reach}
 use Rattle.expression_checker.proofs.Sound.{World, Sound, Any_value, Passes, sound-then, sound-named, sound-written, sound-give, sound-enter}
-use Rattle.expression_checker.proofs.Sound.{variables_in}
-use Rattle.expression_checker.proofs.SoundAccesses.{AllSound, Reaches, RowOfIntegers, leads-count, leads-tests, leads-within, reached-sound, used-sound}
-use Rattle.expression_checker.proofs.SoundAccesses.{whole-good}
+use Rattle.expression_checker.proofs.Sound.{SoundFrom, declared_in, sound-anywhere, sound-still, types_in, variables_in}
+use Rattle.expression_checker.proofs.SoundAccesses.{AllSound, IndexIsSound, leads-count, leads-tests, leads-type, leads-within, reached-sound, stored-sound}
+use Rattle.expression_checker.proofs.SoundAccesses.{string-sound, used-sound}
+use Rattle.expression_checker.proofs.SoundRows.{IsWhole, Leads}
 use Rattle.expression_checker.proofs.SoundOperations.{given-sound, operated-sound, combined-sound, positive-sound}
 
 -- the walk over an action that gives no value is sound
@@ -56,12 +63,79 @@ entered-sound world env shows R number action walking one =
     sound-then world env Any_value R (effect.enter number env) (λ done. action) (walk.enter number) (λ done. walking) (sound-enter world env shows number)
     (λ b a tie. one)
 
+-- ---- forms
+
+-- an expression has the form by which its conditions go
+abbrev FormIsSame : Expr → Type 0
+FormIsSame e = (piece_of e).form ≡ (condition_of e).form
+
+abbrev OperandIsSame : Link → Type 0
+OperandIsSame l = (joint_of l).operand ≡ operand_of (conjunct_of l)
+
+abbrev FormedExpr : Type 0
+FormedExpr = (e : Expr) × FormIsSame e
+
+abbrev FormedLink : Type 0
+FormedLink = (l : Link) × OperandIsSame l
+
+abbrev bare_expr : Expr-F FormedExpr FormedLink → Expr-F Expr Link
+bare_expr = map-Expr FormedExpr FormedLink Expr Link (λ e. e.0) (λ l. l.0)
+
+abbrev bare_link : Link-F FormedExpr FormedLink → Link-F Expr Link
+bare_link = map-Link FormedExpr FormedLink Expr Link (λ e. e.0) (λ l. l.0)
+
+same-operands : (links : List FormedLink)
+    → map (λ joint. joint.operand) (map joint_of (map (λ l. l.0) links)) ≡ map operand_of (map conjunct_of (map (λ l. l.0) links))
+same-operands [] = refl
+same-operands (link ∷ links) =
+    ap₂ (λ (one : Operand) (more : List Operand). one ∷ more) link.1 (same-operands links)
+
+form-layer : (y : Expr-F FormedExpr FormedLink)
+    → (piece_step (map-Expr Expr Link Piece Joint piece_of joint_of (bare_expr y))).form
+    ≡ (condition_step (map-Expr Expr Link Condition Conjunct condition_of conjunct_of (bare_expr y))).form
+form-layer (Constant number value) = refl
+form-layer (Variable access indexes defined) = refl
+form-layer (MonadicOf number operation operand) = ap (λ (form : Form). sign_form form operation) operand.value.1
+form-layer (Chain first rest) = ap₂ chain_form first.value.1 (same-operands rest.items)
+form-layer (Compare number relation left left_indexes right right_indexes) = refl
+
+operand-layer : (y : Link-F FormedExpr FormedLink)
+    → (link_step (map-Link Expr Link Piece Joint piece_of joint_of (bare_link y))).operand
+    ≡ operand_of (link_condition (map-Link Expr Link Condition Conjunct condition_of conjunct_of (bare_link y)))
+operand-layer y = ap (λ (form : Form). record { operation = y.operation; form = form }) y.operand.1
+
+rolled-form : (x : Expr-F Expr Link)
+    → (piece_step (map-Expr Expr Link Piece Joint piece_of joint_of x)).form
+    ≡ (condition_step (map-Expr Expr Link Condition Conjunct condition_of conjunct_of x)).form
+    → FormIsSame (roll-Expr x)
+rolled-form x same =
+    ap (λ (piece : Piece). piece.form) (fold-roll-Expr Piece Joint piece_step link_step x) ∙ same
+    ∙ sym (ap (λ (condition : Condition). condition.form) (fold-roll-Expr Condition Conjunct condition_step link_condition x))
+
+rolled-operand : (x : Link-F Expr Link)
+    → (link_step (map-Link Expr Link Piece Joint piece_of joint_of x)).operand
+    ≡ operand_of (link_condition (map-Link Expr Link Condition Conjunct condition_of conjunct_of x))
+    → OperandIsSame (roll-Link x)
+rolled-operand x same =
+    ap (λ (joint : Joint). joint.operand) (fold-roll-Link Piece Joint piece_step link_step x) ∙ same
+    ∙ sym (ap operand_of (fold-roll-Link Condition Conjunct condition_step link_condition x))
+
+pub form-same : (e : Expr) → FormIsSame e
+form-same =
+    ind-Expr FormIsSame OperandIsSame
+    (λ x y is. subst (λ (z : Expr-F Expr Link). FormIsSame (roll-Expr z)) is (rolled-form (bare_expr y) (form-layer y)))
+    (λ x y is. subst (λ (z : Link-F Expr Link). OperandIsSame (roll-Link z)) is (rolled-operand (bare_link y) (operand-layer y)))
+
+-- the bound of the form of an expression
+pub bound-same : (e : Expr) → bound_of (piece_of e).form ≡ bound_form e
+bound-same e = ap bound_of (form-same e)
+
 module _ (world : World) (env : Environment) (shows : Shows (variables_in world) env) where
   abbrev well_expr : Expr → Bool
-  well_expr = is_well_formed_expr world.declared world.types world.sites
+  well_expr = is_well_formed_expr (declared_in world) (types_in world) world.sites
 
   abbrev well_link : Link → Bool
-  well_link = is_well_formed_link world.declared world.types world.sites
+  well_link = is_well_formed_link (declared_in world) (types_in world) world.sites
 
   -- ---- expressions
 
@@ -87,64 +161,83 @@ module _ (world : World) (env : Environment) (shows : Shows (variables_in world)
   -- the operators of a chain
   turns-sound : (links : List ProvedLink)
       → SoundLink (all_hold (map well_link (map (λ l. l.0) links))) (meaning.in_turn (map link_of (map (λ l. l.0) links)))
-      (walk.in_turn (map link_walk (map (λ l. l.0) links)))
+      (walk.in_turn (map (λ joint. joint.combination) (map joint_of (map (λ l. l.0) links))))
   turns-sound [] well known v inside = sound-give world env IsKnown v known inside
   turns-sound (link ∷ links) well known v inside =
       let later = map (λ (l : ProvedLink). l.0) links in
       let parts = and_parts (well_link link.0) (all_hold (map well_link later)) well in
       sound-then world env IsKnown IsKnown (link_of link.0 env v) (meaning.in_turn (map link_of later) env) (link_walk link.0 known)
-      (walk.in_turn (map link_walk later))
+      (walk.in_turn (map (λ joint. joint.combination) (map joint_of later)))
       (link.1 parts.0 known v inside) (λ k w within. turns-sound links parts.1 k w within)
 
   -- a layer of an expression, of which the parts are sound
   abbrev ExprLayer : Expr-F Expr Link → Type 0
   ExprLayer x =
-      SoundValue (expr_is_well_formed world.declared world.types world.sites (map-Expr Expr Link Bool Bool well_expr well_link x))
+      SoundValue (expr_is_well_formed (declared_in world) (types_in world) world.sites (map-Expr Expr Link Bool Bool well_expr well_link x))
       (meaning.value_step (map-Expr Expr Link Evaluation meaning.Combination value_of link_of x))
-      (walk.value_step (map-Expr Expr Link (Walking Known) walk.Combination value_walk link_walk x))
+      (piece_step (map-Expr Expr Link Piece Joint piece_of joint_of x)).walk
 
   abbrev LinkLayer : Link-F Expr Link → Type 0
   LinkLayer x =
-      SoundLink (link_is_well_formed world.declared world.types world.sites (map-Link Expr Link Bool Bool well_expr well_link x))
+      SoundLink (link_is_well_formed (declared_in world) (types_in world) world.sites (map-Link Expr Link Bool Bool well_expr well_link x))
       (meaning.link_step (map-Link Expr Link Evaluation meaning.Combination value_of link_of x))
-      (walk.link_step (map-Link Expr Link (Walking Known) walk.Combination value_walk link_walk x))
+      (link_step (map-Link Expr Link Piece Joint piece_of joint_of x)).combination
 
   -- the index expressions of an access
+  index-sound : (e : Expr) → Sound world env IsKnown (value_of e env) (value_walk e) → IndexIsSound world env (value_of e) (piece_of e)
+  index-sound e sound = record {
+    sound = sound;
+    leaves = λ s t v is. expression-kept e env s t v is;
+    form = λ s t v is.
+        subst (λ (bound : Option Bound). IsOfForm (moment env t.store) bound v) (sym (bound-same e)) (form-known e env s t v is);
+  }
+
   proved-indexes : (parts : List ProvedExpr) → all_hold (map well_expr (map (λ e. e.0) parts)) ≡ true
-      → AllSound world env (map value_of (map (λ e. e.0) parts)) (map value_walk (map (λ e. e.0) parts))
+      → AllSound world env (map value_of (map (λ e. e.0) parts)) (map piece_of (map (λ e. e.0) parts))
   proved-indexes [] well = tt
   proved-indexes (one ∷ parts) well =
       let both = and_parts (well_expr one.0) (all_hold (map well_expr (map (λ (e : ProvedExpr). e.0) parts))) well in
-      (one.1 both.0, proved-indexes parts both.1)
+      (index-sound one.0 (one.1 both.0), proved-indexes parts both.1)
 
   many-mapped : {A : Type 0} (f : Expr → A) (parts : List ProvedExpr) → length (map f (map (λ e. e.0) parts)) ≡ length (map (λ e. e.0) parts)
   many-mapped f parts = length-map (map (λ (e : ProvedExpr). e.0) parts) f
 
-  variable-sound : (access : Access) (evaluations : List Evaluation) (walks : List (Walking Known)) (site : ℕ) → AllSound world env evaluations walks
-      → leads_to_ordinal world.declared world.types world.sites access.root access.selectors.items (length evaluations) ≡ true → site < world.sites
-      → Sound world env IsKnown (effect.◌>>=◌ (accessed access evaluations env) (λ place. fetch place site)) (walk.variable_walk access walks site)
-  variable-sound access evaluations walks site all well below =
+  variable-sound : (access : Access) (expressions : List Expr) (pieces : List Piece) (site : ℕ)
+      → AllSound world env (map value_of expressions) pieces
+      → leads_to_ordinal (declared_in world) (types_in world) world.sites access.root access.selectors.items (length (map value_of expressions)) ≡ true
+      → site < world.sites
+      → Sound world env IsKnown (effect.◌>>=◌ (accessed access (map value_of expressions) env) (λ place. fetch place site))
+      (walk.variable_walk access pieces site)
+  variable-sound access expressions pieces site all well below =
+      let evaluations = map value_of expressions in
       let selectors = access.selectors.items in
-      let wanted = is_ordinal world.types in
-      let count = leads-count world.declared world.types world.sites wanted access.root selectors (length evaluations) well in
-      let tests = leads-tests world.declared world.types world.sites wanted access.root selectors (length evaluations) well in
-      let within = leads-within world.declared world.types world.sites wanted access.root selectors (length evaluations) well in
-      sound-then world env (λ (done : Unit {0}) place. Reaches env access.root (length selectors) place) IsKnown (accessed access evaluations env)
-      (λ place. fetch place site) (walk.access_walk access walks) (λ done. walk.value_use access.root selectors site)
-      (reached-sound world env shows access evaluations walks all count tests)
-      (λ done place reaches. used-sound world env shows access.root selectors site place within below reaches)
+      let wanted = is_ordinal (types_in world) in
+      let n = length evaluations in
+      let count = leads-count (declared_in world) (types_in world) world.sites wanted access.root selectors n well in
+      let tests = leads-tests (declared_in world) (types_in world) world.sites wanted access.root selectors n well in
+      let typed = leads-type (declared_in world) (types_in world) world.sites wanted access.root selectors n well in
+      let within = leads-within (declared_in world) (types_in world) world.sites wanted access.root selectors n well in
+      let action = accessed access evaluations env in
+      let walking = walk.access_walk access pieces in
+      let walk_next = λ (reach : Reach). walk.value_use access.root selectors reach site in
+      sound-anywhere world env IsKnown (effect.◌>>=◌ action (λ place. fetch place site)) (walk.◌>>=◌ walking walk_next)
+      (λ store.
+      sound-still world env store (Leads env access.root selectors store) IsKnown action (λ place. fetch place site) walking walk_next
+      (reached-sound world env shows access evaluations pieces all count tests store) (λ s t place is. access-kept access expressions env s t place is)
+      (λ reach place s t is from leads. used-sound world env shows access.root selectors site typed within below store reach place leads))
 
   -- the index expressions that count, and the whole value
   whole-sound : (value : Whole) (indexes : List ProvedExpr)
       → all_hold (whole_indexes value (map well_expr (map (λ e. e.0) indexes))) ≡ true
-      → is_well_formed_whole world.declared world.types world.sites value (length (map (λ e. e.0) indexes)) ≡ true
-      → Sound world env RowOfIntegers (meaning.whole_of value (map value_of (map (λ e. e.0) indexes)) env)
-      (walk.whole_walk value (map value_walk (map (λ e. e.0) indexes)))
-  whole-sound (Text number text) indexes counted well = whole-good world env shows (Text number text) [] [] tt well
+      → is_well_formed_whole (declared_in world) (types_in world) world.sites value (length (map (λ e. e.0) indexes)) ≡ true
+      → Sound world env (IsWhole (types_in world) value) (meaning.whole_of value (map value_of (map (λ e. e.0) indexes)) env)
+      (walk.whole_walk value (map piece_of (map (λ e. e.0) indexes)))
+  whole-sound (Text number text) indexes counted well = string-sound world env shows number text well
   whole-sound (VariableOf access type_id cells defined) indexes counted well =
-      whole-good world env shows (VariableOf access type_id cells defined) (map value_of (map (λ (e : ProvedExpr). e.0) indexes))
-      (map value_walk (map (λ (e : ProvedExpr). e.0) indexes)) (proved-indexes indexes counted)
-      (subst (λ (n : ℕ). is_well_formed_whole world.declared world.types world.sites (VariableOf access type_id cells defined) n ≡ true)
+      let expressions = map (λ (e : ProvedExpr). e.0) indexes in
+      stored-sound world env shows access type_id cells defined (map value_of expressions) (map piece_of expressions) (proved-indexes indexes counted)
+      (λ s t place is. access-kept access expressions env s t place is)
+      (subst (λ (n : ℕ). is_well_formed_whole (declared_in world) (types_in world) world.sites (VariableOf access type_id cells defined) n ≡ true)
       (sym (many-mapped value_of indexes)) well)
 
   value-layer : (y : Expr-F ProvedExpr ProvedLink) → ExprLayer (map-Expr ProvedExpr ProvedLink Expr Link (λ e. e.0) (λ l. l.0) y)
@@ -153,16 +246,16 @@ module _ (world : World) (env : Environment) (shows : Shows (variables_in world)
       (given-sound world env (record { first = value; last = value }) value (constant-in value))
   value-layer (Variable access indexes defined) well =
       let expressions = map (λ (e : ProvedExpr). e.0) indexes.items in
-      let leads = leads_to_ordinal world.declared world.types world.sites access.root access.selectors.items in
+      let leads = leads_to_ordinal (declared_in world) (types_in world) world.sites access.root access.selectors.items in
       let counted = all_hold (map well_expr expressions) in
       let many = length (map well_expr expressions) in
       let parts = and_parts counted (leads many && nat_lt defined world.sites) well in
       let both = and_parts (leads many) (nat_lt defined world.sites) parts.1 in
-      variable-sound access (map value_of expressions) (map value_walk expressions) defined (proved-indexes indexes.items parts.0)
+      variable-sound access expressions (map piece_of expressions) defined (proved-indexes indexes.items parts.0)
       (subst (λ (n : ℕ). leads n ≡ true) (many-mapped well_expr indexes.items ∙ sym (many-mapped value_of indexes.items)) both.0)
       (ltb-true defined world.sites both.1)
   value-layer (MonadicOf number operation operand) well =
-      let parts = and_parts (monadic_is_well_formed world.declared world.types world.sites operation) (well_expr operand.value.0) well in
+      let parts = and_parts (monadic_is_well_formed (declared_in world) (types_in world) world.sites operation) (well_expr operand.value.0) well in
       entered-sound world env shows IsKnown number (effect.◌>>=◌ (value_of operand.value.0 env) (meaning.operated operation))
       (walk.◌>>=◌ (value_walk operand.value.0) (walk.operated operation))
       (sound-then world env IsKnown IsKnown (value_of operand.value.0 env) (meaning.operated operation) (value_walk operand.value.0) (walk.operated operation)
@@ -171,16 +264,16 @@ module _ (world : World) (env : Environment) (shows : Shows (variables_in world)
       let links = map (λ (l : ProvedLink). l.0) rest.items in
       let parts = and_parts (well_expr first.value.0) (all_hold (map well_link links)) well in
       sound-then world env IsKnown IsKnown (value_of first.value.0 env) (meaning.in_turn (map link_of links) env) (value_walk first.value.0)
-      (walk.in_turn (map link_walk links))
+      (walk.in_turn (map (λ joint. joint.combination) (map joint_of links)))
       (first.value.1 parts.0) (λ known v inside. turns-sound rest.items parts.1 known v inside)
   value-layer (Compare number relation left left_indexes right right_indexes) well =
       let left_expressions = map (λ (e : ProvedExpr). e.0) left_indexes.items in
       let right_expressions = map (λ (e : ProvedExpr). e.0) right_indexes.items in
       let left_values = map value_of left_expressions in
       let right_values = map value_of right_expressions in
-      let left_walks = map value_walk left_expressions in
-      let right_walks = map value_walk right_expressions in
-      let is_well = is_well_formed_whole world.declared world.types world.sites in
+      let left_pieces = map piece_of left_expressions in
+      let right_pieces = map piece_of right_expressions in
+      let is_well = is_well_formed_whole (declared_in world) (types_in world) world.sites in
       let left_counted = all_hold (whole_indexes left (map well_expr left_expressions)) in
       let right_counted = all_hold (whole_indexes right (map well_expr right_expressions)) in
       let left_well = is_well left (length (map well_expr left_expressions)) in
@@ -196,13 +289,13 @@ module _ (world : World) (env : Environment) (shows : Shows (variables_in world)
       subst (λ (n : ℕ). is_well right n ≡ true) (many-mapped well_expr right_indexes.items) four.0 in
       let compares = λ (a : List ℤ). effect.◌>>=◌ (meaning.whole_of right right_values env) (λ b. effect.give (meaning.compared relation a b)) in
       let behind = λ (a : List ℤ). effect.◌>>=◌ (effect.enter number env) (λ done. compares a) in
-      let walked = walk.◌>>=◌ (walk.whole_walk right right_walks) (λ done. walk.ordinal truth_values) in
-      let Row = RowOfIntegers in
-      sound-then world env Row IsKnown (meaning.whole_of left left_values env) behind
-      (walk.whole_walk left left_walks) (λ done. walk.◌>>=◌ (walk.enter number) (λ done. walked)) (whole-sound left left_indexes.items one.0 left_sized)
+      let walked = walk.◌>>=◌ (walk.whole_walk right right_pieces) (λ done. walk.ordinal truth_values) in
+      sound-then world env (IsWhole (types_in world) left) IsKnown (meaning.whole_of left left_values env) behind
+      (walk.whole_walk left left_pieces) (λ done. walk.◌>>=◌ (walk.enter number) (λ done. walked)) (whole-sound left left_indexes.items one.0 left_sized)
       (λ b a tie. entered-sound world env shows IsKnown number (compares a) walked
-      (sound-then world env Row IsKnown (meaning.whole_of right right_values env) (λ b. effect.give (meaning.compared relation a b))
-      (walk.whole_walk right right_walks) (λ done. walk.ordinal truth_values) (whole-sound right right_indexes.items three.0 right_sized)
+      (sound-then world env (IsWhole (types_in world) right) IsKnown (meaning.whole_of right right_values env)
+      (λ b. effect.give (meaning.compared relation a b))
+      (walk.whole_walk right right_pieces) (λ done. walk.ordinal truth_values) (whole-sound right right_indexes.items three.0 right_sized)
       (λ c b tie. given-sound world env truth_values (truth (meaning.relates relation (meaning.order_of a b) (pos 0)))
       (truth_values-has (meaning.relates relation (meaning.order_of a b) (pos 0))))))
 
@@ -211,7 +304,7 @@ module _ (world : World) (env : Environment) (shows : Shows (variables_in world)
       let right = y.operand.0 in
       let meant = meaning.combined y.operation v in
       let walked = walk.combined y.operation known in
-      let parts = and_parts (dyadic_is_well_formed world.declared world.types world.sites y.operation) (well_expr right) well in
+      let parts = and_parts (dyadic_is_well_formed (declared_in world) (types_in world) world.sites y.operation) (well_expr right) well in
       entered-sound world env shows IsKnown y.number (effect.◌>>=◌ (value_of right env) meant) (walk.◌>>=◌ (value_walk right) walked)
       (sound-then world env IsKnown IsKnown (value_of right env) meant (value_walk right) walked
       (y.operand.1 parts.1) (λ k w is. combined-sound world env y.operation known k v w parts.0 inside is))
@@ -232,16 +325,18 @@ module _ (world : World) (env : Environment) (shows : Shows (variables_in world)
   rolled-expr : (x : Expr-F Expr Link) → ExprLayer x → ValueIsSound (roll-Expr x)
   rolled-expr x =
       along-value
-      (fold-roll-Expr Bool Bool (expr_is_well_formed world.declared world.types world.sites) (link_is_well_formed world.declared world.types world.sites) x)
+      (fold-roll-Expr Bool Bool (expr_is_well_formed (declared_in world) (types_in world) world.sites)
+      (link_is_well_formed (declared_in world) (types_in world) world.sites) x)
       (fold-roll-Expr Evaluation meaning.Combination meaning.value_step meaning.link_step x)
-      (fold-roll-Expr (Walking Known) walk.Combination walk.value_step walk.link_step x)
+      (ap (λ (piece : Piece). piece.walk) (fold-roll-Expr Piece Joint piece_step link_step x))
 
   rolled-link : (x : Link-F Expr Link) → LinkLayer x → LinkIsSound (roll-Link x)
   rolled-link x =
       along-link
-      (fold-roll-Link Bool Bool (expr_is_well_formed world.declared world.types world.sites) (link_is_well_formed world.declared world.types world.sites) x)
+      (fold-roll-Link Bool Bool (expr_is_well_formed (declared_in world) (types_in world) world.sites)
+      (link_is_well_formed (declared_in world) (types_in world) world.sites) x)
       (fold-roll-Link Evaluation meaning.Combination meaning.value_step meaning.link_step x)
-      (fold-roll-Link (Walking Known) walk.Combination walk.value_step walk.link_step x)
+      (ap (λ (joint : Joint). joint.combination) (fold-roll-Link Piece Joint piece_step link_step x))
 
   abbrev plain_expr : Expr-F ProvedExpr ProvedLink → Expr-F Expr Link
   plain_expr = map-Expr ProvedExpr ProvedLink Expr Link (λ e. e.0) (λ l. l.0)
@@ -257,33 +352,37 @@ module _ (world : World) (env : Environment) (shows : Shows (variables_in world)
 
   -- ---- accesses and whole values
 
-  all-indexes : (indexes : List Expr) → are_well_formed world.declared world.types world.sites indexes ≡ true
-      → AllSound world env (values_of indexes) (walk.index_walks indexes)
+  all-indexes : (indexes : List Expr) → are_well_formed (declared_in world) (types_in world) world.sites indexes ≡ true
+      → AllSound world env (values_of indexes) (walk.index_pieces indexes)
   all-indexes [] well = tt
   all-indexes (index ∷ indexes) well =
-      let both = and_parts (well_expr index) (are_well_formed world.declared world.types world.sites indexes) well in
-      (value-sound index both.0, all-indexes indexes both.1)
+      let both = and_parts (well_expr index) (are_well_formed (declared_in world) (types_in world) world.sites indexes) well in
+      (index-sound index (value-sound index both.0), all-indexes indexes both.1)
 
-  -- an access, which leads to what is wanted
-  pub access-sound : (access : Access) (indexes : List Expr) (wanted : TypeId → Bool) → are_well_formed world.declared world.types world.sites indexes ≡ true
-      → leads_to world.declared world.types world.sites wanted access.root access.selectors.items (length indexes) ≡ true
-      → Sound world env (λ (done : Unit {0}) place. Reaches env access.root (length access.selectors.items) place)
-      (accessed access (values_of indexes) env) (walk.access_walk access (walk.index_walks indexes))
-  access-sound access indexes wanted well leads =
+  -- an access, which leads to what is wanted: what is reached there, in the store that it leaves as it is
+  pub access-sound : (access : Access) (indexes : List Expr) (wanted : TypeId → Bool)
+      → are_well_formed (declared_in world) (types_in world) world.sites indexes ≡ true
+      → leads_to (declared_in world) (types_in world) world.sites wanted access.root access.selectors.items (length indexes) ≡ true
+      → (store : Store)
+      → SoundFrom world env store (Leads env access.root access.selectors.items store) (accessed access (values_of indexes) env)
+      (walk.access_walk access (walk.index_pieces indexes))
+  access-sound access indexes wanted well leads store =
       let selectors = access.selectors.items in
-      reached-sound world env shows access (values_of indexes) (walk.index_walks indexes) (all-indexes indexes well)
-      (length-map indexes value_of ∙ leads-count world.declared world.types world.sites wanted access.root selectors (length indexes) leads)
-      (leads-tests world.declared world.types world.sites wanted access.root selectors (length indexes) leads)
+      reached-sound world env shows access (values_of indexes) (walk.index_pieces indexes) (all-indexes indexes well)
+      (length-map indexes value_of ∙ leads-count (declared_in world) (types_in world) world.sites wanted access.root selectors (length indexes) leads)
+      (leads-tests (declared_in world) (types_in world) world.sites wanted access.root selectors (length indexes) leads) store
 
-  pub whole_value-sound : (value : Whole) (indexes : List Expr) → is_well_formed_value world.declared world.types world.sites value indexes ≡ true
-      → Sound world env RowOfIntegers (meaning.whole_of value (values_of indexes) env) (walk.whole_walk value (walk.index_walks indexes))
+  -- the numbers of a whole value lie in the ranges that the walk tells
+  pub whole_value-sound : (value : Whole) (indexes : List Expr) → is_well_formed_value (declared_in world) (types_in world) world.sites value indexes ≡ true
+      → Sound world env (IsWhole (types_in world) value) (meaning.whole_of value (values_of indexes) env) (walk.whole_walk value (walk.index_pieces indexes))
   whole_value-sound (Text number text) indexes well =
-      whole-good world env shows (Text number text) [] [] tt
-      (and_parts true (is_well_formed_whole world.declared world.types world.sites (Text number text) (length indexes)) well).1
+      string-sound world env shows number text
+      (and_parts true (is_well_formed_whole (declared_in world) (types_in world) world.sites (Text number text) (length indexes)) well).1
   whole_value-sound (VariableOf access type_id cells defined) indexes well =
-      let is_well = is_well_formed_whole world.declared world.types world.sites (VariableOf access type_id cells defined) in
-      let both = and_parts (are_well_formed world.declared world.types world.sites indexes) (is_well (length indexes)) well in
-      whole-good world env shows (VariableOf access type_id cells defined) (values_of indexes) (walk.index_walks indexes) (all-indexes indexes both.0)
+      let is_well = is_well_formed_whole (declared_in world) (types_in world) world.sites (VariableOf access type_id cells defined) in
+      let both = and_parts (are_well_formed (declared_in world) (types_in world) world.sites indexes) (is_well (length indexes)) well in
+      stored-sound world env shows access type_id cells defined (values_of indexes) (walk.index_pieces indexes) (all-indexes indexes both.0)
+      (λ s t place is. access-kept access indexes env s t place is)
       (subst (λ (n : ℕ). is_well n ≡ true) (sym (length-map indexes value_of)) both.1)
 
   -- ---- values that are written
@@ -297,7 +396,7 @@ module _ (world : World) (env : Environment) (shows : Shows (variables_in world)
       (positive-sound world env site range w (ltb-true site world.sites below) inside)
       (λ passed tested passes. sound-give {B = Unit {0}} world env Any_value w tt tt)
 
-  width-sound : (width : Option Width) (default : ℤ) → is_well_formed_width world.declared world.types world.sites width ≡ true
+  width-sound : (width : Option Width) (default : ℤ) → is_well_formed_width (declared_in world) (types_in world) world.sites width ≡ true
       → Sound {B = Unit {0}} world env Any_value (width_of width default env) (width_walk width)
   width-sound None default well = sound-give {B = Unit {0}} world env Any_value (Number default) tt tt
   width-sound (Some width) default well =
@@ -307,8 +406,8 @@ module _ (world : World) (env : Environment) (shows : Shows (variables_in world)
       (value-sound width.value parts.1) (λ known w inside. width-tested width.site known w parts.0 inside)
 
   -- a value that is written, and its width
-  written-sound : (value : Written) (width : Option Width) → is_well_formed_written world.declared world.types world.sites value ≡ true
-      → is_well_formed_width world.declared world.types world.sites width ≡ true
+  written-sound : (value : Written) (width : Option Width) → is_well_formed_written (declared_in world) (types_in world) world.sites value ≡ true
+      → is_well_formed_width (declared_in world) (types_in world) world.sites width ≡ true
       → SoundAction world env (written_of value width env) (walk.◌>>=◌ (walk.written_walk value) (λ done. width_walk width))
   written-sound (written.Ordinal value representation) width well wide =
       let default = meaning.default_width representation in
@@ -320,15 +419,18 @@ module _ (world : World) (env : Environment) (shows : Shows (variables_in world)
       (width-sound width default wide))
   written-sound (written.String value indexes) width well wide =
       let default = pos (length_of value) in
-      sound-then world env RowOfIntegers Any_value (meaning.whole_of value (values_of indexes.items) env)
+      let expressions = indexes.items in
+      sound-then world env Any_value Any_value (meaning.whole_of value (values_of expressions) env)
       (λ row. effect.◌>>=◌ (width_of width default env) (λ w. effect.write (row_text row w)))
-      (walk.whole_walk value (walk.index_walks indexes.items)) (λ done. width_walk width) (whole_value-sound value indexes.items well)
+      (walk.written_walk (written.String value indexes)) (λ done. width_walk width)
+      (sound-named world env (IsWhole (types_in world) value) Any_value (λ ranges. tt) (λ ranges row tie. tt)
+      (meaning.whole_of value (values_of expressions) env) (walk.whole_walk value (walk.index_pieces expressions)) (whole_value-sound value expressions well))
       (λ done row tie. sound-written world env Any_value (row_text row) (width_of width default env) (width_walk width)
       (width-sound width default wide))
 
-  pub parameter-sound : (parameter : WriteParameter) → is_well_formed_parameter world.declared world.types world.sites parameter ≡ true
+  pub parameter-sound : (parameter : WriteParameter) → is_well_formed_parameter (declared_in world) (types_in world) world.sites parameter ≡ true
       → SoundAction world env (parameter_of parameter env) (parameter_walk parameter)
   parameter-sound parameter well =
-      let parts = and_parts (is_well_formed_written world.declared world.types world.sites parameter.value)
-      (is_well_formed_width world.declared world.types world.sites parameter.width) well in
+      let parts = and_parts (is_well_formed_written (declared_in world) (types_in world) world.sites parameter.value)
+      (is_well_formed_width (declared_in world) (types_in world) world.sites parameter.width) well in
       written-sound parameter.value parameter.width parts.0 parts.1

@@ -29,7 +29,7 @@ use Rattle.structured_states.specs.Ways.{single}
 use Rattle.abstract_state.specs.Holds.{IsIn}
 use Rattle.abstract_state.proofs.Ranged.{IsKnown, truth-in, truth_values-has, is_within-has, has-is_within, is_in-limits, limits-is_in, included-in, common-in}
 use Rattle.abstract_state.proofs.Ranged.{first-positive, is-positive, without-zero}
-use Rattle.expression_checker.proofs.Sound.{World, Sound, Passes, sound-then, sound-named, sound-give, sound-tested}
+use Rattle.expression_checker.proofs.Sound.{World, Sound, Passes, declared_in, sound-then, sound-named, sound-give, sound-tested, types_in}
 
 below-end : (range : Interval) (n last : ℤ) → int_lt range.last last ≡ true → HasMember range n → int_lt n last ≡ true
 below-end range n last closed inside = grind (arith, ints)
@@ -138,7 +138,8 @@ module _ (world : World) (env : Environment) where
       (λ closed. above-end range n first closed inside) (λ passes. at_least-has (first +ℤ pos 1) range n inside (above-first n first passes)))
       (λ passed tested passes. given-sound (difference passed single) (n -ℤ pos 1) (difference-has passed single n (pos 1) passes.0 one-single))
 
-  pub operated-sound : (operation : Monadic) (known : Known) (v : Value) → monadic_is_well_formed world.declared world.types world.sites operation ≡ true
+  pub operated-sound : (operation : Monadic) (known : Known) (v : Value)
+      → monadic_is_well_formed (declared_in world) (types_in world) world.sites operation ≡ true
       → IsKnown known v
       → Sound world env IsKnown (meaning.operated operation v) (walk.operated operation known)
   operated-sound monadic.Plus (Ordinal range) (Number n) well inside = given-sound range n inside
@@ -159,7 +160,8 @@ module _ (world : World) (env : Environment) where
       let parts = and_parts (nat_lt no_predecessor world.sites) (is_whole first) well in
       predecessor-sound first no_predecessor range n (ltb-true no_predecessor world.sites parts.0) inside
 
-  pub combined-sound : (operation : Dyadic) (left right : Known) (v w : Value) → dyadic_is_well_formed world.declared world.types world.sites operation ≡ true
+  pub combined-sound : (operation : Dyadic) (left right : Known) (v w : Value)
+      → dyadic_is_well_formed (declared_in world) (types_in world) world.sites operation ≡ true
       → IsKnown left v
       → IsKnown right w → Sound world env IsKnown (meaning.combined operation v w) (walk.combined operation left right)
   combined-sound (dyadic.Plus overflow) (Ordinal left) (Ordinal right) (Number a) (Number b) well one two =

@@ -1,5 +1,5 @@
 -- What the checker did over an expression, from what it did over the parts of it.
-use Rattle.std.proofs.Common.{rules, ◌≡◌, ◌≤◌, Bool, Option, Some, Result, Ok, Err, ℕ, ℤ, ◌+◌, List, [], ◌∷◌, ◌++◌, length, map, refl, sym, ap, ◌∙◌}
+use Rattle.std.proofs.Common.{rules, ◌≡◌, ◌≤◌, Bool, ◌||◌, Option, Some, Result, Ok, Err, ℕ, ℤ, ◌+◌, List, [], ◌∷◌, ◌++◌, length, map, refl, sym, ap, ◌∙◌}
 use Rattle.std.proofs.Common.{subst, append_assoc, append-nil, ◌<◌, get_or, drop}
 use Rattle.std.specs.Result.{IsErr, IsErrAnd}
 use Rattle.typed_tree.specs.declared.tree.Access.{Access}
@@ -20,16 +20,23 @@ use Rattle.expression_checker.specs.declared.fault.CheckFault.TheVariants.{Memor
 use Rattle.expression_checker.specs.declared.flow.Flow.{Flow}
 use Rattle.abstract_state.specs.declared.known.Known.{Known}
 use Rattle.abstract_state.specs.declared.known.Known.TheVariants.{Ordinal}
-use Rattle.abstract_state.specs.declared.state.State.{State as Kept}
-use Rattle.abstract_state.specs.View.{viewed}
-use Rattle.abstract_state.specs.State.{State, Dead, Live, is_defined, limits_of, range_of, with_defined}
+use Rattle.abstract_state.specs.Conditions.{bound_form}
+use Rattle.abstract_state.specs.Forms.{bound_of}
+use Rattle.abstract_state.specs.State.{is_defined, limits_of, range_of, unless_empty}
+use Rattle.abstract_state.specs.State as variables
+use Rattle.component_states.specs.declared.state.State.{State as Kept}
+use Rattle.component_states.specs.View.{viewed}
+use Rattle.component_states.specs.Components.{Index, Reach}
+use Rattle.component_states.specs.States.{State, over_variables}
 use Rattle.domain.specs.Interval.{Interval, between}
 use Rattle.std.proofs.lemmas.Int.{ints}
 use Rattle.expression_checker.specs.Visits.{Visits, all_counted, counted}
 use Rattle.expression_checker.specs.Walk.{Breach, Context, Linked, Walked, Walking, IsBreachOf, use_of, tested, positive, within, width_test, fitting, ◌>>=◌}
-use Rattle.expression_checker.specs.Walk.{behind_next, give, index_test, index_walks, indexes_walk, next_test, related_walk, variable_walk, whole_walk}
-use Rattle.expression_checker.specs.Walk.{ordinal, enter, first_breach, operated, combined, in_turn, value_walk, link_walk, numbers_of}
-use Rattle.expression_checker.specs.View.{Flows, Goes}
+use Rattle.expression_checker.specs.Walk.{behind_next, deeper, give, index_test, index_pieces, indexes_walk, next_test, related_walk, variable_walk}
+use Rattle.expression_checker.specs.Walk.{whole_walk, joint_of, piece_of, range_in}
+use Rattle.expression_checker.specs.Walk.{ordinal, enter, first_breach, left_open, operated, combined, in_turn, value_walk, link_walk, numbers_of}
+use Rattle.expression_checker.specs.View.{Flows, Goes, seen}
+use Rattle.expression_checker.proofs.Forms.{form-same}
 use Rattle.structured_states.proofs.Claims.{item-cut, drop-past}
 
 -- ---- the walk, form by form
@@ -42,9 +49,18 @@ pub value-Monadic : (number : ℕ) (operation : Monadic) (operand : Box Expr Glo
     → value_walk (expr.Monadic number operation operand) ≡ (enter number >>= λ _. (value_walk operand.value >>= operated operation))
 value-Monadic number operation operand = search (rules, the_lemmas)
 
+combinations : (links : List Link) → map (λ joint. joint.combination) (map joint_of links) ≡ map link_walk links
+combinations [] = refl
+combinations (link ∷ links) = ap (λ walks. link_walk link ∷ walks) (combinations links)
+
+chain-rolls : (first : Box Expr Global) (rest : Vec Link Global)
+    → value_walk (expr.Chain first rest)
+    ≡ (value_walk first.value >>= in_turn (map (λ joint. joint.combination) (map joint_of rest.items)))
+chain-rolls first rest = search (rules, the_lemmas)
+
 pub value-Chain : (first : Box Expr Global) (rest : Vec Link Global)
     → value_walk (expr.Chain first rest) ≡ (value_walk first.value >>= in_turn (map link_walk rest.items))
-value-Chain first rest = search (rules, the_lemmas)
+value-Chain first rest = chain-rolls first rest ∙ ap (λ links. value_walk first.value >>= in_turn links) (combinations rest.items)
 
 pub link-walks : (link : Link) → link_walk link ≡ (λ (left : Known). enter link.number >>= λ _. (value_walk link.operand >>= combined link.operation left))
 link-walks link = search (rules, the_lemmas)
@@ -100,6 +116,7 @@ module _ {A B : Type 0} (context : Context) (first : Walking A) (next : A → Wa
   pub flows-then : (new : Flow) (after : Visits) (b : B) → Flows context (next a) mid between new after b
       → Flows context (first >>= next) old before new after b
   flows-then new after b two = record {
+    rows_are = two.rows_are ∙ one.rows_are;
     value_is = two.value_is ∙ ap (λ w. w.value) then-same;
     state_is = two.state_is ∙ ap (λ w. w.after) then-same;
     open_is = two.open_is ∙ ap (λ ids. ids ++ then.open_ids) one.open_is ∙ ap (λ w. (old.open_ids.items ++ was.open_ids) ++ w.open_ids) then-same
@@ -114,10 +131,20 @@ module _ {A B : Type 0} (context : Context) (first : Walking A) (next : A → Wa
   pub breach-later : (fault : CheckFault) → IsBreachOf then fault → IsBreachOf ((first >>= next) context (viewed old.state)) fault
   breach-later fault is = breach-same then ((first >>= next) context (viewed old.state)) fault both-broken is
 
+  -- the tree is that of the flow's rows still
+  pub tree-same : context.tree ≡ old.rows.now → context.tree ≡ mid.rows.now
+  tree-same is = is ∙ sym (ap (λ rows. rows.now) one.rows_are)
+
 -- a piece that only gives its value
 pub flows-give : {A : Type 0} (context : Context) (value : A) (old : Flow) (visits : Visits) → Flows context (give value) old visits old visits value
-flows-give context value old visits =
-    record { value_is = refl; state_is = refl; open_is = sym (append-nil old.open_ids.items); visits_are = refl; unbroken = refl }
+flows-give context value old visits = record {
+  rows_are = refl;
+  value_is = refl;
+  state_is = refl;
+  open_is = sym (append-nil old.open_ids.items);
+  visits_are = refl;
+  unbroken = refl;
+}
 
 -- the first breach of a piece is that of it and the next
 pub breach-first : {A B : Type 0} (context : Context) (first : Walking A) (next : A → Walking B) (state : State) (fault : CheckFault)
@@ -126,25 +153,31 @@ breach-first {A} context first next state fault is =
     let was : Walked A = first context state in
     breach-stays was (next was.value context was.after) fault ((first >>= next) context state) refl is
 
--- ---- the same in every context
+-- ---- the same in every context of the flow's program
+
+-- the checker gave up over a piece
+abbrev pub Stops : {A : Type 0} → Walking A → Flow → CheckFault → Type 0
+Stops walk old fault = (context : Context) → context.tree ≡ old.rows.now → IsBreachOf (walk context (viewed old.state)) fault
 
 -- the first piece was walked over: what the checker did over the next is what it did over both
 pub goes-then : {A B : Type 0} (first : Walking A) (next : A → Walking B)
     (old mid new : Flow) (before between after : Visits) (a : A) (result : Result B CheckFault)
     → Goes first old before (Ok a) mid between → Goes (next a) mid between result new after → Goes (first >>= next) old before result new after
 goes-then first next old mid new before between after a (Ok b) one two =
-    λ context. flows-then context first next old mid before between a (one context) new after b (two context)
+    λ context is. let begun = one context is in
+    flows-then context first next old mid before between a begun new after b (two context (tree-same context first next old mid before between a begun is))
 goes-then first next old mid new before between after a (Err fault) one two =
-    λ context. breach-later context first next old mid before between a (one context) fault (two context)
+    λ context is. let begun = one context is in
+    breach-later context first next old mid before between a begun fault (two context (tree-same context first next old mid before between a begun is))
 
 -- the checker gave up over the first piece: so it does over both
 pub goes-stopped : {A B : Type 0} (first : Walking A) (next : A → Walking B) (old new : Flow) (before after : Visits) (fault : CheckFault)
-    → ((context : Context) → IsBreachOf (first context (viewed old.state)) fault) → Goes (first >>= next) old before (Err fault) new after
-goes-stopped first next old new before after fault is = λ context. breach-first context first next (viewed old.state) fault (is context)
+    → Stops first old fault → Goes (first >>= next) old before (Err fault) new after
+goes-stopped first next old new before after fault stops = λ context is. breach-first context first next (viewed old.state) fault (stops context is)
 
 -- a piece that only gives its value
 pub goes-give : {A : Type 0} (value : A) (old : Flow) (visits : Visits) → Goes (give value) old visits (Ok value) old visits
-goes-give value old visits = λ context. flows-give context value old visits
+goes-give value old visits = λ context is. flows-give context value old visits
 
 -- by what a walk is
 pub goes-as : {A : Type 0} (walk form : Walking A) (old new : Flow) (before after : Visits) (result : Result A CheckFault) → walk ≡ form
@@ -159,12 +192,17 @@ given-up walk old new before after fault (Ok a) is goes = absurd is.1
 given-up {A} walk old new before after fault (Err other) is goes =
     subst (λ f. Goes {A = A} walk old before (Err f) new after) (sym is.1) goes
 
+-- a fault is one however values are seen
+pub seen-fault : {A B : Type 0} (view : A → B) (result : Result A CheckFault) (fault : CheckFault)
+    → IsErr result × IsErrAnd result (λ e. e ≡ fault) → IsErr (seen view result) × IsErrAnd (seen view result) (λ e. e ≡ fault)
+seen-fault view (Ok a) fault is = absurd is.1
+seen-fault view (Err other) fault is = is
+
 -- the checker gave up over the first piece of a walk, and handed the fault on
 pub stopped-as : {A B : Type 0} (walk : Walking B) (first : Walking A) (next : A → Walking B)
     (old new : Flow) (before after : Visits) (fault : CheckFault) (result : Result B CheckFault)
     → walk ≡ (first >>= next) → IsErr result × IsErrAnd result (λ e. e ≡ fault)
-    → ((context : Context) → IsBreachOf (first context (viewed old.state)) fault)
-    → Goes walk old before result new after
+    → Stops first old fault → Goes walk old before result new after
 stopped-as walk first next old new before after fault result is left stopped =
     given-up walk old new before after fault result left
     (goes-as walk (first >>= next) old new before after (Err fault) is (goes-stopped first next old new before after fault stopped))
@@ -186,7 +224,7 @@ turn-step items i link left value old mid new before between after result inside
     (goes-then (link_walk link left) (in_turn (map link_walk (drop (i + 1) items))) old mid new before between after value result one two)
 
 pub turn-stopped : (items : List Link) (i : ℕ) (link : Link) (left : Known) (old new : Flow) (before after : Visits) (fault : CheckFault)
-    → i < length items → link ≡ get_or items i link → ((context : Context) → IsBreachOf (link_walk link left context (viewed old.state)) fault)
+    → i < length items → link ≡ get_or items i link → Stops (link_walk link left) old fault
     → Goes (in_turn (map link_walk (drop i items)) left) old before (Err fault) new after
 turn-stopped items i link left old new before after fault inside is one =
     goes-as (in_turn (map link_walk (drop i items)) left) (link_walk link left >>= in_turn (map link_walk (drop (i + 1) items))) old new before after
@@ -200,37 +238,47 @@ turn-end items i left old visits past =
 
 -- ---- the use of a variable
 
+-- a state with the variable defined
+abbrev pub defined_in : ℕ → State → State
+defined_in root state = over_variables (variables.with_defined root) state
+
 -- a use is a test of whether the variable is defined, in the state in which it is
-use-same : (root site : ℕ) (context : Context) (state : State)
-    → (use_of root site context state).open_ids ≡ (tested (is_defined state root) site (range_of state root) context (with_defined root state)).open_ids
-use-same root site context Dead = refl
-use-same root site context (Live facts) = search rules
+use-same : (root site : ℕ) (range : Interval) (context : Context) (state : State)
+    → (use_of root site context state).open_ids ≡ (tested (is_defined state.variables root) site range context (defined_in root state)).open_ids
+use-same root site range context state = opened-same root site state.variables
+  where
+    opened-same : (root site : ℕ) (known : variables.State)
+        → left_open (is_defined known root) site ≡ left_open (variables.is_dead (variables.with_defined root known) || is_defined known root) site
+    opened-same root site variables.Dead = refl
+    opened-same root site (variables.Live facts) = search rules
 
 pub use-goes : (root site : ℕ) (closed : Bool) (range value : Interval) (old new : Flow) (state : Kept) (before after : Visits)
-    → closed ≡ is_defined (viewed old.state) root → range ≡ range_of (viewed old.state) root → viewed state ≡ with_defined root (viewed old.state)
+    → closed ≡ is_defined (viewed old.state).variables root → range ≡ range_of (viewed old.state).variables root
+    → viewed state ≡ defined_in root (viewed old.state)
     → Goes (tested closed site range) (record old { state = state }) before (Ok value) new after
     → Goes (use_of root site) old before (Ok (Ordinal value)) new after
-use-goes root site closed range value old new state before after closed_is range_is state_is done = λ context.
+use-goes root site closed range value old new state before after closed_is range_is state_is done = λ context is.
     let was : State = viewed old.state in
-    let same : tested closed site range context (viewed state) ≡ tested (is_defined was root) site (range_of was root) context
-    (with_defined root was) =
+    let same : tested closed site range context (viewed state) ≡ tested (is_defined was.variables root) site (range_of was.variables root) context
+    (defined_in root was) =
     ap (λ c. tested c site range context (viewed state)) closed_is
-    ∙ ap (λ r. tested (is_defined was root) site r context (viewed state)) range_is
-    ∙ ap (tested (is_defined was root) site (range_of was root) context) state_is in
-    let one = done context in
+    ∙ ap (λ r. tested (is_defined was.variables root) site r context (viewed state)) range_is
+    ∙ ap (tested (is_defined was.variables root) site (range_of was.variables root) context) state_is in
+    let one = done context is in
     record {
+      rows_are = one.rows_are;
       value_is = ap Ordinal (one.value_is ∙ ap (λ w. w.value) same);
       state_is = one.state_is ∙ ap (λ w. w.after) same;
       open_is = one.open_is ∙ ap (λ w. old.open_ids.items ++ w.open_ids) same
-          ∙ ap (λ ids. old.open_ids.items ++ ids) (sym (use-same root site context was));
+          ∙ ap (λ ids. old.open_ids.items ++ ids) (sym (use-same root site (range_of was.variables root) context was));
       visits_are = one.visits_are;
       unbroken = refl;
     }
 
 pub use-stopped : (root site : ℕ) (old new : Flow) (before after : Visits) (closed : Bool) (range : Interval) (state : Kept) (fault : CheckFault)
-    → ((context : Context) → IsBreachOf (tested closed site range context (viewed state)) fault) → Goes (use_of root site) old before (Err fault) new after
-use-stopped root site old new before after closed range state fault is = λ context.
-    breach-same (tested closed site range context (viewed state)) (use_of root site context (viewed old.state)) fault refl (is context)
+    → Stops (tested closed site range) (record old { state = state }) fault → Goes (use_of root site) old before (Err fault) new after
+use-stopped root site old new before after closed range state fault stops = λ context is.
+    breach-same (tested closed site range context (viewed state)) (use_of root site context (viewed old.state)) fault refl (stops context is)
 
 -- ---- an expression that the checker has begun
 
@@ -285,67 +333,84 @@ tested-goes walk test next passed result old new visits is result_is tested =
 -- ---- accesses and whole values
 
 pub value-Variable : (access : Access) (indexes : Vec Expr Global) (defined : ℕ)
-    → value_walk (expr.Variable access indexes defined) ≡ variable_walk access (index_walks indexes.items) defined
+    → value_walk (expr.Variable access indexes defined) ≡ variable_walk access (index_pieces indexes.items) defined
 value-Variable access indexes defined = search (rules, the_lemmas)
 
 pub value-Compare : (number : ℕ) (relation : Relation) (left : Whole) (left_indexes : Vec Expr Global) (right : Whole) (right_indexes : Vec Expr Global)
     → value_walk (expr.Compare number relation left left_indexes right right_indexes)
-    ≡ (whole_walk left (index_walks left_indexes.items) >>= λ _. related_walk number right (index_walks right_indexes.items))
+    ≡ (whole_walk left (index_pieces left_indexes.items) >>= λ _. related_walk number right (index_pieces right_indexes.items))
 value-Compare number relation left left_indexes right right_indexes = search (rules, the_lemmas)
 
+-- an index, by the form of its expression and by where it lies
+abbrev pub index_at : Expr → Interval → Index
+index_at index range = record { form = bound_of (piece_of index).form; range = range }
+
+-- the index expressions behind one of them, by where that lies
+abbrev pub behind_walk : List Selector → Expr → List Expr → Reach → Interval → Walking Reach
+behind_walk behind index more reach range = indexes_walk behind (index_pieces more) (deeper (index_at index range) reach)
+
 -- the index expressions from one of them on
-pub index-cut : (selectors : List Selector) (items : List Expr) (i : ℕ) (index : Expr) → i < length items → index ≡ get_or items i index
-    → indexes_walk selectors (index_walks (drop i items))
+pub index-cut : (selectors : List Selector) (items : List Expr) (i : ℕ) (index : Expr) (reach : Reach) → i < length items → index ≡ get_or items i index
+    → indexes_walk selectors (index_pieces (drop i items)) reach
     ≡ (value_walk index
-    >>= λ known. (index_test (next_test selectors) known >>= λ _. indexes_walk (behind_next selectors) (index_walks (drop (i + 1) items))))
-index-cut selectors items i index inside is = ap (λ indexes. indexes_walk selectors (index_walks indexes)) (item-cut items i index inside is)
+    >>= λ known. (index_test (next_test selectors) known >>= behind_walk (behind_next selectors) index (drop (i + 1) items) reach))
+index-cut selectors items i index reach inside is =
+    ap (λ indexes. indexes_walk selectors (index_pieces indexes) reach) (item-cut items i index inside is)
 
 -- an index expression was walked over and its value tested: what the checker did over those behind it is what it did over all
-pub index-step : (selectors behind : List Selector) (items : List Expr) (i : ℕ) (index : Expr) (fits : Option RangeTest) (known : Known)
-    (old valued mid new : Flow) (before between after : Visits) (done : Unit {0}) (result : Result (Unit {0}) CheckFault)
+pub index-step : (selectors behind : List Selector) (items : List Expr) (i : ℕ) (index : Expr) (reach next : Reach) (fits : Option RangeTest)
+    (known : Known) (range : Interval) (old valued mid new : Flow) (before between after : Visits) (result : Result Reach CheckFault)
     → i < length items → index ≡ get_or items i index → fits ≡ next_test selectors → behind ≡ behind_next selectors
-    → Goes (value_walk index) old before (Ok known) valued between → Goes (index_test fits known) valued between (Ok done) mid between
-    → Goes (indexes_walk behind (index_walks (drop (i + 1) items))) mid between result new after
-    → Goes (indexes_walk selectors (index_walks (drop i items))) old before result new after
-index-step selectors behind items i index fits known old valued mid new before between after done result inside is fits_is behind_is one two three =
-    let rest = λ (left : List Selector). indexes_walk left (index_walks (drop (i + 1) items)) in
-    goes-as (indexes_walk selectors (index_walks (drop i items))) (value_walk index >>= λ known. (index_test fits known >>= λ _. rest behind)) old new
+    → next ≡ deeper (record { form = bound_form index; range = range }) reach
+    → Goes (value_walk index) old before (Ok known) valued between → Goes (index_test fits known) valued between (Ok range) mid between
+    → Goes (indexes_walk behind (index_pieces (drop (i + 1) items)) next) mid between result new after
+    → Goes (indexes_walk selectors (index_pieces (drop i items)) reach) old before result new after
+index-step selectors behind items i index reach next fits known range old valued mid new before between after result inside is fits_is behind_is next_is
+    one two three =
+    let rest = λ (left : List Selector). behind_walk left index (drop (i + 1) items) reach in
+    let deep : next ≡ deeper (index_at index range) reach =
+    next_is ∙ ap (λ form. deeper (record { form = form; range = range }) reach) (sym (ap bound_of (form-same index))) in
+    goes-as (indexes_walk selectors (index_pieces (drop i items)) reach) (value_walk index >>= λ known. (index_test fits known >>= rest behind)) old new
     before after result
-    (index-cut selectors items i index inside is
-    ∙ ap (λ test. value_walk index >>= λ known. (index_test test known >>= λ _. rest (behind_next selectors))) (sym fits_is)
-    ∙ ap (λ left. value_walk index >>= λ known. (index_test fits known >>= λ _. rest left)) (sym behind_is))
-    (goes-then (value_walk index) (λ known. index_test fits known >>= λ _. rest behind) old valued new before between after known result one
-    (goes-then (index_test fits known) (λ _. rest behind) valued mid new between between after done result two three))
+    (index-cut selectors items i index reach inside is
+    ∙ ap (λ test. value_walk index >>= λ known. (index_test test known >>= rest (behind_next selectors))) (sym fits_is)
+    ∙ ap (λ left. value_walk index >>= λ known. (index_test fits known >>= rest left)) (sym behind_is))
+    (goes-then (value_walk index) (λ known. index_test fits known >>= rest behind) old valued new before between after known result one
+    (goes-then (index_test fits known) (rest behind) valued mid new between between after range result two
+    (subst (λ r. Goes (indexes_walk behind (index_pieces (drop (i + 1) items)) r) mid between result new after) deep three)))
 
 -- the checker gave up over an index expression, or over the test of its value
-pub index-stopped : (selectors : List Selector) (items : List Expr) (i : ℕ) (index : Expr) (old new : Flow) (before after : Visits) (fault : CheckFault)
-    → i < length items → index ≡ get_or items i index → ((context : Context) → IsBreachOf (value_walk index context (viewed old.state)) fault)
-    → Goes (indexes_walk selectors (index_walks (drop i items))) old before (Err fault) new after
-index-stopped selectors items i index old new before after fault inside is one =
-    let rest = indexes_walk (behind_next selectors) (index_walks (drop (i + 1) items)) in
-    let next = λ (known : Known). index_test (next_test selectors) known >>= λ _. rest in
-    goes-as (indexes_walk selectors (index_walks (drop i items))) (value_walk index >>= next) old new before after (Err fault)
-    (index-cut selectors items i index inside is) (goes-stopped (value_walk index) next old new before after fault one)
+pub index-stopped : (selectors : List Selector) (items : List Expr) (i : ℕ) (index : Expr) (reach : Reach) (old new : Flow) (before after : Visits)
+    (fault : CheckFault) → i < length items → index ≡ get_or items i index → Stops (value_walk index) old fault
+    → Goes (indexes_walk selectors (index_pieces (drop i items)) reach) old before (Err fault) new after
+index-stopped selectors items i index reach old new before after fault inside is one =
+    let next = λ (known : Known). index_test (next_test selectors) known >>= behind_walk (behind_next selectors) index (drop (i + 1) items) reach in
+    goes-as (indexes_walk selectors (index_pieces (drop i items)) reach) (value_walk index >>= next) old new before after (Err fault)
+    (index-cut selectors items i index reach inside is) (goes-stopped (value_walk index) next old new before after fault one)
 
-pub test-stopped : (selectors : List Selector) (items : List Expr) (i : ℕ) (index : Expr) (fits : Option RangeTest) (known : Known) (old valued new : Flow)
-    (before between after : Visits) (fault : CheckFault)
+pub test-stopped : (selectors : List Selector) (items : List Expr) (i : ℕ) (index : Expr) (reach : Reach) (fits : Option RangeTest) (known : Known)
+    (old valued new : Flow) (before between after : Visits) (fault : CheckFault)
     → i < length items → index ≡ get_or items i index → fits ≡ next_test selectors → Goes (value_walk index) old before (Ok known) valued between
-    → ((context : Context) → IsBreachOf (index_test fits known context (viewed valued.state)) fault)
-    → Goes (indexes_walk selectors (index_walks (drop i items))) old before (Err fault) new after
-test-stopped selectors items i index fits known old valued new before between after fault inside is fits_is one two =
-    let rest = indexes_walk (behind_next selectors) (index_walks (drop (i + 1) items)) in
-    let next = λ (known : Known). index_test fits known >>= λ _. rest in
-    goes-as (indexes_walk selectors (index_walks (drop i items))) (value_walk index >>= next) old new before after (Err fault)
-    (index-cut selectors items i index inside is
-    ∙ ap (λ test. value_walk index >>= λ known. (index_test test known >>= λ _. rest)) (sym fits_is))
+    → Stops (index_test fits known) valued fault
+    → Goes (indexes_walk selectors (index_pieces (drop i items)) reach) old before (Err fault) new after
+test-stopped selectors items i index reach fits known old valued new before between after fault inside is fits_is one two =
+    let rest = behind_walk (behind_next selectors) index (drop (i + 1) items) reach in
+    let next = λ (known : Known). index_test fits known >>= rest in
+    goes-as (indexes_walk selectors (index_pieces (drop i items)) reach) (value_walk index >>= next) old new before after (Err fault)
+    (index-cut selectors items i index reach inside is
+    ∙ ap (λ test. value_walk index >>= λ known. (index_test test known >>= rest)) (sym fits_is))
     (goes-then (value_walk index) next old valued new before between after known (Err fault) one
-    (goes-stopped (index_test fits known) (λ _. rest) valued new between after fault two))
+    (goes-stopped (index_test fits known) rest valued new between after fault two))
 
-pub index-end : (selectors : List Selector) (items : List Expr) (i : ℕ) (old : Flow) (visits : Visits) → length items ≤ i
-    → Goes (indexes_walk selectors (index_walks (drop i items))) old visits (Ok (tt {0})) old visits
-index-end selectors items i old visits past =
-    subst (λ (indexes : List Expr). Goes (indexes_walk selectors (index_walks indexes)) old visits (Ok (tt {0})) old visits) (sym (drop-past items i past))
-    (goes-give (tt {0}) old visits)
+pub index-end : (selectors : List Selector) (items : List Expr) (i : ℕ) (reach : Reach) (old : Flow) (visits : Visits) → length items ≤ i
+    → Goes (indexes_walk selectors (index_pieces (drop i items)) reach) old visits (Ok reach) old visits
+index-end selectors items i reach old visits past =
+    subst (λ (indexes : List Expr). Goes (indexes_walk selectors (index_pieces indexes) reach) old visits (Ok reach) old visits)
+    (sym (drop-past items i past)) (goes-give reach old visits)
+
+-- the range of an ordinal
+pub range-in : (known : Known) (range : Interval) → known ≡ Ordinal range → range_in known ≡ range
+range-in known range is = ap range_in is
 
 -- ---- the value after another, and before
 
@@ -353,6 +418,6 @@ index-end selectors items i old visits past =
 pub passed-goes : {A B : Type 0} (walk : Walking B) (test : Walking A) (next : A → B) (passed known : A) (result : B) (old new : Flow) (visits : Visits)
     → walk ≡ (test >>= λ x. give (next x)) → ((context : Context) → (test context (viewed old.state)).value ≡ known)
     → (passed ≡ known → result ≡ next passed) → Goes test old visits (Ok passed) new visits → Goes walk old visits (Ok result) new visits
-passed-goes walk test next passed known result old new visits is known_is result_is tested = λ context.
-    let same = result_is ((tested context).value_is ∙ known_is context) in
-    tested-goes walk test next passed result old new visits is same tested context
+passed-goes walk test next passed known result old new visits is known_is result_is tested = λ context tree_is.
+    let same = result_is ((tested context tree_is).value_is ∙ known_is context) in
+    tested-goes walk test next passed result old new visits is same tested context tree_is

@@ -1,8 +1,9 @@
 -- The walk of the checker over an expression, one equation a form: what is known of its value, the state after it, the
 -- sites that it leaves open, and the state at each entry into an expression (ISO 7185:1990, 6.7). Rules of certificates
 -- are broken by statements alone. It does not say that a run does what the walk says of it.
-use Rattle.std.specs.Prelude.{◌≡◌, ℕ, ℤ, pos, ◌+ℤ◌, ◌-ℤ◌, Bool, false, not, ◌||◌, int_le, int_lt, List, [], ◌∷◌, ◌++◌}
-use Rattle.std.specs.Prelude.{Option, Some, None, if◌then◌else◌, map}
+use Rattle.std.specs.Prelude.{◌≡◌, ℕ, ℤ, pos, ◌+ℤ◌, ◌-ℤ◌, Bool, not, ◌||◌, int_le, int_lt, List, [], ◌∷◌, ◌++◌}
+use Rattle.std.specs.Prelude.{Option, Some, None, if◌then◌else◌, map, ◌&&◌}
+use Rattle.std.specs.List.{list_all}
 use Rattle.place.specs.declared.Place.{Place}
 use Rattle.typed_tree.specs.declared.tree.Tree.{Tree}
 use Rattle.typed_tree.specs.declared.tree.Access.{Access}
@@ -19,6 +20,7 @@ use Rattle.typed_tree.specs.declared.tree.Written.{Written}
 use Rattle.typed_tree.specs.declared.tree.Written.TheVariants as written
 use Rattle.typed_tree.specs.declared.tree.Whole.{Whole}
 use Rattle.typed_tree.specs.declared.tree.Whole.TheVariants.{Text, Variable as VariableOf}
+use Rattle.types.specs.declared.form.TypeId.{TypeId}
 use Rattle.typed_tree.specs.declared.tree.Expr.{Expr}
 use Rattle.typed_tree.specs.declared.tree.Link.{Link}
 use Rattle.typed_tree.specs.declared.tree.Expr.TheOpen.{Expr-F, Link-F}
@@ -27,14 +29,18 @@ use Rattle.typed_tree.specs.declared.tree.Expr.TheOpen.Expr-F.{Compare}
 use Rattle.typed_tree.specs.declared.tree.Expr.TheFolds.{fold-Expr, fold-Link}
 use Rattle.domain.specs.Interval.{Interval, is_included, has_number, common, sum, difference, negated, product, squared}
 use Rattle.domain.specs.Interval.{absolute, quotient, remainder, without_zero_end, at_least, at_most, both, either}
-use Rattle.domain.specs.Interval.{complement, truth_values}
+use Rattle.domain.specs.Interval.{complement, joined, truth_values, vacant}
 use Rattle.expression_checker.specs.declared.fault.Rule.{Rule}
 use Rattle.expression_checker.specs.declared.fault.CheckFault.{CheckFault}
 use Rattle.expression_checker.specs.declared.fault.CheckFault.TheVariants.{Memory, Foreign, Broken}
 use Rattle.abstract_state.specs.declared.known.Known.{Known}
 use Rattle.abstract_state.specs.declared.known.Known.TheVariants.{Ordinal}
-use Rattle.abstract_state.specs.State.{State, integer, is_dead, is_defined, limits_of, range_of, with_defined}
-use Rattle.abstract_state.specs.State.{unless_empty}
+use Rattle.abstract_state.specs.State.{integer, is_defined, limits_of, range_of, unless_empty}
+use Rattle.abstract_state.specs.State as variables
+use Rattle.abstract_state.specs.Forms.{Form, Literal, Other, Operand, access_form, bound_of, chain_form, sign_form}
+use Rattle.leaf_rows.specs.Rows.{index_at, is_structured, rows_accessed, rows_of}
+use Rattle.component_states.specs.Components.{Index, Reach, Entire, At, Inside, row_at, with_defined}
+use Rattle.component_states.specs.States.{State, gives_reached, is_dead, over_components, over_variables}
 use Rattle.structured_states.specs.Loops.{Claims, Round}
 use Rattle.structured_states.specs.Ways.{single}
 
@@ -117,9 +123,9 @@ left_open closed site = if closed then [] else site ∷ []
 -- the use of a variable: closed where the variable is defined, which it is afterwards
 abbrev pub use_of : ℕ → ℕ → Walking Known
 use_of root site context state = record {
-  value = Ordinal (range_of state root);
-  after = unless_empty (range_of state root) (with_defined root state);
-  open_ids = left_open (is_defined state root) site;
+  value = Ordinal (range_of state.variables root);
+  after = over_variables (λ known. unless_empty (range_of known root) (variables.with_defined root known)) state;
+  open_ids = left_open (is_defined state.variables root) site;
   broken = [];
   linked = [];
 }
@@ -128,7 +134,7 @@ use_of root site context state = record {
 abbrev pub tested : Bool → ℕ → Interval → Walking Interval
 tested closed site passed context state = record {
   value = passed;
-  after = unless_empty passed state;
+  after = over_variables (unless_empty passed) state;
   open_ids = left_open (is_dead state || closed) site;
   broken = [];
   linked = [];
@@ -221,58 +227,121 @@ behind_next [] = []
 behind_next (Element fits cells ∷ selectors) = selectors
 behind_next (Field position offset ∷ selectors) = behind_next selectors
 
--- an index is tested, if selectors take it
-abbrev pub index_test : Option RangeTest → Known → Walking (Unit {0})
-index_test None known = give tt
+-- an expression: its walk, and its form, as far as that is part of a bound form
+pub record Piece : Type 0 where
+  pub walk : Walking Known
+  pub form : Form
+
+abbrev pub range_in : Known → Interval
+range_in (Ordinal range) = range
+
+-- an index is tested, if selectors take it: where it lies then
+abbrev pub index_test : Option RangeTest → Known → Walking Interval
+index_test None known = give (range_in known)
 index_test (Some fits) known = do
-  _ ← fitting fits known
-  give tt
+  passed ← fitting fits known
+  give (range_in passed)
 
--- index expressions, each of which is tested at once
-abbrev pub indexes_walk : List Selector → List (Walking Known) → Walking (Unit {0})
-indexes_walk selectors [] = give tt
-indexes_walk selectors (index ∷ indexes) = do
-  known ← index
-  _ ← index_test (next_test selectors) known
-  indexes_walk (behind_next selectors) indexes
+-- what is reached with one index more
+abbrev pub deeper : Index → Reach → Reach
+deeper index Entire = At index
+deeper index (At first) = Inside first
+deeper index (Inside first) = Inside first
 
--- an access, which is entered before its index expressions
-abbrev pub access_walk : Access → List (Walking Known) → Walking (Unit {0})
+-- index expressions, each of which is tested at once: what is reached by them
+abbrev pub indexes_walk : List Selector → List Piece → Reach → Walking Reach
+indexes_walk selectors [] reach = give reach
+indexes_walk selectors (index ∷ indexes) reach = do
+  known ← index.walk
+  range ← index_test (next_test selectors) known
+  indexes_walk (behind_next selectors) indexes (deeper (record { form = bound_of index.form; range = range }) reach)
+
+-- an access, which is entered before its index expressions: what is reached
+abbrev pub access_walk : Access → List Piece → Walking Reach
 access_walk access indexes = do
   _ ← enter access.number
-  indexes_walk access.selectors.items indexes
+  indexes_walk access.selectors.items indexes Entire
 
--- the use of a component, of which nothing is known but that its value is an integer
-abbrev pub component_use : ℕ → Walking Known
-component_use site = do
-  passed ← tested false site integer
-  ordinal passed
+-- the ranges of rows
+abbrev pub ranges_of : State → List ℕ → List Interval
+ranges_of state rows = map (λ row. (row_at state.components row).range) rows
 
--- the use of components, of which no more is known
-abbrev pub components_use : ℕ → Walking (Unit {0})
-components_use site = do
-  _ ← tested false site integer
-  give tt
+-- a range that has the numbers of all
+abbrev pub all_joined : List Interval → Interval
+all_joined [] = vacant
+all_joined (range ∷ ranges) = joined range (all_joined ranges)
+
+-- what is reached in each row is known to be defined
+abbrev pub is_covered : Tree → State → Reach → List ℕ → Bool
+is_covered tree state reach rows =
+    list_all (λ row. gives_reached state reach (index_at (rows_of tree) row) row) rows
+
+-- each row is defined from here on, where all of it is reached
+abbrev pub all_defined : List ℕ → State → State
+all_defined [] state = state
+all_defined (row ∷ rows) state = all_defined rows (over_components (λ known. with_defined row) state)
+
+abbrev pub with_used : Reach → List ℕ → State → State
+with_used Entire rows state = all_defined rows state
+with_used (At index) rows state = state
+with_used (Inside index) rows state = state
+
+-- the use of components of ordinal types in some rows
+abbrev pub rows_use : List ℕ → Reach → ℕ → Walking Known
+rows_use rows reach site context state = record {
+  value = Ordinal (all_joined (ranges_of state rows));
+  after = over_variables (unless_empty (all_joined (ranges_of state rows))) (with_used reach rows state);
+  open_ids = left_open (is_covered context.tree state reach rows) site;
+  broken = [];
+  linked = [];
+}
+
+-- the use of a component, an ordinal
+abbrev pub component_use : ℕ → List Selector → Reach → ℕ → Walking Known
+component_use root selectors reach site context =
+    rows_use (rows_accessed (rows_of context.tree) root selectors) reach site context
 
 -- the use of what is accessed, an ordinal
-abbrev pub value_use : ℕ → List Selector → ℕ → Walking Known
-value_use root [] site = use_of root site
-value_use root (selector ∷ selectors) site = component_use site
+abbrev pub value_use : ℕ → List Selector → Reach → ℕ → Walking Known
+value_use root [] reach site = use_of root site
+value_use root (selector ∷ selectors) reach site = component_use root (selector ∷ selectors) reach site
 
-abbrev pub variable_walk : Access → List (Walking Known) → ℕ → Walking Known
+abbrev pub variable_walk : Access → List Piece → ℕ → Walking Known
 variable_walk access indexes site = do
-  _ ← access_walk access indexes
-  value_use access.root access.selectors.items site
+  reach ← access_walk access indexes
+  value_use access.root access.selectors.items reach site
 
--- a whole value: a string is entered, and has no site; of the components of a variable nothing is known
-abbrev pub whole_walk : Whole → List (Walking Known) → Walking (Unit {0})
-whole_walk (Text number text) indexes = enter number
+-- the use of a whole value of a type in some rows: the ranges of its components, row by row
+abbrev pub whole_rows_use : TypeId → List ℕ → Reach → ℕ → Walking (List Interval)
+whole_rows_use type_id rows reach site context state = record {
+  value = ranges_of state rows;
+  after = with_used reach rows state;
+  open_ids = left_open
+      (is_dead state
+      || (is_structured context.tree.types type_id && is_covered context.tree state reach rows)) site;
+  broken = [];
+  linked = [];
+}
+
+abbrev pub whole_use : TypeId → ℕ → List Selector → Reach → ℕ → Walking (List Interval)
+whole_use type_id root selectors reach site context =
+    whole_rows_use type_id (rows_accessed (rows_of context.tree) root selectors) reach site context
+
+-- the range of the characters of a string
+abbrev pub text_range : List ℕ → Interval
+text_range text = all_joined (map (λ c. record { first = pos c; last = pos c }) text)
+
+-- a whole value: a string is entered, and has no site
+abbrev pub whole_walk : Whole → List Piece → Walking (List Interval)
+whole_walk (Text number text) indexes = do
+  _ ← enter number
+  give (text_range text.items ∷ [])
 whole_walk (VariableOf access type_id cells defined) indexes = do
-  _ ← access_walk access indexes
-  components_use defined
+  reach ← access_walk access indexes
+  whole_use type_id access.root access.selectors.items reach defined
 
 -- a relation of two whole values, from its operator on, which is entered between them
-abbrev pub related_walk : ℕ → Whole → List (Walking Known) → Walking Known
+abbrev pub related_walk : ℕ → Whole → List Piece → Walking Known
 related_walk number right indexes = do
   _ ← enter number
   _ ← whole_walk right indexes
@@ -282,12 +351,23 @@ related_walk number right indexes = do
 abbrev pub Combination : Type 0
 Combination = Known → Walking Known
 
+-- an operator with its right operand: its walk, and the form of the operand
+pub record Joint : Type 0 where
+  pub combination : Combination
+  pub operand : Operand
+
 -- the right operand, and then the operation
-abbrev pub link_step : Link-F (Walking Known) Combination → Combination
-link_step link left = do
+abbrev pub combination_of : Link-F Piece Joint → Combination
+combination_of link left = do
   _ ← enter link.number
-  right ← link.operand
+  right ← link.operand.walk
   combined link.operation left right
+
+abbrev pub link_step : Link-F Piece Joint → Joint
+link_step link = record {
+  combination = combination_of link;
+  operand = record { operation = link.operation; form = link.operand.form };
+}
 
 -- the operators of a chain, from left to right
 abbrev pub in_turn : List Combination → Combination
@@ -296,34 +376,51 @@ in_turn (link ∷ links) left = do
   result ← link left
   in_turn links result
 
--- one layer of an expression
-abbrev pub value_step : Expr-F (Walking Known) Combination → Walking Known
-value_step (Constant number value) = do
+-- one layer of an expression: its walk
+abbrev pub walk_step : Expr-F Piece Joint → Walking Known
+walk_step (Constant number value) = do
   _ ← enter number
   ordinal (record { first = value; last = value })
-value_step (Variable access indexes defined) = variable_walk access indexes.items defined
-value_step (MonadicOf number operation operand) = do
+walk_step (Variable access indexes defined) = variable_walk access indexes.items defined
+walk_step (MonadicOf number operation operand) = do
   _ ← enter number
-  known ← operand.value
+  known ← operand.value.walk
   operated operation known
-value_step (Chain first rest) = do
-  known ← first.value
-  in_turn rest.items known
-value_step (Compare number relation left left_indexes right right_indexes) = do
+walk_step (Chain first rest) = do
+  known ← first.value.walk
+  in_turn (map (λ joint. joint.combination) rest.items) known
+walk_step (Compare number relation left left_indexes right right_indexes) = do
   _ ← whole_walk left left_indexes.items
   related_walk number right right_indexes.items
 
+-- and its form
+abbrev pub form_step : Expr-F Piece Joint → Form
+form_step (Constant number value) = Literal value
+form_step (Variable access indexes defined) = access_form access.root access.selectors.items
+form_step (MonadicOf number operation operand) = sign_form operand.value.form operation
+form_step (Chain first rest) = chain_form first.value.form (map (λ joint. joint.operand) rest.items)
+form_step (Compare number relation left left_indexes right right_indexes) = Other
+
+abbrev pub piece_step : Expr-F Piece Joint → Piece
+piece_step expression = record { walk = walk_step expression; form = form_step expression }
+
 -- the walk over an operator and its right operand
+abbrev pub joint_of : Link → Joint
+joint_of = fold-Link Piece Joint piece_step link_step
+
 abbrev pub link_walk : Link → Combination
-link_walk = fold-Link (Walking Known) Combination value_step link_step
+link_walk link = (joint_of link).combination
 
 -- the walk over an expression: what is known of its value
-abbrev pub value_walk : Expr → Walking Known
-value_walk = fold-Expr (Walking Known) Combination value_step link_step
+abbrev pub piece_of : Expr → Piece
+piece_of = fold-Expr Piece Joint piece_step link_step
 
--- the walks over index expressions
-abbrev pub index_walks : List Expr → List (Walking Known)
-index_walks = map value_walk
+abbrev pub value_walk : Expr → Walking Known
+value_walk expression = (piece_of expression).walk
+
+-- index expressions
+abbrev pub index_pieces : List Expr → List Piece
+index_pieces = map piece_of
 
 -- a width has to be at least 1
 abbrev pub width_test : ℕ → Known → Walking (Unit {0})
@@ -343,7 +440,9 @@ abbrev pub written_walk : Written → Walking (Unit {0})
 written_walk (written.Ordinal value representation) = do
   _ ← value_walk value
   give tt
-written_walk (written.String value indexes) = whole_walk value (index_walks indexes.items)
+written_walk (written.String value indexes) = do
+  _ ← whole_walk value (index_pieces indexes.items)
+  give tt
 
 -- the same, and then its width
 abbrev pub parameter_walk : WriteParameter → Walking (Unit {0})

@@ -1,33 +1,38 @@
 ghost use Rattle.std.specs.Prelude.{◌≡◌};
 ghost use Rattle.abstract_state.specs.State.{limits_of};
+ghost use Rattle.component_states.specs.Components.{Entire};
+ghost use Rattle.component_states.specs.View.{said_index, said_reach};
 ghost use Rattle.expression_checker.specs.Visits.{Visits};
-ghost use Rattle.expression_checker.specs.View.{Goes};
-ghost use Rattle.expression_checker.specs.Walk.{above, access_walk, behind_next, below, combined, component_use};
-ghost use Rattle.expression_checker.specs.Walk.{components_use, divisor, enter, fitting, index_test, index_walks};
-ghost use Rattle.expression_checker.specs.Walk.{indexes_walk, link_walk, next_test, operated, parameter_walk, positive};
-ghost use Rattle.expression_checker.specs.Walk.{related_walk, tested, use_of, value_use, value_walk, variable_walk};
-ghost use Rattle.expression_checker.specs.Walk.{whole};
-ghost use Rattle.expression_checker.specs.Walk.{whole_walk, width_test, width_walk, within, written_walk};
+ghost use Rattle.expression_checker.specs.View.{Goes, said_ranges, seen};
+ghost use Rattle.expression_checker.specs.Walk.{above, access_walk, behind_next, below, combined, deeper, divisor};
+ghost use Rattle.expression_checker.specs.Walk.{enter, fitting, index_pieces, index_test, indexes_walk, link_walk};
+ghost use Rattle.expression_checker.specs.Walk.{next_test, operated, parameter_walk, positive, related_walk, tested};
+ghost use Rattle.expression_checker.specs.Walk.{value_walk, variable_walk, whole, whole_walk, width_test, width_walk};
+ghost use Rattle.expression_checker.specs.Walk.{within, written_walk};
 
 use crate::fault::CheckFault;
 use crate::visits::Visits;
-use abstract_state::{Known, State, limits};
+use abstract_state::{Known, bound_form, limits};
+use component_states::{Index, Reach, State};
 use domain::Domain;
 use domain::interval::Interval;
+use leaf_rows::Rows;
 use typed_tree::tree::{
     Access, Dyadic, Expr, Link, Monadic, RangeTest, Selector, Whole, Width, WriteParameter, Written,
 };
 
 /// The flow of a walk through a program: what it comes with to each expression, and goes on with behind it.
 #[derive(Drop)]
-pub struct Flow {
+pub struct Flow<'a> {
+    /// The rows of the program's components.
+    pub rows: &'a Rows<'a>,
     /// What is known where the walk is.
     pub state: State,
     /// The ids of the sites that the walk leaves open, in its order.
     pub open_ids: Vec<u32>,
 }
 
-impl Flow {
+impl<'a> Flow<'a> {
     /// Counts the entry into a statement or an expression.
     pub fn enter(&mut self, number: u32, visits: &mut Visits) -> Result<(), CheckFault>
         ensures { Goes (enter number) self.old visits.old result self.new visits.new }
@@ -111,11 +116,11 @@ impl Flow {
         defined: u32,
         visits: &mut Visits,
     ) -> Result<Known, CheckFault>
-        ensures { Goes (variable_walk access.now (index_walks indexes.now) defined)
+        ensures { Goes (variable_walk access.now (index_pieces indexes.now) defined)
             self.old visits.old result self.new visits.new }
     {
-        self.access(access, indexes, visits)?;
-        self.used(access, defined)
+        let reach = self.access(access, indexes, visits)?;
+        self.used(access, &reach, defined)
     }
 
     /// A relation of two whole values behind the left one: the operator is entered between them.
@@ -127,7 +132,7 @@ impl Flow {
         indexes: &[Expr],
         visits: &mut Visits,
     ) -> Result<Known, CheckFault>
-        ensures { Goes (related_walk number right.now (index_walks indexes.now))
+        ensures { Goes (related_walk number right.now (index_pieces indexes.now))
             self.old visits.old result self.new visits.new }
     {
         self.enter(number, visits)?;
@@ -135,7 +140,8 @@ impl Flow {
         Ok(Known::Ordinal(Interval::TRUTH_VALUES))
     }
 
-    /// A whole value, with its index expressions (6.4.3): a string is only entered.
+    /// A whole value, with its index expressions (6.4.3): the ranges of its components, row by row. A string is only
+    /// entered; its characters lie in one range.
     ///
     /// # Errors
     /// `Memory`; a value breaks no rule of certificates.
@@ -145,24 +151,28 @@ impl Flow {
         value: &Whole,
         indexes: &[Expr],
         visits: &mut Visits,
-    ) -> Result<(), CheckFault>
-        ensures { Goes (whole_walk value.now (index_walks indexes.now)) self.old visits.old result
-            self.new visits.new }
+    ) -> Result<Vec<Interval>, CheckFault>
+        ensures { Goes (whole_walk value.now (index_pieces indexes.now)) self.old visits.old
+            (seen said_ranges result) self.new visits.new }
     {
         match value {
-            Whole::Text { number, .. } => self.enter(*number, visits),
+            Whole::Text { number, characters } => {
+                self.enter(*number, visits)?;
+                self.text(characters)
+            }
             Whole::Variable {
                 access,
+                type_id,
                 defined,
                 ..
             } => {
-                self.access(access, indexes, visits)?;
-                self.components(*defined)
+                let reach = self.access(access, indexes, visits)?;
+                self.used_whole(*type_id, access, &reach, *defined)
             }
         }
     }
 
-    /// A variable access with its index expressions (6.5.1).
+    /// A variable access with its index expressions (6.5.1): what it reaches of the rows under it.
     ///
     /// # Errors
     /// `Memory`; an access breaks no rule of certificates.
@@ -172,32 +182,35 @@ impl Flow {
         access: &Access,
         indexes: &[Expr],
         visits: &mut Visits,
-    ) -> Result<(), CheckFault>
-        ensures { Goes (access_walk access.now (index_walks indexes.now)) self.old visits.old result
-            self.new visits.new }
+    ) -> Result<Reach, CheckFault>
+        ensures { Goes (access_walk access.now (index_pieces indexes.now)) self.old visits.old
+            (seen said_reach result) self.new visits.new }
     {
         self.enter(access.number, visits)?;
         self.indexes(&access.selectors, indexes, visits)
     }
 
-    /// Index expressions, each of which is tested at once.
+    /// Index expressions, each of which is tested at once: what is reached by them.
     #[cycle(expression)]
     fn indexes(
         &mut self,
         selectors: &[Selector],
         indexes: &[Expr],
         visits: &mut Visits,
-    ) -> Result<(), CheckFault>
-        ensures { Goes (indexes_walk selectors.now (index_walks indexes.now)) self.old visits.old result
-            self.new visits.new }
+    ) -> Result<Reach, CheckFault>
+        ensures { Goes (indexes_walk selectors.now (index_pieces indexes.now) Entire) self.old visits.old
+            (seen said_reach result) self.new visits.new }
     {
         let mut left = selectors;
+        let mut reach = Reach::Entire;
         for index in indexes {
             let known = self.expression(index, visits)?;
-            self.index(next_test(left), known)?;
+            let range = self.index(next_test(left), known)?;
+            let form = bound_form(index);
+            reach = deeper(Index { form, range }, reach);
             left = behind_next(left);
         }
-        Ok(())
+        Ok(reach)
     }
 
     /// A value that is written, and then its width.
@@ -221,7 +234,10 @@ impl Flow {
                 self.expression(value, visits)?;
                 Ok(())
             }
-            Written::String { value, indexes } => self.whole_value(value, indexes, visits),
+            Written::String { value, indexes } => {
+                self.whole_value(value, indexes, visits)?;
+                Ok(())
+            }
         }
     }
 
@@ -239,56 +255,14 @@ impl Flow {
     }
 }
 
-// What is accessed, which enters nothing more.
-impl Flow {
-    /// The use of what is accessed: an entire variable is defined afterwards.
-    fn used(&mut self, access: &Access, defined: u32) -> Result<Known, CheckFault>
-        ensures { (visits : Visits) → Goes (value_use access.now.root access.now.selectors.items defined)
-            self.old visits result self.new visits }
-    {
-        if access.selectors.is_empty() {
-            self.entire(access.root, defined)
-        } else {
-            self.component(defined)
-        }
-    }
-
-    /// The use of an entire variable.
-    fn entire(&mut self, root: u32, defined: u32) -> Result<Known, CheckFault>
-        ensures { (visits : Visits) → Goes (use_of root defined) self.old visits result self.new visits }
-    {
-        let is_defined = self.state.is_defined(root);
-        let range = self.state.range(root);
-        self.state.define(root);
-        Ok(Known::Ordinal(self.test(is_defined, defined, range)?))
-    }
-
-    /// The use of a component, of which nothing is known.
-    fn component(&mut self, defined: u32) -> Result<Known, CheckFault>
-        ensures { (visits : Visits) → Goes (component_use defined) self.old visits result self.new visits }
-    {
-        Ok(Known::Ordinal(self.test(false, defined, Interval::INTEGER)?))
-    }
-
-    /// The use of components of which nothing is known.
-    fn components(&mut self, defined: u32) -> Result<(), CheckFault>
-        ensures { (visits : Visits) → Goes (components_use defined) self.old visits result self.new visits }
-    {
-        self.test(false, defined, Interval::INTEGER)?;
-        Ok(())
-    }
-
-    /// The test of an index, if selectors take it.
-    fn index(&mut self, fits: Option<RangeTest>, known: Known) -> Result<(), CheckFault>
-        ensures { (visits : Visits) → Goes (index_test fits known) self.old visits result self.new visits }
-    {
-        match fits {
-            None => Ok(()),
-            Some(fits) => {
-                self.fitting(fits, known)?;
-                Ok(())
-            }
-        }
+/// What is reached with one index more.
+fn deeper(index: Index, reach: Reach) -> Reach
+    ensures { said_reach result ≡ deeper (said_index index) (said_reach reach) }
+{
+    match reach {
+        Reach::Entire => Reach::At(index),
+        Reach::At(first) => Reach::Inside(first),
+        Reach::Inside(first) => Reach::Inside(first),
     }
 }
 
@@ -319,7 +293,20 @@ fn behind_next(selectors: &[Selector]) -> &[Selector]
 }
 
 // Operations and tests, which enter nothing.
-impl Flow {
+impl<'a> Flow<'a> {
+    /// The test of an index, if selectors take it: where it lies then.
+    fn index(&mut self, fits: Option<RangeTest>, known: Known) -> Result<Interval, CheckFault>
+        ensures { (visits : Visits) → Goes (index_test fits known) self.old visits result self.new visits }
+    {
+        match fits {
+            None => Ok(known.range()),
+            Some(fits) => {
+                let passed = self.fitting(fits, known)?;
+                Ok(passed.range())
+            }
+        }
+    }
+
     /// What an operation gives for a value.
     fn operated(&mut self, operation: Monadic, known: Known) -> Result<Known, CheckFault>
         ensures { (visits : Visits) → Goes (operated operation known) self.old visits result self.new visits }
@@ -486,7 +473,7 @@ impl Flow {
         if !self.state.is_dead() && !closed {
             self.open_ids.push(site)?;
         }
-        self.state.unless_empty(passed);
+        self.state.variables.unless_empty(passed);
         Ok(passed)
     }
 }

@@ -4,4 +4,5 @@
 
 pub mod fault;
 pub mod flow;
+mod uses;
 pub mod visits;

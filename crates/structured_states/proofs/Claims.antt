@@ -6,6 +6,7 @@ use Rattle.std.proofs.lemmas.List.Elements.{filter_map-append}
 use Rattle.std.proofs.lemmas.List.FromFn.{length-map-range_with_len, get_or-map-range_with_len}
 use Rattle.std.specs.List.{cons_option, list_all, range_with_len}
 use denote.Ref.{Bor}
+use Rattle.typed_tree.specs.declared.tree.Tree.{Tree}
 use Rattle.certificate.specs.declared.Certificate.{Certificate}
 use Rattle.certificate.specs.declared.LoopClaims.{LoopClaims as KeptClaims}
 use Rattle.certificate.specs.declared.Section.{Section as KeptSection}
@@ -124,19 +125,19 @@ given_one state None facts = refl
 given_one state (Some fact) facts = refl
 
 -- the claims that are kept are given exactly where each claim is given or isn't kept
-pub all_given : (state : State) (claims : List KeptFact)
-    → list_all (λ claim. gives_some state (plain (said_fact claim))) claims ≡ gives_all state (plain_facts (map said_fact claims))
-all_given state [] = refl
-all_given state (claim ∷ claims) =
-    ap (λ rest. gives_some state (plain (said_fact claim)) && rest) (all_given state claims)
-    ∙ sym (given_one state (plain (said_fact claim)) (plain_facts (map said_fact claims)))
+pub all_given : (tree : Tree) (state : State) (claims : List KeptFact)
+    → list_all (λ claim. gives_some state (plain tree (said_fact claim))) claims ≡ gives_all state (plain_facts tree (map said_fact claims))
+all_given tree state [] = refl
+all_given tree state (claim ∷ claims) =
+    ap (λ rest. gives_some state (plain tree (said_fact claim)) && rest) (all_given tree state claims)
+    ∙ sym (given_one state (plain tree (said_fact claim)) (plain_facts tree (map said_fact claims)))
 
 -- one claim more
-pub kept_more : (claims : List KeptFact) (i : ℕ) (claim : KeptFact) (kept : List Fact) (fact : Option Fact) → i < length claims → claim ≡ get_or claims i claim
-    → kept ≡ plain_facts (map said_fact (take i claims)) → fact ≡ plain (said_fact claim)
-    → kept ++ cons_option fact [] ≡ plain_facts (map said_fact (take (i + 1) claims))
-kept_more claims i claim kept fact inside is kept_is fact_is =
+pub kept_more : (tree : Tree) (claims : List KeptFact) (i : ℕ) (claim : KeptFact) (kept : List Fact) (fact : Option Fact)
+    → i < length claims → claim ≡ get_or claims i claim → kept ≡ plain_facts tree (map said_fact (take i claims)) → fact ≡ plain tree (said_fact claim)
+    → kept ++ cons_option fact [] ≡ plain_facts tree (map said_fact (take (i + 1) claims))
+kept_more tree claims i claim kept fact inside is kept_is fact_is =
     ap (λ front. front ++ cons_option fact []) kept_is
-    ∙ ap (λ f. plain_facts (map said_fact (take i claims)) ++ cons_option f []) fact_is
-    ∙ sym (filter_map-append plain (map said_fact (take i claims)) (said_fact claim ∷ []))
-    ∙ ap plain_facts (mapped-more said_fact claims i claim inside is)
+    ∙ ap (λ f. plain_facts tree (map said_fact (take i claims)) ++ cons_option f []) fact_is
+    ∙ sym (filter_map-append (plain tree) (map said_fact (take i claims)) (said_fact claim ∷ []))
+    ∙ ap (plain_facts tree) (mapped-more said_fact claims i claim inside is)

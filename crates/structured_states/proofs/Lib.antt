@@ -3,3 +3,4 @@ pub mod Claims
 pub mod Constants
 pub mod OnWay
 pub mod Touched
+pub mod Rowed

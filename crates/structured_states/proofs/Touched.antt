@@ -7,8 +7,10 @@ use Rattle.std.specs.Prelude.{IfOk}
 use Rattle.std.specs.declared.alloc.AllocError.{AllocError}
 use Rattle.domain.specs.Interval.{Interval}
 use Rattle.domain.specs.Facts.{Fact}
-use Rattle.abstract_state.specs.State.{State}
+use Rattle.abstract_state.specs.State as variables
 use Rattle.abstract_state.specs.Loops.{head, is_among}
+use Rattle.component_states.specs.Components.{Components}
+use Rattle.component_states.specs.States.{State, over_variables}
 use Rattle.structured_states.specs.Loops.{Round, all_but, limits_at, touched, with_own, without_own}
 use Rattle.structured_states.specs.View.{is_own}
 
@@ -101,16 +103,14 @@ own-controls control loop = or-first (nat_eq control control) (is_among control 
 
 -- ---- the head
 
-pub own-changes : (own : Option ℕ) (round : Round) → (with_own own round).changes ≡ round.changes
-own-changes None round = refl
-own-changes (Some control) round = refl
+abbrev state_of : variables.State → Components → State
+state_of known components = record { variables = known; components = components }
 
-pub head-same : (result : Result (Unit {0}) AllocError) (new old : State) (limits : List Interval) (touched_one touched_two controls_one controls_two : List ℕ)
-    (facts_one facts_two : List Fact) → touched_one ≡ touched_two → controls_one ≡ controls_two → facts_one ≡ facts_two
-    → IfOk result (λ done. new ≡ head (limits_at limits) touched_one controls_one facts_one old)
-    → IfOk result (λ done. new ≡ head (limits_at limits) touched_two controls_two facts_two old)
-head-same (Ok done) new old limits touched_one touched_two controls_one controls_two facts_one facts_two touched_is controls_is facts_is is =
-    is ∙ ap (λ t. head (limits_at limits) t controls_one facts_one old) touched_is
-    ∙ ap (λ c. head (limits_at limits) touched_two c facts_one old) controls_is
-    ∙ ap (λ f. head (limits_at limits) touched_two controls_two f old) facts_is
-head-same (Err fault) new old limits touched_one touched_two controls_one controls_two facts_one facts_two touched_is controls_is facts_is is = is
+-- what is known of variables, by the same claims
+pub variables-head : (result : Result (Unit {0}) AllocError) (new old : variables.State) (known : Components) (limits : List Interval)
+    (touched controls : List ℕ) (facts_one facts_two : List Fact) → facts_one ≡ facts_two
+    → IfOk result (λ done. new ≡ head (limits_at limits) touched controls facts_one old)
+    → IfOk result (λ done. state_of new known ≡ over_variables (head (limits_at limits) touched controls facts_two) (state_of old known))
+variables-head (Ok done) new old known limits touched controls facts_one facts_two facts_are is =
+    ap (λ v. state_of v known) (is ∙ ap (λ f. head (limits_at limits) touched controls f old) facts_are)
+variables-head (Err fault) new old known limits touched controls facts_one facts_two facts_are is = is

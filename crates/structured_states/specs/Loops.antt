@@ -1,20 +1,25 @@
 -- What a certificate claims of a loop, and what the checker goes by where a turn of it begins (ISO 7185:1990, 6.8.3.6).
 -- It does not say that a loop keeps to that.
-use Rattle.std.specs.Prelude.{ℕ, List, [], ◌∷◌, ◌++◌, Option, Some, None, Bool, not, if◌then◌else◌, filter, map, nat_eq}
-use Rattle.std.specs.Prelude.{length, slice_get, slice_index_or}
+use Rattle.std.specs.Prelude.{ℕ, List, [], ◌∷◌, ◌++◌, Option, Some, None, Bool, false, not, ◌&&◌, if◌then◌else◌}
+use Rattle.std.specs.Prelude.{filter, flat_map, map, nat_eq, length, slice_get, slice_index_or}
 use Rattle.std.specs.List.{filter_map, list_all, range_with_len}
 use Rattle.types.specs.declared.form.OrdinalRange.{OrdinalRange}
 use Rattle.types.specs.Forms.{Form}
-use Rattle.types.specs.Types.{range_of}
+use Rattle.types.specs.Types.{is_ordinal, range_of}
 use Rattle.typed_tree.specs.declared.tree.Loop.{Loop}
 use Rattle.typed_tree.specs.declared.tree.Tree.{Tree}
 use Rattle.typed_tree.specs.declared.tree.Variable.{Variable}
 use Rattle.certificate.specs.declared.Certificate.{Certificate}
 use Rattle.certificate.specs.Contents.{LoopClaims, Section, contents}
 use Rattle.domain.specs.Interval.{Interval, vacant}
-use Rattle.domain.specs.Facts.{Fact, Range, Defined, Stretch, Order}
+use Rattle.domain.specs.Facts.{Path, Fact, Range, Defined, Stretch, Order}
 use Rattle.abstract_state.specs.State.{integer, is_entire, limits_of}
-use Rattle.abstract_state.specs.Loops.{is_among}
+use Rattle.abstract_state.specs.Loops as variables
+use Rattle.abstract_state.specs.Loops.{gives_all, is_among}
+use Rattle.leaf_rows.specs.Rows.{Named, Row, index_at, part_named, rows_of, rows_touched, rows_under, values_at}
+use Rattle.component_states.specs.Components as components
+use Rattle.component_states.specs.Components.{ComponentFact, Stretched}
+use Rattle.component_states.specs.States.{State, all_of_row, gives_components}
 
 -- what is claimed of a loop: the variables that it changes, and facts that hold whenever a turn begins
 pub record Claims : Type 0 where
@@ -25,20 +30,61 @@ pub record Claims : Type 0 where
 abbrev pub no_claims : Claims
 no_claims = record { changes = []; facts = [] }
 
--- a claim as the checker goes by it: it knows nothing of components, so none of a part of a variable or of a stretch
-abbrev pub plain : Fact → Option Fact
-plain (Range path range) = if is_entire path.steps then Some (Range path range) else None
-plain (Defined path) = if is_entire path.steps then Some (Defined path) else None
-plain (Stretch path first last) = None
-plain (Order root other number) = Some (Order root other number)
+-- ---- claims of variables, and of components
 
-abbrev pub plain_facts : List Fact → List Fact
-plain_facts facts = filter_map plain facts
+-- a variable is there, and of an ordinal type
+abbrev pub has_ordinals : List Form → Option Variable → Bool
+has_ordinals types None = false
+has_ordinals types (Some variable) = is_ordinal types variable.type_id
+
+abbrev pub is_ordinal_variable : Tree → ℕ → Bool
+is_ordinal_variable tree root = has_ordinals tree.types (slice_get tree.variables.items root)
+
+-- a path names an entire variable of an ordinal type
+abbrev pub names_entire : Tree → Path → Bool
+names_entire tree path = is_entire path.steps && is_ordinal_variable tree path.root
+
+-- a claim of entire variables of ordinal types
+abbrev pub plain : Tree → Fact → Option Fact
+plain tree (Range path range) = if names_entire tree path then Some (Range path range) else None
+plain tree (Defined path) = if names_entire tree path then Some (Defined path) else None
+plain tree (Stretch path first last) = None
+plain tree (Order root other number) = Some (Order root other number)
+
+abbrev pub plain_facts : Tree → List Fact → List Fact
+plain_facts tree facts = filter_map (plain tree) facts
+
+-- the rows under what a path names
+abbrev pub rows_in : Tree → ℕ → Option Named → List ℕ
+rows_in tree root None = []
+rows_in tree root (Some named) = rows_under (rows_of tree) root named.steps
+
+abbrev pub rows_named : Tree → Path → List ℕ
+rows_named tree path = rows_in tree path.root (part_named tree path)
+
+-- what a claim says of the rows of components that it names
+abbrev pub component_claims : Tree → Fact → List ComponentFact
+component_claims tree (Range path range) = map (λ row. components.Range row range) (rows_named tree path)
+component_claims tree (Defined path) =
+    map (λ row. all_of_row (index_at (rows_of tree) row) row) (rows_named tree path)
+component_claims tree (Stretch path first last) =
+    map (λ row. Stretched (record { row = row; first = first; last = last })) (rows_named tree path)
+component_claims tree (Order root other number) = []
+
+abbrev pub component_facts : Tree → List Fact → List ComponentFact
+component_facts tree facts = flat_map (component_claims tree) facts
+
+-- a state gives each of several claims
+abbrev pub gives_claims : Tree → State → List Fact → Bool
+gives_claims tree state facts =
+    gives_all state.variables (plain_facts tree facts) && gives_components state (component_facts tree facts)
+
+-- ---- the claims of a certificate
 
 -- what is claimed, if anything is
 abbrev pub claims_of : Option LoopClaims → Claims
 claims_of None = no_claims
-claims_of (Some one) = record { changes = one.changes; facts = plain_facts one.facts }
+claims_of (Some one) = record { changes = one.changes; facts = one.facts }
 
 -- the claims on the loop of a number among those on several
 abbrev pub found_among : ℕ → List LoopClaims → Option LoopClaims
@@ -119,6 +165,20 @@ all_limits tree = map (λ variable. type_limits tree.types variable) tree.variab
 -- the values of a variable by those of all; none where there is no such variable
 abbrev pub limits_at : List Interval → ℕ → Interval
 limits_at limits root = slice_index_or limits root vacant
+
+-- the values of the type of a row's components
+abbrev pub row_limits : List Row → ℕ → Interval
+row_limits rows row = limits_or_integer (values_at rows row)
+
+-- what is known at the head of a loop: what its turns leave, and the claims
+abbrev pub head_of : Tree → List Interval → Round → List Fact → State → State
+head_of tree limits round facts state = record {
+  variables =
+      variables.head (limits_at limits) (touched round) round.controls (plain_facts tree facts) state.variables;
+  components =
+      components.head (row_limits (rows_of tree)) (touched round) (rows_touched (rows_of tree) (touched round))
+      (component_facts tree facts) state.components;
+}
 
 -- each of these loops lists a variable
 abbrev pub all_list : ℕ → List Round → Bool

@@ -1,15 +1,21 @@
 -- The loops and ways of the program as the definitions see them. It does not say what is known of them.
-use Rattle.std.specs.Prelude.{ℕ, ◌≡◌, ◌<◌, Bool, true, false, List, Option, Some, None, get_or, length, nat_eq}
+use Rattle.std.specs.Prelude.{ℕ, ◌≡◌, ◌<◌, Bool, true, false, List, [], Option, Some, None, get_or, length, nat_eq}
 use denote.Ref.{Bor}
 use Rattle.certificate.specs.declared.LoopClaims.{LoopClaims as KeptClaims}
 use Rattle.certificate.specs.Contents.{LoopClaims, loop_of}
-use Rattle.domain.specs.Facts.{Fact}
+use Rattle.domain.specs.Facts.{Fact, Range, Defined, Stretch, Order}
 use Rattle.abstract_state.specs.State.{State, gives_fact}
+use Rattle.leaf_rows.specs.Rows.{index_at, rows_of}
+use Rattle.component_states.specs.Components as components
+use Rattle.component_states.specs.Components.{ComponentFact, Stretched}
+use Rattle.component_states.specs.States.{all_of_row}
+use Rattle.typed_tree.specs.declared.tree.Tree.{Tree}
 use Rattle.abstract_state.specs.View.{said_form}
 use Rattle.structured_states.specs.declared.rounds.Round.{Round as KeptRound}
 use Rattle.structured_states.specs.declared.ways.End.{End as KeptEnd}
 use Rattle.structured_states.specs.declared.ways.Way.{Way as KeptWay}
-use Rattle.structured_states.specs.Loops.{Claims, Round, claims_of, or_else, with_own, without_own}
+use Rattle.structured_states.specs.Loops.{Claims, Round, claims_of, or_else, rows_named}
+use Rattle.structured_states.specs.Loops.{with_own, without_own}
 use Rattle.structured_states.specs.Ways.{End, Way}
 
 -- claims that the checker has found, as the definitions see them
@@ -25,6 +31,20 @@ said_claims claims = claims_of (found_as claims)
 abbrev pub gives_some : State → Option Fact → Bool
 gives_some state None = true
 gives_some state (Some fact) = gives_fact state fact
+
+-- what a claim says of a row that it names
+abbrev pub row_claim : Tree → Fact → ℕ → Option ComponentFact
+row_claim tree (Range path range) row = Some (components.Range row range)
+row_claim tree (Defined path) row = Some (all_of_row (index_at (rows_of tree) row) row)
+row_claim tree (Stretch path first last) row = Some (Stretched (record { row = row; first = first; last = last }))
+row_claim tree (Order root other number) row = None
+
+-- the rows that it names
+abbrev pub rows_claimed : Tree → Fact → List ℕ
+rows_claimed tree (Range path range) = rows_named tree path
+rows_claimed tree (Defined path) = rows_named tree path
+rows_claimed tree (Stretch path first last) = rows_named tree path
+rows_claimed tree (Order root other number) = []
 
 -- claims were found for loops by their numbers: where some were known before, those stay
 pub record AreFound (old new : List (Option (Bor KeptClaims))) (found : ℕ → Option LoopClaims) : Type 0 where

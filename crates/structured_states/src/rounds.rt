@@ -1,21 +1,28 @@
 ghost use Rattle.std.specs.Prelude.{◌≡◌, ◌∷◌, ◌++◌, [], IfOk, map};
 ghost use Rattle.std.specs.List.{list_all};
-ghost use Rattle.domain.specs.Facts.{said};
-ghost use Rattle.abstract_state.specs.Loops.{gives_all, head, is_among};
-ghost use Rattle.abstract_state.specs.View.{viewed};
-ghost use Rattle.certificate.specs.Contents.{loop_of};
+ghost use Rattle.abstract_state.specs.Loops as variables;
+ghost use Rattle.abstract_state.specs.Loops.{is_among};
+ghost use Rattle.leaf_rows.specs.Rows.{rows_of, rows_touched};
+ghost use Rattle.leaf_rows.specs.View.{numbers};
+ghost use Rattle.component_states.specs.Components as components;
+ghost use Rattle.component_states.specs.Components.{with_touched};
+ghost use Rattle.component_states.specs.States.{over_components, over_variables};
+ghost use Rattle.component_states.specs.View.{said_component, viewed};
+ghost use Rattle.certificate.specs.Contents.{loop_of, said_fact};
 ghost use Rattle.structured_states.specs.Loops.{all_claims, all_limits, claims_at, controls_inside, found_among};
-ghost use Rattle.structured_states.specs.Loops.{limits_at, touched, type_limits};
+ghost use Rattle.structured_states.specs.Loops.{gives_claims, head_of, limits_at, limits_or_integer, plain_facts};
+ghost use Rattle.structured_states.specs.Loops.{row_limits, touched, type_limits};
 ghost use Rattle.structured_states.specs.View.{AreFound, head_round, is_own, kept_round, said_claims};
 
-use crate::kept_claims::{are_given, plain_facts};
-use abstract_state::{State, limits};
-use certificate::{Certificate, LoopClaims};
-use domain::facts::Fact;
+use crate::kept_claims::{component_facts, components_are_given, plain_are_given, plain_facts};
+use abstract_state::limits;
+use certificate::{Certificate, Fact as Claim, LoopClaims};
+use component_states::{ComponentFact, State};
 use domain::interval::Interval;
+use leaf_rows::{Rows, Span};
 use std::alloc::{AllocError, Global};
 use typed_tree::tree::{Tree, Variable};
-use types::TypeTable;
+use types::{OrdinalRange, TypeTable};
 
 /// A loop round the walk.
 #[derive(Clone, Copy)]
@@ -74,23 +81,21 @@ impl<'a> Round<'a> {
     }
 
     /// The facts of its claims.
-    fn facts(&self, alloc: Global) -> Result<Vec<Fact>, AllocError>
-        ensures { IfOk result (λ facts. map said facts.items ≡ (said_claims self.now.claims).facts) }
+    fn facts(&self) -> &'a [Claim]
+        ensures { map said_fact result.now ≡ (said_claims self.now.claims).facts }
     {
         match self.claims {
-            None => Ok(Vec::new(alloc)),
-            Some(claims) => plain_facts(alloc, &claims.facts),
+            None => &[],
+            Some(claims) => &claims.facts,
         }
     }
 
     /// Whether a state gives its facts.
-    pub fn is_given(&self, state: &State) -> bool
-        ensures { result ≡ gives_all (viewed state.now) (said_claims self.now.claims).facts }
+    pub fn is_given(&self, state: &State, rows: &Rows) -> bool
+        ensures { result ≡ gives_claims rows.now (viewed state.now) (said_claims self.now.claims).facts }
     {
-        match self.claims {
-            None => true,
-            Some(claims) => are_given(state, &claims.facts),
-        }
+        plain_are_given(state, rows.tree(), self.facts())
+            && components_are_given(state, rows, self.facts())
     }
 
     /// Brings a state to its head.
@@ -98,15 +103,34 @@ impl<'a> Round<'a> {
         &self,
         alloc: Global,
         state: &mut State,
+        rows: &Rows,
         limits: &[Interval],
     ) -> Result<(), AllocError>
-        ensures { IfOk result (λ _. viewed state.new ≡ head (limits_at limits.now) (touched (head_round self.now))
-            (head_round self.now).controls (said_claims self.now.claims).facts (viewed state.old)) }
+        ensures { IfOk result (λ _. viewed state.new ≡ head_of rows.now limits.now (head_round self.now)
+            (said_claims self.now.claims).facts (viewed state.old)) }
     {
         let controls = self.all_controls(alloc)?;
         let touched = self.all_touched(alloc, &controls)?;
-        let facts = self.facts(alloc)?;
-        state.head(limits, &touched, &controls, &facts)
+        self.variables_head(alloc, state, rows, limits, &touched, &controls)?;
+        let claims = component_facts(alloc, rows, self.facts())?;
+        components_head(state, rows, &touched, &claims)
+    }
+
+    /// What is known of variables at its head.
+    fn variables_head(
+        &self,
+        alloc: Global,
+        state: &mut State,
+        rows: &Rows,
+        limits: &[Interval],
+        touched: &[u32],
+        controls: &[u32],
+    ) -> Result<(), AllocError>
+        ensures { IfOk result (λ _. viewed state.new ≡ over_variables (variables.head (limits_at limits.now) touched.now
+            controls.now (plain_facts rows.now (said_claims self.now.claims).facts)) (viewed state.old)) }
+    {
+        let facts = plain_facts(alloc, rows.tree(), self.facts())?;
+        state.variables.head(limits, touched, controls, &facts)
     }
 
     /// Its control variables, and the variables that its claims list.
@@ -129,6 +153,47 @@ impl<'a> Round<'a> {
         controls.extend_from_slice(self.controls)?;
         Ok(controls)
     }
+}
+
+/// What is known of components at the head of a loop.
+fn components_head(
+    state: &mut State,
+    rows: &Rows,
+    touched: &[u32],
+    claims: &[ComponentFact],
+) -> Result<(), AllocError>
+    ensures { IfOk result (λ _. viewed state.new ≡ over_components (λ _. components.head (row_limits (rows_of rows.now))
+        touched.now (rows_touched (rows_of rows.now) touched.now) (map said_component claims.now)) (viewed state.old)) }
+{
+    state.touch_roots(touched);
+    touch_rows(state, rows, touched);
+    state.claim_all(claims)
+}
+
+/// Each row of several variables may have other values of its type.
+fn touch_rows(state: &mut State, rows: &Rows, touched: &[u32])
+    ensures { viewed state.new ≡ over_components (λ _. with_touched (row_limits (rows_of rows.now))
+        (rows_touched (rows_of rows.now) touched.now)) (viewed state.old) }
+{
+    for root in touched {
+        touch_span(state, rows, rows.of_variable(*root));
+    }
+}
+
+fn touch_span(state: &mut State, rows: &Rows, span: Span)
+    ensures { viewed state.new ≡ over_components (λ _. with_touched (row_limits (rows_of rows.now)) (numbers span))
+        (viewed state.old) }
+{
+    for row in span.first..span.end() {
+        state.touch_row(row, row_limits(rows, row));
+    }
+}
+
+/// The values of the type of a row's components.
+pub fn row_limits(rows: &Rows, row: u32) -> Interval
+    ensures { result ≡ row_limits (rows_of rows.now) row }
+{
+    limits_or_integer(rows.values(row))
 }
 
 /// Whether a variable is among some.
@@ -222,7 +287,14 @@ pub fn all_limits(alloc: Global, tree: &Tree) -> Result<Vec<Interval>, AllocErro
 fn type_limits(types: &TypeTable, variable: Variable) -> Interval
     ensures { result ≡ type_limits types.now variable }
 {
-    match types.range(variable.type_id) {
+    limits_or_integer(types.range(variable.type_id))
+}
+
+/// The values of a type; those of integer, where the tree doesn't tell it.
+fn limits_or_integer(range: Option<OrdinalRange>) -> Interval
+    ensures { result ≡ limits_or_integer range }
+{
+    match range {
         None => Interval::INTEGER,
         Some(range) => limits(range),
     }

@@ -163,7 +163,7 @@ impl Way {
     }
 
     /// The control variable's next value as a bound.
-    fn next(&self) -> Option<Bound>
+    pub fn next(&self) -> Option<Bound>
         ensures { said_form result ≡ next (said_way self.now) }
     {
         let number = match self.direction {

@@ -46,3 +46,6 @@ returns-in_err-open_sites-clause-entries c = links_entries c.args.tree.now c.arg
 
 pub returns-then-not-is_known-clause-entries : goal.returns-then-not-is_known-clause-entries
 returns-then-not-is_known-clause-entries c = links_entries c.args.tree.now c.args.certificate.now
+
+pub returns-in_err-rows-clause-entries : goal.returns-in_err-rows-clause-entries
+returns-in_err-rows-clause-entries c = links_entries c.args.tree.now c.args.certificate.now

@@ -6,4 +6,4 @@ use Rattle.structured_states.proofs.kept_claims.plain_facts.Given as goal
 
 -- so far
 abbrev pub invariant-loop-claim : goal.invariant-loop-claim
-invariant-loop-claim l = map said l.facts.items ≡ plain_facts (map said_fact (take l.claim-index l.claims))
+invariant-loop-claim l = map said l.facts.items ≡ plain_facts l.tree (map said_fact (take l.claim-index l.claims))

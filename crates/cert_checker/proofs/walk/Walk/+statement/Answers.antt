@@ -4,10 +4,11 @@ use Rattle.cert_checker.specs.Walk.{while_round}
 use Rattle.structured_states.specs.View.{said_end, said_way}
 use Rattle.cert_checker.specs.View.{else_walk}
 use Rattle.cert_checker.proofs.Steps.{all-step, all-end, given-up, if-begun, branches-done, branches-stopped, loop-done, loop-stopped, while-begun}
-use Rattle.cert_checker.proofs.Steps.{repeat-begun, while_round-done, repeat_round-done}
-use Rattle.cert_checker.proofs.StepsFor.{for-begun, for-last_stopped, for-stopped, rounds-go, turns-done, turns-not_begun, turns-not_tested, way-same}
+use Rattle.cert_checker.proofs.Steps.{if-stopped, loop-not_entered, repeat-begun, while_round-done, repeat_round-done}
+use Rattle.cert_checker.proofs.StepsFor.{for-begun, for-done, for-first_stopped, for-last_stopped, for-stopped, rounds-go, turns-done}
+use Rattle.cert_checker.proofs.StepsFor.{turns-not_begun, turns-not_tested, way-same}
 use Rattle.cert_checker.proofs.StepsCase.{arms-end, arms-step, arms-stopped, case-begun, case-not_tested, case-tested}
-use Rattle.abstract_state.specs.View.{viewed}
+use Rattle.component_states.specs.View.{viewed}
 use Rattle.abstract_state.specs.declared.known.Known.TheVariants.{Ordinal}
 use Rattle.cert_checker.proofs.walk.Walk.+statement.Goals as goal
 
@@ -24,6 +25,17 @@ statements-returns t c =
     let here = c.loop-statement in
     here.invariant (Ok tt) here.self here.visits (all-end statement_walk c.args.statements.now here.statement-index here.self here.visits
     c.loop-statement-test.false)
+
+pub statement-returns-in_err-known-in-If : goal.statement-returns-in_err-known-in-If
+statement-returns-in_err-known-in-If t c =
+    let it = c.in-If in
+    let new = c.expression.new.self in
+    let after = c.expression.new.visits in
+    let fault = c.in_err-known-in-If.field-0.0 in
+    let left = c.from_residual-in_err-known-in-If in
+    given-up (statement_walk c.args.statement.now) c.args.self.now new c.args.visits.now after fault left.result left.ensures
+    (if-stopped c.args.statement.now it.number it.condition it.consequence it.alternative c.args.self.now c.enter-in-If.new.self new c.args.visits.now
+    c.enter-in-If.new.visits after fault it.is c.in_ok-enter-in-If.ensures c.in_err-known-in-If.ensures)
 
 pub statement-returns-in_err-statement-in-If : goal.statement-returns-in_err-statement-in-If
 statement-returns-in_err-statement-in-If t c =
@@ -69,6 +81,20 @@ repeat_round-returns t c =
     c.expression.new.self c.part.new.self _ c.args.visits.now c.statements.new.visits c.expression.new.visits c.in_ok-again.again c.replace.result
     c.in_ok-statements.ensures c.in_ok-known.ensures c.in_ok-again.ensures c.replace.ensures.value c.replace.ensures.after refl
 
+pub statement-returns-in_err-enter_loop-in-While : goal.statement-returns-in_err-enter_loop-in-While
+statement-returns-in_err-enter_loop-in-While t c =
+    let it = c.in-While in
+    let walking = while_round it.condition (statement_walk it.body.value) in
+    let entered = c.enter-in-While.new.self in
+    let new = c.enter_loop.new.self in
+    let after = c.enter-in-While.new.visits in
+    let fault = c.in_err-enter_loop-in-While.field-0.0 in
+    let left = c.from_residual-in_err-enter_loop-in-While in
+    given-up (statement_walk c.args.statement.now) c.args.self.now new c.args.visits.now after fault left.result left.ensures
+    (while-begun c.args.statement.now it.number it.loop_number it.place it.condition it.body it.body.value c.args.self.now entered new c.args.visits.now
+    after after (Err fault) it.is refl c.in_ok-enter-in-While.ensures
+    (loop-not_entered it.loop_number it.place None walking entered new after after fault c.in_err-enter_loop-in-While.ensures))
+
 pub statement-returns-in_ok-behind-in-While : goal.statement-returns-in_ok-behind-in-While
 statement-returns-in_ok-behind-in-While t c =
     let it = c.in-While in
@@ -96,6 +122,20 @@ statement-returns-in_err-behind-in-While t c =
     c.args.visits.now between after (Err fault) it.is c.deref-in-While.ensures c.in_ok-enter-in-While.ensures
     (loop-stopped it.loop_number it.place None walking entered c.enter_loop.new.self c.in_ok-enter_loop-in-While.ensures new between after fault
     c.in_err-behind-in-While.ensures))
+
+pub statement-returns-in_err-enter_loop-in-Repeat : goal.statement-returns-in_err-enter_loop-in-Repeat
+statement-returns-in_err-enter_loop-in-Repeat t c =
+    let it = c.in-Repeat in
+    let walking = repeat_round (all_of (map statement_walk it.statements.items)) it.condition in
+    let entered = c.enter-in-Repeat.new.self in
+    let new = c.enter_loop-in-Repeat.new.self in
+    let after = c.enter-in-Repeat.new.visits in
+    let fault = c.in_err-enter_loop-in-Repeat.field-0.0 in
+    let left = c.from_residual-in_err-enter_loop-in-Repeat in
+    given-up (statement_walk c.args.statement.now) c.args.self.now new c.args.visits.now after fault left.result left.ensures
+    (repeat-begun c.args.statement.now it.number it.loop_number it.place it.statements it.condition it.statements.items c.args.self.now entered new
+    c.args.visits.now after after (Err fault) it.is refl c.in_ok-enter-in-Repeat.ensures
+    (loop-not_entered it.loop_number it.place None walking entered new after after fault c.in_err-enter_loop-in-Repeat.ensures))
 
 pub statement-returns-in_ok-behind-in-Repeat : goal.statement-returns-in_ok-behind-in-Repeat
 statement-returns-in_ok-behind-in-Repeat t c =
@@ -137,6 +177,12 @@ for_statement-returns-in_err-for_turns t c =
     given-up (for_walk c.args.number c.args.place body way) c.args.self.now new c.args.visits.now after fault left.result left.ensures
     (for-stopped c.args.number c.args.place body way c.in_ok-never.never c.args.self.now c.part_way.new.self new c.args.visits.now after fault
     c.in_ok-never.ensures c.in_err-for_turns.ensures)
+
+pub for_statement-returns : goal.for_statement-returns
+for_statement-returns t c =
+    for-done c.args.number c.args.place (statement_walk c.args.body.now) (said_way c.args.way) c.in_ok-never.never c.args.self.now c.part_way.new.self
+    c.for_turns.new.self c.leave_way.new.self c.args.visits.now c.for_turns.new.visits c.leave_way.result c.in_ok-never.ensures c.in_ok-for_turns.ensures
+    c.leave_way.ensures
 
 pub for_turns-returns-in_err-tested : goal.for_turns-returns-in_err-tested
 for_turns-returns-in_err-tested t c =
@@ -191,6 +237,18 @@ rounds_of-returns t c =
     (loop-done c.args.number c.args.place (Some c.args.way.control) (for_round steady body) c.args.self.now c.enter_loop.new.self
     c.in_ok-enter_loop.ensures c.for_round.new.self c.args.visits.now c.for_round.new.visits c.in_ok-behind.behind c.in_ok-behind.ensures
     c.leave_loop.result c.leave_loop.new.self c.leave_loop.ensures)
+
+pub statement-returns-in_err-from-in-For : goal.statement-returns-in_err-from-in-For
+statement-returns-in_err-from-in-For t c =
+    let it = c.in-For in
+    let new = c.expression-in-For.new.self in
+    let after = c.expression-in-For.new.visits in
+    let fault = c.in_err-from-in-For.field-0.0 in
+    let left = c.from_residual-in_err-from-in-For in
+    given-up (statement_walk c.args.statement.now) c.args.self.now new c.args.visits.now after fault left.result left.ensures
+    (for-first_stopped c.args.statement.now it.number it.loop_number it.place it.control it.first it.first_fits it.direction it.last it.last_fits it.body
+    c.args.self.now c.enter-in-For.new.self new c.args.visits.now c.enter-in-For.new.visits after fault it.is c.in_ok-enter-in-For.ensures
+    c.in_err-from-in-For.ensures)
 
 pub statement-returns-in_err-to-in-For : goal.statement-returns-in_err-to-in-For
 statement-returns-in_err-to-in-For t c =

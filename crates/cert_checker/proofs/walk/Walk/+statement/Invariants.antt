@@ -3,7 +3,7 @@ use Rattle.expression_checker.specs.declared.fault.CheckFault.{CheckFault}
 use Rattle.expression_checker.specs.Visits.{Visits}
 use Rattle.cert_checker.specs.declared.walk.Walk.{Walk}
 use Rattle.cert_checker.specs.Walk.{all_of, arms_walk, statement_walk}
-use Rattle.abstract_state.specs.View.{viewed}
+use Rattle.component_states.specs.View.{viewed}
 use Rattle.cert_checker.proofs.StepsCase.{arms_from}
 use Rattle.cert_checker.specs.View.{Goes}
 use Rattle.cert_checker.proofs.walk.Walk.+statement.Given as goal

@@ -11,4 +11,4 @@ abbrev pub invariant-loop-block : goal.invariant-loop-block
 invariant-loop-block l =
     (result : Result (Unit {0}) CheckFault) (new : Walk) (after : Visits)
     → Goes (all_of (map block_walk (drop l.block-index l.block-items))) l.self l.visits result new after
-    → Goes (all_of (map block_walk l.fn.self.tree.now.blocks.items)) l.fn.self l.fn.visits result new after
+    → Goes (all_of (map block_walk l.fn.self.flow.rows.now.blocks.items)) l.fn.self l.fn.visits result new after

@@ -1,32 +1,16 @@
-use Rattle.std.proofs.Common.{ap, ◌∙◌}
-use Rattle.std.specs.List.{list_all}
+use Rattle.std.proofs.Common.{refl, ◌&&◌}
 use Rattle.domain.specs.Interval.{is_included}
-use Rattle.abstract_state.specs.Loops.{is_among}
-use Rattle.structured_states.specs.declared.rounds.Round.{Round as KeptRound}
-use Rattle.structured_states.specs.Loops.{limits_at}
-use Rattle.structured_states.specs.View.{kept_round}
-use Rattle.cert_checker.proofs.Steps.{change-done, unfit, unlisted}
-use Rattle.cert_checker.proofs.walk.Walk.change.Goals.{else-fits-via-then-fits+else-all_list, else-fits-via-else-fits}
+use Rattle.structured_states.specs.Loops.{all_list, limits_at}
+use Rattle.expression_checker.specs.declared.fault.Rule.TheVariants.{Changes}
+use Rattle.cert_checker.specs.View.{context_of}
+use Rattle.cert_checker.specs.Walk.{change}
+use Rattle.cert_checker.proofs.Steps.{asked-goes}
 use Rattle.cert_checker.proofs.walk.Walk.change.Goals as goal
 
-pub returns-then-all_list : goal.returns-then-all_list
-returns-then-all_list c = λ visits.
+pub returns : goal.returns
+returns c = λ visits.
     let root = c.args.root in
-    change-done c.args.place root c.args.values c.args.self.now visits c.leq-fits.result c.all_list.result
-    (c.leq-fits.ensures.answer
-    ∙ ap (is_included c.args.values) (c.limits_at.ensures ∙ ap (λ limits. limits_at limits root) c.deref.ensures.value))
-    (c.all_list.ensures ∙ ap (list_all (λ (round : KeptRound). is_among root (kept_round round).changes)) c.deref-then-fits.ensures.value)
-    c.if-fits.true c.if-all_list.true
-
-pub returns-else-fits : goal.returns-else-fits
-returns-else-fits c = λ visits.
-    let root = c.args.root in
-    elim c.else-fits.branch [
-      | else-fits-via-then-fits+else-all_list w ↦ unlisted c.args.place root c.args.values c.args.self.now visits w.all_list.result
-          (w.all_list.ensures ∙ ap (list_all (λ (round : KeptRound). is_among root (kept_round round).changes)) w.deref-then-fits.ensures.value)
-          w.if-all_list.false
-      | else-fits-via-else-fits w ↦ unfit c.args.place root c.args.values c.args.self.now visits c.leq-fits.result
-          (c.leq-fits.ensures.answer
-          ∙ ap (is_included c.args.values) (c.limits_at.ensures ∙ ap (λ limits. limits_at limits root) c.deref.ensures.value))
-          w.if-fits.false
-    ]
+    let old = c.args.self.now in
+    asked-goes (change c.args.place root c.args.values)
+    (all_list root (context_of old).rounds && is_included c.args.values (limits_at old.limits.items root)) c.may_change.result Changes c.args.place old
+    visits c.asked.result refl c.may_change.ensures (c.asked.ensures old visits)

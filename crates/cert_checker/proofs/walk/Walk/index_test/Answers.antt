@@ -2,7 +2,7 @@ use Rattle.std.proofs.Common.{ap, ◌∙◌, refl, Ok}
 use Rattle.domain.specs.Interval.{common}
 use Rattle.domain.specs.Numbers.{hull, is_covered}
 use Rattle.structured_states.specs.Cases.{constants_before}
-use Rattle.abstract_state.specs.View.{viewed}
+use Rattle.component_states.specs.View.{viewed}
 use Rattle.cert_checker.proofs.StepsCase.{index-done, index-stopped}
 use Rattle.expression_checker.specs.Walk.{tested}
 use Rattle.cert_checker.specs.View.{context_of}
@@ -20,7 +20,7 @@ returns c = λ visits.
     (c.meet-passed.ensures.answer ∙ ap (common range) (c.hull.ensures.ends ∙ ap hull (c.deref.ensures.value ∙ c.in_ok-constants.ensures)))
     (lifted (tested c.in_ok-closed.closed c.args.site c.meet-passed.result) old c.test.new.self visits visits
     (Ok c.in_ok-test.field-0) (c.in_ok-test.ensures visits))
-    c.replace.ensures.value (ap viewed c.replace.ensures.after) refl
+    c.replace.ensures.value (ap viewed c.replace.ensures.after ∙ c.dead.ensures) refl
 
 pub returns-in_err-test : goal.returns-in_err-test
 returns-in_err-test c = λ visits.
@@ -33,4 +33,4 @@ returns-in_err-test c = λ visits.
     left.result
     (c.in_ok-closed.ensures ∙ ap (is_covered range) (c.deref-2.ensures.value ∙ c.in_ok-constants.ensures))
     (c.meet-passed.ensures.answer ∙ ap (common range) (c.hull.ensures.ends ∙ ap hull (c.deref.ensures.value ∙ c.in_ok-constants.ensures)))
-    left.ensures (c.in_err-test.ensures visits (context_of old))
+    left.ensures (c.in_err-test.ensures visits (context_of old) refl)

@@ -3,7 +3,9 @@ use Rattle.expression_checker.specs.declared.fault.CheckFault.{CheckFault}
 use Rattle.abstract_state.specs.declared.known.Known.{Known}
 use Rattle.expression_checker.specs.Visits.{Visits}
 use Rattle.expression_checker.specs.declared.flow.Flow.{Flow}
-use Rattle.expression_checker.specs.Walk.{in_turn, index_walks, indexes_walk, value_walk, link_walk}
+use Rattle.component_states.specs.Components.{Reach, Entire}
+use Rattle.component_states.specs.View.{said_reach}
+use Rattle.expression_checker.specs.Walk.{in_turn, index_pieces, indexes_walk, value_walk, link_walk}
 use Rattle.expression_checker.specs.View.{Goes}
 use Rattle.expression_checker.proofs.flow.Flow.+expression.Given as goal
 
@@ -17,6 +19,6 @@ invariant-expression-loop-link l =
 -- the same over the index expressions that are left, with the selectors that are left
 abbrev pub invariant-indexes-loop-index : goal.invariant-indexes-loop-index
 invariant-indexes-loop-index l =
-    (result : Result (Unit {0}) CheckFault) (new : Flow) (after : Visits)
-    → Goes (indexes_walk l.left (index_walks (drop l.index-index l.indexes))) l.self l.visits result new after
-    → Goes (indexes_walk l.selectors (index_walks l.indexes)) l.fn.self l.fn.visits result new after
+    (result : Result Reach CheckFault) (new : Flow) (after : Visits)
+    → Goes (indexes_walk l.left (index_pieces (drop l.index-index l.indexes)) (said_reach l.reach)) l.self l.visits result new after
+    → Goes (indexes_walk l.selectors (index_pieces l.indexes) Entire) l.fn.self l.fn.visits result new after

@@ -10,8 +10,8 @@ returns c = λ visits.
     let own = c.args.range in
     let site = c.args.site in
     let last = c.args.last in
-    let end : ◌≡◌ {A = ℤ} (to_z w64 (of_z w64 c.last.result)) own.last = search (rules, to_z-of_z) in
+    let end : ◌≡◌ {A = ℤ} (to_z w64 (of_z w64 c.last.result)) own.last = search rules in
     let given : ◌≡◌ {A = ℤ} (to_z w64 (of_z w64 c.from-last.result)) last = search (rules, to_z-of_z) in
-    let passed : c.at_most.result ≡ at_most (last -ℤ pos 1) own = search (rules, to_z-of_z) in
+    let passed : c.at_most.result ≡ at_most (last -ℤ pos 1) own = search rules in
     goes-as (below last site own) _ c.args.self.now c.test.new.self visits visits c.test.result
     (sym (ap₂ (λ (closed : Bool) (range : Interval). tested closed site range) (ap₂ int_lt end given) passed)) (c.test.ensures visits)

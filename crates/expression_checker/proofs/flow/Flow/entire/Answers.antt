@@ -1,3 +1,6 @@
+use Rattle.std.proofs.Common.{ap}
+use Rattle.abstract_state.specs.State as variables
+use Rattle.component_states.specs.View.{viewed}
 use Rattle.expression_checker.specs.Walk.{use_of}
 use Rattle.expression_checker.proofs.Steps.{given-up, use-goes, use-stopped}
 use Rattle.expression_checker.proofs.flow.Flow.entire.Goals as goal
@@ -9,10 +12,12 @@ returns-in_err-test c = λ visits.
     let new = c.test.new.self in
     let fault = c.in_err-test.field-0.0 in
     given-up (use_of root c.args.defined) old new visits visits fault c.from_residual.result c.from_residual.ensures
-    (use-stopped root c.args.defined old new visits visits c.is_defined-is_defined.result c.range-range.result c.define.new.self fault
-    (c.in_err-test.ensures visits))
+    (use-stopped root c.args.defined old new visits visits c.is_defined-is_defined.result c.range-range.result
+    (record old.state { variables = c.define.new.self }) fault (c.in_err-test.ensures visits))
 
 pub returns : goal.returns
 returns c = λ visits.
-    use-goes c.args.root c.args.defined c.is_defined-is_defined.result c.range-range.result c.in_ok-test.field-0 c.args.self.now c.test.new.self
-    c.define.new.self visits visits c.is_defined-is_defined.ensures c.range-range.ensures c.define.ensures (c.in_ok-test.ensures visits)
+    let old = c.args.self.now in
+    use-goes c.args.root c.args.defined c.is_defined-is_defined.result c.range-range.result c.in_ok-test.field-0 old c.test.new.self
+    (record old.state { variables = c.define.new.self }) visits visits c.is_defined-is_defined.ensures c.range-range.ensures
+    (ap (λ (known : variables.State). record (viewed old.state) { variables = known }) c.define.ensures) (c.in_ok-test.ensures visits)

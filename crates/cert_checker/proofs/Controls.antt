@@ -1,0 +1,183 @@
+-- The control variables of the for statements in a program are ones of ordinal types, so none of them has rows of components.
+use Rattle.std.proofs.Common.{arith, ◌≡◌, ⊎_elim, ◌∙◌, sym, ap, subst, ℕ, ◌+◌, Bool, true, ◌&&◌, nat_eq, nat_lt, List, [], ◌∷◌, ◌++◌, map}
+use Rattle.std.proofs.Common.{Option, Some, None}
+use Rattle.std.specs.Prelude.{flat_map, is_some, slice_get, slice_index_or}
+use Rattle.std.specs.List.{list_all}
+use Rattle.std.specs.Option.{option_and_then}
+use Rattle.std.proofs.lemmas.Bool.{and_parts, eqb-true, false≢true, false_from_ne_true, or_cases}
+use Rattle.std.proofs.lemmas.List.{length-map}
+use Rattle.std.proofs.lemmas.List.Folds.{list_any-append}
+use Rattle.types.specs.Forms.{Form}
+use Rattle.types.specs.Forms.{Array, Record}
+use Rattle.types.specs.Types.{form_range, is_ordinal}
+use Rattle.typed_tree.specs.Accesses.{is_type, led}
+use Rattle.typed_tree.specs.Loops.{AreLoops, Inside, IsLoop, all_inside, inside_of, statement_inside}
+use Rattle.typed_tree.specs.WellFormed.{all_hold, are_whole, is_well_formed_expr, is_well_formed_stmt, is_well_formed_test, leads_to_ordinal}
+use Rattle.typed_tree.specs.WellFormed.{stmt_is_well_formed}
+use Rattle.typed_tree.specs.declared.tree.Expr.{Expr}
+use Rattle.typed_tree.specs.declared.tree.Loop.{Loop}
+use Rattle.typed_tree.specs.declared.tree.Stmt.{Stmt}
+use Rattle.typed_tree.specs.declared.tree.Stmt.TheOpen.{Stmt-F}
+use Rattle.typed_tree.specs.declared.tree.Stmt.TheOpen.Stmt-F.{Empty, Assign, Copy, Write, Compound, If, While, Repeat, For, Case}
+use Rattle.typed_tree.specs.declared.tree.Stmt.TheViews.{roll-Stmt}
+use Rattle.typed_tree.specs.declared.tree.Stmt.TheFolds.{map-Stmt, fold-roll-Stmt, ind-Stmt}
+use Rattle.typed_tree.specs.declared.tree.Tree.{Tree}
+use Rattle.typed_tree.specs.declared.tree.Variable.{Variable}
+use Rattle.abstract_state.specs.Loops.{is_among}
+use Rattle.leaf_rows.specs.Rows.{Parts, all_parts, has_components, no_parts, parts_of, rows_of}
+use Rattle.leaf_rows.proofs.Accessed.{leaf-of, parts-at}
+use Rattle.component_states.specs.Laws.{AreEntire}
+use Rattle.structured_states.specs.Loops.{controls_inside, controls_of, has_ordinals, is_ordinal_variable}
+use Rattle.expression_checker.proofs.SoundAccesses.{leads-type}
+use Rattle.cert_checker.proofs.Targets.{some-at}
+
+-- ---- the loops of parts
+
+pub loops-parts : (rows : List Loop) (first second : List (ℕ × List ℕ)) → AreLoops rows (first ++ second) → AreLoops rows first × AreLoops rows second
+loops-parts rows [] second are = (tt, are)
+loops-parts rows (one ∷ first) second are = let parts = loops-parts rows first second are.1 in ((are.0, parts.0), parts.1)
+
+-- ---- control variables
+
+abbrev pub AreOrdinal : Tree → List ℕ → Type 0
+AreOrdinal tree controls = (root : ℕ) → is_among root controls ≡ true → is_ordinal_variable tree root ≡ true
+
+none-ordinal : (tree : Tree) → AreOrdinal tree []
+none-ordinal tree root among = absurd (false≢true among)
+
+pub one-ordinal : (tree : Tree) (control : ℕ) (controls : List ℕ) → is_ordinal_variable tree control ≡ true → AreOrdinal tree controls
+    → AreOrdinal tree (control ∷ controls)
+one-ordinal tree control controls one others root among =
+    ⊎_elim (λ same. subst (λ (r : ℕ). is_ordinal_variable tree r ≡ true) (eqb-true control root same) one) (λ later. others root later)
+    (or_cases (nat_eq control root) (is_among root controls) among)
+
+both-ordinal : (tree : Tree) (first second : List ℕ) → AreOrdinal tree first → AreOrdinal tree second → AreOrdinal tree (first ++ second)
+both-ordinal tree first second one other root among =
+    ⊎_elim (λ here. one root here) (λ there. other root there)
+    (or_cases (is_among root first) (is_among root second) (sym (list_any-append (λ (x : ℕ). nat_eq x root) first second) ∙ among))
+
+-- ---- those of statements
+
+ordinal-of : (types : List Form) (found : Option Variable)
+    → is_type (is_ordinal types) (option_and_then (λ variable. led types [] variable.type_id) found) ≡ true
+    → has_ordinals types found ≡ true
+ordinal-of types None is = absurd (false≢true is)
+ordinal-of types (Some variable) is = is
+
+-- the control variable of a well formed for statement
+pub control-ordinal : (tree : Tree) (sites control : ℕ) → leads_to_ordinal tree.variables.items tree.types sites control [] 0 ≡ true
+    → is_ordinal_variable tree control ≡ true
+control-ordinal tree sites control leads =
+    ordinal-of tree.types (slice_get tree.variables.items control)
+    (leads-type tree.variables.items tree.types sites (is_ordinal tree.types) control [] 0 leads)
+
+module _ (tree : Tree) (sites : ℕ) where
+  abbrev well_expr : Expr → Bool
+  well_expr = is_well_formed_expr tree.variables.items tree.types sites
+
+  abbrev well_stmt : Stmt → Bool
+  well_stmt = is_well_formed_stmt tree.variables.items tree.types sites
+
+  abbrev HasOrdinals : Bool → Inside → Type 0
+  HasOrdinals well inside = well ≡ true → AreOrdinal tree inside.controls
+
+  abbrev StatementHas : Stmt → Type 0
+  StatementHas s = HasOrdinals (well_stmt s) (inside_of s)
+
+  abbrev Proved : Type 0
+  Proved = (s : Stmt) × StatementHas s
+
+  all-proved : (statements : List Proved) → all_hold (map well_stmt (map (λ s. s.0) statements)) ≡ true
+      → AreOrdinal tree (flat_map (λ part. part.controls) (map inside_of (map (λ s. s.0) statements)))
+  all-proved [] well = none-ordinal tree
+  all-proved (statement ∷ statements) well =
+      let later = map (λ (s : Proved). s.0) statements in
+      let parts = and_parts (well_stmt statement.0) (all_hold (map well_stmt later)) well in
+      both-ordinal tree (inside_of statement.0).controls (flat_map (λ (part : Inside). part.controls) (map inside_of later)) (statement.1 parts.0)
+      (all-proved statements parts.1)
+
+  abbrev Layer : Stmt-F Stmt → Type 0
+  Layer x =
+      HasOrdinals (stmt_is_well_formed tree.variables.items tree.types sites (map-Stmt Stmt Bool well_stmt x))
+      (statement_inside (map-Stmt Stmt Inside inside_of x))
+
+  layer : (y : Stmt-F Proved) → Layer (map-Stmt Proved Stmt (λ s. s.0) y)
+  layer (Empty number) well = none-ordinal tree
+  layer (Assign number becomes target indexes fits value) well = none-ordinal tree
+  layer (Copy number becomes target indexes type_id value value_indexes) well = none-ordinal tree
+  layer (Write number name parameters ends_line) well = none-ordinal tree
+  layer (Compound number statements) well = all-proved statements.items well
+  layer (If number condition consequence None) well =
+      let parts = and_parts (well_expr condition) (well_stmt consequence.value.0 && true) well in
+      let each = and_parts (well_stmt consequence.value.0) true parts.1 in
+      both-ordinal tree (inside_of consequence.value.0).controls [] (consequence.value.1 each.0) (none-ordinal tree)
+  layer (If number condition consequence (Some alternative)) well =
+      let parts = and_parts (well_expr condition) (well_stmt consequence.value.0 && well_stmt alternative.value.0) well in
+      let each = and_parts (well_stmt consequence.value.0) (well_stmt alternative.value.0) parts.1 in
+      both-ordinal tree (inside_of consequence.value.0).controls (inside_of alternative.value.0).controls (consequence.value.1 each.0)
+      (alternative.value.1 each.1)
+  layer (While number loop_number place condition body) well = body.value.1 (and_parts (well_expr condition) (well_stmt body.value.0) well).1
+  layer (Repeat number loop_number place statements condition) well =
+      all-proved statements.items
+      (and_parts (all_hold (map well_stmt (map (λ (s : Proved). s.0) statements.items))) (well_expr condition) well).0
+  layer (For number loop_number place control first first_fits direction last last_fits body) well =
+      let is_test = is_well_formed_test tree.variables.items tree.types sites in
+      let leads = leads_to_ordinal tree.variables.items tree.types sites control [] 0 in
+      let one = and_parts leads (well_expr first && (is_test first_fits && (well_expr last && (is_test last_fits && well_stmt body.value.0)))) well in
+      let two = and_parts (well_expr first) (is_test first_fits && (well_expr last && (is_test last_fits && well_stmt body.value.0))) one.1 in
+      let three = and_parts (is_test first_fits) (well_expr last && (is_test last_fits && well_stmt body.value.0)) two.1 in
+      let four = and_parts (well_expr last) (is_test last_fits && well_stmt body.value.0) three.1 in
+      let five = and_parts (is_test last_fits) (well_stmt body.value.0) four.1 in
+      one-ordinal tree control (inside_of body.value.0).controls (control-ordinal tree sites control one.0) (body.value.1 five.1)
+  layer (Case number site index constants arms) well =
+      let inner = map (λ (s : Proved). s.0) arms.items in
+      let one = and_parts (nat_lt site sites) (well_expr index && (list_all are_whole constants.items && all_hold (map well_stmt inner))) well in
+      let two = and_parts (well_expr index) (list_all are_whole constants.items && all_hold (map well_stmt inner)) one.1 in
+      all-proved arms.items (and_parts (list_all are_whole constants.items) (all_hold (map well_stmt inner)) two.1).1
+
+  along : {a b : Bool} {inside other : Inside} → a ≡ b → inside ≡ other → HasOrdinals b other → HasOrdinals a inside
+  along {a} {b} {inside} {other} zero one has =
+      subst (λ (w : Bool). HasOrdinals w inside) (sym zero) (subst (λ (i : Inside). HasOrdinals b i) (sym one) has)
+
+  rolled : (x : Stmt-F Stmt) → Layer x → StatementHas (roll-Stmt x)
+  rolled x = along (fold-roll-Stmt Bool (stmt_is_well_formed tree.variables.items tree.types sites) x) (fold-roll-Stmt Inside statement_inside x)
+
+  pub controls-ordinal : (s : Stmt) → StatementHas s
+  controls-ordinal =
+      ind-Stmt StatementHas (λ x y is. subst (λ (z : Stmt-F Stmt). StatementHas (roll-Stmt z)) is (rolled (map-Stmt Proved Stmt (λ s. s.0) y) (layer y)))
+
+  -- those of several statements
+  pub all-ordinal : (statements : List Stmt) → all_hold (map well_stmt statements) ≡ true
+      → AreOrdinal tree (all_inside (map inside_of statements)).controls
+  all-ordinal [] well = none-ordinal tree
+  all-ordinal (statement ∷ statements) well =
+      let parts = and_parts (well_stmt statement) (all_hold (map well_stmt statements)) well in
+      both-ordinal tree (inside_of statement).controls (all_inside (map inside_of statements)).controls (controls-ordinal statement parts.0)
+      (all-ordinal statements parts.1)
+
+-- ---- they have no rows
+
+ordinal-scalar : (form : Option Form) → is_some (option_and_then form_range form) ≡ true → has_components form ≡ true → ⊥
+ordinal-scalar (Some (Array packed index element)) is structured = false≢true is
+ordinal-scalar (Some (Record packed fields)) is structured = false≢true is
+ordinal-scalar form is structured = false≢true structured
+
+pub ordinal-entire : (tree : Tree) (controls : List ℕ) → AreOrdinal tree controls → AreEntire (all_parts tree) controls
+ordinal-entire tree controls ordinal k within =
+    false_from_ne_true (is_among (slice_index_or (all_parts tree) k no_parts).root controls) (λ among.
+    let count = length-map (rows_of tree) (parts_of tree) in
+    let at = some-at (rows_of tree) k (omega (arith, count, within)) in
+    let leaf = leaf-of tree.types 0 tree.variables.items k at.0 at.1 in
+    let zero_root : 0 + leaf.root ≡ leaf.root = omega arith in
+    let root : (slice_index_or (all_parts tree) k no_parts).root ≡ leaf.root =
+    ap (λ (p : Parts). p.root) (parts-at tree k at.0 at.1) ∙ leaf.root_is ∙ zero_root in
+    let of_type : has_ordinals tree.types (slice_get tree.variables.items leaf.root) ≡ true =
+    subst (λ (r : ℕ). is_ordinal_variable tree r ≡ true) root (ordinal (slice_index_or (all_parts tree) k no_parts).root among) in
+    ordinal-scalar (slice_get tree.types leaf.variable.type_id.index)
+    (sym (ap (has_ordinals tree.types) leaf.variable_is) ∙ of_type) leaf.structured)
+
+-- inside a loop of the table
+pub inside-ordinal : (tree : Tree) (number : ℕ) (controls : List ℕ) → AreOrdinal tree controls → IsLoop tree.loops.items (number, controls)
+    → AreOrdinal tree (controls_inside tree number)
+inside-ordinal tree number controls ordinal (row, at, are) =
+    subst (AreOrdinal tree) (sym (ap controls_of at ∙ are)) ordinal

@@ -1,0 +1,176 @@
+-- What the checker did where values are stored, from what it did over the parts of it.
+use Rattle.std.proofs.Common.{arith, ◌≡◌, refl, sym, subst, ap, ◌∙◌, ℕ, zero, suc, ◌+◌, ◌-◌, ◌<◌, ◌≤◌, Bool, true, false, ◌&&◌, List, [], ◌∷◌, ◌++◌}
+use Rattle.std.proofs.Common.{append_assoc, Option, Some, None, Result, length, drop, get_or, nat_eq}
+use Rattle.std.specs.Prelude.{slice_get}
+use Rattle.std.specs.Bool.{◌==◌}
+use Rattle.std.specs.List.{list_all, range_with_len}
+use Rattle.std.proofs.lemmas.Bool.{eqb-true}
+use Rattle.std.proofs.lemmas.List.Folds.{list_all-map}
+use Rattle.std.proofs.lemmas.Option.{none-some, same_Some}
+use Rattle.place.specs.declared.Place.{Place as SourcePlace}
+use Rattle.types.specs.declared.form.TypeId.{TypeId}
+use Rattle.typed_tree.specs.declared.tree.Access.{Access}
+use Rattle.typed_tree.specs.declared.tree.Expr.{Expr}
+use Rattle.typed_tree.specs.declared.tree.RangeTest.{RangeTest}
+use Rattle.typed_tree.specs.declared.tree.Selector.{Selector}
+use Rattle.typed_tree.specs.declared.tree.Whole.{Whole}
+use Rattle.domain.specs.Facts.{Bound}
+use Rattle.domain.specs.Interval.{Interval}
+use Rattle.abstract_state.specs.declared.known.Known.{Known}
+use Rattle.abstract_state.specs.declared.known.Known.TheVariants.{Ordinal}
+use Rattle.abstract_state.specs.State.{limits_of}
+use Rattle.abstract_state.specs.Conditions.{bound_form}
+use Rattle.abstract_state.specs.Loops.{is_among}
+use Rattle.leaf_rows.specs.Rows.{rows_accessed, rows_of}
+use Rattle.component_states.specs.Components.{Reach, all_stored, stored}
+use Rattle.component_states.specs.States.{State, over_components}
+use Rattle.component_states.specs.View.{viewed}
+use Rattle.structured_states.specs.Loops.{Round, all_list}
+use Rattle.structured_states.specs.View.{kept_round}
+use Rattle.structured_states.proofs.Claims.{item-cut}
+use Rattle.structured_states.proofs.Rowed.{rows_to, rows-next}
+use Rattle.expression_checker.specs.declared.fault.CheckFault.{CheckFault}
+use Rattle.expression_checker.specs.Visits.{Visits}
+use Rattle.expression_checker.specs.Walk.{◌>>=◌, access_walk, fitting, index_pieces, value_walk, whole_walk}
+use Rattle.cert_checker.specs.declared.walk.Walk.{Walk}
+use Rattle.cert_checker.specs.View.{Goes, Walks, context_of}
+use Rattle.cert_checker.specs.Walk.{Stores, alike, assign, assign_component, assign_to, assignment, change, copy_to, copying, fits_whole, paired, store_to}
+use Rattle.cert_checker.proofs.Steps.{goes-here, goes-then}
+
+-- an assignment from the access of its target on
+pub assignment-done : (becomes : SourcePlace) (target : Access) (indexes : List Expr) (fits : RangeTest) (value : Expr) (values : Interval) (reach : Reach)
+    (old reached valued : Walk) (before entries after : Visits) (known : Known) (result : Result (Unit {0}) CheckFault) (new : Walk)
+    → values ≡ limits_of fits.range
+    → Walks (access_walk target (index_pieces indexes)) old before reached entries reach → Walks (value_walk value) reached entries valued after known
+    → Goes (fitting fits known >>= assign_to becomes target.root target.selectors.items reach values (bound_form value)) valued after result new after
+    → Goes (assignment becomes target (index_pieces indexes) fits value) old before result new after
+assignment-done becomes target indexes fits value values reach old reached valued before entries after known result new is one two three =
+    let stored = λ (values : Interval) (reach : Reach) (known : Known).
+    fitting fits known >>= assign_to becomes target.root target.selectors.items reach values (bound_form value) in
+    let rest = λ (reach : Reach). value_walk value >>= stored (limits_of fits.range) reach in
+    goes-then (access_walk target (index_pieces indexes)) rest old reached new before entries after reach result one
+    (goes-then (value_walk value) (stored (limits_of fits.range) reach) reached valued new entries after after known result two
+    (subst (λ (v : Interval). Goes (stored v reach known) valued after result new after) is three))
+
+-- an assignment of a whole value from the access of its target on
+pub copying-done : (becomes : SourcePlace) (target : Access) (indexes : List Expr) (type_id : TypeId) (value : Whole) (value_indexes : List Expr)
+    (reach : Reach) (old reached valued : Walk) (before entries after : Visits) (ranges : List Interval) (result : Result (Unit {0}) CheckFault) (new : Walk)
+    → Walks (access_walk target (index_pieces indexes)) old before reached entries reach
+    → Walks (whole_walk value (index_pieces value_indexes)) reached entries valued after ranges
+    → Goes (copy_to becomes target.root target.selectors.items reach type_id value ranges) valued after result new after
+    → Goes (copying becomes target (index_pieces indexes) type_id value (index_pieces value_indexes)) old before result new after
+copying-done becomes target indexes type_id value value_indexes reach old reached valued before entries after ranges result new one two three =
+    let stored = λ (reach : Reach) (ranges : List Interval). copy_to becomes target.root target.selectors.items reach type_id value ranges in
+    let rest = λ (reach : Reach). whole_walk value (index_pieces value_indexes) >>= stored reach in
+    goes-then (access_walk target (index_pieces indexes)) rest old reached new before entries after reach result one
+    (goes-then (whole_walk value (index_pieces value_indexes)) (stored reach) reached valued new entries after after ranges result two three)
+
+-- an access without selectors is to an entire variable
+pub assigned-entire : (place : SourcePlace) (root : ℕ) (selectors : List Selector) (reach : Reach) (values : Interval) (form : Option Bound) (passed : Known)
+    → (length selectors == 0) ≡ true
+    → assign_to place root selectors reach values form passed ≡ (change place root values >>= λ _. assign root form passed)
+assigned-entire place root [] reach values form passed is = refl
+assigned-entire place root (selector ∷ selectors) reach values form passed is =
+    let none = eqb-true (length (selector ∷ selectors)) 0 is in absurd (omega (arith, none))
+
+-- one with selectors is to components
+pub assigned-component : (place : SourcePlace) (root : ℕ) (selectors : List Selector) (reach : Reach) (values : Interval) (form : Option Bound) (passed : Known)
+    → (length selectors == 0) ≡ false → assign_to place root selectors reach values form passed ≡ assign_component place root selectors reach passed
+assigned-component place root [] reach values form passed is = cc
+assigned-component place root (selector ∷ selectors) reach values form passed is = refl
+
+module _ (place : SourcePlace) (root : ℕ) (selectors : List Selector) (reach : Reach) (rows : List ℕ) (stores : Stores) (old new : Walk) (visits : Visits)
+    (result : Result (Unit {0}) CheckFault) (rows_are : rows ≡ rows_accessed (rows_of old.flow.rows.now) root selectors) where
+  -- a value is stored to the rows that are accessed
+  pub component-goes : (passed : Known) (range : Interval) → passed ≡ Ordinal range → stores ≡ alike range rows
+      → Goes (store_to place root reach true stores) old visits result new visits
+      → Goes (assign_component place root selectors reach passed) old visits result new visits
+  component-goes passed range passed_is stores_are goes =
+      goes-here (assign_component place root selectors reach passed) (store_to place root reach true stores) old new visits visits result
+      (ap (λ known. assign_component place root selectors reach known (context_of old) (viewed old.flow.state)) passed_is
+      ∙ ap (λ r. store_to place root reach true (alike range r) (context_of old) (viewed old.flow.state)) (sym rows_are)
+      ∙ ap (λ s. store_to place root reach true s (context_of old) (viewed old.flow.state)) (sym stores_are)) goes
+
+  -- so are the components of a whole value
+  pub copy-goes : (type_id : TypeId) (value : Whole) (ranges : List Interval) (fits : Bool)
+      → fits ≡ (fits_whole old.flow.rows.now.types type_id value && nat_eq (length rows) (length ranges)) → stores ≡ paired rows ranges
+      → Goes (store_to place root reach fits stores) old visits result new visits
+      → Goes (copy_to place root selectors reach type_id value ranges) old visits result new visits
+  copy-goes type_id value ranges fits fits_is stores_are goes =
+      let may = fits_whole old.flow.rows.now.types type_id value in
+      goes-here (copy_to place root selectors reach type_id value ranges) (store_to place root reach fits stores) old new visits visits result
+      (ap (λ r. store_to place root reach (may && nat_eq (length r) (length ranges)) (paired r ranges) (context_of old) (viewed old.flow.state)) (sym rows_are)
+      ∙ ap (λ f. store_to place root reach f (paired rows ranges) (context_of old) (viewed old.flow.state)) (sym fits_is)
+      ∙ ap (λ s. store_to place root reach fits s (context_of old) (viewed old.flow.state)) (sym stores_are)) goes
+
+-- ---- stores, from one of them on
+
+pub store-step : (reach : Reach) (stores : Stores) (i : ℕ) (one : ℕ × Interval) (old mid : State) → i < length stores → one ≡ get_or stores i one
+    → mid ≡ over_components (λ known. stored known reach one.0 one.1) old
+    → over_components (λ known. all_stored known reach (drop (i + 1) stores)) mid ≡ over_components (λ known. all_stored known reach (drop i stores)) old
+store-step reach stores i one old mid inside is mid_is =
+    ap (over_components (λ known. all_stored known reach (drop (i + 1) stores))) mid_is
+    ∙ ap (λ more. over_components (λ known. all_stored known reach more) old) (sym (item-cut stores i one inside is))
+
+-- ---- rows with their ranges, row by row
+
+-- no row is left
+pub rows-past : (row last : ℕ) → last ≤ row → rows_to row last ≡ []
+rows-past row last past = let e : last - row ≡ 0 = omega arith in ap (range_with_len row) e
+
+pub alike-step : (range : Interval) (row last : ℕ) (made more : Stores) → row < last → more ≡ made ++ (row, range) ∷ []
+    → more ++ alike range (rows_to (row + 1) last) ≡ made ++ alike range (rows_to row last)
+alike-step range row last made more before is =
+    ap (λ m. m ++ alike range (rows_to (row + 1) last)) is ∙ append_assoc made ((row, range) ∷ []) (alike range (rows_to (row + 1) last))
+    ∙ ap (λ rows. made ++ alike range rows) (sym (rows-next row last before))
+
+drop-some : {X : Type 0} (xs : List X) (i : ℕ) (x : X) → slice_get xs i ≡ Some x → drop i xs ≡ x ∷ drop (suc i) xs
+drop-some [] zero x is = absurd (none-some x is)
+drop-some [] (suc i) x is = absurd (none-some x is)
+drop-some (y ∷ xs) zero x is = ap (λ z. z ∷ xs) (same_Some y x is)
+drop-some (y ∷ xs) (suc i) x is = drop-some xs i x is
+
+drop-none : {X : Type 0} (xs : List X) (i : ℕ) → slice_get xs i ≡ None → drop i xs ≡ []
+drop-none [] zero is = refl
+drop-none [] (suc i) is = refl
+drop-none (x ∷ xs) zero is = absurd (none-some x (sym is))
+drop-none (x ∷ xs) (suc i) is = drop-none xs i is
+
+drop-behind : {X : Type 0} (xs : List X) (i : ℕ) → slice_get xs i ≡ None → drop (suc i) xs ≡ []
+drop-behind [] zero is = refl
+drop-behind [] (suc i) is = refl
+drop-behind (x ∷ xs) zero is = absurd (none-some x (sym is))
+drop-behind (x ∷ xs) (suc i) is = drop-behind xs i is
+
+paired-none : (rows : List ℕ) → paired rows [] ≡ []
+paired-none [] = refl
+paired-none (row ∷ rows) = refl
+
+-- what is left from a row on
+abbrev pub paired_to : (first row last : ℕ) → List Interval → Stores
+paired_to first row last ranges = paired (rows_to row last) (drop (row - first) ranges)
+
+pub paired-step : (first row last : ℕ) (ranges : List Interval) (range : Interval) (made more : Stores) → first ≤ row → row < last
+    → slice_get ranges (row - first) ≡ Some range → more ≡ made ++ (row, range) ∷ []
+    → more ++ paired_to first (row + 1) last ranges ≡ made ++ paired_to first row last ranges
+paired-step first row last ranges range made more behind before is more_is =
+    let next : row + 1 - first ≡ suc (row - first) = omega arith in
+    ap (λ m. m ++ paired_to first (row + 1) last ranges) more_is ∙ append_assoc made ((row, range) ∷ []) (paired_to first (row + 1) last ranges)
+    ∙ ap (λ i. made ++ (row, range) ∷ paired (rows_to (row + 1) last) (drop i ranges)) next
+    ∙ ap (λ left. made ++ paired (row ∷ rows_to (row + 1) last) left) (sym (drop-some ranges (row - first) range is))
+    ∙ ap (λ rows. made ++ paired rows (drop (row - first) ranges)) (sym (rows-next row last before))
+
+pub paired-past : (first row last : ℕ) (ranges : List Interval) (made more : Stores) → first ≤ row
+    → slice_get ranges (row - first) ≡ None → more ≡ made → more ++ paired_to first (row + 1) last ranges ≡ made ++ paired_to first row last ranges
+paired-past first row last ranges made more behind is more_is =
+    let next : row + 1 - first ≡ suc (row - first) = omega arith in
+    let none = drop-none ranges (row - first) is in
+    let past : drop (row + 1 - first) ranges ≡ [] = ap (λ i. drop i ranges) next ∙ drop-behind ranges (row - first) is in
+    ap (λ m. m ++ paired_to first (row + 1) last ranges) more_is
+    ∙ ap (λ left. made ++ paired (rows_to (row + 1) last) left) past ∙ ap (λ l. made ++ l) (paired-none (rows_to (row + 1) last))
+    ∙ ap (λ l. made ++ l) (sym (paired-none (rows_to row last))) ∙ ap (λ left. made ++ paired (rows_to row last) left) (sym none)
+
+-- each loop round the walk lists a variable
+pub listed-same : (root : ℕ) (walk : Walk) (listed : Bool) → listed ≡ list_all (λ round. is_among root (kept_round round).changes) walk.rounds.items
+    → listed ≡ all_list root (context_of walk).rounds
+listed-same root walk listed is = is ∙ sym (list_all-map (λ (round : Round). is_among root round.changes) kept_round walk.rounds.items)

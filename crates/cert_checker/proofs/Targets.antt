@@ -1,0 +1,255 @@
+-- What an access reaches of the rows under it, where numbers are stored to the components of a type there.
+use Rattle.std.proofs.Common.{arith, ◌≡◌, ⊎_elim, ◌∙◌, sym, ap, refl, subst, ℕ, zero, suc, ◌<◌, ℤ, true, List, [], ◌∷◌, ◌++◌, Some}
+use Rattle.std.proofs.Common.{length}
+use Rattle.std.specs.Prelude.{slice_get}
+use Rattle.std.specs.List.{Contains}
+use Rattle.std.proofs.lemmas.Option.{get_or_from_slice_get, slice_get-get_or, slice_get_within}
+use Rattle.types.specs.Components.{components_of}
+use Rattle.types.specs.declared.form.Step.{Step}
+use Rattle.types.specs.declared.form.Step.TheVariants as step
+use Rattle.types.specs.declared.form.TypeId.{TypeId}
+use Rattle.typed_tree.specs.Accesses.{index_count}
+use Rattle.typed_tree.specs.declared.tree.Selector.{Selector}
+use Rattle.typed_tree.specs.declared.tree.Selector.TheVariants.{Element, Field}
+use Rattle.typed_tree.specs.declared.tree.Tree.{Tree}
+use Rattle.domain.specs.Interval.{HasMember, Interval}
+use Rattle.meaning.specs.Store.{Environment, Store}
+use Rattle.leaf_rows.specs.Leaves.{Leaf, is_named, leaves_of}
+use Rattle.leaf_rows.specs.Rows.{all_parts, first_index, is_structured, rows_accessed, rows_of}
+use Rattle.component_states.specs.Components.{At, Entire, Inside, Reach}
+use Rattle.component_states.specs.Holds.{IsOfRow}
+use Rattle.component_states.specs.Laws.{IsReach, IsReached}
+use Rattle.expression_checker.proofs.SoundRows.{IsReachedBy, LieIn, Matches, RowsAre, first-then, one-way}
+use Rattle.cert_checker.specs.Walk.{Stores, alike, paired}
+use Rattle.cert_checker.proofs.SoundStores.{AreReached, AreTargets, IsFormed, bound-once}
+use Rattle.cert_checker.proofs.Stored.{Pairs, at-head, head-or_tail, in-tail}
+
+-- ---- lists
+
+pub contains-at : {X : Type 0} (xs : List X) (k : ℕ) (x : X) → slice_get xs k ≡ Some x → Contains xs x
+contains-at xs k x is = (k, slice_get_within xs k x is, get_or_from_slice_get xs k x x is)
+
+pub at-contained : {X : Type 0} (xs : List X) (x : X) → Contains xs x → (k : ℕ) × (slice_get xs k ≡ Some x)
+at-contained xs x (k, within, is) = (k, slice_get-get_or xs k x within ∙ ap (λ (y : _). Some y) is)
+
+pub some-at : {X : Type 0} (xs : List X) (k : ℕ) → k < length xs → (x : X) × (slice_get xs k ≡ Some x)
+some-at [] k within = absurd (omega arith)
+some-at (x ∷ xs) zero within = (x, refl)
+some-at (x ∷ xs) (suc k) within = some-at xs k (omega (arith, within))
+
+-- ---- components with numbers
+
+-- the components of a type behind a way, each with its number
+abbrev pub zipped : List Step → List (List Step) → List ℤ → Pairs
+zipped way [] numbers = []
+zipped way (rest ∷ components) [] = []
+zipped way (rest ∷ components) (n ∷ numbers) = (way ++ rest, n) ∷ zipped way components numbers
+
+pub record IsZipped (way : List Step) (components : List (List Step)) (numbers : List ℤ) (pair : List Step × ℤ) : Type 0 where
+  pub k : ℕ
+  pub rest : List Step
+  pub rest_is : slice_get components k ≡ Some rest
+  pub number_is : slice_get numbers k ≡ Some pair.1
+  pub steps_are : pair.0 ≡ way ++ rest
+
+pub zipped-at : (way : List Step) (components : List (List Step)) (numbers : List ℤ) (pair : List Step × ℤ) → Contains (zipped way components numbers) pair
+    → IsZipped way components numbers pair
+zipped-at way [] numbers pair inside = absurd (omega (arith, inside.1))
+zipped-at way (rest ∷ components) [] pair inside = absurd (omega (arith, inside.1))
+zipped-at way (rest ∷ components) (n ∷ numbers) pair inside =
+    ⊎_elim
+    (λ same. record {
+      k = 0;
+      rest = rest;
+      rest_is = refl;
+      number_is = ap (λ (p : List Step × ℤ). Some p.1) same;
+      steps_are = ap (λ (p : List Step × ℤ). p.0) (sym same);
+    })
+    (λ later.
+    let at = zipped-at way components numbers pair later in
+    record { k = suc at.k; rest = at.rest; rest_is = at.rest_is; number_is = at.number_is; steps_are = at.steps_are })
+    (head-or_tail (way ++ rest, n) pair (zipped way components numbers) inside)
+
+pub zipped-has : (way : List Step) (components : List (List Step)) (numbers : List ℤ) → length components ≡ length numbers → (rest : List Step)
+    → Contains components rest → (pair : List Step × ℤ) × Contains (zipped way components numbers) pair × (pair.0 ≡ way ++ rest)
+zipped-has way [] numbers same rest inside = absurd (omega (arith, inside.1))
+zipped-has way (first ∷ components) [] same rest inside = absurd (omega (arith, same))
+zipped-has way (first ∷ components) (n ∷ numbers) same rest inside =
+    ⊎_elim
+    (λ is. ((way ++ first, n), at-head (way ++ first, n) (zipped way components numbers), ap (λ (r : List Step). way ++ r) is))
+    (λ later.
+    let found = zipped-has way components numbers (omega (arith, same)) rest later in
+    (found.0, in-tail (way ++ first, n) found.0 (zipped way components numbers) found.1, found.2))
+    (head-or_tail first rest components inside)
+
+-- ---- rows with ranges
+
+pub alike-at : (range : Interval) (rows : List ℕ) (one : ℕ × Interval) → Contains (alike range rows) one → Contains rows one.0 × (one.1 ≡ range)
+alike-at range [] one inside = absurd (omega (arith, inside.1))
+alike-at range (row ∷ rows) one inside =
+    ⊎_elim
+    (λ same.
+    (subst (λ (r : ℕ). Contains (row ∷ rows) r) (ap (λ (o : ℕ × Interval). o.0) same) (at-head row rows), ap (λ (o : ℕ × Interval). o.1) (sym same)))
+    (λ later. let at = alike-at range rows one later in (in-tail row one.0 rows at.0, at.1))
+    (head-or_tail (row, range) one (alike range rows) inside)
+
+pub alike-has : (range : Interval) (rows : List ℕ) (row : ℕ) → Contains rows row → Contains (alike range rows) (row, range)
+alike-has range [] row inside = absurd (omega (arith, inside.1))
+alike-has range (first ∷ rows) row inside =
+    ⊎_elim (λ same. subst (λ (r : ℕ). Contains (alike range (first ∷ rows)) (r, range)) same (at-head (first, range) (alike range rows)))
+    (λ later. in-tail (first, range) (row, range) (alike range rows) (alike-has range rows row later)) (head-or_tail first row rows inside)
+
+pub record IsPaired (rows : List ℕ) (ranges : List Interval) (one : ℕ × Interval) : Type 0 where
+  pub j : ℕ
+  pub row_is : slice_get rows j ≡ Some one.0
+  pub range_is : slice_get ranges j ≡ Some one.1
+
+pub paired-at : (rows : List ℕ) (ranges : List Interval) (one : ℕ × Interval) → Contains (paired rows ranges) one → IsPaired rows ranges one
+paired-at [] ranges one inside = absurd (omega (arith, inside.1))
+paired-at (row ∷ rows) [] one inside = absurd (omega (arith, inside.1))
+paired-at (row ∷ rows) (range ∷ ranges) one inside =
+    ⊎_elim
+    (λ same. record {
+      j = 0;
+      row_is = ap (λ (o : ℕ × Interval). Some o.0) same;
+      range_is = ap (λ (o : ℕ × Interval). Some o.1) same;
+    })
+    (λ later.
+    let at = paired-at rows ranges one later in
+    record { j = suc at.j; row_is = at.row_is; range_is = at.range_is })
+    (head-or_tail (row, range) one (paired rows ranges) inside)
+
+pub paired-has : (rows : List ℕ) (ranges : List Interval) → length rows ≡ length ranges → (row : ℕ) → Contains rows row
+    → (range : Interval) × Contains (paired rows ranges) (row, range)
+paired-has [] ranges same row inside = absurd (omega (arith, inside.1))
+paired-has (first ∷ rows) [] same row inside = absurd (omega (arith, same))
+paired-has (first ∷ rows) (range ∷ ranges) same row inside =
+    ⊎_elim
+    (λ is. (range, subst (λ (r : ℕ). Contains (paired (first ∷ rows) (range ∷ ranges)) (r, range)) is (at-head (first, range) (paired rows ranges))))
+    (λ later.
+    let found = paired-has rows ranges (omega (arith, same)) row later in
+    (found.0, in-tail (first, range) (row, found.0) (paired rows ranges) found.1))
+    (head-or_tail first row rows inside)
+
+-- ---- ways
+
+number-same : (m n : ℤ) → Some m ≡ Some n → m ≡ n
+number-same m n is = cc
+
+-- with one index there is one way to it
+pub only-way : (selectors : List Selector) (way other : List Step) (number : ℤ) → index_count selectors ≡ 1 → Matches selectors way → Matches selectors other
+    → first_index way ≡ Some number → first_index other ≡ Some number → way ≡ other
+only-way [] way other number one matches others is at = absurd (omega (arith, one))
+only-way (selector ∷ selectors) [] other number one matches others is at = absurd (cc)
+only-way (selector ∷ selectors) (s ∷ way) [] number one matches others is at = absurd (cc)
+only-way (Element fits cells ∷ selectors) (step.Element i ∷ way) (step.Element j ∷ other) number one matches others is at =
+    let same : i ≡ j = number-same i j (is ∙ sym at) in
+    let none : index_count selectors ≡ 0 = omega (arith, one) in
+    ap (λ (n : ℤ). step.Element n ∷ way) same ∙ ap (λ (w : List Step). step.Element j ∷ w) (one-way selectors way other none matches.2 others.2)
+only-way (Element fits cells ∷ selectors) (step.Element i ∷ way) (step.Field b ∷ other) number one matches others is at = absurd others
+only-way (Element fits cells ∷ selectors) (step.Field a ∷ way) (t ∷ other) number one matches others is at = absurd matches
+only-way (Field position offset ∷ selectors) (step.Element i ∷ way) (t ∷ other) number one matches others is at = absurd matches
+only-way (Field position offset ∷ selectors) (step.Field a ∷ way) (step.Element j ∷ other) number one matches others is at = absurd others
+only-way (Field position offset ∷ selectors) (step.Field a ∷ way) (step.Field b ∷ other) number one matches others is at =
+    let same : a ≡ b = sym matches.0 ∙ others.0 in
+    ap (λ (p : ℕ). step.Field p ∷ way) same
+    ∙ ap (λ (w : List Step). step.Field b ∷ w) (only-way selectors way other number one matches.1 others.1 is at)
+
+-- where selectors take an index, the way has a first one
+pub has-first : (selectors : List Selector) (way : List Step) → index_count selectors ≡ 1 → Matches selectors way
+    → (number : ℤ) × (first_index way ≡ Some number)
+has-first [] way one matches = absurd (omega (arith, one))
+has-first (Element fits cells ∷ selectors) [] one matches = absurd matches
+has-first (Field position offset ∷ selectors) [] one matches = absurd matches
+has-first (Element fits cells ∷ selectors) (step.Element i ∷ way) one matches = (i, refl)
+has-first (Element fits cells ∷ selectors) (step.Field a ∷ way) one matches = absurd matches
+has-first (Field position offset ∷ selectors) (step.Element i ∷ way) one matches = absurd matches
+has-first (Field position offset ∷ selectors) (step.Field a ∷ way) one matches = has-first selectors way one matches.1
+
+-- ---- what is reached
+
+module _ (tree : Tree) (root : ℕ) (selectors : List Selector) (id : TypeId) (rows : RowsAre tree root selectors id) (env : Environment) (store : Store)
+    (way : List Step) (matches : Matches selectors way) where
+  abbrev touched : List ℕ
+  touched = rows_accessed (rows_of tree) root selectors
+
+  abbrev Behind : List Step → Type 0
+  Behind steps = (rest : List Step) × (steps ≡ way ++ rest) × Contains (components_of tree.types id) rest
+
+  behind-by : (row : ℕ) (steps : List Step) → Contains touched row → IsOfRow (all_parts tree) row steps
+      → ((other rest : List Step) → steps ≡ other ++ rest → Matches selectors other → way ≡ other) → Behind steps
+  behind-by row steps inside of_row same =
+      let lies = rows.lies row steps inside of_row in
+      (lies.1, lies.2 ∙ ap (λ (w : List Step). w ++ lies.1) (sym (same lies.0 lies.1 lies.2 lies.3)), lies.4)
+
+  -- what is reached of the rows lies behind the way
+  pub reached-behind : (reach : Reach) → IsReachedBy env store selectors way reach → IsFormed reach → (row : ℕ) (steps : List Step) → Contains touched row
+      → IsOfRow (all_parts tree) row steps → IsReached env store reach steps → Behind steps
+  reached-behind Entire none formed row steps inside of_row reached =
+      behind-by row steps inside of_row (λ other rest is others. one-way selectors way other none matches others)
+  reached-behind (At index) (one, on) (b, form_is) row steps inside of_row (number, is_index, first) =
+      let same : on.number ≡ number = bound-once env store b on.number number (on.of_form b form_is) (is_index.of_form b form_is) in
+      behind-by row steps inside of_row
+      (λ other rest is others.
+      let own = has-first selectors other one others in
+      let here : Some own.0 ≡ Some number = sym (first-then other rest own.0 own.1) ∙ ap first_index (sym is) ∙ first in
+      only-way selectors way other number one matches others (on.is_first ∙ ap (λ (n : ℤ). Some n) same)
+      (own.1 ∙ here))
+  reached-behind (Inside index) on formed row steps inside of_row reached = absurd reached
+
+  pub is-reach : (reach : Reach) → IsReachedBy env store selectors way reach → IsReach env store reach
+  is-reach Entire none = tt
+  is-reach (At index) (one, on) = (on.number, record { of_form = on.of_form })
+  is-reach (Inside index) on = tt
+
+  -- ---- numbers for the components of the type
+
+  module _ (numbers : List ℤ) (many : length (components_of tree.types id) ≡ length numbers)
+      (structured : selectors ≡ [] → is_structured tree.types id ≡ true) where
+    abbrev pairs : Pairs
+    pairs = zipped way (components_of tree.types id) numbers
+
+    pub zipped-reached : (stores : Stores) → ((one : ℕ × Interval) → Contains stores one → Contains touched one.0) → (reach : Reach)
+        → IsReachedBy env store selectors way reach → IsFormed reach → AreReached (all_parts tree) env reach pairs stores store
+    zipped-reached stores are reach reached formed one steps inside of_row is =
+        let behind = reached-behind reach reached formed one.0 steps (are one inside) of_row is in
+        let found = zipped-has way (components_of tree.types id) numbers many behind.0 behind.2 in
+        (found.0, found.1, found.2 ∙ sym behind.1)
+
+    zipped-row : (pair : List Step × ℤ) → Contains pairs pair → (row : ℕ) × Contains touched row × IsOfRow (all_parts tree) row pair.0
+    zipped-row pair inside =
+        let at = zipped-at way (components_of tree.types id) numbers pair inside in
+        let found = rows.covers way at.rest structured matches (contains-at (components_of tree.types id) at.k at.rest at.rest_is) in
+        (found.0, found.1, subst (IsOfRow (all_parts tree) found.0) (sym at.steps_are) found.2)
+
+    -- each row with the same range
+    pub alike-targets : (range : Interval) → ((n : ℤ) → Contains numbers n → HasMember range n)
+        → AreTargets (all_parts tree) root pairs (alike range touched)
+    alike-targets range each = record {
+      roots = λ one inside. rows.root_is one.0 (alike-at range touched one inside).0;
+      in_rows = λ pair inside.
+          let found = zipped-row pair inside in
+          ((found.0, range), alike-has range touched found.0 found.1, found.2);
+      in_ranges = λ pair one inside listed of_row.
+          let at = zipped-at way (components_of tree.types id) numbers pair inside in
+          subst (λ (r : Interval). HasMember r pair.1) (sym (alike-at range touched one listed).1)
+          (each pair.1 (contains-at numbers at.k pair.1 at.number_is));
+    }
+
+    -- each with its own
+    pub paired-targets : (ranges : List Interval) → length touched ≡ length ranges → LieIn tree.types id ranges numbers
+        → ((rest : List Step) (j row : ℕ) → slice_get touched j ≡ Some row → IsOfRow (all_parts tree) row (way ++ rest)
+        → (leaf : Leaf) × (slice_get (leaves_of tree.types id) j ≡ Some leaf) × (is_named leaf.steps rest ≡ true))
+        → AreTargets (all_parts tree) root pairs (paired touched ranges)
+    paired-targets ranges same lie named = record {
+      roots = λ one inside. let at = paired-at touched ranges one inside in rows.root_is one.0 (contains-at touched at.j one.0 at.row_is);
+      in_rows = λ pair inside.
+          let found = zipped-row pair inside in
+          let range = paired-has touched ranges same found.0 found.1 in
+          ((found.0, range.0), range.1, found.2);
+      in_ranges = λ pair one inside listed of_row.
+          let at = zipped-at way (components_of tree.types id) numbers pair inside in
+          let pairing = paired-at touched ranges one listed in
+          let leaf = named at.rest pairing.j one.0 pairing.row_is (subst (IsOfRow (all_parts tree) one.0) at.steps_are of_row) in
+          lie at.k pairing.j at.rest leaf.0 pair.1 one.1 at.rest_is leaf.1 leaf.2 at.number_is pairing.range_is;
+    }

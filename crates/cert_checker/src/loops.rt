@@ -1,0 +1,195 @@
+ghost use Rattle.std.specs.Prelude.{◌≡◌, ◌&&◌, None, true, false};
+ghost use Rattle.domain.specs.Interval.{is_included};
+ghost use Rattle.abstract_state.specs.declared.known.Known.TheVariants.{Ordinal};
+ghost use Rattle.abstract_state.specs.Loops.{with_undefined};
+ghost use Rattle.abstract_state.specs.State.{limits_of};
+ghost use Rattle.abstract_state.specs.View.{said_form};
+ghost use Rattle.component_states.specs.States.{joined_states, over_bound, over_change, over_variables};
+ghost use Rattle.component_states.specs.View.{viewed};
+ghost use Rattle.structured_states.specs.Loops.{limits_at};
+ghost use Rattle.structured_states.specs.View.{said_way};
+ghost use Rattle.structured_states.specs.Ways.{next, turn_begun, turn_ended, way_out, where_counts};
+ghost use Rattle.expression_checker.specs.Visits.{Visits};
+ghost use Rattle.expression_checker.specs.Walk.{within};
+ghost use Rattle.cert_checker.specs.View.{EntersLoop, Goes, IsLoop, LeavesLoop, Moves, Parts};
+ghost use Rattle.cert_checker.specs.View.{context_of, said_tested};
+ghost use Rattle.cert_checker.specs.Walk.{assign, control_change, may_control, steady_in, tested_way};
+
+use crate::stores::asked;
+use crate::walk::Walk;
+use abstract_state::limits;
+use component_states::State;
+use domain::Domain;
+use domain::interval::Interval;
+use expression_checker::fault::{CheckFault, Rule};
+use place::Place;
+use structured_states::rounds::{Round, all_control, claims_at, controls_inside, limits_at};
+use structured_states::ways::Way;
+use typed_tree::tree::RangeTest;
+
+// Where a loop begins and ends.
+impl<'a> Walk<'a> {
+    /// Goes on at the head of a loop, whose facts have to be given here.
+    pub(crate) fn enter_loop(
+        &mut self,
+        number: u32,
+        place: Place,
+        control: Option<u32>,
+    ) -> Result<(), CheckFault>
+        ensures { EntersLoop number place control self.old result self.new }
+    {
+        let round = self.round(number, control);
+        if !round.is_given(&self.flow.state, self.flow.rows) {
+            return Err(CheckFault::Broken {
+                rule: Rule::LoopEntry,
+                place,
+            });
+        }
+        let rows = self.flow.rows;
+        round.head(self.alloc, &mut self.flow.state, rows, &self.limits)?;
+        self.rounds.push(round)?;
+        Ok(())
+    }
+
+    /// Goes on behind a loop, whose facts have to be given where a round of it ends.
+    pub(crate) fn leave_loop(
+        &mut self,
+        number: u32,
+        place: Place,
+        behind: State,
+    ) -> Result<(), CheckFault>
+        ensures { LeavesLoop number place behind self.old result self.new }
+    {
+        let is_given = self
+            .round(number, None)
+            .is_given(&self.flow.state, self.flow.rows);
+        if !is_given {
+            return Err(CheckFault::Broken {
+                rule: Rule::LoopTurn,
+                place,
+            });
+        }
+        self.rounds.pop();
+        self.flow.state = behind;
+        Ok(())
+    }
+
+    /// The loop of a number, perhaps of a for statement with a control variable.
+    fn round(&self, number: u32, control: Option<u32>) -> Round<'a>
+        ensures { IsLoop number control self.now result }
+    {
+        Round {
+            claims: claims_at(&self.claims, number),
+            controls: controls_inside(self.flow.rows.tree(), number),
+            own: control,
+        }
+    }
+}
+
+// What a for does with its control variable.
+impl<'a> Walk<'a> {
+    /// Goes on where there are values; the state where there are none.
+    pub(crate) fn part_way(&mut self, way: &Way) -> Result<State, CheckFault>
+        ensures { Parts (over_variables (where_counts true (said_way way.now)))
+            (over_variables (where_counts false (said_way way.now))) self.old result self.new }
+    {
+        let mut never = self.flow.state.copied(self.alloc)?;
+        way.relate(&mut never.variables, false)?;
+        way.relate(&mut self.flow.state.variables, true)?;
+        Ok(never)
+    }
+
+    /// Goes on behind both ways, where the control variable is undefined.
+    pub(crate) fn leave_way(&mut self, control: u32, never: State) -> Result<(), CheckFault>
+        ensures { Moves (λ state. over_change control None (with_undefined control)
+            (joined_states state (viewed never))) self.old result self.new }
+    {
+        self.flow.state.join(self.alloc, never)?;
+        self.flow.state.undefine(control);
+        Ok(())
+    }
+
+    /// The tests of both bounds.
+    pub(crate) fn tested_way(&mut self, place: Place, way: Way) -> Result<Way, CheckFault>
+        ensures { (visits : Visits)
+            → Goes (tested_way place (said_way way)) self.old visits (said_tested result) self.new visits }
+    {
+        let first = way.first.met(&self.flow.state.variables);
+        let last = way.last.met(&self.flow.state.variables);
+        let first = self.tested_end(way.first.fits, first)?;
+        let last = self.tested_end(way.last.fits, last)?;
+        self.control_change(place, &way)?;
+        Ok(way.with_values(first, last))
+    }
+
+    /// The test of a bound whose value lies in a range.
+    fn tested_end(&mut self, fits: RangeTest, range: Interval) -> Result<Interval, CheckFault>
+        ensures { (visits : Visits)
+            → Goes (within (limits_of fits.range) fits.site range) self.old visits result self.new visits }
+    {
+        self.flow.within(limits(fits.range), fits.site, range)
+    }
+
+    /// In each loop round the walk is a for statement that the variable controls, and its values are of its type.
+    fn control_change(&self, place: Place, way: &Way) -> Result<(), CheckFault>
+        ensures { (visits : Visits) → Goes (control_change place way.now.control way.now.first.fits.range
+            way.now.last.fits.range) self.now visits result self.now visits }
+    {
+        asked(self.may_control(way), Rule::Changes, place)
+    }
+
+    /// Whether it is so.
+    fn may_control(&self, way: &Way) -> bool
+        ensures { result ≡ may_control (context_of self.now) way.now.control way.now.first.fits.range
+            way.now.last.fits.range }
+    {
+        all_control(&self.rounds, way.control) && self.fits(way)
+    }
+
+    /// Whether both bounds are tested for the control variable's type.
+    fn fits(&self, way: &Way) -> bool
+        ensures { result ≡ (is_included (limits_of way.now.first.fits.range)
+            (limits_at self.now.limits.items way.now.control)
+            && is_included (limits_of way.now.last.fits.range) (limits_at self.now.limits.items way.now.control)) }
+    {
+        let own = limits_at(&self.limits, way.control);
+        limits(way.first.fits.range).leq(&own) && limits(way.last.fits.range).leq(&own)
+    }
+
+    /// The control variable is the first bound.
+    pub(crate) fn begin_way(&mut self, way: &Way) -> Result<(), CheckFault>
+        ensures { (visits : Visits)
+            → Goes (assign way.now.control (said_form way.now.first.form) (Ordinal way.now.first.values))
+            self.old visits result self.new visits }
+    {
+        self.assigned(way.control, way.first.values, way.first.form)
+    }
+
+    /// The way with the forms of its bounds that the turns of its loop leave as they are.
+    pub(crate) fn steady_in(&self, number: u32, way: Way) -> Way
+        ensures { said_way result ≡ steady_in (context_of self.now) number (said_way way) }
+    {
+        way.steady(&self.round(number, Some(way.control)))
+    }
+
+    /// Goes on where a turn begins.
+    pub(crate) fn begin_turn(&mut self, way: &Way) -> Result<(), CheckFault>
+        ensures { Moves (over_variables (turn_begun (said_way way.now))) self.old result self.new }
+    {
+        way.begin_turn(&mut self.flow.state.variables)?;
+        Ok(())
+    }
+
+    /// Goes on where another turn follows; the state where none does.
+    pub(crate) fn end_turn(&mut self, way: &Way) -> Result<State, CheckFault>
+        ensures { Parts (over_change way.now.control (next (said_way way.now)) (turn_ended (said_way way.now)))
+            (over_bound way.now.control (said_form way.now.last.form) (way_out (said_way way.now))) self.old result
+            self.new }
+    {
+        let mut out = self.flow.state.copied(self.alloc)?;
+        out.replace(self.alloc, way.control, way.last.form)?;
+        way.end_turn(&mut self.flow.state.variables)?;
+        self.flow.state.change(way.control, way.next());
+        Ok(out)
+    }
+}

@@ -1,0 +1,148 @@
+ghost use Rattle.std.specs.Prelude.{◌≡◌, None, Some, pos};
+ghost use Rattle.domain.specs.Facts.{Number, Plus, said_bound};
+ghost use Rattle.abstract_state.specs.View.{IsFar, said_form, viewed};
+ghost use Rattle.component_states.specs.Components.{bound_in_place, bound_with, changed_bound, has_value, is_next};
+ghost use Rattle.component_states.specs.Components.{moved_bound, same_bound, some_at_least, some_at_most};
+
+use abstract_state::State;
+use domain::facts::Bound;
+
+/// A number as a bound, if it is one that bounds have.
+pub(crate) fn of_number(number: i64) -> Option<Bound>
+    ensures { said_form result ≡ bound_with Number number }
+{
+    if number < -2147483647 || 2147483647 < number {
+        return None;
+    }
+    Some(Bound::Number(number as i32))
+}
+
+/// A variable plus a number, if it is one that bounds have.
+fn of_variable(root: u32, number: i64) -> Option<Bound>
+    ensures { said_form result ≡ bound_with (Plus root) number }
+{
+    if number < -2147483647 || 2147483647 < number {
+        return None;
+    }
+    Some(Bound::Plus {
+        root,
+        number: number as i32,
+    })
+}
+
+/// A bound plus a number, which is far from the greatest and the least.
+fn moved(bound: Bound, by: i64) -> Option<Bound>
+    requires { IsFar by }
+    ensures { said_form result ≡ moved_bound by (said_bound bound) }
+{
+    match bound {
+        Bound::Number(number) => of_number(i64::from(number) + by),
+        Bound::Plus { root, number } => of_variable(root, i64::from(number) + by),
+    }
+}
+
+/// What is left of a bound after a variable got a value, perhaps of a bound form.
+pub(crate) fn changed(bound: Bound, root: u32, form: Option<Bound>) -> Option<Bound>
+    ensures { said_form result ≡ changed_bound root (said_form form) (said_bound bound) }
+{
+    match form {
+        Some(Bound::Plus { root: by, number }) if root == by => raised(bound, root, number),
+        _ => unless_resting(bound, root),
+    }
+}
+
+/// What is left of a bound after a variable rose by a number.
+fn raised(bound: Bound, root: u32, by: i32) -> Option<Bound>
+    ensures { said_form result ≡ changed_bound root (Some (Plus root by)) (said_bound bound) }
+{
+    match bound {
+        Bound::Plus { root: other, .. } if root == other => moved(bound, -i64::from(by)),
+        _ => Some(bound),
+    }
+}
+
+/// The bound, if it doesn't rest on a variable.
+fn unless_resting(bound: Bound, root: u32) -> Option<Bound>
+    ensures { said_form result ≡ changed_bound root None (said_bound bound) }
+{
+    match bound {
+        Bound::Plus { root: other, .. } if root == other => None,
+        _ => Some(bound),
+    }
+}
+
+/// The bound with a variable's own bound in the variable's place, if it has one.
+pub(crate) fn in_place(bound: Bound, root: u32, own: Option<Bound>) -> Option<Bound>
+    ensures { said_form result ≡ bound_in_place root (said_form own) (said_bound bound) }
+{
+    match (bound, own) {
+        (
+            Bound::Plus {
+                root: other,
+                number,
+            },
+            Some(own),
+        ) if root == other => moved(own, i64::from(number)),
+        _ => Some(bound),
+    }
+}
+
+/// Whether two bounds are the same.
+pub(crate) fn is_same(left: Bound, right: Bound) -> bool
+    ensures { result ≡ same_bound (said_bound left) (said_bound right) }
+{
+    match (left, right) {
+        (Bound::Number(m), Bound::Number(n)) => m == n,
+        (
+            Bound::Plus { root, number: m },
+            Bound::Plus {
+                root: other,
+                number: n,
+            },
+        ) => { root == other && m == n }
+        _ => false,
+    }
+}
+
+/// Whether the variable of a bound, if it has one, is known to be defined.
+pub(crate) fn has_value(state: &State, bound: Bound) -> bool
+    ensures { result ≡ has_value (viewed state.now) (said_bound bound) }
+{
+    match bound {
+        Bound::Number(_) => true,
+        Bound::Plus { root, .. } => state.is_defined(root),
+    }
+}
+
+/// Whether a bound is known to be the one behind another.
+pub(crate) fn is_next(state: &State, bound: Bound, next: Bound) -> bool
+    ensures { result ≡ is_next (viewed state.now) (said_bound bound) (said_bound next) }
+{
+    let behind = moved(bound, 1);
+    is_some_at_most(state, behind, next) && is_some_at_least(state, behind, next)
+}
+
+/// Whether a bound is known to lie below another.
+pub(crate) fn is_below(state: &State, bound: Bound, other: Bound) -> bool
+    ensures { result ≡ some_at_most (viewed state.now) (moved_bound (pos 1) (said_bound bound)) (said_bound other) }
+{
+    is_some_at_most(state, moved(bound, 1), other)
+}
+
+fn is_some_at_most(state: &State, bound: Option<Bound>, other: Bound) -> bool
+    ensures { result ≡ some_at_most (viewed state.now) (said_form bound) (said_bound other) }
+{
+    match bound {
+        None => false,
+        Some(bound) => state.knows_at_most(bound, other),
+    }
+}
+
+fn is_some_at_least(state: &State, bound: Option<Bound>, other: Bound) -> bool
+    ensures { result ≡ some_at_least (viewed state.now) (said_form bound) (said_bound other) }
+{
+    match bound {
+        None => false,
+        Some(bound) => state.knows_at_most(other, bound),
+    }
+}

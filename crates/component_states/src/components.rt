@@ -1,0 +1,297 @@
+ghost use Rattle.std.specs.Prelude.{◌≡◌, IfOk, filter, map, slice_index_or};
+ghost use Rattle.domain.specs.Facts.{said_bound};
+ghost use Rattle.domain.specs.Interval.{vacant};
+ghost use Rattle.abstract_state.specs.View.{said_form, viewed};
+ghost use Rattle.component_states.specs.Components.{all_changed, changed, gives, gives_stretch, head, no_values};
+ghost use Rattle.component_states.specs.Components.{replaced, row_at, stored, with_claim, with_claims, with_defined};
+ghost use Rattle.component_states.specs.Components.{with_element, with_joined, with_range, with_row, with_some_element};
+ghost use Rattle.component_states.specs.Components.{with_touched};
+ghost use Rattle.component_states.specs.View.{said_component, said_reach, said_row, said_stretch, viewed_components};
+
+use crate::facts::{ComponentFact, Reach, Stretch};
+use crate::row_list::Row;
+use crate::{bound_rules, row_list, stretches};
+use abstract_state::State;
+use domain::Domain;
+use domain::facts::Bound;
+use domain::interval::Interval;
+use std::alloc::{AllocError, Global};
+
+/// What is known of the components of structured variables.
+#[derive(Drop)]
+pub(crate) struct Components {
+    /// What is known of each row, by its number.
+    pub(crate) rows: Vec<Row>,
+    /// Those that are defined, each once.
+    pub(crate) stretches: Vec<Stretch>,
+}
+
+impl Components {
+    /// So many rows, none of which has a value.
+    pub(crate) fn undefined(alloc: Global, rows: usize) -> Result<Components, AllocError>
+        ensures { IfOk result (λ known. viewed_components known ≡ no_values rows) }
+    {
+        Ok(Components {
+            rows: vec![in alloc; Row::NONE; rows]?,
+            stretches: Vec::new(alloc),
+        })
+    }
+
+    /// What is known of a row.
+    pub(crate) fn row(&self, row: u32) -> Row
+        ensures { said_row result ≡ row_at (viewed_components self.now) row }
+    {
+        row_list::row_at(&self.rows, row as usize)
+    }
+
+    fn set_row(&mut self, row: u32, state: Row)
+        ensures { viewed_components self.new ≡ with_row row (said_row state) (viewed_components self.old) }
+    {
+        row_list::set(&mut self.rows, row as usize, state);
+    }
+
+    /// The values of a row lie in a range from here on.
+    pub(crate) fn set_range(&mut self, row: u32, range: Interval)
+        ensures { viewed_components self.new ≡ with_range row range (viewed_components self.old) }
+    {
+        let is_defined = self.row(row).is_defined;
+        self.set_row(row, Row { range, is_defined });
+    }
+
+    /// Each of several rows may have other values of its range; these stand by the numbers of rows.
+    pub(crate) fn touch_all(&mut self, limits: &[Interval], rows: &[u32])
+        ensures { viewed_components self.new ≡ with_touched
+            (λ row. slice_index_or limits.now row vacant) rows.now (viewed_components self.old) }
+    {
+        for row in rows {
+            self.set_range(*row, limit(limits, *row));
+        }
+    }
+
+    /// Each component of a row is defined from here on.
+    pub(crate) fn define(&mut self, row: u32)
+        ensures { viewed_components self.new ≡ with_defined row (viewed_components self.old) }
+    {
+        let range = self.row(row).range;
+        self.set_row(
+            row,
+            Row {
+                range,
+                is_defined: true,
+            },
+        );
+    }
+
+    /// What is left after a variable got a value, perhaps of a bound form.
+    pub(crate) fn change(&mut self, root: u32, form: Option<Bound>)
+        ensures { viewed_components self.new ≡ changed root (said_form form) (viewed_components self.old) }
+    {
+        stretches::change(&mut self.stretches, root, form);
+    }
+
+    /// What is left where each of several variables may have another value.
+    pub(crate) fn change_all(&mut self, roots: &[u32])
+        ensures { viewed_components self.new ≡ all_changed roots.now (viewed_components self.old) }
+    {
+        for root in roots {
+            self.change(*root, None);
+        }
+    }
+
+    /// What is known of a variable is known of its bound too, if it has one.
+    pub(crate) fn replace(
+        &mut self,
+        alloc: Global,
+        root: u32,
+        own: Option<Bound>,
+    ) -> Result<(), AllocError>
+        ensures { IfOk result
+            (λ _. viewed_components self.new ≡ replaced root (said_form own) (viewed_components self.old)) }
+    {
+        let more = stretches::in_place(alloc, &self.stretches, root, own)?;
+        stretches::insert_all(&mut self.stretches, &more)
+    }
+
+    /// A claim is known from here on; a range beside that which is known.
+    pub(crate) fn claim(&mut self, fact: &ComponentFact) -> Result<(), AllocError>
+        ensures { IfOk result
+            (λ _. viewed_components self.new ≡ with_claim (said_component fact.now) (viewed_components self.old)) }
+    {
+        match fact {
+            ComponentFact::Range { row, range } => {
+                let both = self.row(*row).range.meet(range);
+                self.set_range(*row, both);
+                Ok(())
+            }
+            ComponentFact::Defined { row } => {
+                self.define(*row);
+                Ok(())
+            }
+            ComponentFact::Stretched(stretch) => stretches::insert(&mut self.stretches, *stretch),
+        }
+    }
+
+    /// Claims are known from here on, one after another.
+    pub(crate) fn claim_all(&mut self, facts: &[ComponentFact]) -> Result<(), AllocError>
+        ensures { IfOk result (λ _. viewed_components self.new
+            ≡ with_claims (map said_component facts.now) (viewed_components self.old)) }
+    {
+        for fact in facts {
+            self.claim(fact)?;
+        }
+        Ok(())
+    }
+
+    /// What is known at the head of a loop: what any number of turns leaves, and the claims of a certificate.
+    pub(crate) fn head(
+        &mut self,
+        limits: &[Interval],
+        roots: &[u32],
+        rows: &[u32],
+        claims: &[ComponentFact],
+    ) -> Result<(), AllocError>
+        ensures { IfOk result (λ _. viewed_components self.new ≡ head (λ row. slice_index_or limits.now row vacant)
+            roots.now rows.now (map said_component claims.now) (viewed_components self.old)) }
+    {
+        self.change_all(roots);
+        self.touch_all(limits, rows);
+        self.claim_all(claims)
+    }
+
+    /// Whether a fact is given, by what is known of variables.
+    pub(crate) fn gives(&self, state: &State, fact: &ComponentFact) -> bool
+        ensures { result ≡ gives (viewed state.now) (viewed_components self.now) (said_component fact.now) }
+    {
+        match fact {
+            ComponentFact::Range { row, range } => self.row(*row).range.leq(range),
+            ComponentFact::Defined { row } => self.row(*row).is_defined,
+            ComponentFact::Stretched(stretch) => self.gives_stretch(state, *stretch),
+        }
+    }
+
+    /// Whether a stretch is known to be defined: its bounds have values, and it has no index, or its row is defined, or
+    /// a stretch that is held has all of it.
+    fn gives_stretch(&self, state: &State, stretch: Stretch) -> bool
+        ensures { result ≡ gives_stretch (viewed state.now) (viewed_components self.now) (said_stretch stretch) }
+    {
+        (bound_rules::has_value(state, stretch.first)
+            && bound_rules::has_value(state, stretch.last))
+            && (stretch.is_empty(state)
+                || (self.row(stretch.row).is_defined
+                    || stretches::cover(&self.stretches, state, stretch)))
+    }
+
+    /// Those of some stretches that are given.
+    pub(crate) fn given(
+        &self,
+        alloc: Global,
+        state: &State,
+        stretches: &[Stretch],
+    ) -> Result<Vec<Stretch>, AllocError>
+        ensures { IfOk result (λ given. map said_stretch given.items
+            ≡ filter (gives_stretch (viewed state.now) (viewed_components self.now)) (map said_stretch stretches.now)) }
+    {
+        let mut given = Vec::new(alloc);
+        for i in 0..stretches.len() {
+            if self.gives_stretch(state, stretches[i]) {
+                given.push(stretches[i])?;
+            }
+        }
+        Ok(given)
+    }
+
+    /// The same once more.
+    pub(crate) fn copied(&self, alloc: Global) -> Result<Components, AllocError>
+        ensures { IfOk result (λ known. viewed_components known ≡ viewed_components self.now) }
+    {
+        Ok(Components {
+            rows: Vec::from_slice(alloc, &self.rows)?,
+            stretches: Vec::from_slice(alloc, &self.stretches)?,
+        })
+    }
+
+    /// Values of a range were stored to what an access reaches in a row.
+    pub(crate) fn store(
+        &mut self,
+        alloc: Global,
+        state: &State,
+        reach: Reach,
+        row: u32,
+        range: Interval,
+    ) -> Result<(), AllocError>
+        ensures { IfOk result (λ _. viewed_components self.new
+            ≡ stored (viewed state.now) (said_reach reach) row range (viewed_components self.old)) }
+    {
+        match reach {
+            Reach::Entire => {
+                self.set_range(row, range);
+                self.define(row);
+                Ok(())
+            }
+            Reach::At(index) => {
+                self.widen(row, range);
+                self.define_some(alloc, state, row, index.form)
+            }
+            Reach::Inside(_) => {
+                self.widen(row, range);
+                Ok(())
+            }
+        }
+    }
+
+    /// Components of a row may have a value of a range from here on.
+    fn widen(&mut self, row: u32, range: Interval)
+        ensures { viewed_components self.new ≡ with_joined row range (viewed_components self.old) }
+    {
+        let both = self.row(row).range.join(&range);
+        self.set_range(row, both);
+    }
+
+    /// The components of an index are defined from here on, if it is a bound.
+    fn define_some(
+        &mut self,
+        alloc: Global,
+        state: &State,
+        row: u32,
+        index: Option<Bound>,
+    ) -> Result<(), AllocError>
+        ensures { IfOk result (λ _. viewed_components self.new
+            ≡ with_some_element (viewed state.now) row (said_form index) (viewed_components self.old)) }
+    {
+        match index {
+            None => Ok(()),
+            Some(index) => self.define_element(alloc, state, row, index),
+        }
+    }
+
+    /// The components of an index are defined from here on: stretches that end beside it become longer.
+    fn define_element(
+        &mut self,
+        alloc: Global,
+        state: &State,
+        row: u32,
+        index: Bound,
+    ) -> Result<(), AllocError>
+        ensures { IfOk result (λ _. viewed_components self.new
+            ≡ with_element (viewed state.now) row (said_bound index) (viewed_components self.old)) }
+    {
+        if self.gives_stretch(state, Stretch::at(row, index)) {
+            return Ok(());
+        }
+        let more = stretches::longer_or_alone(alloc, &self.stretches, state, row, index)?;
+        let mut held = stretches::others(alloc, &self.stretches, state, row, index)?;
+        stretches::insert_all(&mut held, &more)?;
+        self.stretches = held;
+        Ok(())
+    }
+}
+
+/// The limits of a row.
+fn limit(limits: &[Interval], row: u32) -> Interval
+    ensures { result ≡ slice_index_or limits.now row vacant }
+{
+    match limits.get(row as usize) {
+        Some(range) => *range,
+        None => Interval::EMPTY,
+    }
+}

@@ -1,0 +1,326 @@
+ghost use Rattle.std.specs.Prelude.{◌≡◌, IfOk, None, map, slice_index_or};
+ghost use Rattle.domain.specs.Interval.{vacant};
+ghost use Rattle.abstract_state.specs.Changes.{assigned};
+ghost use Rattle.abstract_state.specs.Loops.{replaced as replaced_variable, with_undefined};
+ghost use Rattle.abstract_state.specs.View.{said_form};
+ghost use Rattle.component_states.specs.Components.{all_changed, changed, head, replaced, row_at, stored, with_claim};
+ghost use Rattle.component_states.specs.Components.{with_claims, with_defined, with_range, with_touched};
+ghost use Rattle.component_states.specs.States.{all_of_row, dead, gives_component, gives_components, gives_form};
+ghost use Rattle.component_states.specs.States.{gives_index, gives_reached, gives_some, is_dead, joined_components};
+ghost use Rattle.component_states.specs.States.{joined_states, over_bound, over_change, over_components, range_stretch};
+ghost use Rattle.component_states.specs.States.{start};
+ghost use Rattle.component_states.specs.View.{said_component, said_index, said_reach, said_some, viewed};
+ghost use Rattle.component_states.specs.View.{viewed_components};
+
+use crate::components::Components;
+use crate::facts::{ComponentFact, Index, Reach, Stretch};
+use crate::{bound_rules, row_list, stretches};
+use abstract_state::State as Variables;
+use domain::facts::Bound;
+use domain::interval::Interval;
+use std::alloc::{AllocError, Global};
+use types::OrdinalRange;
+
+/// What the checker knows at a point of the program.
+#[derive(Drop)]
+pub struct State {
+    /// What is known of variables.
+    pub variables: Variables,
+    /// What is known of the components of those that are structured.
+    pub(crate) components: Components,
+}
+
+impl State {
+    /// The start of a block with so many variables and rows: each is undefined.
+    pub fn undefined(alloc: Global, roots: usize, rows: usize) -> Result<State, AllocError>
+        ensures { IfOk result (λ state. viewed state ≡ start roots rows) }
+    {
+        let variables = Variables::undefined(alloc, roots)?;
+        let components = Components::undefined(alloc, rows)?;
+        Ok(State {
+            variables,
+            components,
+        })
+    }
+
+    /// No run comes here.
+    pub fn dead(alloc: Global) -> State
+        ensures { viewed result ≡ dead }
+    {
+        State {
+            variables: Variables::Dead,
+            components: Components {
+                rows: Vec::new(alloc),
+                stretches: Vec::new(alloc),
+            },
+        }
+    }
+
+    /// Whether no run comes here.
+    pub fn is_dead(&self) -> bool
+        ensures { result ≡ is_dead (viewed self.now) }
+    {
+        self.variables.is_dead()
+    }
+
+    /// What is left of what is known of components after a variable got a value, perhaps of a bound form.
+    pub fn change(&mut self, root: u32, form: Option<Bound>)
+        ensures { viewed self.new ≡ over_components (λ _. changed root (said_form form)) (viewed self.old) }
+    {
+        self.components.change(root, form);
+    }
+
+    /// The variable has a value of the range from here on, perhaps of a bound form.
+    pub fn assign(
+        &mut self,
+        root: u32,
+        range: Interval,
+        form: Option<Bound>,
+    ) -> Result<(), AllocError>
+        ensures { IfOk result (λ _. viewed self.new
+            ≡ over_change root (said_form form) (assigned root range (said_form form)) (viewed self.old)) }
+    {
+        self.components.change(root, form);
+        self.variables.assign(root, range, form)
+    }
+
+    /// A variable is undefined from here on.
+    pub fn undefine(&mut self, root: u32)
+        ensures { viewed self.new ≡ over_change root None (with_undefined root) (viewed self.old) }
+    {
+        self.components.change(root, None);
+        self.variables.undefine(root);
+    }
+
+    /// What is known of a variable is known of its bound too, if it has one.
+    pub fn replace(
+        &mut self,
+        alloc: Global,
+        root: u32,
+        own: Option<Bound>,
+    ) -> Result<(), AllocError>
+        ensures { IfOk result (λ _. viewed self.new
+            ≡ over_bound root (said_form own) (replaced_variable root (said_form own)) (viewed self.old)) }
+    {
+        self.components.replace(alloc, root, own)?;
+        self.variables.replace(alloc, root, own)
+    }
+
+    /// What is known of components by a variable is known by its bound too, if it has one.
+    pub fn replace_bounds(
+        &mut self,
+        alloc: Global,
+        root: u32,
+        own: Option<Bound>,
+    ) -> Result<(), AllocError>
+        ensures { IfOk result
+            (λ _. viewed self.new ≡ over_components (λ _. replaced root (said_form own)) (viewed self.old)) }
+    {
+        self.components.replace(alloc, root, own)
+    }
+
+    /// What is known of components at the head of a loop: what any number of turns leaves, and the claims of a
+    /// certificate. Turns give touched variables and rows other values, those of rows within the limits, which stand by
+    /// the numbers of rows.
+    pub fn head(
+        &mut self,
+        limits: &[Interval],
+        roots: &[u32],
+        rows: &[u32],
+        claims: &[ComponentFact],
+    ) -> Result<(), AllocError>
+        ensures { IfOk result (λ _. viewed self.new ≡ over_components
+            (λ _. head (λ row. slice_index_or limits.now row vacant) roots.now rows.now (map said_component claims.now))
+            (viewed self.old)) }
+    {
+        self.components.head(limits, roots, rows, claims)
+    }
+
+    /// Each of several rows may have other values within its limits, which stand by the numbers of rows.
+    pub fn touch_rows(&mut self, limits: &[Interval], rows: &[u32])
+        ensures { viewed self.new ≡ over_components
+            (λ _. with_touched (λ row. slice_index_or limits.now row vacant) rows.now) (viewed self.old) }
+    {
+        self.components.touch_all(limits, rows);
+    }
+
+    /// What is left of what is known of components where each of several variables may have another value.
+    pub fn touch_roots(&mut self, roots: &[u32])
+        ensures { viewed self.new ≡ over_components (λ _. all_changed roots.now) (viewed self.old) }
+    {
+        self.components.change_all(roots);
+    }
+
+    /// The values of a row lie in a range from here on.
+    pub fn touch_row(&mut self, row: u32, range: Interval)
+        ensures { viewed self.new ≡ over_components (λ _. with_range row range) (viewed self.old) }
+    {
+        self.components.set_range(row, range);
+    }
+
+    /// Each component of a row is defined from here on.
+    pub fn define_row(&mut self, row: u32)
+        ensures { viewed self.new ≡ over_components (λ _. with_defined row) (viewed self.old) }
+    {
+        self.components.define(row);
+    }
+
+    /// A claim is known from here on; a range beside that which is known.
+    pub fn claim(&mut self, fact: &ComponentFact) -> Result<(), AllocError>
+        ensures { IfOk result (λ _. viewed self.new
+            ≡ over_components (λ _. with_claim (said_component fact.now)) (viewed self.old)) }
+    {
+        self.components.claim(fact)
+    }
+
+    /// Claims are known from here on.
+    pub fn claim_all(&mut self, facts: &[ComponentFact]) -> Result<(), AllocError>
+        ensures { IfOk result (λ _. viewed self.new
+            ≡ over_components (λ _. with_claims (map said_component facts.now)) (viewed self.old)) }
+    {
+        self.components.claim_all(facts)
+    }
+
+    /// Whether a fact of components is given; a dead state gives each.
+    pub fn gives(&self, fact: &ComponentFact) -> bool
+        ensures { result ≡ gives_component (viewed self.now) (said_component fact.now) }
+    {
+        self.is_dead() || self.components.gives(&self.variables, fact)
+    }
+
+    /// Whether each of several facts of components is given.
+    pub fn gives_all(&self, facts: &[ComponentFact]) -> bool
+        ensures { result ≡ gives_components (viewed self.now) (map said_component facts.now) }
+    {
+        for fact in facts {
+            if !self.gives(fact) {
+                return false;
+            }
+        }
+        true
+    }
+
+    /// Whether what an access reaches in a row, whose first index has these values, is defined.
+    pub fn gives_reached(&self, reach: Reach, range: Option<OrdinalRange>, row: u32) -> bool
+        ensures { result ≡ gives_reached (viewed self.now) (said_reach reach) range row }
+    {
+        match reach {
+            Reach::Entire => self.gives(&all_of_row(range, row)),
+            Reach::At(index) => self.gives_index(row, index),
+            Reach::Inside(index) => self.gives_index(row, index),
+        }
+    }
+
+    /// Whether the components of a row at an index are defined, by its form or by where it lies.
+    fn gives_index(&self, row: u32, index: Index) -> bool
+        ensures { result ≡ gives_index (viewed self.now) row (said_index index) }
+    {
+        self.gives_form(row, index.form) || self.gives_some(range_stretch(row, index.range))
+    }
+
+    fn gives_form(&self, row: u32, form: Option<Bound>) -> bool
+        ensures { result ≡ gives_form (viewed self.now) row (said_form form) }
+    {
+        match form {
+            None => false,
+            Some(index) => self.gives(&ComponentFact::Stretched(Stretch::at(row, index))),
+        }
+    }
+
+    fn gives_some(&self, stretch: Option<Stretch>) -> bool
+        ensures { result ≡ gives_some (viewed self.now) (said_some stretch) }
+    {
+        match stretch {
+            None => self.is_dead(),
+            Some(stretch) => self.gives(&ComponentFact::Stretched(stretch)),
+        }
+    }
+
+    /// The range of the values of a row.
+    pub fn row_range(&self, row: u32) -> Interval
+        ensures { result ≡ (row_at (viewed self.now).components row).range }
+    {
+        self.components.row(row).range
+    }
+
+    /// Values of a range were stored to what an access reaches in a row.
+    pub fn store(
+        &mut self,
+        alloc: Global,
+        reach: Reach,
+        row: u32,
+        range: Interval,
+    ) -> Result<(), AllocError>
+        ensures { IfOk result (λ _. viewed self.new
+            ≡ over_components (λ known. stored known (said_reach reach) row range) (viewed self.old)) }
+    {
+        self.components
+            .store(alloc, &self.variables, reach, row, range)
+    }
+
+    /// The same state once more, for another way from here on.
+    pub fn copied(&self, alloc: Global) -> Result<State, AllocError>
+        ensures { IfOk result (λ state. viewed state ≡ viewed self.now) }
+    {
+        let variables = self.variables.copied(alloc)?;
+        let components = self.components.copied(alloc)?;
+        Ok(State {
+            variables,
+            components,
+        })
+    }
+
+    /// What is known where the way to here meets another.
+    pub fn join(&mut self, alloc: Global, other: State) -> Result<(), AllocError>
+        ensures { IfOk result (λ _. viewed self.new ≡ joined_states (viewed self.old) (viewed other)) }
+    {
+        if self.is_dead() {
+            *self = other;
+            return Ok(());
+        }
+        if other.is_dead() {
+            return Ok(());
+        }
+        let components = self.joined_components(alloc, &other)?;
+        self.variables.join(alloc, other.variables)?;
+        self.components = components;
+        Ok(())
+    }
+
+    /// What is known of components behind this way and another: what both give.
+    fn joined_components(&self, alloc: Global, other: &State) -> Result<Components, AllocError>
+        ensures { IfOk result
+            (λ both. viewed_components both ≡ joined_components (viewed self.now) (viewed other.now)) }
+    {
+        let one = &self.components;
+        let another = &other.components;
+        let more = one.given(alloc, &self.variables, &another.stretches)?;
+        let mut stretches = another.given(alloc, &other.variables, &one.stretches)?;
+        stretches::insert_all(&mut stretches, &more)?;
+        let rows = row_list::joined(alloc, &one.rows, &another.rows)?;
+        Ok(Components { rows, stretches })
+    }
+}
+
+/// That each component of a row is defined: of one with indexes, those from the first index to the last are.
+pub fn all_of_row(range: Option<OrdinalRange>, row: u32) -> ComponentFact
+    ensures { said_component result ≡ all_of_row range row }
+{
+    match range {
+        None => ComponentFact::Defined { row },
+        Some(range) => ComponentFact::Stretched(Stretch {
+            row,
+            first: Bound::Number(range.first),
+            last: Bound::Number(range.last),
+        }),
+    }
+}
+
+/// The stretch of a row's indexes in a range, if its ends are numbers that bounds have.
+fn range_stretch(row: u32, range: Interval) -> Option<Stretch>
+    ensures { said_some result ≡ range_stretch row range }
+{
+    let first = bound_rules::of_number(range.first());
+    let last = bound_rules::of_number(range.last());
+    Stretch::between(row, first, last)
+}

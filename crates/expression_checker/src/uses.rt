@@ -1,0 +1,186 @@
+//! The uses of what is accessed, which enter nothing: the states of its rows, and whether its site is closed.
+ghost use Rattle.std.specs.Prelude.{◌≡◌, ◌||◌, ◌&&◌, IfOk, [], ◌∷◌};
+ghost use Rattle.component_states.specs.States.{is_dead};
+ghost use Rattle.leaf_rows.specs.Rows.{is_structured};
+ghost use Rattle.component_states.specs.View.{said_reach, viewed};
+ghost use Rattle.leaf_rows.specs.View.{numbers};
+ghost use Rattle.expression_checker.specs.Visits.{Visits};
+ghost use Rattle.expression_checker.specs.View.{Goes, opened, said_ranges, seen};
+ghost use Rattle.expression_checker.specs.Walk.{all_defined, all_joined, component_use, give, is_covered, ranges_of};
+ghost use Rattle.expression_checker.specs.Walk.{text_range, use_of, value_use, whole_use, with_used};
+
+use crate::fault::CheckFault;
+use crate::flow::Flow;
+use abstract_state::Known;
+use component_states::{Reach, State};
+use domain::Domain;
+use domain::interval::Interval;
+use leaf_rows::Span;
+use std::alloc::{AllocError, Global};
+use typed_tree::tree::{Access, Selector};
+use types::TypeId;
+
+impl<'a> Flow<'a> {
+    /// The use of what is accessed, an ordinal.
+    pub(crate) fn used(
+        &mut self,
+        access: &Access,
+        reach: &Reach,
+        defined: u32,
+    ) -> Result<Known, CheckFault>
+        ensures { (visits : Visits)
+            → Goes (value_use access.now.root access.now.selectors.items (said_reach reach.now) defined)
+            self.old visits result self.new visits }
+    {
+        if access.selectors.is_empty() {
+            self.entire(access.root, defined)
+        } else {
+            self.component(access.root, &access.selectors, reach, defined)
+        }
+    }
+
+    /// The use of an entire variable, which is defined afterwards.
+    fn entire(&mut self, root: u32, defined: u32) -> Result<Known, CheckFault>
+        ensures { (visits : Visits) → Goes (use_of root defined) self.old visits result self.new visits }
+    {
+        let is_defined = self.state.variables.is_defined(root);
+        let range = self.state.variables.range(root);
+        self.state.variables.define(root);
+        Ok(Known::Ordinal(self.test(is_defined, defined, range)?))
+    }
+
+    /// The use of a component.
+    fn component(
+        &mut self,
+        root: u32,
+        selectors: &[Selector],
+        reach: &Reach,
+        defined: u32,
+    ) -> Result<Known, CheckFault>
+        ensures { (visits : Visits) → Goes (component_use root selectors.now (said_reach reach.now) defined)
+            self.old visits result self.new visits }
+    {
+        let rows = self.rows.accessed(root, selectors);
+        let range = joined_ranges(&self.state, rows);
+        self.open_unless(self.covers(reach, rows), defined)?;
+        define_used(&mut self.state, reach, rows);
+        self.state.variables.unless_empty(range);
+        Ok(Known::Ordinal(range))
+    }
+
+    /// The use of a whole value: the ranges of its components, row by row.
+    pub(crate) fn used_whole(
+        &mut self,
+        type_id: TypeId,
+        access: &Access,
+        reach: &Reach,
+        defined: u32,
+    ) -> Result<Vec<Interval>, CheckFault>
+        ensures { (visits : Visits)
+            → Goes (whole_use type_id access.now.root access.now.selectors.items (said_reach reach.now) defined)
+            self.old visits (seen said_ranges result) self.new visits }
+    {
+        let rows = self.rows.accessed(access.root, &access.selectors);
+        let ranges = ranges_of(*self.open_ids.allocator(), &self.state, rows)?;
+        self.open_unless(self.covers_whole(type_id, reach, rows), defined)?;
+        define_used(&mut self.state, reach, rows);
+        Ok(ranges)
+    }
+
+    /// Whether what is reached of a whole value is known to be defined.
+    fn covers_whole(&self, type_id: TypeId, reach: &Reach, span: Span) -> bool
+        ensures { result ≡ (is_dead (viewed self.now.state) || (is_structured self.now.rows.now.types type_id
+            && is_covered self.now.rows.now (viewed self.now.state) (said_reach reach.now) (numbers span))) }
+    {
+        self.state.is_dead() || self.rows.is_structured(type_id) && self.covers(reach, span)
+    }
+
+    /// Whether what is reached in each row is known to be defined.
+    fn covers(&self, reach: &Reach, span: Span) -> bool
+        ensures { result
+            ≡ is_covered self.now.rows.now (viewed self.now.state) (said_reach reach.now) (numbers span) }
+    {
+        for row in span.first..span.end() {
+            if !self.state.gives_reached(*reach, self.rows.index(row), row) {
+                return false;
+            }
+        }
+        true
+    }
+
+    /// The range of the characters of a string.
+    pub(crate) fn text(&self, characters: &[u8]) -> Result<Vec<Interval>, CheckFault>
+        ensures { (visits : Visits) → Goes (give (text_range characters.now ∷ []))
+            self.now visits (seen said_ranges result) self.now visits }
+    {
+        let mut ranges = Vec::new(*self.open_ids.allocator());
+        ranges.push(text_range(characters))?;
+        Ok(ranges)
+    }
+
+    /// Leaves a site open, unless it is closed.
+    fn open_unless(&mut self, closed: bool, site: u32) -> Result<(), CheckFault>
+        ensures { (visits : Visits) → Goes (opened closed site) self.old visits result self.new visits }
+    {
+        if !closed {
+            self.open_ids.push(site)?;
+        }
+        Ok(())
+    }
+}
+
+/// The ranges of rows.
+fn ranges_of(alloc: Global, state: &State, span: Span) -> Result<Vec<Interval>, AllocError>
+    ensures { IfOk result (λ ranges. ranges.items ≡ ranges_of (viewed state.now) (numbers span)) }
+{
+    let mut ranges = Vec::new(alloc);
+    for row in span.first..span.end() {
+        ranges.push(state.row_range(row))?;
+    }
+    Ok(ranges)
+}
+
+/// A range that has the numbers of the ranges of all rows.
+fn joined_ranges(state: &State, span: Span) -> Interval
+    ensures { result ≡ all_joined (ranges_of (viewed state.now) (numbers span)) }
+{
+    let mut range = Interval::EMPTY;
+    let mut row = span.end();
+    while span.first < row {
+        row -= 1;
+        range = state.row_range(row).join(&range);
+    }
+    range
+}
+
+/// Each row is defined from here on, where all of it is reached.
+fn define_used(state: &mut State, reach: &Reach, span: Span)
+    ensures { viewed state.new ≡ with_used (said_reach reach.now) (numbers span) (viewed state.old) }
+{
+    match reach {
+        Reach::Entire => define_all(state, span),
+        Reach::At(_) | Reach::Inside(_) => {}
+    }
+}
+
+fn define_all(state: &mut State, span: Span)
+    ensures { viewed state.new ≡ all_defined (numbers span) (viewed state.old) }
+{
+    for row in span.first..span.end() {
+        state.define_row(row);
+    }
+}
+
+/// The range of the characters of a string.
+fn text_range(characters: &[u8]) -> Interval
+    ensures { result ≡ text_range characters.now }
+{
+    let mut range = Interval::EMPTY;
+    let mut i = characters.len();
+    while 0 < i {
+        i -= 1;
+        let character = i32::from(characters[i]);
+        range = Interval::between(character, character).join(&range);
+    }
+    range
+}
