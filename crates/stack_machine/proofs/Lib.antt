@@ -1,5 +1,6 @@
 pub mod Addressed
 pub mod Written
+pub mod Called
 pub mod Cells
 pub mod Characters
 pub mod Examples

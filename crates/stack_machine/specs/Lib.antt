@@ -1,5 +1,5 @@
 pub mod Addresses
-pub mod Counted
+pub mod Calls
 pub mod Deeds
 pub mod Does
 pub mod Failures
@@ -13,3 +13,4 @@ pub mod Rows
 pub mod Run
 pub mod Texts
 pub mod View
+pub use Rattle.byte_ports.specs.Counted

@@ -2,7 +2,6 @@
 #![tactic(auto)]
 
 mod arithmetic;
-pub mod bytes;
 pub mod cell;
 mod form;
 mod halt;
@@ -13,3 +12,5 @@ mod output;
 mod rows;
 pub mod stop;
 mod store;
+
+pub use byte_ports::bytes;

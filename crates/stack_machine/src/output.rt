@@ -7,10 +7,10 @@ ghost use Rattle.stack_machine.specs.Texts.{characters};
 ghost use Rattle.stack_machine.specs.Ports.{AppendsOrLoses, Offers, PassesOrLoses, piece_of};
 
 use crate::arithmetic::is_true;
-use crate::bytes::Sink;
 use crate::cell::Cell;
 use crate::form::Form;
 use crate::halt::Halt;
+use byte_ports::bytes::Sink;
 use itoa::Buffer;
 use std::alloc::{AllocError, Global};
 

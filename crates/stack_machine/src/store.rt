@@ -5,6 +5,7 @@ ghost use Rattle.stack_machine.specs.Frames as frames;
 ghost use Rattle.stack_machine.specs.Rows as rows;
 
 mod addresses;
+mod calls;
 
 use crate::arithmetic::{Dyadic, Monadic, is_true, product};
 use crate::cell::Cell;

@@ -1,7 +1,7 @@
 ghost use Rattle.std.specs.Prelude.{◌≡◌, ℕ, ◌+◌, ◌^◌, ◌-◌, ◌<◌, List, [], ◌∷◌, length, Option, None, if◌then◌else◌};
 ghost use Rattle.std.specs.Io.{ReadsAtMost, WritesAtMost};
 ghost use Rattle.std.specs.Io.KnownBytes.{Appends, ReadConsumes, WriteAppends};
-ghost use Rattle.stack_machine.specs.Failures.{read_failures, write_failures};
+ghost use Rattle.byte_ports.specs.Failures.{read_failures, write_failures};
 
 use std::io;
 use std::io::{Read, Write};
@@ -48,7 +48,7 @@ pub struct Counted<T> {
 }
 
 impl<T> Counted<T> {
-    ghost use Rattle.stack_machine.specs.Counted.{inner_of, failure_count};
+    ghost use Rattle.byte_ports.specs.Counted.{inner_of, failure_count};
 
     /// Without a failure so far.
     pub fn new(inner: T) -> Counted<T>

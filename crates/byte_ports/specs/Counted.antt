@@ -1,7 +1,7 @@
 -- What a counted reader or writer shows: the reader or writer itself, and its count. It does not say when the count
 -- rises.
 use Rattle.std.specs.Prelude.{ℕ}
-use Rattle.stack_machine.specs.declared.bytes.Counted.{Counted}
+use Rattle.byte_ports.specs.declared.bytes.Counted.{Counted}
 
 -- the reader or writer itself
 abbrev pub inner_of : {T : Type 0} → Counted T → T
