@@ -134,7 +134,7 @@ module _ (g : Setting) where
 
   -- an instruction that goes on with the next one
   pub goes_on : (i : Instr) (cells after : List Cell) (place : ℕ) (output more : List ℕ) → Here place i
-      → obeyed g.target.sites i (running_at cells (g.target.to place + 1) output) ≡ Ok (running_at after (g.target.to place + 1) more)
+      → obeyed g.target.sites (length g.target.code) i (running_at cells (g.target.to place + 1) output) ≡ Ok (running_at after (g.target.to place + 1) more)
       → Comes g.target 1 (on cells place output) (on after (place + 1) more)
   goes_on i cells after place output more here does =
       subst (λ index. Comes g.target 1 (on cells place output) (running_at after index more)) (sym here.1)
@@ -142,7 +142,7 @@ module _ (g : Setting) where
 
   -- an instruction of the store alone
   pub acts : (i : Instr) (cells after : List Cell) (place : ℕ) (output : List ℕ) (attempt : Attempt Frames) → Here place i
-      → obeyed g.target.sites i (running_at cells (g.target.to place + 1) output) ≡ and_then attempt
+      → obeyed g.target.sites (length g.target.code) i (running_at cells (g.target.to place + 1) output) ≡ and_then attempt
       (with_frames (running_at cells (g.target.to place + 1) output)) → attempt ≡ Ok (framed g.running.frame g.limit g.size after)
       → Comes g.target 1 (on cells place output) (on after (place + 1) output)
   acts i cells after place output attempt here rule e =
@@ -175,7 +175,7 @@ module _ (g : Setting) where
 
   -- a check, which stays or is left out, and what it tests
   module _ (check : Instr) (cells : List Cell) (place site : ℕ) (output : List ℕ) (holds : Attempt Bool) (same : moved g.target.to check ≡ check)
-      (rule : obeyed g.target.sites check (running_at cells (g.target.to place + 1) output) ≡ checked g.target.sites site
+      (rule : obeyed g.target.sites (length g.target.code) check (running_at cells (g.target.to place + 1) output) ≡ checked g.target.sites site
       (running_at cells (g.target.to place + 1) output) holds) where
     passes_by : (stayed : Bool) → StandsAt g.target place check stayed → holds ≡ Ok true
         → Comes g.target 0 (on cells place output) (on cells (place + 1) output)

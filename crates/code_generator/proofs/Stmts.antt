@@ -42,7 +42,7 @@ use Rattle.meaning.specs.Meaning.{alternative_of, value_of, width_of, effect_of,
 use Rattle.meaning.specs.Meaning.{default_width as default_width_of}
 use Rattle.stack_machine.specs.declared.cell.Cell.{Cell}
 use Rattle.stack_machine.specs.declared.cell.Cell.TheVariants.{Undefined, Number}
-use Rattle.stack_machine.specs.declared.arithmetic.Dyadic.TheVariants as dyadic
+use Rattle.machine_arithmetic.specs.declared.arithmetic.Dyadic.TheVariants as dyadic
 use Rattle.stack_machine.specs.Frames as frames
 use Rattle.stack_machine.specs.Frames.{Attempt}
 use Rattle.stack_machine.specs.Machine as machine
@@ -120,7 +120,7 @@ module _ (g : Setting) where
 
   -- a value and its width give way to a text
   text_runs : (write : Instr) (text : List ℕ) (place : ℕ) (cells after : List Cell) (output : List ℕ) (attempt : Attempt (frames.Frames × List ℕ))
-      → Here g place write → machine.obeyed g.target.sites write (fetched_at g cells place output) ≡ machine.and_then attempt
+      → Here g place write → machine.obeyed g.target.sites (length g.target.code) write (fetched_at g cells place output) ≡ machine.and_then attempt
       (with_text (fetched_at g cells place output))
       → attempt ≡ Ok (frames_of g after, text) → Comes g.target 1 (on g cells place output) (on g after (place + 1) (output ++ text))
   text_runs write text place cells after output attempt here rule does =

@@ -1,7 +1,6 @@
 //! A machine for symbolic stack code: a row of cells in frames, and one rule an instruction.
 #![tactic(auto)]
 
-mod arithmetic;
 pub mod cell;
 mod form;
 mod halt;

@@ -6,12 +6,12 @@ ghost use Rattle.stack_machine.specs.Texts as words;
 ghost use Rattle.stack_machine.specs.Texts.{characters};
 ghost use Rattle.stack_machine.specs.Ports.{AppendsOrLoses, Offers, PassesOrLoses, piece_of};
 
-use crate::arithmetic::is_true;
 use crate::cell::Cell;
 use crate::form::Form;
 use crate::halt::Halt;
 use byte_ports::bytes::Sink;
 use itoa::Buffer;
+use machine_arithmetic::arithmetic::is_true;
 use std::alloc::{AllocError, Global};
 
 /// How many bytes a piece holds.

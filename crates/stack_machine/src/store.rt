@@ -7,10 +7,10 @@ ghost use Rattle.stack_machine.specs.Rows as rows;
 mod addresses;
 mod calls;
 
-use crate::arithmetic::{Dyadic, Monadic, is_true, product};
 use crate::cell::Cell;
 use crate::rows::{all_defined, only_numbers, order};
 use crate::stop::MachineFault;
+use machine_arithmetic::arithmetic::{Dyadic, Monadic, is_true, product};
 use std::alloc::{AllocError, Global};
 
 /// The greatest value of the type integer (ISO 7185:1990, 6.4.2.2); the least is its negation.

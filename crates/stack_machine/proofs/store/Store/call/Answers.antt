@@ -1,4 +1,4 @@
-use Rattle.std.proofs.Common.{arith, ap, rules, sym, ◌∙◌, ◌≡◌, ◌+◌, ◌-◌, ◌≤◌, length, take, Ok}
+use Rattle.std.proofs.Common.{arith, ap, rules, sym, ◌∙◌, ◌+◌, ◌-◌, ◌≤◌, length, take, Ok}
 use Rattle.std.specs.Prelude.{slice_set}
 use Rattle.std.proofs.lemmas.Int.{to_z-of_z}
 use Rattle.std.specs.Int.{w32}

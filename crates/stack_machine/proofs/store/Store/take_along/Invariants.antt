@@ -1,4 +1,4 @@
-use Rattle.std.proofs.Common.{◌≡◌, ◌+◌, ◌-◌, ◌++◌, take, drop, vec_len}
+use Rattle.std.proofs.Common.{◌≡◌, ◌+◌, ◌++◌, take, drop, vec_len}
 use Rattle.stack_machine.proofs.store.Store.take_along.Given as goal
 
 abbrev pub invariant-loop-offset : goal.invariant-loop-offset

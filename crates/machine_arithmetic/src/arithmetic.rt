@@ -1,5 +1,5 @@
 ghost use Rattle.std.specs.Prelude.{◌≡◌, ◌*ℤ◌};
-ghost use Rattle.stack_machine.specs.Frames as frames;
+ghost use Rattle.machine_arithmetic.specs.Arithmetic as words;
 
 /// An operator of one number (ISO 7185:1990, 6.7.2.2, 6.7.2.3, 6.6.6.2 and 6.6.6.5).
 #[derive(Clone, Copy)]
@@ -30,7 +30,7 @@ pub enum Dyadic {
 impl Monadic {
     /// What the operator gives of a number: arithmetic wraps at 32 bits, and a truth is 0 or 1.
     pub fn of(self, value: i32) -> i32
-        ensures { result ≡ frames.of_one self value }
+        ensures { result ≡ words.of_one self value }
     {
         match self {
             Monadic::Negate => value.wrapping_neg(),
@@ -45,7 +45,7 @@ impl Monadic {
 impl Dyadic {
     /// What the operator gives of two numbers: arithmetic wraps at 32 bits, and a truth is 0 or 1.
     pub fn of(self, left: i32, right: i32) -> i32
-        ensures { result ≡ frames.of_two self left right }
+        ensures { result ≡ words.of_two self left right }
     {
         match self {
             Dyadic::Add => left.wrapping_add(right),
@@ -72,14 +72,14 @@ pub fn product(left: i32, right: i32) -> i64
 
 /// Whether the number stands for true: 0 is false, and every other number is true.
 pub fn is_true(number: i32) -> bool
-    ensures { result ≡ frames.is_true number }
+    ensures { result ≡ words.is_true number }
 {
     number != 0
 }
 
 /// The number of a Boolean value.
 fn truth(holds: bool) -> i32
-    ensures { result ≡ frames.truth holds }
+    ensures { result ≡ words.truth holds }
 {
     i32::from(holds)
 }
