@@ -39,6 +39,7 @@ use Rattle.stack_machine.specs.declared.cell.Cell.TheVariants.{Number}
 use Rattle.stack_machine.specs.Frames as frames
 use Rattle.stack_machine.specs.Frames.{Attempt}
 use Rattle.stack_machine.specs.Rows as rows
+use Rattle.machine_arithmetic.specs.Arithmetic.{is_odd}
 use Rattle.stack_machine.specs.Machine.{State, obeyed, and_then, checked, with_frames}
 use Rattle.code_scheme.specs.Code.{joined, monadic_code, dyadic_code, relation_instr, variable_code, width_code, check_positive, expr_code, link_code}
 use Rattle.code_scheme.specs.Code.{expr_step}
@@ -248,7 +249,7 @@ module _ (g : Setting) where
         (squares g.running.frame g.limit g.size cells within_frame n)
         (on_one_is g.running.frame g.limit g.size cells within_frame (λ v. int_wrapping_mul w32 v v) n below_limit) (product_is n n fit fit)
         (ltb-true overflow (sites g) well) based room
-    operated_runs monadic.Odd stands well deep = truth_given instr.Odd frames.is_odd stands.0 refl
+    operated_runs monadic.Odd stands well deep = truth_given instr.Odd is_odd stands.0 refl
     operated_runs monadic.Ord stands well deep = left_as_it_is
     operated_runs (monadic.Chr no_char) stands well deep =
         tested_runs (instr.CheckRange no_char (pos 0) (pos 127)) no_char place base held n s _ (is_within (pos 0) (pos 127) n) stands.0 refl refl

@@ -1,5 +1,5 @@
 -- What code that follows a program has, whoever made it.
-use Rattle.std.proofs.Common.{◌≡◌, ℕ, ◌+◌, ◌<◌, List, [], ◌∷◌, ◌++◌, Some, None, inl, inr, ap, ◌∙◌, subst, ⊎_elim, arith}
+use Rattle.std.proofs.Common.{◌≡◌, ℕ, ◌+◌, ◌<◌, List, [], ◌∷◌, ◌++◌, length, Some, None, inl, inr, ap, ◌∙◌, subst, ⊎_elim, arith}
 use Rattle.std.specs.Prelude.{slice_get, replicate, if◌then◌else◌}
 use Rattle.std.proofs.lemmas.Bool.{cases_lt, le-ltb, lt-leb}
 use Rattle.pcode_assembler.specs.declared.code.Code.{Code}
@@ -33,7 +33,7 @@ frames_fit tree code variables evaluation rest follows is =
     let enter = Enter variables evaluation in
     let begins : machine code [] cells 1 ≡ steps sites code.instructions.items 1 m =
     ap (λ b. if b then record { output = []; stop = stop.StoreFull } else steps sites code.instructions.items 1 m) (le-ltb cells 4 (omega arith)) in
-    let entered = ap (λ is. outcome_of (taken sites (slice_get is 0) m) [] (steps sites is 0)) is in
+    let entered = ap (λ is. outcome_of (taken sites (length is) (slice_get is 0) m) [] (steps sites is 0)) is in
     ⊎_elim
     (λ (large : cells < 4 + variables + evaluation).
     let refused = ap (λ b. outcome_of (with_frame (record m { place = 1 }) (if b then Some (record (first_frames cells) {

@@ -328,7 +328,7 @@ module _ (tree : Tree) (well : IsWellFormed tree) (short : is_too_large (program
 
     refuses : cells < needed_cells → steps target.sites target.code 1 start ≡ record { output = []; stop = stop.StoreFull }
     refuses h =
-        ap (λ o. runs.outcome_of (machines.taken target.sites o start) [] (steps target.sites target.code 0)) entry
+        ap (λ o. runs.outcome_of (machines.taken target.sites (length target.code) o start) [] (steps target.sites target.code 0)) entry
         ∙ ap (λ b. runs.outcome_of (entered_by b) [] (steps target.sites target.code 0)) (lt-leb needed_cells cells h)
 
     body_runs : (o : Option Block) (s : effect.State) → body_repeats o ≤ slack → Stands target 1 (body_instructions each o)

@@ -5,6 +5,10 @@
 #![tactic(auto)]
 
 #[cfg(test)]
+mod assembling;
+#[cfg(test)]
+mod calling;
+#[cfg(test)]
 mod certificates;
 #[cfg(test)]
 mod checking;
