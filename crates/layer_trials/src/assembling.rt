@@ -32,9 +32,8 @@ fn instruction(part: &str) -> Option<Instr> {
         return Some(Instr::LoadConstant { value: first });
     }
     let first = u32::try_from(first).ok()?;
-    let small = u8::try_from(first).ok()?;
     plain(name)
-        .or(leveled(name, small, second))
+        .or(leveled(name, first, second))
         .or(sized(name, first, second))
 }
 
@@ -52,7 +51,8 @@ fn plain(name: &str) -> Option<Instr> {
 }
 
 /// Those whose first operand is a level, or a number of results.
-fn leveled(name: &str, level: u8, offset: u32) -> Option<Instr> {
+fn leveled(name: &str, level: u32, offset: u32) -> Option<Instr> {
+    let level = u8::try_from(level).ok()?;
     match name {
         "lod" => Some(Instr::Load { level, offset }),
         "str" => Some(Instr::Store { level, offset }),

@@ -82,19 +82,34 @@ fn checks_of_open_sites_stay(rt: HostRuntime) -> Result<(), Fail> {
 /// A jump to a check at the end, behind a check of the other site.
 const CHECKS_LAST: &[Instr] = &[Instr::Jump { target: 2 }, SUM, IN_RANGE];
 
+/// The same with a call.
+const CALLS_LAST: &[Instr] = &[
+    Instr::CallProcedure {
+        length: 3,
+        target: 2,
+    },
+    SUM,
+    IN_RANGE,
+];
+
 fn word_of(instruction: Instr) -> &'static str {
     match instruction {
         Instr::Jump { target: 1 } => "jump to 1; ",
         Instr::Jump { target: 2 } => "jump to 2; ",
+        Instr::CallProcedure { length: 3, target } => match target {
+            1 => "call of 1; ",
+            2 => "call of 2; ",
+            _ => "another call; ",
+        },
         Instr::CheckSum { site: 0 } => "sum; ",
         Instr::CheckRange { site: 1, .. } => "range; ",
         _ => "another; ",
     }
 }
 
-/// What is left of the last checks and the jump to them.
-fn last_told(alloc: Global, open_sites: &&[Site]) -> Result<String, AllocError> {
-    let code = rest(alloc, CHECKS_LAST, open_sites)?;
+/// What is left of the last checks and the jump or the call to them.
+fn last_told(alloc: Global, row: &LastRow) -> Result<String, AllocError> {
+    let code = rest(alloc, row.0, row.1)?;
     let mut told = String::new(alloc);
     for instruction in &code.instructions {
         told.push_str(word_of(*instruction))?;
@@ -102,13 +117,53 @@ fn last_told(alloc: Global, open_sites: &&[Site]) -> Result<String, AllocError> 
     Ok(told)
 }
 
-static JUMPS: [(&[Site], &str); 3] = [
-    (&[OVERFLOW], "jump to 2; sum; "),
-    (&[FITS], "jump to 1; range; "),
-    (&[], "jump to 1; "),
+/// Instructions, and the open sites.
+type LastRow = (&'static [Instr], &'static [Site]);
+
+static JUMPS: [(LastRow, &str); 6] = [
+    ((CHECKS_LAST, &[OVERFLOW]), "jump to 2; sum; "),
+    ((CHECKS_LAST, &[FITS]), "jump to 1; range; "),
+    ((CHECKS_LAST, &[]), "jump to 1; "),
+    ((CALLS_LAST, &[OVERFLOW]), "call of 2; sum; "),
+    ((CALLS_LAST, &[FITS]), "call of 1; range; "),
+    ((CALLS_LAST, &[]), "call of 1; "),
 ];
 
 #[test]
 fn jumps_are_moved_over_removed_checks(rt: HostRuntime) -> Result<(), Fail> {
     all_hold(rt.alloc(), &JUMPS, last_told)
+}
+
+/// A routine, behind a check, that writes its own return.
+const RETURN_SHOWN: &[Instr] = &[
+    Instr::Enter {
+        variables: 0,
+        evaluation: 7,
+    },
+    Instr::LoadConstant { value: 5 },
+    IN_RANGE,
+    Instr::MarkStack { level: 0 },
+    Instr::CallProcedure {
+        length: 0,
+        target: 6,
+    },
+    Instr::Stop,
+    Instr::Load {
+        level: 0,
+        offset: 2,
+    },
+    Instr::LoadConstant { value: 1 },
+    Instr::WriteInteger,
+    Instr::Return { results: 0 },
+];
+
+fn return_told(alloc: Global, open_sites: &&[Site]) -> Result<String, Fail> {
+    run_told(alloc, &rest(alloc, RETURN_SHOWN, open_sites)?, 11, 100)
+}
+
+static RETURNS: [(&[Site], &str); 2] = [(&[FITS], "5"), (&[], "4")];
+
+#[test]
+fn returns_are_places_of_the_code_that_is_run(rt: HostRuntime) -> Result<(), Fail> {
+    all_hold(rt.alloc(), &RETURNS, return_told)
 }

@@ -80,13 +80,13 @@ pub enum Instr {
     Jump { target: u32 },
     /// `fjp N`: pop, jump on 0.
     JumpIfFalse { target: u32 },
-    /// `mst d`: push base(d), fp, undefined, limit.
+    /// `mst d`: push the links of a new frame: base(d), fp, undefined, limit.
     MarkStack { level: u8 },
-    /// `cup n N`: new fp = cells in use - n - 4, set the return, jump.
+    /// `cup n N`: the frame begins at the links below the `length` cells of the parameters; set its return, jump.
     CallProcedure { length: u32, target: u32 },
     /// `ent l e`: l undefined cells, and the limit e further; the store may be full.
     Enter { variables: u32, evaluation: u32 },
-    /// `ret r`: leave the frame, and take r (0 or 1) cells along.
+    /// `ret r`: leave the frame for its caller's, and take `results` cells along (0 or 1).
     Return { results: u8 },
     /// `rdi p`
     ReadInteger { point: u32 },

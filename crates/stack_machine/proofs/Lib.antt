@@ -4,6 +4,7 @@ pub mod Called
 pub mod Cells
 pub mod Characters
 pub mod Examples
+mod ExamplesOfCalls
 mod ExamplesOfRows
 pub mod Steps
 pub mod Growing
