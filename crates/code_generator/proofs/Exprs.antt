@@ -40,7 +40,7 @@ use Rattle.stack_machine.specs.Frames as frames
 use Rattle.stack_machine.specs.Frames.{Attempt}
 use Rattle.stack_machine.specs.Rows as rows
 use Rattle.machine_arithmetic.specs.Arithmetic.{is_odd}
-use Rattle.stack_machine.specs.Machine.{State, obeyed, and_then, checked, with_frames}
+use Rattle.stack_machine.specs.Machine.{State, and_then, checked, with_frames}
 use Rattle.code_scheme.specs.Code.{joined, monadic_code, dyadic_code, relation_instr, variable_code, width_code, check_positive, expr_code, link_code}
 use Rattle.code_scheme.specs.Code.{expr_step}
 use Rattle.code_scheme.specs.Code.{link_step, compare_code, default_width, whole_code}
@@ -50,7 +50,7 @@ use Rattle.typed_tree.specs.WellFormed.{all_hold, monadic_is_well_formed, dyadic
 use Rattle.typed_tree.specs.WellFormed.{is_well_formed_link, is_well_formed_width, is_well_formed_whole, is_whole, leads_to_ordinal, length_of, whole_indexes}
 use Rattle.check_remover.specs.Strip.{moved}
 use Rattle.code_scheme.proofs.Pieces.{start_within}
-use Rattle.code_generator.proofs.Reach.{StandsAt, Stands, stands_front, stands_back, Comes, comes_on, stays_here}
+use Rattle.code_generator.proofs.Reach.{StandsAt, Stands, obeys, stands_front, stands_back, Comes, comes_on, stays_here}
 use Rattle.code_generator.proofs.Rows.{cells_of, length-cells_of, compares, same_order, order_fits}
 use Rattle.code_generator.proofs.Setting.{Setting, on, Based, linked, Here, acts, passes, fails, Evaluates, gives, evaluates_from, then_evaluates}
 use Rattle.code_generator.proofs.Accesses.{Indexes, expressions, wells, as_many_wells, codes, depths, leads, begins, entered, fetch_runs}
@@ -105,7 +105,7 @@ module _ (g : Setting) where
 
   -- an operation that is never in error: the instruction leaves a number, which is the one that is meant
   given_runs : (apply : Instr) (place : ℕ) (stack base held : List Cell) (c d : ℤ) (s : effect.State) (attempt : Attempt frames.Frames) → Here g place apply
-      → obeyed g.target.sites (length g.target.code) apply (fetched_at g stack place s.output) ≡ and_then attempt (with_frames (fetched_at g stack place s.output))
+      → obeys g.target apply (fetched_at g stack place s.output) ≡ and_then attempt (with_frames (fetched_at g stack place s.output))
       → attempt ≡ Ok (frames_of g ((base ++ held) ++ Number d ∷ [])) → d ≡ c → Fits c → Based g s.store base → g.below + length held < g.limit
       → Evaluates g s.turns (on g stack place s.output) held (place + 1) (give (value.Number c) s)
   given_runs apply place stack base held c d s attempt here rule does same fit based room =
@@ -115,7 +115,7 @@ module _ (g : Setting) where
   -- a test of the number on top, which stays there
   tested_runs : (check : Instr) (site place : ℕ) (base held : List Cell) (n : ℤ) (s : effect.State) (holds : Attempt Bool) (good : Bool)
       → StandsAt g.target place check (g.target.is_open site) → moved g.target.to check ≡ check
-      → obeyed g.target.sites (length g.target.code) check (fetched_at g ((base ++ held) ++ Number n ∷ []) place s.output) ≡ checked g.target.sites site
+      → obeys g.target check (fetched_at g ((base ++ held) ++ Number n ∷ []) place s.output) ≡ checked g.target.sites site
       (fetched_at g ((base ++ held) ++ Number n ∷ []) place s.output) holds → holds ≡ Ok good → site < (sites g) → Based g s.store base
       → g.below + length held < g.limit → Fits n
       → Evaluates g s.turns (on g ((base ++ held) ++ Number n ∷ []) place s.output) held (place + 1)
@@ -129,8 +129,8 @@ module _ (g : Setting) where
   checked_runs : (check apply : Instr) (site place : ℕ) (stack base held : List Cell) (c d : ℤ) (s : effect.State) (holds : Attempt Bool)
       (attempt : Attempt frames.Frames) (good : Bool) → StandsAt g.target place check (g.target.is_open site) → Here g (place + 1) apply
       → moved g.target.to check ≡ check
-      → obeyed g.target.sites (length g.target.code) check (fetched_at g stack place s.output) ≡ checked g.target.sites site (fetched_at g stack place s.output) holds
-      → obeyed g.target.sites (length g.target.code) apply (fetched_at g stack (place + 1) s.output) ≡ and_then attempt (with_frames (fetched_at g stack (place + 1) s.output))
+      → obeys g.target check (fetched_at g stack place s.output) ≡ checked g.target.sites site (fetched_at g stack place s.output) holds
+      → obeys g.target apply (fetched_at g stack (place + 1) s.output) ≡ and_then attempt (with_frames (fetched_at g stack (place + 1) s.output))
       → holds ≡ Ok good
       → (good ≡ true → (attempt ≡ Ok (frames_of g ((base ++ held) ++ Number d ∷ []))) × (d ≡ c) × Fits c) → site < (sites g) → Based g s.store base
       → g.below + length held < g.limit
@@ -148,8 +148,8 @@ module _ (g : Setting) where
   -- a result that is checked to be of type integer
   result_runs : (check apply : Instr) (overflow place : ℕ) (stack base held : List Cell) (c d : ℤ) (s : effect.State) (holds : Attempt Bool)
       (attempt : Attempt frames.Frames) → StandsAt g.target place check (g.target.is_open overflow) → Here g (place + 1) apply → moved g.target.to check ≡ check
-      → obeyed g.target.sites (length g.target.code) check (fetched_at g stack place s.output) ≡ checked g.target.sites overflow (fetched_at g stack place s.output) holds
-      → obeyed g.target.sites (length g.target.code) apply (fetched_at g stack (place + 1) s.output) ≡ and_then attempt (with_frames (fetched_at g stack (place + 1) s.output))
+      → obeys g.target check (fetched_at g stack place s.output) ≡ checked g.target.sites overflow (fetched_at g stack place s.output) holds
+      → obeys g.target apply (fetched_at g stack (place + 1) s.output) ≡ and_then attempt (with_frames (fetched_at g stack (place + 1) s.output))
       → holds ≡ Ok (frames.is_integer c)
       → attempt ≡ Ok (frames_of g ((base ++ held) ++ Number d ∷ [])) → (Fits c → d ≡ c) → overflow < (sites g) → Based g s.store base
       → g.below + length held < g.limit
@@ -176,7 +176,7 @@ module _ (g : Setting) where
     below_limit = let full = based.full in omega (arith, length-append base held)
 
     one_given : (apply : Instr) (f : ℤ → ℤ) (c : ℤ) → Here g place apply
-        → obeyed g.target.sites (length g.target.code) apply (fetched_at g one place s.output) ≡ and_then (frames.on_one f (frames_of g one))
+        → obeys g.target apply (fetched_at g one place s.output) ≡ and_then (frames.on_one f (frames_of g one))
         (with_frames (fetched_at g one place s.output)) → f n ≡ c → Fits c
         → Evaluates g s.turns (on g one place s.output) held (place + 1) (give (value.Number c) s)
     one_given apply f c here rule same fit' =
@@ -184,7 +184,7 @@ module _ (g : Setting) where
         (on_one_is g.running.frame g.limit g.size cells within_frame f n below_limit) same fit' based room
 
     truth_given : (apply : Instr) (test : ℤ → Bool) → Here g place apply
-        → obeyed g.target.sites (length g.target.code) apply (fetched_at g one place s.output) ≡ and_then (frames.on_one (λ v. frames.truth (test v)) (frames_of g one))
+        → obeys g.target apply (fetched_at g one place s.output) ≡ and_then (frames.on_one (λ v. frames.truth (test v)) (frames_of g one))
         (with_frames (fetched_at g one place s.output)) → Evaluates g s.turns (on g one place s.output) held (place + 1) (give (value.Number (truth
         (test n))) s)
     truth_given apply test here rule =
@@ -200,7 +200,7 @@ module _ (g : Setting) where
     -- a test of a number that is meant where the test holds
     step_tested : (check : Instr) (site : ℕ) (d c : ℤ) (there : ℕ) (good : Bool) → StandsAt g.target there check (g.target.is_open site)
         → moved g.target.to check ≡ check
-        → obeyed g.target.sites (length g.target.code) check (fetched_at g (cells ++ Number d ∷ []) there s.output) ≡ checked g.target.sites site
+        → obeys g.target check (fetched_at g (cells ++ Number d ∷ []) there s.output) ≡ checked g.target.sites site
         (fetched_at g (cells ++ Number d ∷ []) there s.output) (Ok good)
         → (good ≡ true → (d ≡ c) × Fits c) → site < sites g
         → Evaluates g s.turns (on g (cells ++ Number d ∷ []) there s.output) held (there + 1)
@@ -216,8 +216,8 @@ module _ (g : Setting) where
     -- a step to the number beside it, which is tested then
     stepped_runs : (step check : Instr) (site : ℕ) (f : ℤ → ℤ → ℤ) (c : ℤ) (good : Bool) → Here g place (instr.LoadConstant (pos 1))
         → Here g (place + 1) step → StandsAt g.target (place + 1 + 1) check (g.target.is_open site)
-        → ((m : State) → obeyed g.target.sites (length g.target.code) step m ≡ and_then (frames.on_two f m.frames) (with_frames m)) → moved g.target.to check ≡ check
-        → obeyed g.target.sites (length g.target.code) check (fetched_at g (cells ++ Number (f n (pos 1)) ∷ []) (place + 1 + 1) s.output) ≡ checked g.target.sites site
+        → ((m : State) → obeys g.target step m ≡ and_then (frames.on_two f m.frames) (with_frames m)) → moved g.target.to check ≡ check
+        → obeys g.target check (fetched_at g (cells ++ Number (f n (pos 1)) ∷ []) (place + 1 + 1) s.output) ≡ checked g.target.sites site
         (fetched_at g (cells ++ Number (f n (pos 1)) ∷ []) (place + 1 + 1) s.output) (Ok good)
         → (good ≡ true → (f n (pos 1) ≡ c) × Fits c) → site < (sites g) → g.below + length held + 2 ≤ g.limit
         → Evaluates g s.turns (on g one place s.output) held (place + 3) (effect.and_then (require good site s) (λ _. give (value.Number c)))
@@ -312,7 +312,7 @@ module _ (g : Setting) where
     within_limit = let full = based.full in omega (arith, length-append base held)
 
     truths_given : (apply : Instr) (test : ℤ → ℤ → Bool) → Here g place apply
-        → obeyed g.target.sites (length g.target.code) apply (fetched_at g two place s.output) ≡ and_then (frames.on_two (λ x y. frames.truth (test x y)) (frames_of g two))
+        → obeys g.target apply (fetched_at g two place s.output) ≡ and_then (frames.on_two (λ x y. frames.truth (test x y)) (frames_of g two))
         (with_frames (fetched_at g two place s.output)) → Evaluates g s.turns (on g two place s.output) held (place + 1)
         (give (value.Number (truth (test a b))) s)
     truths_given apply test here rule =
@@ -333,8 +333,8 @@ module _ (g : Setting) where
     -- a result of type integer of both, checked
     both_checked : (check apply : Instr) (overflow : ℕ) (c d : ℤ) (holds : Attempt Bool) (attempt : Attempt frames.Frames)
         → StandsAt g.target place check (g.target.is_open overflow) → Here g (place + 1) apply → moved g.target.to check ≡ check
-        → obeyed g.target.sites (length g.target.code) check (fetched_at g two place s.output) ≡ checked g.target.sites overflow (fetched_at g two place s.output) holds
-        → obeyed g.target.sites (length g.target.code) apply (fetched_at g two (place + 1) s.output) ≡ and_then attempt (with_frames (fetched_at g two (place + 1) s.output))
+        → obeys g.target check (fetched_at g two place s.output) ≡ checked g.target.sites overflow (fetched_at g two place s.output) holds
+        → obeys g.target apply (fetched_at g two (place + 1) s.output) ≡ and_then attempt (with_frames (fetched_at g two (place + 1) s.output))
         → holds ≡ Ok (frames.is_integer c) → attempt ≡ Ok (frames_of g ((base ++ held) ++ Number d ∷ [])) → (Fits c → d ≡ c) → nat_lt overflow (sites g) ≡ true
         → Evaluates g s.turns (on g two place s.output) held (place + 2) (meaning.whole overflow c s)
     both_checked check apply overflow c d holds attempt stands here same rule rule' e does is well =

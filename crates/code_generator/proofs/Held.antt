@@ -26,11 +26,11 @@ use Rattle.stack_machine.specs.declared.cell.Cell.TheVariants.{Undefined, Number
 use Rattle.machine_arithmetic.specs.declared.arithmetic.Dyadic.TheVariants as dyadic
 use Rattle.stack_machine.specs.Frames as frames
 use Rattle.stack_machine.specs.Frames.{is_true, truth, on_two}
-use Rattle.stack_machine.specs.Machine.{State, obeyed, and_then, with_frames}
+use Rattle.stack_machine.specs.Machine.{State, and_then, with_frames}
 use Rattle.code_scheme.specs.Code.{row_code, range_check}
 use Rattle.code_scheme.specs.Scopes.{variable_offset, held_offset}
 use Rattle.code_generator.proofs.Accesses.{leads}
-use Rattle.code_generator.proofs.Reach.{Comes, Stands, StandsAt, comes_on, comes_less, stays_here}
+use Rattle.code_generator.proofs.Reach.{Comes, Stands, StandsAt, obeys, comes_on, comes_less, stays_here}
 use Rattle.code_generator.proofs.Numbers.{Fits, same_range}
 use Rattle.code_generator.proofs.Setting.{Setting, running_at, on, Based, linked, Here, acts, passes, fails, branches_on, jumps, Executes, executes_from}
 use Rattle.code_generator.proofs.Acts.{framed, length_one, pushes, loads, stores, on_two_is, is_in_range}
@@ -190,7 +190,7 @@ module _ (g : Setting) where
 
   -- two numbers on top give way to a third
   pub operates : (i : Instr) (f : ℤ → ℤ → ℤ) (cells : List Cell) (a b : ℤ) (place : ℕ) (output : List ℕ) → Here g place i
-      → ((s : State) → obeyed g.target.sites (length g.target.code) i s ≡ and_then (on_two f s.frames) (with_frames s)) → g.running.frame + 4 ≤ length cells → length cells < g.limit
+      → ((s : State) → obeys g.target i s ≡ and_then (on_two f s.frames) (with_frames s)) → g.running.frame + 4 ≤ length cells → length cells < g.limit
       → Comes g.target 1 (on g ((cells ++ Number a ∷ []) ++ Number b ∷ []) place output) (on g (cells ++ Number (f a b) ∷ []) (place + 1) output)
   operates i f cells a b place output here rule in_frame room =
       acts g i ((cells ++ Number a ∷ []) ++ Number b ∷ []) (cells ++ Number (f a b) ∷ []) place output
@@ -224,7 +224,7 @@ module _ (g : Setting) where
     pub decides : (i : Instr) (f : ℤ → ℤ → ℤ) (holds : Bool) (place out : ℕ)
         → Here g place (instr.Load 0 (held_offset g.scope 0)) → Here g (place + 1) (instr.Load 0 (held_offset g.scope 1)) → Here g (place + 1 + 1) i
         → StandsAt g.target (place + 1 + 1 + 1) (instr.JumpIfFalse out) true
-        → ((s : State) → obeyed g.target.sites (length g.target.code) i s ≡ and_then (on_two f s.frames) (with_frames s)) → f n l ≡ truth holds
+        → ((s : State) → obeys g.target i s ≡ and_then (on_two f s.frames) (with_frames s)) → f n l ≡ truth holds
         → Comes g.target 4 (on g here place output) (on g here (if holds then place + 4 else out) output)
     decides i f holds place out at1 at2 at3 at4 rule is =
         let size = long in
@@ -255,7 +255,7 @@ module _ (g : Setting) where
     pub steps : (i : Instr) (f : ℤ → ℤ → ℤ) (next : ℤ) (place head : ℕ) → Here g place (instr.Load 0 (held_offset g.scope 0))
         → Here g (place + 1) (instr.LoadConstant (pos 1)) → Here g (place + 1 + 1) i → Here g (place + 1 + 1 + 1) (instr.Store 0 (held_offset g.scope 0))
         → StandsAt g.target (place + 1 + 1 + 1 + 1) (instr.Jump head) true
-        → ((s : State) → obeyed g.target.sites (length g.target.code) i s ≡ and_then (on_two f s.frames) (with_frames s)) → f n (pos 1) ≡ next
+        → ((s : State) → obeys g.target i s ≡ and_then (on_two f s.frames) (with_frames s)) → f n (pos 1) ≡ next
         → Comes g.target 1 (on g here place output) (on g (base ++ (held ++ Number next ∷ Number l ∷ [])) head output)
     steps i f next place head at1 at2 at3 at4 at5 rule is =
         let size = long in

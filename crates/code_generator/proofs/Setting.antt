@@ -23,12 +23,12 @@ use Rattle.stack_machine.specs.declared.cell.Cell.{Cell}
 use Rattle.stack_machine.specs.declared.cell.Cell.TheVariants.{Number}
 use Rattle.stack_machine.specs.Deeds.{jumped_if_false}
 use Rattle.stack_machine.specs.Frames.{Frames, Attempt, is_true}
-use Rattle.stack_machine.specs.Machine.{State, obeyed, and_then, checked, with_frames, with_place, error_of}
+use Rattle.stack_machine.specs.Machine.{State, and_then, checked, with_frames, with_place, error_of}
 use Rattle.check_remover.specs.Strip.{moved}
 use Rattle.code_scheme.specs.Scopes.{Scope, variable_offset}
 use Rattle.code_generator.specs.Follows.{StopsAs}
 use Rattle.code_generator.specs.Tables.{site_table, in_plain_numbers}
-use Rattle.code_generator.proofs.Reach.{Target, StandsAt, Comes, Stops, comes_on, comes_less, stays_here, comes_by, stops_on, stops_by}
+use Rattle.code_generator.proofs.Reach.{Target, StandsAt, Comes, obeys, Stops, comes_on, comes_less, stays_here, comes_by, stops_on, stops_by}
 use Rattle.code_generator.proofs.Acts.{framed, branches}
 use Rattle.code_generator.proofs.Alike.{Activation, World, IsApart, Alike, Shown, Direct}
 use Rattle.code_generator.proofs.Numbers.{Fits}
@@ -134,7 +134,7 @@ module _ (g : Setting) where
 
   -- an instruction that goes on with the next one
   pub goes_on : (i : Instr) (cells after : List Cell) (place : ℕ) (output more : List ℕ) → Here place i
-      → obeyed g.target.sites (length g.target.code) i (running_at cells (g.target.to place + 1) output) ≡ Ok (running_at after (g.target.to place + 1) more)
+      → obeys g.target i (running_at cells (g.target.to place + 1) output) ≡ Ok (running_at after (g.target.to place + 1) more)
       → Comes g.target 1 (on cells place output) (on after (place + 1) more)
   goes_on i cells after place output more here does =
       subst (λ index. Comes g.target 1 (on cells place output) (running_at after index more)) (sym here.1)
@@ -142,7 +142,7 @@ module _ (g : Setting) where
 
   -- an instruction of the store alone
   pub acts : (i : Instr) (cells after : List Cell) (place : ℕ) (output : List ℕ) (attempt : Attempt Frames) → Here place i
-      → obeyed g.target.sites (length g.target.code) i (running_at cells (g.target.to place + 1) output) ≡ and_then attempt
+      → obeys g.target i (running_at cells (g.target.to place + 1) output) ≡ and_then attempt
       (with_frames (running_at cells (g.target.to place + 1) output)) → attempt ≡ Ok (framed g.running.frame g.limit g.size after)
       → Comes g.target 1 (on cells place output) (on after (place + 1) output)
   acts i cells after place output attempt here rule e =
@@ -175,7 +175,7 @@ module _ (g : Setting) where
 
   -- a check, which stays or is left out, and what it tests
   module _ (check : Instr) (cells : List Cell) (place site : ℕ) (output : List ℕ) (holds : Attempt Bool) (same : moved g.target.to check ≡ check)
-      (rule : obeyed g.target.sites (length g.target.code) check (running_at cells (g.target.to place + 1) output) ≡ checked g.target.sites site
+      (rule : obeys g.target check (running_at cells (g.target.to place + 1) output) ≡ checked g.target.sites site
       (running_at cells (g.target.to place + 1) output) holds) where
     passes_by : (stayed : Bool) → StandsAt g.target place check stayed → holds ≡ Ok true
         → Comes g.target 0 (on cells place output) (on cells (place + 1) output)

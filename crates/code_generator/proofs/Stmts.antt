@@ -55,7 +55,7 @@ use Rattle.code_scheme.specs.Code.{write_code, stmt_code, stmt_step, default_wid
 use Rattle.code_scheme.specs.Depth.{greatest, stmt_depth, stmt_depth_step, arms_depth, expr_depth, parameter_depth, width_depth, whole_depth}
 use Rattle.typed_tree.specs.WellFormed.{all_hold, is_well_formed_expr, is_well_formed_width, is_well_formed_parameter, is_well_formed_test, is_well_formed_stmt}
 use Rattle.typed_tree.specs.WellFormed.{stmt_is_well_formed, is_well_formed_whole, leads_to_ordinal, length_of, whole_indexes}
-use Rattle.code_generator.proofs.Reach.{Stands, StandsAt, stands_front, stands_back, Comes, comes_less, comes_on, stays_here}
+use Rattle.code_generator.proofs.Reach.{Stands, StandsAt, obeys, stands_front, stands_back, Comes, comes_less, comes_on, stays_here}
 use Rattle.code_generator.proofs.Setting.{Setting, on, Based, linked, Here, goes_on, jumps, branches_on, behind_executes, fails, Executes, done}
 use Rattle.code_generator.proofs.Setting.{executes_from, then_executes, then_leaves, after_value}
 use Rattle.code_generator.proofs.Loops.{Rounds, RoundRuns, rounds_on, then_rounds, value_rounds, turned, loops, reset, rounds_from_reset, executes_from_reset}
@@ -120,7 +120,7 @@ module _ (g : Setting) where
 
   -- a value and its width give way to a text
   text_runs : (write : Instr) (text : List ℕ) (place : ℕ) (cells after : List Cell) (output : List ℕ) (attempt : Attempt (frames.Frames × List ℕ))
-      → Here g place write → machine.obeyed g.target.sites (length g.target.code) write (fetched_at g cells place output) ≡ machine.and_then attempt
+      → Here g place write → obeys g.target write (fetched_at g cells place output) ≡ machine.and_then attempt
       (with_text (fetched_at g cells place output))
       → attempt ≡ Ok (frames_of g after, text) → Comes g.target 1 (on g cells place output) (on g after (place + 1) (output ++ text))
   text_runs write text place cells after output attempt here rule does =

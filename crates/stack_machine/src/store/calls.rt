@@ -93,7 +93,8 @@ impl Store {
     fn take_along(&mut self, results: usize)
         requires { self.old.frame + 4 + results ≤ self.old.used }
         ensures cells { take (self.old.frame + results) self.new.cells.items
-            ≡ take self.old.frame self.old.cells.items ++ take results (drop (self.old.used - results) self.old.cells.items) }
+            ≡ take self.old.frame self.old.cells.items
+            ++ take results (drop (self.old.used - results) self.old.cells.items) }
         ensures length { vec_len self.new.cells ≡ vec_len self.old.cells }
         ensures used { self.new.used ≡ self.old.used }
         ensures frame { self.new.frame ≡ self.old.frame }
