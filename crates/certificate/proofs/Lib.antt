@@ -2,6 +2,7 @@ pub mod Again
 pub mod BoundLaws
 pub mod Faults
 pub mod InOrder
+pub mod Kinds
 pub mod LastChanged
 pub mod Nested
 pub mod Numbers
