@@ -1,5 +1,5 @@
 -- A list whose last element is changed.
-use Rattle.std.proofs.Common.{◌≡◌, ℕ, suc, zero, ◌-◌, ◌<◌, true, false, List, [], ◌∷◌, map, length, get_or, set, refl, ap, ◌∙◌, arith}
+use Rattle.std.proofs.Common.{◌≡◌, ℕ, suc, zero, ◌-◌, ◌<◌, false, List, [], ◌∷◌, map, length, get_or, set, refl, ap, ◌∙◌, arith}
 use Rattle.certificate.specs.declared.LoopClaims.{LoopClaims as KeptLoop}
 use Rattle.certificate.specs.declared.claim.Content.{Content as KeptContent}
 use Rattle.certificate.specs.declared.claim.Content.TheVariants as kept
@@ -34,11 +34,7 @@ in_last_section (kept.Block number) sections new other is = absurd (other number
 in_last_section (kept.Loop number) sections new other is = is
 in_last_section (kept.Claimed claim) sections new other is = is
 
--- a vector has loops if the list that it is seen as has
+-- a vector that isn't empty has loops as it is seen
 pub some_loops : (loops : List KeptLoop) (n : ℕ) → n ≡ length loops → 0 < n → is_empty (map loop_of loops) ≡ false
 some_loops [] n len some = absurd (omega arith)
 some_loops (one ∷ loops) n len some = refl
-
-pub no_loops : (loops : List KeptLoop) (n : ℕ) → n ≡ length loops → n ≡ 0 → is_empty (map loop_of loops) ≡ true
-no_loops [] n len none = refl
-no_loops (one ∷ loops) n len none = absurd (omega arith)

@@ -1,8 +1,8 @@
 pub mod Again
 pub mod BoundLaws
+pub mod ByWord
 pub mod Faults
 pub mod InOrder
-pub mod Kinds
 pub mod LastChanged
 pub mod Nested
 pub mod Numbers

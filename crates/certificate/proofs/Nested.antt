@@ -1,18 +1,17 @@
 -- Lines in order are those of sections, and adding them one after another builds these sections.
-use Rattle.std.proofs.Common.{◌≡◌, ℕ, Bool, true, false, ◌&&◌, List, [], ◌∷◌, ◌++◌, map, Option, Some, None, refl, sym, ap, ◌∙◌, append_assoc}
+use Rattle.std.proofs.Common.{◌≡◌, ℕ, true, false, ◌&&◌, List, [], ◌∷◌, ◌++◌, map, refl, sym, ap, ◌∙◌, append_assoc}
 use Rattle.std.specs.List.{flat_map}
 use Rattle.std.specs.Option.{is_some}
-use Rattle.std.specs.Ordering.{nat_cmp}
 use Rattle.std.proofs.lemmas.Bool.{and_from, and_parts}
 use Rattle.std.proofs.lemmas.List.{append-nil}
 use Rattle.certificate.specs.Lines.{Claim, Alias, Change, Entry, Exit, Fact, Content, Block, Loop, Claimed}
 use Rattle.certificate.specs.Text.{Above}
 use Rattle.certificate.specs.Building.{added, begun, built, in_last, in_loop, in_section, is_content, with_claim}
-use Rattle.certificate.specs.Contents.{LoopClaims, Section, are_listed, claim_order, claims_of_block, claims_of_loop, comes_behind, is_claim, is_right}
-use Rattle.certificate.specs.Contents.{lines_of, lines_of_loop, lines_of_section, may_stand}
+use Rattle.certificate.specs.Contents.{LoopClaims, Section, are_listed, claim_order, claims_of_block, claims_of_loop, comes_behind, is_right}
+use Rattle.certificate.specs.Contents.{lines_of, lines_of_loop, may_stand}
 use Rattle.certificate.specs.Text.{admits, below, nothing}
 use Rattle.certificate.proofs.InOrder.{has_line, orderly}
-use Rattle.certificate.proofs.Kinds.{block_again, entry_in, exit_in, facts_in, loop_again, pairs_in, roots_in}
+use Rattle.certificate.proofs.ByWord.{block_again, entry_in, exit_in, facts_in, loop_again, pairs_in, roots_in}
 
 -- ---- lines one after another
 

@@ -63,7 +63,10 @@ impl<'a> Claim<'a> {
         ensures { result ≡ order_in_word (word_claim self.now) (word_claim other.now) }
     {
         match (self, other) {
-            (Claim::Alias(a), Claim::Alias(b)) => a.first.cmp(&b.first).then(a.second.cmp(&b.second)),
+            (Claim::Alias(a), Claim::Alias(b)) => a
+                .first
+                .cmp(&b.first)
+                .then(a.second.cmp(&b.second)),
             (Claim::Change(a), Claim::Change(b)) => a.cmp(b),
             (Claim::Entry(a), Claim::Entry(b)) => a.compare_subjects(b),
             (Claim::Exit(a), Claim::Exit(b)) => a.compare_subjects(b),
