@@ -228,5 +228,7 @@ pub block_again : (claims : List Claim) → are_claims false claims ≡ true
     → claims ≡ map Alias (pairs_in claims) ++ (map Change (roots_in claims) ++ (map Entry (entry_in claims) ++ map Exit (exit_in claims)))
 block_again claims is =
     listed_again false None claims is
-    ∙ ap (kinds (pairs_in claims) (roots_in claims) (entry_in claims) (exit_in claims)) (picked_none as_fact _ claims block_fact (all_stand false None claims is))
-    ∙ ap (λ exit. map Alias (pairs_in claims) ++ (map Change (roots_in claims) ++ (map Entry (entry_in claims) ++ exit))) (append-nil (map Exit (exit_in claims)))
+    ∙ ap (kinds (pairs_in claims) (roots_in claims) (entry_in claims) (exit_in claims))
+    (picked_none as_fact _ claims block_fact (all_stand false None claims is))
+    ∙ ap (λ exit. map Alias (pairs_in claims) ++ (map Change (roots_in claims) ++ (map Entry (entry_in claims) ++ exit)))
+    (append-nil (map Exit (exit_in claims)))

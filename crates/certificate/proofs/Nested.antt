@@ -30,7 +30,8 @@ last_snoc change (one ∷ []) last = refl
 last_snoc change (one ∷ next ∷ more) last = ap (λ rest. one ∷ rest) (last_snoc change (next ∷ more) last)
 
 -- claims of one word go into one list of the last section
-built_list : {A : Type 0} (made : A → Claim) (filled : List A → Section) → ((front : List A) (one : A) → with_claim (made one) (filled front) ≡ filled (front ++ one ∷ []))
+built_list : {A : Type 0} (made : A → Claim) (filled : List A → Section)
+    → ((front : List A) (one : A) → with_claim (made one) (filled front) ≡ filled (front ++ one ∷ []))
     → (sections : List Section) (front more : List A)
     → built (sections ++ filled front ∷ []) (map Claimed (map made more)) ≡ sections ++ filled (front ++ more) ∷ []
 built_list made filled one_more sections front [] = ap (λ all. sections ++ filled all ∷ []) (sym (append-nil front))
@@ -58,7 +59,8 @@ built_loop front section claims =
     ∙ ap (λ sections. built sections facts)
     (built_list Change (λ changes. filled (record opened { changes = changes })) (λ changes root. in_last_loop (Change root) section section.loops _)
     front [] claims.changes)
-    ∙ built_list Fact (λ facts. filled (record changed { facts = facts })) (λ facts fact. in_last_loop (Fact fact) section section.loops _) front [] claims.facts
+    ∙ built_list Fact (λ facts. filled (record changed { facts = facts })) (λ facts fact. in_last_loop (Fact fact) section section.loops _)
+    front [] claims.facts
 
 built_loops : (front : List Section) (section : Section) (more : List LoopClaims)
     → built (front ++ section ∷ []) (flat_map lines_of_loop more) ≡ front ++ record section { loops = section.loops ++ more } ∷ []

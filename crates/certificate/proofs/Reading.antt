@@ -26,7 +26,8 @@ so_far-begins all = record { said = []; fits = refl; lines_are = refl; built_is 
 one_more : (n : ℕ) → suc n ≡ n + 1
 one_more n = omega arith
 
-all_snoc : (said : List Content) (content : Content) → list_all is_content said ≡ true → is_content content ≡ true → list_all is_content (said ++ content ∷ []) ≡ true
+all_snoc : (said : List Content) (content : Content) → list_all is_content said ≡ true → is_content content ≡ true
+    → list_all is_content (said ++ content ∷ []) ≡ true
 all_snoc [] content fits one = and_from _ _ one refl
 all_snoc (first ∷ said) content fits one =
     let parts = and_parts (is_content first) (list_all is_content said) fits in
