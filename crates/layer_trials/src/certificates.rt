@@ -121,7 +121,10 @@ static BLOCK_LINES: [(&str, (u8, u64)); 76] = [
     ("change v0\nalias v0 v1\n", (3, 4)),
     ("change v0", (5, 3)),
     ("entry defined v0\n", (0, 0)),
-    ("entry range v0 0 1\nentry defined v0\nentry defined v0 1 2\nentry order v0 v1 0\n", (0, 0)),
+    (
+        "entry range v0 0 1\nentry defined v0\nentry defined v0 1 2\nentry order v0 v1 0\n",
+        (0, 0),
+    ),
     ("entry defined v0 1 v1+0\nentry defined v0\n", (3, 4)),
     ("entry defined v1\nentry defined v0\n", (3, 4)),
     ("entry range v0 0 1\nentry range v0 0 2\n", (3, 4)),
@@ -153,7 +156,10 @@ static BLOCK_LINES: [(&str, (u8, u64)); 76] = [
     ("loop 0\nchange v0\nentry defined v0\n", (3, 5)),
     ("loop 0\nchange v0\nexit defined v0\n", (3, 5)),
     ("change v5\nloop 0\nchange v0\n", (0, 0)),
-    ("exit order v0 v1 0\nloop 0\nchange v0\nfact range v0 0 1\n", (0, 0)),
+    (
+        "exit order v0 v1 0\nloop 0\nchange v0\nfact range v0 0 1\n",
+        (0, 0),
+    ),
     (
         "alias v0 v1\nchange v0\nentry defined v0\nexit defined v0\nloop 0\nchange v0\nfact defined v0\n",
         (0, 0),
