@@ -12,7 +12,7 @@ use Rattle.domain.specs.declared.facts.Bound.{Bound}
 use Rattle.domain.specs.declared.facts.Bound.TheVariants.{Number, Plus}
 use Rattle.leaf_rows.specs.Rows.{Named, part_named}
 use Rattle.structured_states.specs.Loops.{is_ordinal_variable}
-use Rattle.certificate.specs.Contents.{said_path}
+use Rattle.certificate.specs.Contents.{is_empty, said_path}
 use Rattle.certificate.specs.declared.Certificate.{Certificate}
 use Rattle.certificate.specs.declared.LoopClaims.{LoopClaims}
 use Rattle.certificate.specs.declared.Section.{Section}
@@ -64,11 +64,18 @@ claims_are_known tree block claims =
     stands_in block (slice_get tree.loops.items claims.number)
     && (list_all (is_variable tree) claims.changes.items && list_all (fact_is_known tree) claims.facts.items)
 
+-- a section claims something of loops alone: a program's block is never called, so of the block itself there are no
+-- pairs of variables that may share a place, no changes, and no facts where it begins or ends
+abbrev pub is_of_loops : Section → Bool
+is_of_loops section =
+    is_empty section.aliases.items
+    && (is_empty section.changes.items && (is_empty section.entry.items && is_empty section.exit.items))
+
 -- a section is on a block of the program, and on loops of that block
 abbrev pub section_is_known : Tree → Section → Bool
 section_is_known tree section =
     nat_lt section.block (length tree.blocks.items)
-    && list_all (claims_are_known tree section.block) section.loops.items
+    && (is_of_loops section && list_all (claims_are_known tree section.block) section.loops.items)
 
 -- a certificate names what the program has alone
 abbrev pub is_known : Tree → Certificate → Bool

@@ -33,8 +33,8 @@ pub record Valid (tree : Tree) (certificate : Certificate) (open_sites : List Si
   pub unbroken : (program_walk tree certificate).broken ≡ []
   pub open_are : open_sites ≡ open_in (program_walk tree certificate).open_ids tree.sites.items
 
--- why a certificate is refused: it names what the program doesn't have; or the walk by it breaks a rule; or for want of
--- memory
+-- why a certificate is refused: it names what the program doesn't have, or claims something of a block itself; or the
+-- walk by it breaks a rule; or for want of memory
 abbrev pub IsRefusedFor : Tree → Certificate → CheckFault → Type 0
 IsRefusedFor tree certificate Memory = Unit {0}
 IsRefusedFor tree certificate Foreign = is_known tree certificate ≡ false

@@ -40,8 +40,8 @@ pub struct Verdict {
 /// share a place.
 ///
 /// # Errors
-/// That the certificate names what the program doesn't have, or else the first rule that it breaks, with its place; a
-/// certificate without claims names nothing. Or `Memory`.
+/// That the certificate names what the program doesn't have or claims something of a block itself, or else the first
+/// rule that it breaks, with its place; a certificate without claims names nothing. Or `Memory`.
 pub fn check(alloc: Global, tree: &Tree, certificate: &Certificate) -> Result<Verdict, CheckFault>
     ensures valid { IfOk result (λ verdict. Valid tree.now certificate.now verdict.open_sites.items) }
     ensures refused { IfErr result (IsRefusedFor tree.now certificate.now) }

@@ -2,7 +2,7 @@ ghost use Rattle.std.specs.Prelude.{◌≡◌, true, slice_get};
 ghost use Rattle.std.specs.List.{list_all};
 ghost use Rattle.types.specs.Types.{is_ordinal};
 ghost use Rattle.cert_checker.specs.Names.{bound_is_known, claims_are_known, fact_is_known, is_array, is_known};
-ghost use Rattle.cert_checker.specs.Names.{is_variable, names, section_is_known, stands_in};
+ghost use Rattle.cert_checker.specs.Names.{is_of_loops, is_variable, names, section_is_known, stands_in};
 
 use certificate::{Certificate, Fact, LoopClaims, Path, Section};
 use domain::facts::Bound;
@@ -12,7 +12,7 @@ use typed_tree::tree::Tree;
 use types::{TypeForm, TypeId, TypeTable};
 
 /// Whether a certificate names blocks, loops, and variables and parts of them alone that are there, each loop under its
-/// block.
+/// block, and claims something of loops alone.
 pub(crate) fn is_known(rows: &Rows, certificate: &Certificate) -> bool
     ensures { result ≡ is_known rows.now certificate.now }
 {
@@ -31,7 +31,18 @@ fn section_is_known(rows: &Rows, section: &Section) -> bool
     ensures { result ≡ section_is_known rows.now section.now }
 {
     (section.block as usize) < rows.tree().blocks.len()
+        && is_of_loops(section)
         && loops_are_known(rows, section.block, &section.loops)
+}
+
+/// Whether a section claims nothing of its block itself.
+fn is_of_loops(section: &Section) -> bool
+    ensures { result ≡ is_of_loops section.now }
+{
+    section.aliases.is_empty()
+        && section.changes.is_empty()
+        && section.entry.is_empty()
+        && section.exit.is_empty()
 }
 
 fn loops_are_known(rows: &Rows, block: u32, loops: &[LoopClaims]) -> bool
