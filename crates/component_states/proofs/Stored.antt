@@ -20,7 +20,7 @@ use Rattle.abstract_state.specs.Knows.{moment}
 use Rattle.leaf_rows.specs.Rows.{Parts, first_index, no_parts}
 use Rattle.component_states.specs.Components.{At, Components, Defined, Entire, Index, Inside, Reach, RowState, Stretch, all_stored, at_index}
 use Rattle.component_states.specs.Components.{is_next, is_none, longer, longer_in, or_alone, row_at, stored, with_defined, with_element, with_joined}
-use Rattle.component_states.specs.Components.{with_range, with_some_element, with_stretches}
+use Rattle.component_states.specs.Components.{with_range, with_some_element}
 use Rattle.component_states.specs.Holds.{ComponentsHold, HasComponent, Holds, IndexesLie, IsOfRow, StretchHolds, component_at}
 use Rattle.component_states.specs.Laws.{AreApart, AreComponents, AreStored, IsIndex, IsReach, StoresHold}
 use Rattle.component_states.proofs.Bounds.{next-is}

@@ -1,4 +1,4 @@
-ghost use Rattle.std.specs.Prelude.{◌≡◌, ◌<◌, ◌^◌, ◌++◌, [], IfOk, OnOk, length, slice_get};
+ghost use Rattle.std.specs.Prelude.{◌≡◌, ◌<◌, ◌^◌, ◌++◌, [], IfOk, OnOk, slice_get};
 ghost use Rattle.typed_tree.specs.declared.tree.Tree.{Tree};
 ghost use Rattle.certificate.specs.Contents.{said_path};
 ghost use Rattle.leaf_rows.specs.Leaves.{Elements, FieldAt};
@@ -82,13 +82,6 @@ impl<'a> Rows<'a> {
         self.tree
     }
 
-    /// How many rows there are.
-    pub fn count(&self) -> usize
-        ensures { result ≡ length (rows_of self.now) }
-    {
-        self.rows.len()
-    }
-
     /// The values of the components of a row, if they are ordinal.
     pub fn values(&self, row: u32) -> Option<OrdinalRange>
         ensures { result ≡ values_at (rows_of self.now) row }
@@ -103,7 +96,7 @@ impl<'a> Rows<'a> {
         self.rows.get(row as usize)?.index
     }
 
-    /// The same of each row.
+    /// Those of each row.
     pub fn indexes(&self, alloc: Global) -> Result<Vec<Option<OrdinalRange>>, AllocError>
         ensures { IfOk result (λ indexes. indexes.items ≡ indexes_of (rows_of self.now)) }
     {
