@@ -1,10 +1,10 @@
 -- The walk over a program is sound for each of its runs: closed sites never err, and states hold.
 use Rattle.std.proofs.Common.{arith, ◌≡◌, ◌≢◌, ⊎_elim, inl, ◌∙◌, sym, ap, refl, subst, ℕ, zero, suc, ◌<◌, get_or, ◌==◌, Bool, true, false, ◌&&◌, cond, nat_eq}
-use Rattle.std.proofs.Common.{zero-add, List, [], ◌∷◌, map, filter, replicate, Option, Some, None, length}
+use Rattle.std.proofs.Common.{zero-add, List, [], ◌∷◌, map, filter, Option, Some, None, length}
 use Rattle.std.specs.Prelude.{flat_map, slice_get, slice_index_or}
 use Rattle.std.specs.List.{Contains, list_any, list_all, range_with_len}
-use Rattle.std.proofs.lemmas.Bool.{and_parts, cases_lt, eqb-true, eq-eqb, false≢true}
-use Rattle.std.proofs.lemmas.List.{length-map, length-replicate, get_or-map, get_or-replicate, get_or_default, get_or_past}
+use Rattle.std.proofs.lemmas.Bool.{and_parts, eqb-true, eq-eqb, false≢true}
+use Rattle.std.proofs.lemmas.List.{length-map, get_or-map, get_or_default}
 use Rattle.std.proofs.lemmas.Option.{slice_get_past}
 use Rattle.std.proofs.lemmas.List.Folds.{list_any_at}
 use Rattle.std.proofs.lemmas.List.FromFn.{length-range_with_len, get_or-range_with_len}

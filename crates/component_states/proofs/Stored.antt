@@ -26,7 +26,8 @@ use Rattle.component_states.specs.Laws.{AreApart, AreComponents, AreStored, IsIn
 use Rattle.component_states.proofs.Bounds.{next-is}
 use Rattle.component_states.proofs.Joins.{in-left, in-right}
 use Rattle.component_states.proofs.Listed.{changed-all, each-of, filter-all, none-of, with_stretches-all}
-use Rattle.component_states.proofs.Rows.{of_row-within, set-at, set-other, set-same, with_defined-index, with_defined-range, with_range-defined, with_range-index}
+use Rattle.component_states.proofs.Rows.{of_row-within, set-at, set-other, set-same, with_defined-index, with_defined-range}
+use Rattle.component_states.proofs.Rows.{with_range-defined, with_range-index}
 
 -- a row is among those of some stores
 abbrev pending : List (ℕ × Interval) → ℕ → Bool
