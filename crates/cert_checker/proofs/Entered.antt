@@ -21,7 +21,7 @@ use Rattle.cert_checker.specs.Promise.{LinksEntries}
 use Rattle.abstract_state.specs.State.{limits_of}
 use Rattle.component_states.specs.Components.{Reach}
 use Rattle.component_states.specs.States.{State, dead, joined_states, over_variables, start}
-use Rattle.leaf_rows.specs.Rows.{rows_of}
+use Rattle.leaf_rows.specs.Rows.{indexes_of, rows_of}
 use Rattle.structured_states.specs.Loops.{claims_at, head_of, round_of, with_own, without_own}
 use Rattle.structured_states.specs.Ways.{Way, turn_begun, way_of, where_counts}
 use Rattle.std.specs.declared.alloc.Global.{Global}
@@ -208,7 +208,8 @@ statement-entered = ind-Stmt (λ s. Enters (statement_walk s) (entries_of_statem
 
 -- the walk over a block
 pub block-entered : (block : Block) → Enters (block_walk block) (entries_of_statement block.body)
-block-entered block context state = statement-entered block.body context (start (length context.tree.variables.items) (length (rows_of context.tree)))
+block-entered block context state =
+    statement-entered block.body context (start (length context.tree.variables.items) (indexes_of (rows_of context.tree)))
 
 -- and that over a program
 pub program-entered : (tree : Tree) (certificate : Certificate) → numbers_of (program_walk tree certificate).linked ≡ entries_of tree

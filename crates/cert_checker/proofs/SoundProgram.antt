@@ -1,10 +1,10 @@
 -- The walk over a program is sound for each of its runs: closed sites never err, and states hold.
 use Rattle.std.proofs.Common.{arith, ◌≡◌, ◌≢◌, ⊎_elim, inl, ◌∙◌, sym, ap, refl, subst, ℕ, zero, suc, ◌<◌, get_or, ◌==◌, Bool, true, false, ◌&&◌, cond, nat_eq}
-use Rattle.std.proofs.Common.{zero-add, List, [], ◌∷◌, map, filter, replicate, Option, Some, None, length}
+use Rattle.std.proofs.Common.{zero-add, List, [], ◌∷◌, map, filter, Option, Some, None, length}
 use Rattle.std.specs.Prelude.{flat_map, slice_get, slice_index_or}
 use Rattle.std.specs.List.{Contains, list_any, list_all, range_with_len}
-use Rattle.std.proofs.lemmas.Bool.{and_parts, cases_lt, eqb-true, eq-eqb, false≢true}
-use Rattle.std.proofs.lemmas.List.{length-map, length-replicate, get_or-map, get_or-replicate, get_or_default, get_or_past}
+use Rattle.std.proofs.lemmas.Bool.{and_parts, eqb-true, eq-eqb, false≢true}
+use Rattle.std.proofs.lemmas.List.{length-map, get_or-map, get_or_default}
 use Rattle.std.proofs.lemmas.Option.{slice_get_past}
 use Rattle.std.proofs.lemmas.List.Folds.{list_any_at}
 use Rattle.std.proofs.lemmas.List.FromFn.{length-range_with_len, get_or-range_with_len}
@@ -30,8 +30,9 @@ use Rattle.meaning.specs.declared.store.Value.{Value}
 use Rattle.cert_checker.specs.Promise.{open_in, AreNumbered, ClosedNeverErr, HoldsAt, StatesHold}
 use Rattle.expression_checker.specs.Visits.{moment_of, visits_of}
 use Rattle.abstract_state.proofs.Knows.{known-start}
-use Rattle.leaf_rows.specs.Rows.{Parts, no_parts, parts_of, rows_of}
-use Rattle.component_states.specs.Components.{RowState, no_row, no_values, row_at}
+use Rattle.leaf_rows.specs.Rows.{Row, all_parts, index_at, indexes_of, no_parts, parts_of, rows_of}
+use Rattle.leaf_rows.proofs.Accessed.{indexes-are}
+use Rattle.component_states.specs.Components.{RowState, no_values, row_at, undefined_row}
 use Rattle.component_states.specs.Holds.{ComponentsHold, Knows, StateHolds}
 use Rattle.component_states.specs.States.{dead, start}
 use Rattle.structured_states.specs.Loops.{all_limits}
@@ -106,25 +107,29 @@ none-at None steps v is = cc
 none-at (Some p) steps v is = cc
 
 -- no row is known at first: none of its components has a value
-row-none : (rows row : ℕ) → row_at (no_values rows) row ≡ no_row
-row-none rows row =
-    ⊎_elim (λ within. get_or-replicate rows row no_row no_row within)
-    (λ beyond. let many = length-replicate rows no_row in get_or_past (replicate rows no_row) row no_row (omega (arith, many, beyond)))
-    (cases_lt row rows)
+undefined-at : (rows : List Row) (row : ℕ) → row_at (no_values (indexes_of rows)) row ≡ undefined_row (index_at rows row)
+undefined-at [] row = refl
+undefined-at (first ∷ rows) zero = refl
+undefined-at (first ∷ rows) (suc row) = undefined-at rows row
 
-undefined-row : (rows row : ℕ) → (row_at (no_values rows) row).is_defined ≡ true → ⊥
-undefined-row rows row is = let none = ap (λ (r : RowState). r.is_defined) (row-none rows row) in false≢true (sym none ∙ is)
+components-start : (tree : Tree) (env : Environment) → ComponentsHold (all_parts tree) (no_values (indexes_of (rows_of tree))) (moment env [])
+components-start tree env =
+    let rows = rows_of tree in
+    let at = undefined-at rows in
+    record {
+      count =
+          let parts = length-map rows (parts_of tree) in
+          let kept = length-map rows (λ (row : Row). row.leaf.index) in
+          let states = length-map (indexes_of rows) undefined_row in
+          omega (arith, parts, kept, states);
+      ranges = λ row steps v of_row is. absurd (none-at (env.variables (slice_index_or (all_parts tree) row no_parts).root) steps v is);
+      defined = λ row is. absurd (false≢true (sym (ap (λ (r : RowState). r.is_defined) (at row)) ∙ is));
+      indexes = λ row range is steps of_row. indexes-are tree row steps range of_row (sym (ap (λ (r : RowState). r.index) (at row)) ∙ is);
+      stretches = λ stretch inside. absurd (omega (arith, inside.1));
+    }
 
-components-start : (parts : List Parts) (env : Environment) (rows : ℕ) → length parts ≡ rows → ComponentsHold parts (no_values rows) (moment env [])
-components-start parts env rows same = record {
-  count = let many = length-replicate rows no_row in omega (arith, same, many);
-  ranges = λ row steps v of_row is. absurd (none-at (env.variables (slice_index_or parts row no_parts).root) steps v is);
-  defined = λ row is. absurd (undefined-row rows row is);
-  stretches = λ stretch inside. absurd (omega (arith, inside.1));
-}
-
-start-knows : (parts : List Parts) (roots : ℕ) (env : Environment) (rows : ℕ) → length parts ≡ rows → Knows parts roots env (start roots rows) []
-start-knows parts roots env rows same = record { variables = known-start env roots; components = components-start parts env rows same }
+start-knows : (tree : Tree) (roots : ℕ) (env : Environment) → Knows (all_parts tree) roots env (start roots (indexes_of (rows_of tree))) []
+start-knows tree roots env = record { variables = known-start env roots; components = components-start tree env }
 
 -- a walk over blocks goes by the program of the world
 pub record GoesBy (world : World) (env : Environment) (context : Context) : Type 0 where
@@ -134,14 +139,14 @@ pub record GoesBy (world : World) (env : Environment) (context : Context) : Type
 
 -- the start of a block
 begun-stands : (world : World) (env : Environment) (context : Context) → GoesBy world env context
-    → Stands world env context (start (length context.tree.variables.items) (length (rows_of context.tree))) []
+    → Stands world env context (start (length context.tree.variables.items) (indexes_of (rows_of context.tree))) []
 begun-stands world env context goes = record {
   tree_is = goes.tree_is;
   limits_are = goes.limits_are;
   types_are = goes.types_are;
-  known = subst (λ (tree : Tree). Knows (parts_in world) (variables_in world) env (start (length tree.variables.items) (length (rows_of tree))) [])
+  known = subst (λ (tree : Tree). Knows (parts_in world) (variables_in world) env (start (length tree.variables.items) (indexes_of (rows_of tree))) [])
       (sym goes.tree_is)
-      (start-knows (parts_in world) (variables_in world) env (length (rows_of world.tree)) (length-map (rows_of world.tree) (parts_of world.tree)));
+      (start-knows world.tree (variables_in world) env);
   typed = record {
     ranges = λ root v is. absurd (none-at (env.variables root) [] v is);
     components = λ row steps v of_row is. absurd (none-at (env.variables (slice_index_or (parts_in world) row no_parts).root) steps v is);
@@ -159,7 +164,7 @@ blocks-foretold : (world : World) (env : Environment) → Shows (variables_in wo
     → Foretold world (run_of (slice_get blocks 0) env (first_state input turns))
 blocks-foretold world env shows [] context input turns goes well loops unbroken part = record { errs = tt; new = λ visit inside. inl inside }
 blocks-foretold world env shows (block ∷ blocks) context input turns goes well loops unbroken part =
-    let begun = start (length context.tree.variables.items) (length (rows_of context.tree)) in
+    let begun = start (length context.tree.variables.items) (indexes_of (rows_of context.tree)) in
     let first : Walked (Unit {0}) = block_walk block context dead in
     let body : Walked (Unit {0}) = statement_walk block.body context begun in
     let rest : Walked (Unit {0}) = all_of (map block_walk blocks) context first.after in

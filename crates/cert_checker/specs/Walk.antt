@@ -36,7 +36,7 @@ use Rattle.abstract_state.specs.Changes.{assigned}
 use Rattle.abstract_state.specs.Conditions.{bound_form, branched, condition_of}
 use Rattle.abstract_state.specs.Forms.{root_of}
 use Rattle.abstract_state.specs.Loops.{with_touched, with_undefined}
-use Rattle.leaf_rows.specs.Rows.{is_structured, rows_accessed, rows_of}
+use Rattle.leaf_rows.specs.Rows.{indexes_of, is_structured, rows_accessed, rows_of}
 use Rattle.component_states.specs.Components.{Reach, all_stored}
 use Rattle.component_states.specs.States.{State, dead, joined_states, over_bound, over_change, over_variables, start}
 use Rattle.structured_states.specs.Cases.{arm_start, constants_before}
@@ -151,7 +151,8 @@ copy_to place root selectors reach type_id value ranges context =
 
 -- the start of a block: each variable of the program is one of its own
 abbrev pub begin : Block → Walking (Unit {0})
-begin block context = with_state (start (length context.tree.variables.items) (length (rows_of context.tree))) context
+begin block context =
+    with_state (start (length context.tree.variables.items) (indexes_of (rows_of context.tree))) context
 
 -- statements, or values that are written, one after another
 abbrev pub all_of : List (Walking (Unit {0})) → Walking (Unit {0})

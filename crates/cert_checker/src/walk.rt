@@ -103,7 +103,8 @@ impl<'a> Walk<'a> {
     {
         let rows = self.flow.rows;
         let roots = rows.tree().variables.len();
-        self.flow.state = State::undefined(self.alloc, roots, rows.count())?;
+        let indexes = rows.indexes(self.alloc)?;
+        self.flow.state = State::undefined(self.alloc, roots, &indexes)?;
         self.statement(&block.body, visits)
     }
 

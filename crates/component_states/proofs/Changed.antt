@@ -101,6 +101,7 @@ changes-hold rows apart env root form known before after changes number holds =
       count = holds.count;
       ranges = λ row steps v of_row there. holds.ranges row steps v of_row (sym (same row steps of_row) ∙ there);
       defined = λ row is steps of_row. stays row steps of_row (holds.defined row is steps of_row);
+      indexes = holds.indexes;
       stretches = λ one inside.
           All-contains P (changed root form known).stretches one
           (changed-all P Q (with_bounds (changed_bound root form))
@@ -142,6 +143,7 @@ bounds-hold rows env root own x known store has at holds =
       count = holds.count;
       ranges = holds.ranges;
       defined = holds.defined;
+      indexes = holds.indexes;
       stretches = λ one inside.
           All-contains P (replaced root own known).stretches one
           (with_stretches-all P (filter_map change known.stretches) known.stretches placed kept) inside;

@@ -1,8 +1,9 @@
 -- Facts of components that a state gives hold where it holds.
-use Rattle.std.proofs.Common.{arith, ◌≡◌, ⊎_elim, sym, subst, ℕ, ℤ, pos, ◌+ℤ◌, ◌≤ℤ◌, true, nat_eq, ◌&&◌, ◌||◌, List}
+use Rattle.std.proofs.Common.{arith, ◌≡◌, ⊎_elim, refl, sym, subst, ℕ, ℤ, pos, ◌+ℤ◌, ◌≤ℤ◌, true, nat_eq, ◌&&◌, ◌||◌, List, Option, Some, None}
 use Rattle.std.specs.List.{list_any}
 use Rattle.std.proofs.lemmas.Int.{ints}
 use Rattle.std.proofs.lemmas.Bool.{and_parts, eqb-true, or_cases}
+use Rattle.types.specs.declared.form.OrdinalRange.{OrdinalRange}
 use Rattle.meaning.specs.Store.{Environment, Store}
 use Rattle.abstract_state.specs.State as variables
 use Rattle.abstract_state.specs.State.{Dead, Live, at_most}
@@ -12,7 +13,7 @@ use Rattle.abstract_state.specs.Knows.{moment}
 use Rattle.abstract_state.proofs.Ranged.{included-in}
 use Rattle.leaf_rows.specs.Rows.{Parts}
 use Rattle.component_states.specs.Components.{ComponentFact, Components, Defined, Range, Stretch, Stretched, covers, gives, gives_stretch}
-use Rattle.component_states.specs.Components.{has_value, is_empty, row_at}
+use Rattle.component_states.specs.Components.{all_indexes, has_value, is_empty, is_spanned, is_whole, row_at}
 use Rattle.component_states.specs.Holds.{AreDefined, ComponentsHold, Holds, StretchHolds}
 use Rattle.component_states.specs.Laws.{GivenHolds}
 use Rattle.component_states.proofs.Bounds.{at_most-holds, below-holds, value-is}
@@ -31,12 +32,32 @@ module _ (rows : List Parts) (roots : ℕ) (env : Environment) (state : variable
       λ steps index of_row first from_low to_high. each steps index of_row first (omega (arith, ints)) (omega (arith, ints)) in
       subst (λ (row : ℕ). AreDefined rows row from to (moment env store)) (sym (eqb-true wanted.row held.row one.0)) wide
 
+  -- a stretch that is held has all indexes of a row
+  spanned-holds : (known : Components) → ComponentsHold rows known (moment env store) → (row : ℕ) (index : Option OrdinalRange)
+      → (row_at known row).index ≡ index → is_spanned state known.stretches row index ≡ true → Holds rows (Defined row) (moment env store)
+  spanned-holds known holds row None index_is is = absurd (cc)
+  spanned-holds known holds row (Some range) index_is is =
+      let all = all_indexes row range in
+      let P = λ (one : Stretch). StretchHolds rows one (moment env store) in
+      let found = any-of P (covers state all) known.stretches (each-of P known.stretches holds.stretches) is in
+      λ steps of_row.
+      let at = holds.indexes row range index_is steps of_row in
+      covered-holds all found.0 range.first range.last refl refl found.2 found.1 steps at.0 of_row at.1 at.2 at.3
+
+  -- all of a row that is given
+  pub whole-holds : (known : Components) → ComponentsHold rows known (moment env store) → (row : ℕ) → is_whole state known row ≡ true
+      → Holds rows (Defined row) (moment env store)
+  whole-holds known holds row is =
+      let own = (row_at known row).index in
+      ⊎_elim (λ held. holds.defined row held) (λ spanned. spanned-holds known holds row own refl spanned)
+      (or_cases (row_at known row).is_defined (is_spanned state known.stretches row own) is)
+
   -- a stretch that is given
   pub stretch-holds : (known : Components) → ComponentsHold rows known (moment env store) → (stretch : Stretch) → gives_stretch state known stretch ≡ true
       → StretchHolds rows stretch (moment env store)
   stretch-holds known holds stretch is =
       let m = moment env store in
-      let defined = (row_at known stretch.row).is_defined in
+      let defined = is_whole state known stretch.row in
       let covered = list_any (covers state stretch) known.stretches in
       let one = and_parts (has_value state stretch.first && has_value state stretch.last) (is_empty state stretch || (defined || covered)) is in
       let two = and_parts (has_value state stretch.first) (has_value state stretch.last) one.0 in
@@ -48,7 +69,7 @@ module _ (rows : List Parts) (roots : ℕ) (env : Environment) (state : variable
       let below : (to.0 +ℤ pos 1) ≤ℤ from.0 = below-holds roots env store state knows stretch.last stretch.first to.0 from.0 to.1 from.1 empty in
       λ steps index of_row first low high. absurd (omega (arith, ints)))
       (λ rest.
-      ⊎_elim (λ whole. λ steps index of_row first low high. holds.defined stretch.row whole steps of_row)
+      ⊎_elim (λ whole. λ steps index of_row first low high. whole-holds known holds stretch.row whole steps of_row)
       (λ any.
       let P = λ (one : Stretch). StretchHolds rows one m in
       let found = any-of P (covers state stretch) known.stretches (each-of P known.stretches holds.stretches) any in
@@ -62,7 +83,7 @@ module _ (rows : List Parts) (roots : ℕ) (env : Environment) (state : variable
       → Holds rows fact (moment env store)
   fact-holds known holds (Range row range) is = λ steps v of_row there.
       included-in (row_at known row).range range v is (holds.ranges row steps v of_row there)
-  fact-holds known holds (Defined row) is = holds.defined row is
+  fact-holds known holds (Defined row) is = whole-holds known holds row is
   fact-holds known holds (Stretched stretch) is = stretch-holds known holds stretch is
 
 live-holds : (rows : List Parts) (roots : ℕ) (env : Environment) (state : variables.State) (known : Components) (store : Store) (fact : ComponentFact)

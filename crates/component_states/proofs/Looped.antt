@@ -22,7 +22,7 @@ use Rattle.component_states.specs.Laws.{AreEntire, AreTouched, HeadsHold, InLimi
 use Rattle.component_states.proofs.Bounds.{unless-if}
 use Rattle.component_states.proofs.Changed.{StaysDefined, with_bounds-holds}
 use Rattle.component_states.proofs.Listed.{changed-all, each-of, none-of, with_stretch-all}
-use Rattle.component_states.proofs.Rows.{of_row-within, set-other, set-same, with_defined-holds, with_range-defined, with_range-holds}
+use Rattle.component_states.proofs.Rows.{of_row-within, set-other, set-same, with_defined-holds, with_range-defined, with_range-holds, with_range-index}
 
 -- ---- claims
 
@@ -37,6 +37,7 @@ with_claim-holds rows moment (Stretched stretch) known so holds = record {
   count = holds.count;
   ranges = holds.ranges;
   defined = holds.defined;
+  indexes = holds.indexes;
   stretches = λ one inside.
       let P = λ (one : Stretch). StretchHolds rows one moment in
       All-contains P (with_claim (Stretched stretch) known).stretches one
@@ -151,6 +152,12 @@ touched-defined limits [] known row = refl
 touched-defined limits (one ∷ touched) known row =
     touched-defined limits touched (with_range one (limits one) known) row ∙ with_range-defined known one row (limits one)
 
+touched-index : (limits : ℕ → Interval) (touched : List ℕ) (known : Components) (row : ℕ)
+    → (row_at (with_touched limits touched known) row).index ≡ (row_at known row).index
+touched-index limits [] known row = refl
+touched-index limits (one ∷ touched) known row =
+    touched-index limits touched (with_range one (limits one) known) row ∙ with_range-index known one row (limits one)
+
 -- ---- the head
 
 module _ (rows : List Parts) (env : Environment) (limits : ℕ → Interval) (roots controls touched : List ℕ) (before after : Store)
@@ -209,6 +216,10 @@ module _ (rows : List Parts) (env : Environment) (limits : ℕ → Interval) (ro
             subst (λ (list : List RowState). (get_or list row no_row).is_defined ≡ true) same
             (sym (touched-defined limits touched changed_ones row) ∙ is) in
             defined-stays row steps of_row (holds.defined row was steps of_row);
+        indexes = λ row range is.
+            holds.indexes row range
+            (subst (λ (list : List RowState). (get_or list row no_row).index ≡ Some range) same
+            (sym (touched-index limits touched changed_ones row) ∙ is));
         stretches = λ one listed.
             let listed_before : Contains changed_ones.stretches one =
             subst (λ (list : List Stretch). Contains list one) (touched-stretches limits touched changed_ones) listed in

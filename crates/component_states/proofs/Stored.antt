@@ -4,9 +4,10 @@ use Rattle.std.proofs.Common.{cond, ◌||◌, nat_eq}
 use Rattle.std.proofs.Common.{List, [], ◌∷◌, get_or, length, Option, Some, None}
 use Rattle.std.specs.List.{All, Contains, filter, filter_map, list_any}
 use Rattle.std.proofs.lemmas.Int.{ints, by_lt_z}
-use Rattle.std.proofs.lemmas.Bool.{both_ways, cases_Bool, cases_eq, cond_both, eq-eqb, eqb-true, ne_eqb}
+use Rattle.std.proofs.lemmas.Bool.{both_ways, cases_Bool, cases_eq, eq-eqb, eqb-true, ne_eqb}
 use Rattle.std.proofs.lemmas.List.{length-set}
 use Rattle.std.proofs.lemmas.List.Elements.{All-cons, All-contains, All-contains_itself, All-head, All-tail}
+use Rattle.types.specs.declared.form.OrdinalRange.{OrdinalRange}
 use Rattle.types.specs.declared.form.Step.{Step}
 use Rattle.domain.specs.Interval.{Interval, joined}
 use Rattle.domain.specs.Facts.{Bound, Number, Plus}
@@ -17,15 +18,16 @@ use Rattle.abstract_state.specs.Holds.{IsBound, IsIn, value_at}
 use Rattle.abstract_state.specs.Knows as entire
 use Rattle.abstract_state.specs.Knows.{moment}
 use Rattle.leaf_rows.specs.Rows.{Parts, first_index, no_parts}
-use Rattle.component_states.specs.Components.{At, Components, Defined, Entire, Index, Inside, Reach, RowState, Stretch, all_stored, at_index, gives_stretch}
+use Rattle.component_states.specs.Components.{At, Components, Defined, Entire, Index, Inside, Reach, RowState, Stretch, all_stored, at_index}
 use Rattle.component_states.specs.Components.{is_next, is_none, longer, longer_in, or_alone, row_at, stored, with_defined, with_element, with_joined}
-use Rattle.component_states.specs.Components.{with_range, with_some_element, with_stretches}
-use Rattle.component_states.specs.Holds.{ComponentsHold, HasComponent, Holds, IsOfRow, StretchHolds, component_at}
+use Rattle.component_states.specs.Components.{with_range, with_some_element}
+use Rattle.component_states.specs.Holds.{ComponentsHold, HasComponent, Holds, IndexesLie, IsOfRow, StretchHolds, component_at}
 use Rattle.component_states.specs.Laws.{AreApart, AreComponents, AreStored, IsIndex, IsReach, StoresHold}
 use Rattle.component_states.proofs.Bounds.{next-is}
 use Rattle.component_states.proofs.Joins.{in-left, in-right}
 use Rattle.component_states.proofs.Listed.{changed-all, each-of, filter-all, none-of, with_stretches-all}
-use Rattle.component_states.proofs.Rows.{of_row-within, set-at, set-other, set-same, with_defined-range, with_range-defined}
+use Rattle.component_states.proofs.Rows.{of_row-within, set-at, set-other, set-same, with_defined-index, with_defined-range}
+use Rattle.component_states.proofs.Rows.{with_range-defined, with_range-index}
 
 -- a row is among those of some stores
 abbrev pending : List (ℕ × Interval) → ℕ → Bool
@@ -63,6 +65,7 @@ module _ (rows : List Parts) (env : Environment) (stores : List (ℕ × Interval
     ranges : (row : ℕ) (steps : List Step) (v : Value) → IsOfRow rows row steps → component_at rows (moment env after) row steps ≡ Some v
         → (pending rest row ≡ true → component_at rows (moment env before) row steps ≡ Some v) → IsIn (row_at known row).range v
     defined : (row : ℕ) → (row_at known row).is_defined ≡ true → Holds rows (Defined row) (moment env after)
+    indexes : (row : ℕ) (range : OrdinalRange) → (row_at known row).index ≡ Some range → IndexesLie rows row range
     stretches : All StretchAfter known.stretches
 
   -- ---- where the first store begins
@@ -107,6 +110,7 @@ module _ (rows : List Parts) (env : Environment) (stores : List (ℕ × Interval
           ⊎_elim (λ stored. holds.ranges row steps v of_row (was stored))
           (λ free. holds.ranges row steps v of_row (sym (unstored apart row steps of_row free) ∙ there)) (cases_Bool (pending stores row));
       defined = λ row is steps of_row. component-stays row steps (holds.defined row is steps of_row);
+      indexes = holds.indexes;
       stretches =
           let Q = λ (one : Stretch). StretchHolds rows one (moment env before) in
           each-of StretchAfter known.stretches (λ one listed. stretch-stays one (holds.stretches one listed));
@@ -139,6 +143,7 @@ module _ (rows : List Parts) (env : Environment) (stores : List (ℕ × Interval
               subst (λ (s : RowState). IsIn s.range v) (sym (set-other known row other state differ)) old)
               (cases_eq other row);
           defined = λ other is. left.defined other (sym (with_range-defined known row other range) ∙ is);
+          indexes = λ other found is. left.indexes other found (sym (with_range-index known row other range) ∙ is);
           stretches = left.stretches;
         }
 
@@ -155,6 +160,7 @@ module _ (rows : List Parts) (env : Environment) (stores : List (ℕ × Interval
               (λ (both : (row ≡ other) × (row_at (with_defined row known) other ≡ state)).
               subst (λ (r : ℕ). Holds rows (Defined r) (moment env after)) both.0 so)
               (set-at known.rows row other state);
+          indexes = λ other found is. left.indexes other found (sym (with_defined-index known row other) ∙ is);
           stretches = left.stretches;
         }
 
@@ -243,12 +249,7 @@ module _ (rows : List Parts) (env : Environment) (stores : List (ℕ × Interval
           let all = with_stretches-all StretchAfter (or_alone row bound (filter_map grown known.stretches))
           (filter (λ stretch. is_none (grown stretch)) known.stretches)
           (or_alone-all StretchAfter row bound (filter_map grown known.stretches) alone-holds longer_ones) others in
-          let more : Components = record known {
-            stretches = with_stretches (or_alone row bound (filter_map grown known.stretches))
-                (filter (λ stretch. is_none (grown stretch)) known.stretches);
-          } in
-          let left_more : Left rest more = record { count = left.count; ranges = left.ranges; defined = left.defined; stretches = all } in
-          cond_both (gives_stretch state known (at_index row bound)) known more (λ (c : Components). Left rest c) (λ given. left) (λ new. left_more)
+          record { count = left.count; ranges = left.ranges; defined = left.defined; indexes = left.indexes; stretches = all }
 
     some_element-left : (one : ℕ × Interval) → Contains stores one → (form : Option Bound)
         → ((bound : Bound) → form ≡ Some bound → IsBound (moment env before) bound number) → (rest : List (ℕ × Interval)) (known : Components)
@@ -285,6 +286,7 @@ stores-hold rows whole apart roots env state known reach stores before after kno
       count = last.count;
       ranges = λ row steps v of_row there. last.ranges row steps v of_row there (λ none. absurd (cc));
       defined = last.defined;
+      indexes = last.indexes;
       stretches = λ one listed. All-contains (λ (one : Stretch). StretchHolds rows one (moment env after)) end.stretches one last.stretches listed;
     }
 

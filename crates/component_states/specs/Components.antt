@@ -2,9 +2,10 @@
 -- of each row of components a range, whether all of it is defined, and of which first indexes it is. It does not say
 -- what that means for a run.
 use Rattle.std.specs.Prelude.{ℕ, ℤ, pos, neg_ℤ, ◌+ℤ◌, Bool, true, false, not, ◌&&◌, ◌||◌, List, [], ◌∷◌, ◌++◌, Option}
-use Rattle.std.specs.Prelude.{Some, None, if◌then◌else◌, filter, map, nat_eq, replicate, slice_index_or, slice_set}
+use Rattle.std.specs.Prelude.{Some, None, if◌then◌else◌, filter, map, nat_eq, slice_index_or, slice_set}
 use Rattle.std.specs.List.{filter_map, list_any}
 use Rattle.std.specs.Ordering.{int_eq}
+use Rattle.types.specs.declared.form.OrdinalRange.{OrdinalRange}
 use Rattle.domain.specs.Interval.{Interval, common, is_included, joined, vacant}
 use Rattle.domain.specs.Facts.{Bound, Number, Plus}
 use Rattle.meaning.specs.Integers.{is_integer_number}
@@ -17,10 +18,12 @@ pub record Stretch : Type 0 where
   pub first : Bound
   pub last : Bound
 
--- what is known of a row: its values lie in a range, and perhaps each component is defined
+-- what is known of a row: its values lie in a range, perhaps each component is defined, and the first index on the way
+-- to each has these values, if there is one
 pub record RowState : Type 0 where
   pub range : Interval
   pub is_defined : Bool
+  pub index : Option OrdinalRange
 
 -- what is known of each row, and the stretches that are defined, each once
 pub record Components : Type 0 where
@@ -33,13 +36,16 @@ pub data ComponentFact : Type 0 where
   Defined : (row : ℕ) → ComponentFact
   Stretched : Stretch → ComponentFact
 
--- a row of which no component has a value
-abbrev pub no_row : RowState
-no_row = record { range = vacant; is_defined = false }
+-- a row of which no component has a value, by the values of its first index
+abbrev pub undefined_row : Option OrdinalRange → RowState
+undefined_row index = record { range = vacant; is_defined = false; index = index }
 
--- so many rows, none of which has a value
-abbrev pub no_values : ℕ → Components
-no_values rows = record { rows = replicate rows no_row; stretches = [] }
+abbrev pub no_row : RowState
+no_row = undefined_row None
+
+-- rows none of which has a value, by the values of their first indexes
+abbrev pub no_values : List (Option OrdinalRange) → Components
+no_values indexes = record { rows = map undefined_row indexes; stretches = [] }
 
 abbrev pub row_at : Components → ℕ → RowState
 row_at known row = slice_index_or known.rows row no_row
@@ -102,18 +108,32 @@ abbrev pub covers : variables.State → Stretch → Stretch → Bool
 covers state wanted held =
     nat_eq wanted.row held.row && (at_most state held.first wanted.first && at_most state wanted.last held.last)
 
--- a stretch is known to be defined: its bounds have values, and it has no index, or its row is defined, or a stretch
--- that is held has all of it
+-- the stretch of all indexes of a row
+abbrev pub all_indexes : ℕ → OrdinalRange → Stretch
+all_indexes row range = record { row = row; first = Number range.first; last = Number range.last }
+
+-- a stretch that is held has all indexes of a row
+abbrev pub is_spanned : variables.State → List Stretch → ℕ → Option OrdinalRange → Bool
+is_spanned state held row None = false
+is_spanned state held row (Some range) = list_any (covers state (all_indexes row range)) held
+
+-- each component of a row is known to be defined: it is held, or a stretch that is held has all indexes of the row
+abbrev pub is_whole : variables.State → Components → ℕ → Bool
+is_whole state known row =
+    (row_at known row).is_defined || is_spanned state known.stretches row (row_at known row).index
+
+-- a stretch is known to be defined: its bounds have values, and it has no index, or all of its row is defined, or a
+-- stretch that is held has all of it
 abbrev pub gives_stretch : variables.State → Components → Stretch → Bool
 gives_stretch state known stretch =
     (has_value state stretch.first && has_value state stretch.last)
     && (is_empty state stretch
-    || ((row_at known stretch.row).is_defined || list_any (covers state stretch) known.stretches))
+    || (is_whole state known stretch.row || list_any (covers state stretch) known.stretches))
 
 -- what is known gives a fact
 abbrev pub gives : variables.State → Components → ComponentFact → Bool
 gives state known (Range row range) = is_included (row_at known row).range range
-gives state known (Defined row) = (row_at known row).is_defined
+gives state known (Defined row) = is_whole state known row
 gives state known (Stretched stretch) = gives_stretch state known stretch
 
 -- ---- what is added
@@ -222,14 +242,13 @@ abbrev pub is_none : Option Stretch → Bool
 is_none None = true
 is_none (Some stretch) = false
 
--- the components of an index are defined from here on
+-- the components of an index are defined from here on: each stretch that it makes longer becomes so, or else there is
+-- that of the index alone
 abbrev pub with_element : variables.State → ℕ → Bound → Components → Components
-with_element state row index known =
-    if gives_stretch state known (at_index row index) then known
-    else record known {
-      stretches = with_stretches (or_alone row index (filter_map (longer_in state row index) known.stretches))
-          (filter (λ stretch. is_none (longer_in state row index stretch)) known.stretches);
-    }
+with_element state row index known = record known {
+  stretches = with_stretches (or_alone row index (filter_map (longer_in state row index) known.stretches))
+      (filter (λ stretch. is_none (longer_in state row index stretch)) known.stretches);
+}
 
 abbrev pub with_some_element : variables.State → ℕ → Option Bound → Components → Components
 with_some_element state row None known = known
@@ -249,15 +268,3 @@ stored state (Inside index) row range known = with_joined row range known
 abbrev pub all_stored : variables.State → Reach → List (ℕ × Interval) → Components → Components
 all_stored state reach [] known = known
 all_stored state reach (one ∷ more) known = all_stored state reach more (stored state reach one.0 one.1 known)
-
--- ---- where two ways meet
-
-abbrev pub joined_row : RowState → RowState → RowState
-joined_row one other =
-    record { range = joined one.range other.range; is_defined = one.is_defined && other.is_defined }
-
--- row by row; a row that one of them lacks is one without values
-abbrev pub joined_rows : List RowState → List RowState → List RowState
-joined_rows [] others = map (joined_row no_row) others
-joined_rows (row ∷ rows) [] = joined_row row no_row ∷ joined_rows rows []
-joined_rows (row ∷ rows) (other ∷ others) = joined_row row other ∷ joined_rows rows others

@@ -2,6 +2,7 @@
 -- them.
 use Rattle.std.specs.Prelude.{◌≡◌, ℕ, ℤ, ◌≤◌, ◌≤ℤ◌, true, List, Option, Some, length, slice_index_or}
 use Rattle.std.specs.Prelude.{Contains}
+use Rattle.types.specs.declared.form.OrdinalRange.{OrdinalRange}
 use Rattle.types.specs.declared.form.Step.{Step}
 use Rattle.meaning.specs.declared.store.Value.{Value}
 use Rattle.meaning.specs.Store.{Environment, Store}
@@ -38,6 +39,12 @@ module _ (rows : List Parts) where
       (from to : ℤ) × IsBound moment stretch.first from × IsBound moment stretch.last to
       × AreDefined stretch.row from to moment
 
+  -- the first index on the way to each component of a row is one of these values
+  abbrev pub IndexesLie : ℕ → OrdinalRange → Type 0
+  IndexesLie row range =
+      (steps : List Step) → IsOfRow row steps
+      → (index : ℤ) × (first_index steps ≡ Some index) × (range.first ≤ℤ index) × (index ≤ℤ range.last)
+
   -- what a fact says of a moment
   abbrev pub Holds : ComponentFact → Moment → Type 0
   Holds (Range row range) moment =
@@ -45,11 +52,13 @@ module _ (rows : List Parts) where
   Holds (Defined row) moment = (steps : List Step) → IsOfRow row steps → HasComponent moment row steps
   Holds (Stretched stretch) moment = StretchHolds stretch moment
 
-  -- the range of each row, each row that is defined, and each stretch; there is what is known for each row
+  -- the range of each row, each row that is defined, where first indexes lie, and each stretch; there is what is known
+  -- for each row
   pub record ComponentsHold (known : Components) (moment : Moment) : Type 0 where
     pub count : length rows ≤ length known.rows
     pub ranges : (row : ℕ) → Holds (Range row (row_at known row).range) moment
     pub defined : (row : ℕ) → (row_at known row).is_defined ≡ true → Holds (Defined row) moment
+    pub indexes : (row : ℕ) (range : OrdinalRange) → (row_at known row).index ≡ Some range → IndexesLie row range
     pub stretches : (stretch : Stretch) → Contains known.stretches stretch → StretchHolds stretch moment
 
   -- what a state says of a moment: no run comes to a dead one

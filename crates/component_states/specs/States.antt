@@ -1,16 +1,18 @@
 -- What a checker knows at a point of a program: of the variables, and of the components of those that are structured
 -- (ISO 7185:1990, 6.5.1). It does not say how that comes about, nor what it means for a run.
-use Rattle.std.specs.Prelude.{ℕ, Bool, false, ◌||◌, List, Option, Some, None, if◌then◌else◌, filter}
-use Rattle.std.specs.List.{list_all}
+use Rattle.std.specs.Prelude.{ℕ, Bool, false, ◌&&◌, ◌||◌, List, [], Option, Some, None, if◌then◌else◌, filter, length}
+use Rattle.std.specs.Prelude.{map, max}
+use Rattle.std.specs.List.{list_all, range_with_len}
+use Rattle.std.specs.Int.{int_max, int_min}
 use Rattle.types.specs.declared.form.OrdinalRange.{OrdinalRange}
-use Rattle.domain.specs.Interval.{Interval}
+use Rattle.domain.specs.Interval.{Interval, joined}
 use Rattle.domain.specs.Facts.{Bound, Number}
 use Rattle.abstract_state.specs.State as variables
 use Rattle.abstract_state.specs.State.{Dead, Live}
 use Rattle.component_states.specs.Components as components
 use Rattle.component_states.specs.Components.{ComponentFact, Components, Defined, Index, Reach, Stretch, Stretched}
-use Rattle.component_states.specs.Components.{Entire, At, Inside, at_index, between, bound_with, gives_stretch}
-use Rattle.component_states.specs.Components.{no_values, with_stretches}
+use Rattle.component_states.specs.Components.{Entire, At, Inside, RowState, all_indexes, at_index, between, bound_with}
+use Rattle.component_states.specs.Components.{gives_stretch, is_whole, no_values, row_at, with_stretches}
 
 -- what is known of variables, and what of components
 pub record State : Type 0 where
@@ -19,11 +21,11 @@ pub record State : Type 0 where
 
 -- no run comes here
 abbrev pub dead : State
-dead = record { variables = Dead; components = no_values 0 }
+dead = record { variables = Dead; components = no_values [] }
 
--- the start of a block of so many variables and rows: none has a value
-abbrev pub start : (roots rows : ℕ) → State
-start roots rows = record { variables = variables.start roots; components = no_values rows }
+-- the start of a block of so many variables, and of rows by the values of their first indexes: none has a value
+abbrev pub start : (roots : ℕ) → (indexes : List (Option OrdinalRange)) → State
+start roots indexes = record { variables = variables.start roots; components = no_values indexes }
 
 abbrev pub is_dead : State → Bool
 is_dead state = variables.is_dead state.variables
@@ -59,8 +61,7 @@ gives_components state facts = list_all (gives_component state) facts
 -- that each component of a row is defined: of one with indexes, those from the first index to the last are
 abbrev pub all_of_row : Option OrdinalRange → ℕ → ComponentFact
 all_of_row None row = Defined row
-all_of_row (Some range) row =
-    Stretched (record { row = row; first = Number range.first; last = Number range.last })
+all_of_row (Some range) row = Stretched (all_indexes row range)
 
 -- the components at an index are defined, by its form or by where it lies
 abbrev pub gives_form : State → ℕ → Option Bound → Bool
@@ -91,9 +92,33 @@ gives_reached state (Inside index) range row = gives_index state row index
 abbrev pub given_stretches : State → List Stretch → List Stretch
 given_stretches state held = filter (gives_stretch state.variables state.components) held
 
+-- all of a row is defined on both ways: one of them holds that, and the other gives it
+abbrev pub are_whole : State → State → ℕ → Bool
+are_whole one other row =
+    ((row_at one.components row).is_defined && is_whole other.variables other.components row)
+    || ((row_at other.components row).is_defined && is_whole one.variables one.components row)
+
+-- the values of an index are among those that it has by two ways
+abbrev pub joined_index : Option OrdinalRange → Option OrdinalRange → Option OrdinalRange
+joined_index (Some one) (Some other) =
+    Some (record { first = int_min one.first other.first; last = int_max one.last other.last })
+joined_index one other = None
+
+-- what is known of a row behind two ways; one that is lacking on one of them has no values there
+abbrev pub joined_row : State → State → ℕ → RowState
+joined_row one other row = record {
+  range = joined (row_at one.components row).range (row_at other.components row).range;
+  is_defined = are_whole one other row;
+  index = joined_index (row_at one.components row).index (row_at other.components row).index;
+}
+
+abbrev pub joined_rows : State → State → List RowState
+joined_rows one other =
+    map (joined_row one other) (range_with_len 0 (max (length one.components.rows) (length other.components.rows)))
+
 abbrev pub joined_components : State → State → Components
 joined_components one other = record {
-  rows = components.joined_rows one.components.rows other.components.rows;
+  rows = joined_rows one other;
   stretches = with_stretches (given_stretches one other.components.stretches)
       (given_stretches other one.components.stretches);
 }

@@ -42,7 +42,7 @@ said_reach (kept_reach.Inside index) = components.Inside (said_index index)
 
 -- what is known of a row
 abbrev pub said_row : Row → RowState
-said_row row = record { range = row.range; is_defined = row.is_defined }
+said_row row = record { range = row.range; is_defined = row.is_defined; index = row.index }
 
 -- what is known of components
 abbrev pub viewed_components : KeptComponents → Components

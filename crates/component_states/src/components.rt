@@ -1,11 +1,9 @@
-ghost use Rattle.std.specs.Prelude.{◌≡◌, IfOk, filter, map, slice_index_or};
+ghost use Rattle.std.specs.Prelude.{◌≡◌, IfOk, filter, map};
 ghost use Rattle.domain.specs.Facts.{said_bound};
-ghost use Rattle.domain.specs.Interval.{vacant};
 ghost use Rattle.abstract_state.specs.View.{said_form, viewed};
-ghost use Rattle.component_states.specs.Components.{all_changed, changed, gives, gives_stretch, head, no_values};
+ghost use Rattle.component_states.specs.Components.{all_changed, changed, gives, gives_stretch, is_whole, no_values};
 ghost use Rattle.component_states.specs.Components.{replaced, row_at, stored, with_claim, with_claims, with_defined};
 ghost use Rattle.component_states.specs.Components.{with_element, with_joined, with_range, with_row, with_some_element};
-ghost use Rattle.component_states.specs.Components.{with_touched};
 ghost use Rattle.component_states.specs.View.{said_component, said_reach, said_row, said_stretch, viewed_components};
 
 use crate::facts::{ComponentFact, Reach, Stretch};
@@ -16,6 +14,7 @@ use domain::Domain;
 use domain::facts::Bound;
 use domain::interval::Interval;
 use std::alloc::{AllocError, Global};
+use types::OrdinalRange;
 
 /// What is known of the components of structured variables.
 #[derive(Drop)]
@@ -27,12 +26,19 @@ pub(crate) struct Components {
 }
 
 impl Components {
-    /// So many rows, none of which has a value.
-    pub(crate) fn undefined(alloc: Global, rows: usize) -> Result<Components, AllocError>
-        ensures { IfOk result (λ known. viewed_components known ≡ no_values rows) }
+    /// Rows none of which has a value, by the values of their first indexes.
+    pub(crate) fn undefined(
+        alloc: Global,
+        indexes: &[Option<OrdinalRange>],
+    ) -> Result<Components, AllocError>
+        ensures { IfOk result (λ known. viewed_components known ≡ no_values indexes.now) }
     {
+        let mut rows = Vec::with_capacity(alloc, indexes.len())?;
+        for index in indexes {
+            rows.push(Row::undefined(*index))?;
+        }
         Ok(Components {
-            rows: vec![in alloc; Row::NONE; rows]?,
+            rows,
             stretches: Vec::new(alloc),
         })
     }
@@ -54,32 +60,18 @@ impl Components {
     pub(crate) fn set_range(&mut self, row: u32, range: Interval)
         ensures { viewed_components self.new ≡ with_range row range (viewed_components self.old) }
     {
-        let is_defined = self.row(row).is_defined;
-        self.set_row(row, Row { range, is_defined });
-    }
-
-    /// Each of several rows may have other values of its range; these stand by the numbers of rows.
-    pub(crate) fn touch_all(&mut self, limits: &[Interval], rows: &[u32])
-        ensures { viewed_components self.new ≡ with_touched
-            (λ row. slice_index_or limits.now row vacant) rows.now (viewed_components self.old) }
-    {
-        for row in rows {
-            self.set_range(*row, limit(limits, *row));
-        }
+        let mut state = self.row(row);
+        state.range = range;
+        self.set_row(row, state);
     }
 
     /// Each component of a row is defined from here on.
     pub(crate) fn define(&mut self, row: u32)
         ensures { viewed_components self.new ≡ with_defined row (viewed_components self.old) }
     {
-        let range = self.row(row).range;
-        self.set_row(
-            row,
-            Row {
-                range,
-                is_defined: true,
-            },
-        );
+        let mut state = self.row(row);
+        state.is_defined = true;
+        self.set_row(row, state);
     }
 
     /// What is left after a variable got a value, perhaps of a bound form.
@@ -142,42 +134,34 @@ impl Components {
         Ok(())
     }
 
-    /// What is known at the head of a loop: what any number of turns leaves, and the claims of a certificate.
-    pub(crate) fn head(
-        &mut self,
-        limits: &[Interval],
-        roots: &[u32],
-        rows: &[u32],
-        claims: &[ComponentFact],
-    ) -> Result<(), AllocError>
-        ensures { IfOk result (λ _. viewed_components self.new ≡ head (λ row. slice_index_or limits.now row vacant)
-            roots.now rows.now (map said_component claims.now) (viewed_components self.old)) }
-    {
-        self.change_all(roots);
-        self.touch_all(limits, rows);
-        self.claim_all(claims)
-    }
-
     /// Whether a fact is given, by what is known of variables.
     pub(crate) fn gives(&self, state: &State, fact: &ComponentFact) -> bool
         ensures { result ≡ gives (viewed state.now) (viewed_components self.now) (said_component fact.now) }
     {
         match fact {
             ComponentFact::Range { row, range } => self.row(*row).range.leq(range),
-            ComponentFact::Defined { row } => self.row(*row).is_defined,
+            ComponentFact::Defined { row } => self.is_whole(state, *row),
             ComponentFact::Stretched(stretch) => self.gives_stretch(state, *stretch),
         }
     }
 
-    /// Whether a stretch is known to be defined: its bounds have values, and it has no index, or its row is defined, or
-    /// a stretch that is held has all of it.
+    /// Whether each component of a row is known to be defined: it is held, or a stretch that is held has all indexes.
+    pub(crate) fn is_whole(&self, state: &State, row: u32) -> bool
+        ensures { result ≡ is_whole (viewed state.now) (viewed_components self.now) row }
+    {
+        let known = self.row(row);
+        known.is_defined || stretches::span(&self.stretches, state, row, known.index)
+    }
+
+    /// Whether a stretch is known to be defined: its bounds have values, and it has no index, or all of its row is
+    /// defined, or a stretch that is held has all of it.
     fn gives_stretch(&self, state: &State, stretch: Stretch) -> bool
         ensures { result ≡ gives_stretch (viewed state.now) (viewed_components self.now) (said_stretch stretch) }
     {
         (bound_rules::has_value(state, stretch.first)
             && bound_rules::has_value(state, stretch.last))
             && (stretch.is_empty(state)
-                || (self.row(stretch.row).is_defined
+                || (self.is_whole(state, stretch.row)
                     || stretches::cover(&self.stretches, state, stretch)))
     }
 
@@ -264,7 +248,8 @@ impl Components {
         }
     }
 
-    /// The components of an index are defined from here on: stretches that end beside it become longer.
+    /// The components of an index are defined from here on: stretches that end beside it become longer, or else there
+    /// is one of the index alone.
     fn define_element(
         &mut self,
         alloc: Global,
@@ -275,23 +260,10 @@ impl Components {
         ensures { IfOk result (λ _. viewed_components self.new
             ≡ with_element (viewed state.now) row (said_bound index) (viewed_components self.old)) }
     {
-        if self.gives_stretch(state, Stretch::at(row, index)) {
-            return Ok(());
-        }
         let more = stretches::longer_or_alone(alloc, &self.stretches, state, row, index)?;
         let mut held = stretches::others(alloc, &self.stretches, state, row, index)?;
         stretches::insert_all(&mut held, &more)?;
         self.stretches = held;
         Ok(())
-    }
-}
-
-/// The limits of a row.
-fn limit(limits: &[Interval], row: u32) -> Interval
-    ensures { result ≡ slice_index_or limits.now row vacant }
-{
-    match limits.get(row as usize) {
-        Some(range) => *range,
-        None => Interval::EMPTY,
     }
 }

@@ -1,10 +1,11 @@
-ghost use Rattle.std.specs.Prelude.{◌≡◌, IfOk, map, slice_index_or, slice_set};
-ghost use Rattle.component_states.specs.Components.{joined_row, joined_rows, no_row};
+ghost use Rattle.std.specs.Prelude.{◌≡◌, IfOk, length, map, max, slice_index_or, slice_set};
+ghost use Rattle.component_states.specs.Components.{no_row, undefined_row};
+ghost use Rattle.component_states.specs.States.{joined_index};
 ghost use Rattle.component_states.specs.View.{said_row};
 
-use domain::Domain;
 use domain::interval::Interval;
 use std::alloc::{AllocError, Global};
+use types::OrdinalRange;
 
 /// What is known of a row of components.
 #[derive(Clone, Copy)]
@@ -13,22 +14,19 @@ pub(crate) struct Row {
     pub(crate) range: Interval,
     /// `true`: each is defined.
     pub(crate) is_defined: bool,
+    /// The values of the first index on the way to each, if there is one.
+    pub(crate) index: Option<OrdinalRange>,
 }
 
 impl Row {
-    /// That of a row of which no component has a value.
-    pub(crate) const NONE: Row = Row {
-        range: Interval::EMPTY,
-        is_defined: false,
-    };
-
-    /// What is known of a row behind two ways.
-    fn joined(self, other: Row) -> Row
-        ensures { said_row result ≡ joined_row (said_row self) (said_row other) }
+    /// That of a row of which no component has a value, by the values of its first index.
+    pub(crate) fn undefined(index: Option<OrdinalRange>) -> Row
+        ensures { said_row result ≡ undefined_row index }
     {
         Row {
-            range: self.range.join(&other.range),
-            is_defined: self.is_defined && other.is_defined,
+            range: Interval::EMPTY,
+            is_defined: false,
+            index,
         }
     }
 }
@@ -39,7 +37,7 @@ pub(crate) fn row_at(rows: &[Row], row: usize) -> Row
 {
     match rows.get(row) {
         Some(state) => *state,
-        None => Row::NONE,
+        None => Row::undefined(None),
     }
 }
 
@@ -52,14 +50,27 @@ pub(crate) fn set(rows: &mut Vec<Row>, row: usize, state: Row)
     }
 }
 
-/// Row by row what is known behind two ways; a row that one of them lacks has no value there.
-pub(crate) fn joined(alloc: Global, rows: &[Row], others: &[Row]) -> Result<Vec<Row>, AllocError>
-    ensures { IfOk result (λ both. map said_row both.items
-        ≡ joined_rows (map said_row rows.now) (map said_row others.now)) }
+/// How many rows the longer of two lists has, if 32 bits hold their number: more fit no memory.
+pub(crate) fn longer(rows: &[Row], others: &[Row]) -> Result<u32, AllocError>
+    ensures { IfOk result (λ count. count ≡ max (length (map said_row rows.now)) (length (map said_row others.now))) }
 {
-    let mut both = Vec::new(alloc);
-    for i in 0..rows.len().max(others.len()) {
-        both.push(row_at(rows, i).joined(row_at(others, i)))?;
+    let count = rows.len().max(others.len());
+    if count > u32::MAX as usize {
+        return Err(AllocError);
     }
-    Ok(both)
+    Ok(count as u32)
+}
+
+/// The values of an index by two ways.
+pub(crate) fn joined_index(
+    one: Option<OrdinalRange>,
+    other: Option<OrdinalRange>,
+) -> Option<OrdinalRange>
+    ensures { result ≡ joined_index one other }
+{
+    let (one, other) = (one?, other?);
+    Some(OrdinalRange {
+        first: one.first.min(other.first),
+        last: one.last.max(other.last),
+    })
 }

@@ -1,21 +1,22 @@
-ghost use Rattle.std.specs.Prelude.{◌≡◌, IfOk, None, map, slice_index_or};
-ghost use Rattle.domain.specs.Interval.{vacant};
+ghost use Rattle.std.specs.Prelude.{◌≡◌, IfOk, None, map};
 ghost use Rattle.abstract_state.specs.Changes.{assigned};
 ghost use Rattle.abstract_state.specs.Loops.{replaced as replaced_variable, with_undefined};
 ghost use Rattle.abstract_state.specs.View.{said_form};
-ghost use Rattle.component_states.specs.Components.{all_changed, changed, head, replaced, row_at, stored, with_claim};
-ghost use Rattle.component_states.specs.Components.{with_claims, with_defined, with_range, with_touched};
-ghost use Rattle.component_states.specs.States.{all_of_row, dead, gives_component, gives_components, gives_form};
-ghost use Rattle.component_states.specs.States.{gives_index, gives_reached, gives_some, is_dead, joined_components};
-ghost use Rattle.component_states.specs.States.{joined_states, over_bound, over_change, over_components, range_stretch};
-ghost use Rattle.component_states.specs.States.{start};
-ghost use Rattle.component_states.specs.View.{said_component, said_index, said_reach, said_some, viewed};
+ghost use Rattle.component_states.specs.Components.{all_changed, changed, is_whole, row_at, stored, with_claims};
+ghost use Rattle.component_states.specs.Components.{with_defined, with_range};
+ghost use Rattle.component_states.specs.States.{all_of_row, dead, gives_component, gives_form, gives_index};
+ghost use Rattle.component_states.specs.States.{gives_reached, gives_some, is_dead, joined_components, joined_row};
+ghost use Rattle.component_states.specs.States.{joined_rows, joined_states, over_bound, over_change, over_components};
+ghost use Rattle.component_states.specs.States.{range_stretch, start};
+ghost use Rattle.component_states.specs.View.{said_component, said_index, said_reach, said_row, said_some, viewed};
 ghost use Rattle.component_states.specs.View.{viewed_components};
 
 use crate::components::Components;
 use crate::facts::{ComponentFact, Index, Reach, Stretch};
+use crate::row_list::Row;
 use crate::{bound_rules, row_list, stretches};
 use abstract_state::State as Variables;
+use domain::Domain;
 use domain::facts::Bound;
 use domain::interval::Interval;
 use std::alloc::{AllocError, Global};
@@ -31,12 +32,17 @@ pub struct State {
 }
 
 impl State {
-    /// The start of a block with so many variables and rows: each is undefined.
-    pub fn undefined(alloc: Global, roots: usize, rows: usize) -> Result<State, AllocError>
-        ensures { IfOk result (λ state. viewed state ≡ start roots rows) }
+    /// The start of a block with so many variables, and with rows by the values of their first indexes: each is
+    /// undefined.
+    pub fn undefined(
+        alloc: Global,
+        roots: usize,
+        indexes: &[Option<OrdinalRange>],
+    ) -> Result<State, AllocError>
+        ensures { IfOk result (λ state. viewed state ≡ start roots indexes.now) }
     {
         let variables = Variables::undefined(alloc, roots)?;
-        let components = Components::undefined(alloc, rows)?;
+        let components = Components::undefined(alloc, indexes)?;
         Ok(State {
             variables,
             components,
@@ -106,44 +112,6 @@ impl State {
         self.variables.replace(alloc, root, own)
     }
 
-    /// What is known of components by a variable is known by its bound too, if it has one.
-    pub fn replace_bounds(
-        &mut self,
-        alloc: Global,
-        root: u32,
-        own: Option<Bound>,
-    ) -> Result<(), AllocError>
-        ensures { IfOk result
-            (λ _. viewed self.new ≡ over_components (λ _. replaced root (said_form own)) (viewed self.old)) }
-    {
-        self.components.replace(alloc, root, own)
-    }
-
-    /// What is known of components at the head of a loop: what any number of turns leaves, and the claims of a
-    /// certificate. Turns give touched variables and rows other values, those of rows within the limits, which stand by
-    /// the numbers of rows.
-    pub fn head(
-        &mut self,
-        limits: &[Interval],
-        roots: &[u32],
-        rows: &[u32],
-        claims: &[ComponentFact],
-    ) -> Result<(), AllocError>
-        ensures { IfOk result (λ _. viewed self.new ≡ over_components
-            (λ _. head (λ row. slice_index_or limits.now row vacant) roots.now rows.now (map said_component claims.now))
-            (viewed self.old)) }
-    {
-        self.components.head(limits, roots, rows, claims)
-    }
-
-    /// Each of several rows may have other values within its limits, which stand by the numbers of rows.
-    pub fn touch_rows(&mut self, limits: &[Interval], rows: &[u32])
-        ensures { viewed self.new ≡ over_components
-            (λ _. with_touched (λ row. slice_index_or limits.now row vacant) rows.now) (viewed self.old) }
-    {
-        self.components.touch_all(limits, rows);
-    }
-
     /// What is left of what is known of components where each of several variables may have another value.
     pub fn touch_roots(&mut self, roots: &[u32])
         ensures { viewed self.new ≡ over_components (λ _. all_changed roots.now) (viewed self.old) }
@@ -165,15 +133,7 @@ impl State {
         self.components.define(row);
     }
 
-    /// A claim is known from here on; a range beside that which is known.
-    pub fn claim(&mut self, fact: &ComponentFact) -> Result<(), AllocError>
-        ensures { IfOk result (λ _. viewed self.new
-            ≡ over_components (λ _. with_claim (said_component fact.now)) (viewed self.old)) }
-    {
-        self.components.claim(fact)
-    }
-
-    /// Claims are known from here on.
+    /// Claims are known from here on; a range beside that which is known.
     pub fn claim_all(&mut self, facts: &[ComponentFact]) -> Result<(), AllocError>
         ensures { IfOk result (λ _. viewed self.new
             ≡ over_components (λ _. with_claims (map said_component facts.now)) (viewed self.old)) }
@@ -186,18 +146,6 @@ impl State {
         ensures { result ≡ gives_component (viewed self.now) (said_component fact.now) }
     {
         self.is_dead() || self.components.gives(&self.variables, fact)
-    }
-
-    /// Whether each of several facts of components is given.
-    pub fn gives_all(&self, facts: &[ComponentFact]) -> bool
-        ensures { result ≡ gives_components (viewed self.now) (map said_component facts.now) }
-    {
-        for fact in facts {
-            if !self.gives(fact) {
-                return false;
-            }
-        }
-        true
     }
 
     /// Whether what an access reaches in a row, whose first index has these values, is defined.
@@ -297,8 +245,41 @@ impl State {
         let more = one.given(alloc, &self.variables, &another.stretches)?;
         let mut stretches = another.given(alloc, &other.variables, &one.stretches)?;
         stretches::insert_all(&mut stretches, &more)?;
-        let rows = row_list::joined(alloc, &one.rows, &another.rows)?;
+        let rows = self.joined_rows(alloc, other)?;
         Ok(Components { rows, stretches })
+    }
+
+    /// What is known of each row behind this way and another.
+    fn joined_rows(&self, alloc: Global, other: &State) -> Result<Vec<Row>, AllocError>
+        ensures { IfOk result (λ rows. map said_row rows.items ≡ joined_rows (viewed self.now) (viewed other.now)) }
+    {
+        let count = row_list::longer(&self.components.rows, &other.components.rows)?;
+        let mut rows = Vec::with_capacity(alloc, count as usize)?;
+        for row in 0..count {
+            rows.push(self.joined_row(other, row))?;
+        }
+        Ok(rows)
+    }
+
+    /// What is known of a row behind this way and another.
+    fn joined_row(&self, other: &State, row: u32) -> Row
+        ensures { said_row result ≡ joined_row (viewed self.now) (viewed other.now) row }
+    {
+        let one = self.components.row(row);
+        let another = other.components.row(row);
+        Row {
+            range: one.range.join(&another.range),
+            is_defined: one.is_defined && other.is_whole(row)
+                || another.is_defined && self.is_whole(row),
+            index: row_list::joined_index(one.index, another.index),
+        }
+    }
+
+    /// Whether each component of a row is known to be defined.
+    fn is_whole(&self, row: u32) -> bool
+        ensures { result ≡ is_whole (viewed self.now).variables (viewed self.now).components row }
+    {
+        self.components.is_whole(&self.variables, row)
     }
 }
 
@@ -308,11 +289,7 @@ pub fn all_of_row(range: Option<OrdinalRange>, row: u32) -> ComponentFact
 {
     match range {
         None => ComponentFact::Defined { row },
-        Some(range) => ComponentFact::Stretched(Stretch {
-            row,
-            first: Bound::Number(range.first),
-            last: Bound::Number(range.last),
-        }),
+        Some(range) => ComponentFact::Stretched(stretches::all_indexes(row, range)),
     }
 }
 

@@ -2,8 +2,9 @@ ghost use Rattle.std.specs.Prelude.{◌≡◌, ◌<◌, ◌++◌, [], IfOk, filt
 ghost use Rattle.std.specs.List.{cons_option, filter_map, list_any};
 ghost use Rattle.domain.specs.Facts.{said_bound};
 ghost use Rattle.abstract_state.specs.View.{said_form, viewed};
-ghost use Rattle.component_states.specs.Components.{at_index, between, bound_in_place, changed_bound, covers, is_empty};
-ghost use Rattle.component_states.specs.Components.{is_none, longer, longer_in, or_alone, same_stretch, with_bounds};
+ghost use Rattle.component_states.specs.Components.{all_indexes, at_index, between, bound_in_place, changed_bound};
+ghost use Rattle.component_states.specs.Components.{covers, is_empty, is_none, is_spanned, longer, longer_in, or_alone};
+ghost use Rattle.component_states.specs.Components.{same_stretch, with_bounds};
 ghost use Rattle.component_states.specs.Components.{with_stretch, with_stretches};
 ghost use Rattle.component_states.specs.View.{IsKept, said_some, said_stretch};
 
@@ -12,6 +13,7 @@ use crate::facts::Stretch;
 use abstract_state::State;
 use domain::facts::Bound;
 use std::alloc::{AllocError, Global};
+use types::OrdinalRange;
 
 impl Stretch {
     /// That of a single index.
@@ -107,6 +109,32 @@ impl Stretch {
             });
         }
         None
+    }
+}
+
+/// The stretch of all indexes of a row.
+pub(crate) fn all_indexes(row: u32, range: OrdinalRange) -> Stretch
+    ensures { said_stretch result ≡ all_indexes row range }
+{
+    Stretch {
+        row,
+        first: Bound::Number(range.first),
+        last: Bound::Number(range.last),
+    }
+}
+
+/// Whether one of some stretches is known to have all indexes of a row, which are of these values.
+pub(crate) fn span(
+    stretches: &[Stretch],
+    state: &State,
+    row: u32,
+    index: Option<OrdinalRange>,
+) -> bool
+    ensures { result ≡ is_spanned (viewed state.now) (map said_stretch stretches.now) row index }
+{
+    match index {
+        None => false,
+        Some(range) => cover(stretches, state, all_indexes(row, range)),
     }
 }
 
