@@ -68,10 +68,20 @@ pub data EndsStatements (others : List Token) : Type 0 where
 abbrev pub BeginsStatementPart : List Token → Type 0
 BeginsStatementPart = Next (kind.Word word.Begin)
 
--- what comes next behind the types of a block: its variables, or its compound statement
+-- a procedure or function comes next
+pub data BeginsRoutinePart (others : List Token) : Type 0 where
+  procedure : Next (kind.Word word.Procedure) others → BeginsRoutinePart others
+  function : Next (kind.Word word.Function) others → BeginsRoutinePart others
+
+-- what comes next behind the variables of a block: its procedures and functions, or its compound statement
+pub data EndsVariables (others : List Token) : Type 0 where
+  routine_part : BeginsRoutinePart others → EndsVariables others
+  statement_part : BeginsStatementPart others → EndsVariables others
+
+-- what comes next behind its types: its variables, or what comes next behind these
 pub data EndsTypes (others : List Token) : Type 0 where
   variable_part : Next (kind.Word word.Var) others → EndsTypes others
-  statement_part : BeginsStatementPart others → EndsTypes others
+  no_variables : EndsVariables others → EndsTypes others
 
 -- what comes next behind its constants: its types, or what comes next behind these
 pub data EndsConstants (others : List Token) : Type 0 where
