@@ -42,7 +42,8 @@ use Rattle.grammar.specs.Spelling.{record_spelling, type_definition_spelling, ty
 use Rattle.grammar.specs.WellFormed.{expr_form, link_form, fits, relation_level, is_link, is_actual, is_constant}
 use Rattle.grammar.specs.WellFormed.{is_expression, are_selectors, may_join}
 use Rattle.grammar.specs.WellFormed.{is_row, is_statement, is_definition, is_denoter, is_type_definition, is_group}
-use Rattle.grammar.specs.Spelling.{formal_spelling, formals_spelling, heading_spelling, body_spelling, routine_spelling}
+use Rattle.grammar.specs.Spelling.{formal_spelling, formals_spelling, signature_spelling, heading_spelling}
+use Rattle.grammar.specs.Spelling.{body_spelling, routine_spelling}
 use Rattle.grammar.specs.WellFormed.{is_formal, is_heading, is_body, is_routine}
 use Rattle.grammar.specs.WellFormed.{is_block, is_program, has_items, may_end}
 use Rattle.grammar.specs.Following.{NoNext, NoSelector, LeavesNoElse}
@@ -352,6 +353,11 @@ pub record BeginsFormals (tokens others : List Token) (formals : List FormalGrou
 pub record BeginsHeading (tokens others : List Token) (h : Heading) : Type 0 where
   pub spelled : Reads tokens (heading_spelling h) others
   pub formed : is_heading h ≡ true
+
+-- the formal parameters of a function, and the type of its result
+pub record BeginsSignature (tokens others : List Token) (found : List FormalGroup × Name) : Type 0 where
+  pub spelled : Reads tokens (signature_spelling found.0 found.1) others
+  pub formed : list_all is_formal found.0 ≡ true
 
 -- the block of a procedure or function, which is a level of its own, or `forward` where it may stand
 pub record BeginsBody (directive : Bool) (levels : ℕ) (tokens others : List Token) (body : Option Block) : Type 0 where

@@ -11,7 +11,7 @@ use Rattle.lexer.specs.declared.token.Word.{Word}
 use Rattle.syntax_tree.specs.declared.Sign.{Sign}
 use Rattle.syntax_tree.specs.declared.Operator.{Operator}
 use Rattle.syntax_tree.specs.declared.Stmt.{Stmt}
-use Rattle.grammar.specs.Spelling.{sign, operator_kind}
+use Rattle.grammar.specs.Spelling.{IsSpelledBy, sign, operator_kind, forward}
 use Rattle.grammar.specs.WellFormed.{operator_level, relation_level, ends_open}
 
 -- the kind of the first token
@@ -67,6 +67,10 @@ pub data EndsStatements (others : List Token) : Type 0 where
 -- the compound statement of a block comes next
 abbrev pub BeginsStatementPart : List Token → Type 0
 BeginsStatementPart = Next (kind.Word word.Begin)
+
+-- no directive comes next with which a heading would go on
+abbrev pub NoForward : List Token → Type 0
+NoForward others = (token : Token) (behind : List Token) → others ≡ token ∷ behind → ¬ IsSpelledBy forward token
 
 -- a procedure or function comes next
 pub data BeginsRoutinePart (others : List Token) : Type 0 where

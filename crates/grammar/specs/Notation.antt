@@ -270,8 +270,8 @@ block_step b =
     bracketed block (row (map definition_notation b.constants.items)
     ++ (row (map type_definition_notation b.types.items)
     ++ (row (map group_notation b.variables.items)
-    ++ (row b.routines.items ++ row (map stmt_notation b.statements.items)
-    ++ token (of_kind_at (kind.Word word.End) b.end) ∷ []))))
+    ++ (row b.routines.items
+    ++ (row (map stmt_notation b.statements.items) ++ token (of_kind_at (kind.Word word.End) b.end) ∷ [])))))
 
 -- a block
 abbrev pub block_notation : Block → Notation

@@ -353,8 +353,8 @@ passing_spelling Variable = word_symbol word.Var ∷ []
 -- formal parameters that are declared together (6.6.3.1)
 abbrev pub formal_spelling : FormalGroup → Spelling
 formal_spelling g =
-    passing_spelling g.by ++ separated symbol.Comma (identifiers g.names.items)
-    ++ mark symbol.Colon ∷ identifier g.type_name ∷ []
+    passing_spelling g.by
+    ++ (separated symbol.Comma (identifiers g.names.items) ++ mark symbol.Colon ∷ identifier g.type_name ∷ [])
 
 -- formal parameters in their parentheses, which are left out where there are none
 abbrev pub formals_spelling : List FormalGroup → Spelling
@@ -363,13 +363,17 @@ formals_spelling (one ∷ others) =
     mark symbol.OpenParenthesis ∷ separated symbol.Semicolon (map formal_spelling (one ∷ others))
     ++ mark symbol.CloseParenthesis ∷ []
 
+-- what stands behind the name of a function (6.6.2): its formal parameters, and the type of its result
+abbrev pub signature_spelling : List FormalGroup → Name → Spelling
+signature_spelling formals result =
+    formals_spelling formals ++ mark symbol.Colon ∷ identifier result ∷ mark symbol.Semicolon ∷ []
+
 -- the heading of a procedure (6.6.1) or of a function (6.6.2), with its semicolon
 abbrev pub heading_spelling : Heading → Spelling
 heading_spelling (Procedure name formals) =
     word_symbol word.Procedure ∷ identifier name ∷ formals_spelling formals.items ++ mark symbol.Semicolon ∷ []
 heading_spelling (Function name formals result) =
-    word_symbol word.Function ∷ identifier name ∷ formals_spelling formals.items
-    ++ mark symbol.Colon ∷ identifier result ∷ mark symbol.Semicolon ∷ []
+    word_symbol word.Function ∷ identifier name ∷ signature_spelling formals.items result
 heading_spelling (Resumed name) = word_symbol word.Function ∷ identifier name ∷ mark symbol.Semicolon ∷ []
 
 -- the block of a procedure or function, or `forward` in its place
@@ -388,8 +392,8 @@ block_step b =
     ++ (types_spelling b.types.items
     ++ (variables_spelling b.variables.items
     ++ (joined b.routines.items
-    ++ word_symbol word.Begin ∷ separated symbol.Semicolon (map stmt_spelling b.statements.items)
-    ++ of_kind_at (kind.Word word.End) b.end ∷ [])))
+    ++ (word_symbol word.Begin ∷ separated symbol.Semicolon (map stmt_spelling b.statements.items)
+    ++ of_kind_at (kind.Word word.End) b.end ∷ []))))
 
 -- a block (6.2.1)
 abbrev pub block_spelling : Block → Spelling

@@ -60,7 +60,9 @@ pub enum Heading<'a> {
         result: Name<'a>,
     },
     /// `function name` (6.6.2): the later declaration of a function, behind one with `forward`.
-    Resumed { name: Name<'a> },
+    Resumed {
+        name: Name<'a>,
+    },
 }
 
 /// Formal parameters that are declared together (6.6.3.1): one or more names, and the name of their type.
