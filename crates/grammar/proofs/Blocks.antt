@@ -1,5 +1,5 @@
 -- The rules of blocks and programs read each spelling of their form.
-use Rattle.std.proofs.Common.{◌≡◌, ℕ, ◌<◌, ◌≤◌, ◌+◌, max, Bool, true, false, ◌&&◌, List, [], ◌∷◌, ◌++◌, length, map, Some, subst, sym, ap, ◌∙◌, arith}
+use Rattle.std.proofs.Common.{◌≡◌, ℕ, ◌<◌, ◌≤◌, ◌+◌, max, Bool, true, false, ◌&&◌, List, [], ◌∷◌, ◌++◌, length, map, Option, Some, None, subst, sym, ap, ◌∙◌, arith}
 use Rattle.std.specs.List.{list_all}
 use Rattle.place.specs.declared.Place.{Place}
 use Rattle.lexer.specs.declared.token.Kind.TheVariants as kind
@@ -16,18 +16,18 @@ use Rattle.syntax_tree.specs.declared.Block.TheViews.{out-Block, roll-Block, rol
 use Rattle.syntax_tree.specs.declared.Routine.{Routine}
 use Rattle.syntax_tree.specs.declared.Program.{Program}
 use Rattle.grammar.specs.Spelling.{Spelling, Reads, of_kind_at, mark, word_symbol, identifier, identifiers, separated, joined, in_parentheses, group_spelling}
-use Rattle.grammar.specs.Spelling.{type_definition_spelling, constants_spelling, types_spelling, variables_spelling, stmt_spelling, routine_spelling, block_spelling}
+use Rattle.grammar.specs.Spelling.{forward, definition_spelling, type_definition_spelling, constants_spelling, types_spelling, variables_spelling, stmt_spelling, routine_spelling, block_spelling}
 use Rattle.grammar.specs.WellFormed.{is_definition, is_type_definition, is_group, is_statement, is_routine, has_items}
 use Rattle.grammar.specs.Nesting.{stmt_levels, deepest, types_levels, groups_levels, routine_levels, block_levels}
 use Rattle.grammar.specs.Begins.{BeginsParameters, BeginsGroups, BeginsConstantPart, BeginsTypePart, BeginsVariables, BeginsRoutines, BeginsCompound}
-use Rattle.grammar.specs.Begins.{BeginsBlock, BeginsProgram}
+use Rattle.grammar.specs.Begins.{BeginsBody, BeginsBlock, BeginsProgram}
 use Rattle.grammar.specs.Following.{next_kind, NoNext, Next, EndsConstants, type_part, no_types, EndsTypes, variable_part, no_variables, EndsVariables}
 use Rattle.grammar.specs.Following.{BeginsStatementPart}
 use Rattle.grammar.proofs.Rows.{parted, begins, same_first}
 use Rattle.grammar.proofs.Lists.{and_left, and_right}
 use Rattle.grammar.proofs.BlockEquations.{Layer, behind_variables, behind_types, behind_constants, is_compound, is_declared, is_body, is_typed_body}
 use Rattle.grammar.proofs.BlockEquations.{spelling-Block, form-Block, levels-Layer}
-use Rattle.grammar.proofs.Definitions.{variables_end_with}
+use Rattle.grammar.proofs.Definitions.{variables_end_with, constants_end}
 use Rattle.grammar.proofs.Programs.{other_kind, some_items}
 use Rattle.grammar.proofs.Routines.{routines_next}
 
@@ -183,6 +183,22 @@ block_parts levels a c b h =
       ends = types_next levels r.0 behind.middle behind.types behind.defined behind.ends;
       behind = behind;
     }
+
+constants_first : (a c : List Token) (ds : List ConstantDefinition) → BeginsConstantPart a c ds → EndsConstants c → NoNext kind.Identifier a
+constants_first a c [] h ends = constants_end a (subst EndsConstants (sym h.spelled) ends)
+constants_first a c (d ∷ ds) h ends = other_kind (kind.Word word.Const) kind.Identifier a
+    (begins (word_symbol word.Const) (joined (map definition_spelling (d ∷ ds))) a c h.spelled) (λ e. cc)
+
+-- a block begins with no name
+pub block_unnamed : (levels : ℕ) (a c : List Token) (b : Block) → BeginsBlock levels a c b → NoNext kind.Identifier a
+block_unnamed levels a c b h = let p = block_parts levels a c b h in constants_first a p.middle p.definitions p.defined p.ends
+
+-- where `forward` was taken no block stands
+pub forward_alone : (directive : Bool) (levels : ℕ) (a b c : List Token) (body : Option Block) → Reads a (forward ∷ []) b
+    → BeginsBody directive levels a c body → b ≡ c
+forward_alone directive levels a b c None k h = (same_first forward forward [] a b c k h.spelled).1
+forward_alone directive levels a b c (Some x) k h =
+    absurd (block_unnamed (block_levels x) a c x (record { spelled = h.spelled; formed = h.formed; nests = omega arith }) (begins forward [] a b k))
 
 -- what stands behind the semicolon of a program
 pub record ProgramBehindSemicolon (levels : ℕ) (tokens others : List Token) : Type 0 where

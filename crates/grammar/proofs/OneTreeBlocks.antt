@@ -23,6 +23,7 @@ use Rattle.grammar.specs.WellFormed.{is_definition, is_denoter, is_type_definiti
 use Rattle.grammar.specs.WellFormed.{takes_directive, is_heading}
 use Rattle.grammar.specs.Begins.{BeginsHeading}
 use Rattle.grammar.specs.WellFormed as form
+use Rattle.grammar.specs.Nesting.{block_levels}
 use Rattle.grammar.specs.Following.{next_kind, NoNext, Next, EndsConstants, type_part, no_types, EndsTypes, variable_part, no_variables, EndsVariables}
 use Rattle.grammar.specs.Following.{routine_part, statement_part, BeginsStatementPart}
 use Rattle.grammar.specs.Notation.{Notation, bracketed, token, row, names_notation, type_definition_notation, group_notation, stmt_notation, block_notation}
@@ -34,11 +35,10 @@ use Rattle.grammar.proofs.Rows.{parted, begins}
 use Rattle.grammar.proofs.BlockEquations.{Layer, behind_variables, behind_types, behind_constants, is_compound, is_declared, is_body, is_typed_body}
 use Rattle.grammar.proofs.BlockEquations.{declared_notation, body_notation, spelling-Block, form-Block, notation-Block, behind_heading}
 use Rattle.grammar.proofs.BlockEquations.{spelling-Routine, form-Routine, notation-Routine}
-use Rattle.grammar.proofs.Definitions.{constants_end}
 use Rattle.grammar.proofs.Programs.{some_items, other_kind}
 use Rattle.grammar.proofs.Formals.{heading_fewer}
 use Rattle.grammar.proofs.Routines.{routine_comes_first, no_routine_at_begin}
-use Rattle.grammar.proofs.Blocks.{variables_end, variables_no_var}
+use Rattle.grammar.proofs.Blocks.{variables_end, variables_no_var, block_unnamed}
 use Rattle.grammar.proofs.OneTree.{Alike, first_is_one, last_is_one, at_is_one}
 use Rattle.grammar.proofs.OneTreeLists.{Listed, list_alike}
 use Rattle.grammar.proofs.OneTreeNames.{name_spelling, name_parts, all_names, names_row, one_name, names_first}
@@ -280,15 +280,6 @@ block_as a c b h =
       behind = behind;
     }
 
-constants_follow : (a c : List Token) (ds : List ConstantDefinition) → Constants a c ds → NoNext kind.Identifier a
-constants_follow a c [] h = constants_end a (subst EndsConstants (sym h.spelled) h.closed)
-constants_follow a c (d ∷ ds) h = other_kind (kind.Word word.Const) kind.Identifier a
-    (begins (word_symbol word.Const) (joined (map definition_spelling (d ∷ ds))) a c h.spelled) (λ e. cc)
-
--- a block begins with no name
-block_unnamed : (a c : List Token) (b : Block) → Blocked a c b → NoNext kind.Identifier a
-block_unnamed a c b h = let x = block_as a c b h in constants_follow a x.middle (out-Block b).constants.items x.constants
-
 -- statements, and the `end` behind them
 record Body (a c : List Token) (statements : List Stmt) (end : Place) : Type 0 where
   pub middle : List Token
@@ -346,7 +337,8 @@ record BodyOf (a c : List Token) (body : Option Block) : Type 0 where
   pub formed : (b : Block) → body ≡ Some b → is_block b ≡ true
 
 not_forward : (a c d : List Token) (b : Block) → Reads a (forward ∷ []) c → Blocked a d b → ⊥
-not_forward a c d b h k = block_unnamed a d b k (begins forward [] a c h)
+not_forward a c d b h k =
+    block_unnamed (block_levels b) a d b (record { spelled = k.spelled; formed = k.formed; nests = omega arith }) (begins forward [] a c h)
 
 bodies_alike : (n : ℕ) → OneBlock n → (a c d : List Token) (x y : Option Block) → length a < n → BodyOf a c x → BodyOf a d y
     → Alike Notation (note.body_notation (option_map block_notation x)) (note.body_notation (option_map block_notation y)) c d
