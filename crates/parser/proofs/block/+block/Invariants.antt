@@ -18,9 +18,9 @@ decreases-routine l = 4 * l.levels + 1
 abbrev pub decreases-body : goal.decreases-body
 decreases-body l = 4 * l.levels
 
-abbrev pub invariant-routines-loop-routines : goal.invariant-routines-loop-routines
-invariant-routines-loop-routines l =
+abbrev pub invariant-routines-loop-alloc : goal.invariant-routines-loop-alloc
+invariant-routines-loop-alloc l =
     Read (BeginsRoutines l.levels) l.fn.cursor l.cursor l.routines.items × EachRoutinesLeft l.fn.cursor.rest.now l.cursor.rest.now
 
-abbrev pub decreases-routines-loop-routines : goal.decreases-routines-loop-routines
-decreases-routines-loop-routines l = left l.cursor
+abbrev pub decreases-routines-loop-alloc : goal.decreases-routines-loop-alloc
+decreases-routines-loop-alloc l = left l.cursor

@@ -45,14 +45,14 @@ loop-formals-smaller c =
 
 pub returns-in_err-put-clause-given : goal.returns-in_err-put-clause-given
 returns-in_err-put-clause-given c =
-    handed_on _ _ c.from_residual-in_err-put.result c.in_err-put.field-0.0 c.from_residual-in_err-put.ensures
+    handed_on _ _ c.from_residual.result c.in_err-put.field-0.0 c.from_residual.ensures
     (not_kept (Read BeginsFormal c.loop-formals.cursor c.formal.new.cursor) IsPlain c.formal.result c.in_err-put.field-0.0 tt c.formal.ensures.given
     c.in_err-put.ensures.given)
 
 pub returns-in_err-put-clause-exact : goal.returns-in_err-put-clause-exact
 returns-in_err-put-clause-exact c = λ formals others h ends.
     let p = c.loop-formals.invariant.1 formals others h ends in
-    handed_on _ _ c.from_residual-in_err-put.result c.in_err-put.field-0.0 c.from_residual-in_err-put.ensures
+    handed_on _ _ c.from_residual.result c.in_err-put.field-0.0 c.from_residual.ensures
     (not_kept (λ _. c.formal.new.cursor.rest.now ≡ p.middle) (λ fault. fault ≡ Memory) c.formal.result c.in_err-put.field-0.0 refl
     (c.formal.ensures.exact p.first p.middle (record { spelled = p.spelled; formed = p.formed }) tt) c.in_err-put.ensures.given)
 
