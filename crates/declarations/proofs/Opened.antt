@@ -1,14 +1,15 @@
 -- The region of a block knows from its beginning the names that the block defines.
-use Rattle.std.proofs.Common.{◌≡◌, ◌∙◌, ℕ, List, [], ◌∷◌, ◌++◌, Ok, Err, All, Vec, map, flat_map, refl, sym, ap, subst, append_assoc, append-nil}
+use Rattle.std.proofs.Common.{◌≡◌, ◌∙◌, ℕ, List, [], ◌∷◌, ◌++◌, Ok, Err, All, Vec, map, flat_map, refl, sym, ap, subst, append_assoc}
 use Rattle.std.specs.declared.alloc.Global.{Global}
 use Rattle.std.proofs.lemmas.List.{map-append}
 use Rattle.std.proofs.lemmas.List.Elements.{All-cons, All-nil}
+use Rattle.syntax_tree.specs.declared.Block.TheViews.{out-Block}
 use Rattle.syntax_tree.specs.declared.ConstantDefinition.{ConstantDefinition}
 use Rattle.syntax_tree.specs.declared.Name.{Name}
 use Rattle.syntax_tree.specs.declared.Program.{Program}
 use Rattle.scopes.specs.Scopes.{Region, opened, Knows}
 use Rattle.scopes.proofs.Known.{opened_knows}
-use Rattle.typing.specs.Names.{folded, all_folded, type_names, group_names, block_names, defined_names}
+use Rattle.typing.specs.Names.{folded, all_folded, type_names, group_names, routine_name, block_names, defined_names}
 use Rattle.typing.specs.Passing.{Passed, Checked, After, after}
 use Rattle.typing.specs.Steps.{open_block}
 use Rattle.declarations.specs.Declared.{texts}
@@ -67,49 +68,58 @@ module _ (outer : List Region) where
     parameters = all_folded program.parameters.items
 
     constants : List (List ℕ)
-    constants = all_folded (map (λ d. d.name) program.block.constants.items)
+    constants = all_folded (map (λ d. d.name) (out-Block program.block).constants.items)
 
     types : List (List ℕ)
-    types = all_folded (flat_map type_names program.block.types.items)
+    types = all_folded (flat_map type_names (out-Block program.block).types.items)
 
     variables : List (List ℕ)
-    variables = all_folded (flat_map group_names program.block.variables.items)
+    variables = all_folded (flat_map group_names (out-Block program.block).variables.items)
 
-    in_parts : parameters ++ (constants ++ (types ++ variables)) ≡ all_folded (defined_names program)
-    unfolding parameters constants types variables
-    in_parts = sym (
+    routines : List (List ℕ)
+    routines = all_folded (map routine_name (out-Block program.block).routines.items)
+
+    in_parts : parameters ++ (constants ++ (types ++ (variables ++ routines))) ≡ all_folded (defined_names program)
+    unfolding parameters constants types variables routines
+    in_parts =
+        let block = out-Block program.block in
+        let named = map routine_name block.routines.items in
+        let declared = flat_map group_names block.variables.items in
+        let defined = flat_map type_names block.types.items in
+        sym (
         map-append (λ name. folded name.text.now) program.parameters.items (block_names program.block)
         ∙ ap (λ l. all_folded program.parameters.items ++ l)
-        (map-append (λ name. folded name.text.now) (map (λ d. d.name) program.block.constants.items)
-        (flat_map type_names program.block.types.items ++ flat_map group_names program.block.variables.items)
-        ∙ ap (λ l. all_folded (map (λ d. d.name) program.block.constants.items) ++ l)
-        (map-append (λ name. folded name.text.now) (flat_map type_names program.block.types.items) (flat_map group_names program.block.variables.items))))
+        (map-append (λ name. folded name.text.now) (map (λ d. d.name) block.constants.items) (defined ++ (declared ++ named))
+        ∙ ap (λ l. all_folded (map (λ d. d.name) block.constants.items) ++ l)
+        (map-append (λ name. folded name.text.now) defined (declared ++ named)
+        ∙ ap (λ l. all_folded defined ++ l) (map-append (λ name. folded name.text.now) declared named))))
 
     parameters_known : AreKnown program.parameters.items (opened (all_folded (defined_names program)) ∷ outer)
     unfolding parameters
     parameters_known =
         subst (λ l. AreKnown program.parameters.items (opened l ∷ outer)) in_parts
-        (names_between [] program.parameters.items (constants ++ (types ++ variables)))
+        (names_between [] program.parameters.items (constants ++ (types ++ (variables ++ routines))))
 
-    constants_known : AreKnownDefinitions program.block.constants.items (opened (all_folded (defined_names program)) ∷ outer)
+    constants_known : AreKnownDefinitions (out-Block program.block).constants.items (opened (all_folded (defined_names program)) ∷ outer)
     unfolding constants
     constants_known =
-        subst (λ l. AreKnownDefinitions program.block.constants.items (opened l ∷ outer)) in_parts
-        (constants_between parameters program.block.constants.items (types ++ variables))
+        subst (λ l. AreKnownDefinitions (out-Block program.block).constants.items (opened l ∷ outer)) in_parts
+        (constants_between parameters (out-Block program.block).constants.items (types ++ (variables ++ routines)))
 
-    types_known : AreKnownTypes program.block.types.items (opened (all_folded (defined_names program)) ∷ outer)
+    types_known : AreKnownTypes (out-Block program.block).types.items (opened (all_folded (defined_names program)) ∷ outer)
     unfolding types
     types_known =
-        subst (λ l. AreKnownTypes program.block.types.items (opened l ∷ outer)) (append_assoc parameters constants (types ++ variables) ∙ in_parts)
-        (forms_between type_names (parameters ++ constants) program.block.types.items variables)
+        subst (λ l. AreKnownTypes (out-Block program.block).types.items (opened l ∷ outer))
+        (append_assoc parameters constants (types ++ (variables ++ routines)) ∙ in_parts)
+        (forms_between type_names (parameters ++ constants) (out-Block program.block).types.items (variables ++ routines))
 
-    variables_known : AreKnownGroups program.block.variables.items (opened (all_folded (defined_names program)) ∷ outer)
+    variables_known : AreKnownGroups (out-Block program.block).variables.items (opened (all_folded (defined_names program)) ∷ outer)
     unfolding variables
     variables_known =
-        subst (λ l. AreKnownGroups program.block.variables.items (opened l ∷ outer))
-        (ap (λ l. ((parameters ++ constants) ++ types) ++ l) (append-nil variables)
-        ∙ append_assoc (parameters ++ constants) types variables ∙ append_assoc parameters constants (types ++ variables) ∙ in_parts)
-        (forms_between group_names ((parameters ++ constants) ++ types) program.block.variables.items [])
+        subst (λ l. AreKnownGroups (out-Block program.block).variables.items (opened l ∷ outer))
+        (append_assoc (parameters ++ constants) types (variables ++ routines) ∙ append_assoc parameters constants (types ++ (variables ++ routines))
+        ∙ in_parts)
+        (forms_between group_names ((parameters ++ constants) ++ types) (out-Block program.block).variables.items routines)
 
 -- once the region of a block is open
 module _ (program : Program) (keys : List (Vec ℕ Global)) (old new : Passed)
@@ -123,13 +133,13 @@ module _ (program : Program) (keys : List (Vec ℕ Global)) (old new : Passed)
   parameters_are_known = subst (AreKnown program.parameters.items) regions_behind (parameters_known old.regions program)
 
   -- its constants are known
-  pub constants_are_known : AreKnownDefinitions program.block.constants.items new.regions
-  constants_are_known = subst (AreKnownDefinitions program.block.constants.items) regions_behind (constants_known old.regions program)
+  pub constants_are_known : AreKnownDefinitions (out-Block program.block).constants.items new.regions
+  constants_are_known = subst (AreKnownDefinitions (out-Block program.block).constants.items) regions_behind (constants_known old.regions program)
 
   -- its types are known
-  pub types_are_known : AreKnownTypes program.block.types.items new.regions
-  types_are_known = subst (AreKnownTypes program.block.types.items) regions_behind (types_known old.regions program)
+  pub types_are_known : AreKnownTypes (out-Block program.block).types.items new.regions
+  types_are_known = subst (AreKnownTypes (out-Block program.block).types.items) regions_behind (types_known old.regions program)
 
   -- its variables are known
-  pub variables_are_known : AreKnownGroups program.block.variables.items new.regions
-  variables_are_known = subst (AreKnownGroups program.block.variables.items) regions_behind (variables_known old.regions program)
+  pub variables_are_known : AreKnownGroups (out-Block program.block).variables.items new.regions
+  variables_are_known = subst (AreKnownGroups (out-Block program.block).variables.items) regions_behind (variables_known old.regions program)

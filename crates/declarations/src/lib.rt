@@ -7,6 +7,7 @@ mod denoters;
 mod names;
 mod parameters;
 mod program;
+mod routines;
 mod type_definitions;
 mod variables;
 

@@ -1,15 +1,15 @@
-ghost use Rattle.std.specs.Prelude.{◌≡◌, ◌++◌, OnOk, IfOk, flat_map};
+ghost use Rattle.std.specs.Prelude.{◌≡◌, ◌++◌, OnOk, IfOk, flat_map, map};
 ghost use Rattle.typing.specs.Names.{all_folded};
 ghost use Rattle.typing.specs.Names as spec;
 ghost use Rattle.declarations.specs.Declared.{texts};
 ghost use Rattle.declarations.specs.Known.{names_in, names_in_groups};
 
 use std::alloc::{AllocError, Global};
-use syntax_tree::{Name, Program, TypeDefinition, TypeDenoter, VariableGroup};
-use typing::folded;
+use syntax_tree::{Name, Program, Routine, TypeDefinition, TypeDenoter, VariableGroup};
+use typing::{folded, heading_name};
 
-/// The names that the program's block defines, in small letters: its parameters, its constants, its types and
-/// its variables.
+/// The names that the program's block defines, in small letters: its parameters, its constants, its types, its
+/// variables, and its procedures and functions.
 pub(crate) fn defined_names(alloc: Global, program: &Program) -> Result<Vec<Vec<u8>>, AllocError>
     ensures { IfOk result (λ keys. texts keys.items ≡ all_folded (spec.defined_names program.now)) }
 {
@@ -20,6 +20,7 @@ pub(crate) fn defined_names(alloc: Global, program: &Program) -> Result<Vec<Vec<
     }
     fold_types(alloc, &program.block.types, &mut keys)?;
     fold_groups(alloc, &program.block.variables, &mut keys)?;
+    fold_routines(alloc, &program.block.routines, &mut keys)?;
     Ok(keys)
 }
 
@@ -51,6 +52,21 @@ fn fold_groups(
     for group in groups {
         fold_denoter(alloc, &group.denoter, keys)?;
         fold_names(alloc, &group.names, keys)?;
+    }
+    Ok(())
+}
+
+// Those of these procedures and functions.
+fn fold_routines(
+    alloc: Global,
+    routines: &[Routine],
+    keys: &mut Vec<Vec<u8>>,
+) -> Result<(), AllocError>
+    ensures { OnOk result
+        (texts keys.new.items ≡ texts keys.old.items ++ all_folded (map spec.routine_name routines.now)) }
+{
+    for routine in routines {
+        keys.push(folded(alloc, heading_name(&routine.heading).text)?)?;
     }
     Ok(())
 }

@@ -7,6 +7,7 @@ ghost use Rattle.declarations.specs.Declared.{declared};
 use crate::constants::declare_constants;
 use crate::names::defined_names;
 use crate::parameters::declare_parameters;
+use crate::routines::declare_routines;
 use crate::type_definitions::declare_types;
 use crate::variables::declare_groups;
 use std::alloc::Global;
@@ -15,7 +16,7 @@ use typed_tree::fault::TypeFault;
 use typing::Typer;
 
 /// What is known behind the declarations of a program, or the first rule that they break, with its place
-/// (S1 to S3, K1, K8, Y1, Y2).
+/// (S1 to S4, K1, K8, Y1, Y2).
 pub fn declare_program(alloc: Global, program: &Program) -> Result<Typer, TypeFault>
     ensures passed { IfOk result (λ typer. declared program.now ≡ Ok (after tt [] typer)) }
     ensures refused { IfErr result (λ why. IsFault (declared program.now) why) }
@@ -36,5 +37,6 @@ fn declare(typer: &mut Typer, program: &Program) -> Result<(), TypeFault>
     declare_parameters(typer, &program.parameters)?;
     declare_constants(typer, &program.block.constants)?;
     declare_types(typer, &program.block.types)?;
-    declare_groups(typer, &program.block.variables)
+    declare_groups(typer, &program.block.variables)?;
+    declare_routines(typer, &program.block.routines)
 }

@@ -29,6 +29,8 @@ mod removal;
 #[cfg(test)]
 mod resolving;
 #[cfg(test)]
+mod routines;
+#[cfg(test)]
 mod rows_of_cells;
 #[cfg(test)]
 mod running;

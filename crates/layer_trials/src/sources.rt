@@ -3,13 +3,34 @@ use lexer::tokens;
 use parser::parse;
 use resolver::resolve;
 use std::alloc::{AllocError, Global};
+use token_cursor::fault::ParseFault;
 use typed_tree::fault::TypeFault;
 use typed_tree::site::Site;
 use typed_tree::tree::Tree;
 
+/// What the parser tells of a source: nothing, or why it has no syntax tree. Each source of a test has tokens: one
+/// without would count as one for which there is no memory.
+pub(crate) fn syntax_told(alloc: Global, source: &str) -> Result<String, AllocError> {
+    match tokens(alloc, source.as_bytes()) {
+        Ok(list) => list_told(alloc, &list),
+        Err(_) => syntax_fault_told(alloc, ParseFault::Memory),
+    }
+}
+
+fn list_told(alloc: Global, list: &[Token<'_>]) -> Result<String, AllocError> {
+    match parse(alloc, list) {
+        Ok(_) => Ok(String::new(alloc)),
+        Err(fault) => syntax_fault_told(alloc, fault),
+    }
+}
+
+fn syntax_fault_told(alloc: Global, fault: ParseFault) -> Result<String, AllocError> {
+    format!(in alloc; "{fault}")
+}
+
 /// The typed tree of a source, or why it has none. Each source of a test has a syntax tree: one without would count as
 /// one for which there is no memory.
-fn resolved(alloc: Global, source: &str) -> Result<Tree, TypeFault> {
+pub(crate) fn resolved(alloc: Global, source: &str) -> Result<Tree, TypeFault> {
     match tokens(alloc, source.as_bytes()) {
         Ok(list) => list_resolved(alloc, &list),
         Err(_) => Err(TypeFault::Memory),

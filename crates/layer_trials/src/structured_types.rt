@@ -1,29 +1,12 @@
-use lexer::token::Token;
-use lexer::tokens;
-use parser::parse;
+use crate::sources::syntax_told;
 use std::alloc::{AllocError, Global};
 use std::test::Fail;
-use token_cursor::fault::ParseFault;
 
 /// What the parser tells of a program with one type definition, whose denoter begins at 1:21: nothing, or why there is
-/// no tree. Each denoter of a test has tokens: one without would count as one for which there is no memory.
+/// no tree.
 fn told(alloc: Global, denoter: &str) -> Result<String, AllocError> {
     let source = format!(in alloc; "program p; type t = {denoter}; begin end.")?;
-    match tokens(alloc, source.as_bytes()) {
-        Ok(list) => list_told(alloc, &list),
-        Err(_) => fault_told(alloc, ParseFault::Memory),
-    }
-}
-
-fn list_told(alloc: Global, list: &[Token<'_>]) -> Result<String, AllocError> {
-    match parse(alloc, list) {
-        Ok(_) => Ok(String::new(alloc)),
-        Err(fault) => fault_told(alloc, fault),
-    }
-}
-
-fn fault_told(alloc: Global, fault: ParseFault) -> Result<String, AllocError> {
-    format!(in alloc; "{fault}")
+    syntax_told(alloc, source.as_str())
 }
 
 /// A denoter behind so many beginnings of others.

@@ -103,6 +103,7 @@ typing_refusal typing.Memory = Memory
 typing_refusal (typing.DeclaredTwice place) = at place letter_s 1
 typing_refusal (typing.UsedBeforeDeclared place) = at place letter_s 2
 typing_refusal (typing.NotDeclared place) = at place letter_s 3
+typing_refusal (typing.NestedTooDeep place) = at place letter_s 4
 typing_refusal (typing.Mismatch place) = at place letter_k 1
 typing_refusal (typing.NotVariable place) = at place letter_k 2
 typing_refusal (typing.WrongParameters place) = at place letter_k 3

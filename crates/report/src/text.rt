@@ -181,6 +181,7 @@ fn typing_refusal(fault: TypeFault) -> Refusal
         TypeFault::DeclaredTwice(place) => at(place, b'S', 1),
         TypeFault::UsedBeforeDeclared(place) => at(place, b'S', 2),
         TypeFault::NotDeclared(place) => at(place, b'S', 3),
+        TypeFault::NestedTooDeep(place) => at(place, b'S', 4),
         TypeFault::Mismatch(place) => at(place, b'K', 1),
         TypeFault::NotVariable(place) => at(place, b'K', 2),
         TypeFault::WrongParameters(place) => at(place, b'K', 3),

@@ -8,6 +8,7 @@ use Rattle.std.proofs.lemmas.List.{length-map}
 use Rattle.std.proofs.lemmas.List.Folds.{list_all-map}
 use Rattle.std.specs.Prelude.{slice_get}
 use Rattle.place.specs.Place.{ArePlacesInOrder}
+use Rattle.syntax_tree.specs.declared.Block.TheViews.{out-Block}
 use Rattle.syntax_tree.specs.declared.Program.{Program}
 use Rattle.syntax_tree.specs.Places.{program_places}
 use Rattle.types.specs.Types.{most_cells}
@@ -90,22 +91,22 @@ module _ (program : Program) where
     unfolding typing
     on = ap (λ r. and_then r (λ a. behind_marks a.look (statement_part program.block a.passed))) passes
 
-    pub stops_in_statements : (why : TypeFault) → IsFault (compound (map statement program.block.statements.items) m) why → IsFault (typing program) why
+    pub stops_in_statements : (why : TypeFault) → IsFault (compound (map statement (out-Block program.block).statements.items) m) why → IsFault (typing program) why
     unfolding statement_part
     stops_in_statements why (inl memory) = inl memory
     stops_in_statements why (inr stops) = inr (
-        on ∙ ap (λ r. behind_marks [] (and_then r (λ a. behind_marks a.look (mark (BlockEnds program.block.end) a.passed)))) stops)
+        on ∙ ap (λ r. behind_marks [] (and_then r (λ a. behind_marks a.look (mark (BlockEnds (out-Block program.block).end) a.passed)))) stops)
 
-    program_passes : (look : Look) (n : Passed) → compound (map statement program.block.statements.items) m ≡ Ok (after tt look n)
-        → typing program ≡ Ok (after tt (look ++ (BlockEnds program.block.end ∷ [])) n)
+    program_passes : (look : Look) (n : Passed) → compound (map statement (out-Block program.block).statements.items) m ≡ Ok (after tt look n)
+        → typing program ≡ Ok (after tt (look ++ (BlockEnds (out-Block program.block).end ∷ [])) n)
     unfolding statement_part
     program_passes look n ends =
-        on ∙ ap (λ r. behind_marks [] (and_then r (λ a. behind_marks a.look (mark (BlockEnds program.block.end) a.passed)))) ends
+        on ∙ ap (λ r. behind_marks [] (and_then r (λ a. behind_marks a.look (mark (BlockEnds (out-Block program.block).end) a.passed)))) ends
 
     -- the tree of the program
     pub is_resolved : (n : Passed) (block : Block) (tree : Tree)
-        → compound (map statement program.block.statements.items) m ≡ Ok (after tt (look_stmt block.body) n)
-        → block.end ≡ program.block.end → tree.blocks.items ≡ block ∷ [] → IsLeft n tree → IsTableOf block.body tree.loops.items → IsResolved program tree
+        → compound (map statement (out-Block program.block).statements.items) m ≡ Ok (after tt (look_stmt block.body) n)
+        → block.end ≡ (out-Block program.block).end → tree.blocks.items ≡ block ∷ [] → IsLeft n tree → IsTableOf block.body tree.loops.items → IsResolved program tree
     is_resolved n block tree ends end blocks left table = record {
       is_typed = record {
         left = n;

@@ -19,6 +19,9 @@ pub enum TypeFault {
     /// S3, at a name that isn't declared.
     #[error("{0}: not declared")]
     NotDeclared(Place),
+    /// S4, at the name of a procedure or function whose block is nested too deep.
+    #[error("{0}: a block that is nested too deep")]
+    NestedTooDeep(Place),
     /// K1, where types or kinds of things don't fit.
     #[error("{0}: types that don't fit")]
     Mismatch(Place),

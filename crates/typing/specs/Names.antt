@@ -1,12 +1,16 @@
 -- The names of a program (ISO 7185:1990, 6.1.3, 6.2.2, 6.10): small and capital letters are alike; the required
 -- identifiers stand in a region round the program, and its block defines its parameters, its constants, its types, the
--- constants of enumerated types, and its variables.
+-- constants of enumerated types, its variables, and its procedures and functions.
 -- It says nothing of the order in which definitions are passed.
 use Rattle.std.specs.Prelude.{ℕ, pos, ◌+◌, ◌&&◌, ◌++◌, Bool, List, [], ◌∷◌, Some, if◌then◌else◌, nat_le, nat_eq, map}
 use Rattle.std.specs.Prelude.{codes, flat_map}
 use Rattle.std.specs.List.{list_any}
 use Rattle.std.specs.Cmp.Lexicographic.{pointwise}
 use Rattle.syntax_tree.specs.declared.Block.{Block}
+use Rattle.syntax_tree.specs.declared.Block.TheViews.{out-Block, out-Routine}
+use Rattle.syntax_tree.specs.declared.Routine.{Routine}
+use Rattle.syntax_tree.specs.declared.Heading.{Heading}
+use Rattle.syntax_tree.specs.declared.Heading.TheVariants as heading
 use Rattle.syntax_tree.specs.declared.Program.{Program}
 use Rattle.syntax_tree.specs.declared.Name.{Name}
 use Rattle.syntax_tree.specs.declared.TypeDefinition.{TypeDefinition}
@@ -75,11 +79,21 @@ type_names d = denoter_names d.denoter ++ d.name ∷ []
 abbrev pub group_names : VariableGroup → List Name
 group_names group = denoter_names group.denoter ++ group.names.items
 
--- the names of a block's constants, types and variables, in the order in which they are defined
+-- the name of a procedure or function
+abbrev pub heading_name : Heading → Name
+heading_name (heading.Procedure name formals) = name
+heading_name (heading.Function name formals result) = name
+heading_name (heading.Resumed name) = name
+
+abbrev pub routine_name : Routine → Name
+routine_name routine = heading_name (out-Routine routine).heading
+
+-- the names of a block's constants, types, variables, procedures and functions, in the order in which they are defined
 abbrev pub block_names : Block → List Name
 block_names block =
-    map (λ d. d.name) block.constants.items
-    ++ (flat_map type_names block.types.items ++ flat_map group_names block.variables.items)
+    map (λ d. d.name) (out-Block block).constants.items
+    ++ (flat_map type_names (out-Block block).types.items
+    ++ (flat_map group_names (out-Block block).variables.items ++ map routine_name (out-Block block).routines.items))
 
 -- the names that the program's block defines
 abbrev pub defined_names : Program → List Name

@@ -55,9 +55,17 @@ abbrev pub or_mismatch : {A : Type 0} → Place → Option A → Checked A
 or_mismatch place (Some answer) = Ok answer
 or_mismatch place None = Err (fault.Mismatch place)
 
+-- how deep blocks may be nested, of which that of the program is the first
+abbrev pub most_blocks : ℕ
+most_blocks = 1
+
 -- a number as a value, which is at most maxint
 abbrev pub value_of : ℕ → Place → Checked ℤ
 value_of number place = fits (nat_le number 2147483647) place (pos number)
+
+-- a block is nested so deep, that of the program being the first; one too deep is S4 at the place
+unfoldable pub nest : ℕ → Place → Passing (Unit {0})
+nest depth place = λ s. if nat_le depth most_blocks then Ok (after tt [] s) else Err (fault.NestedTooDeep place)
 
 -- a token is passed
 unfoldable pub pass : Place → Passing (Unit {0})

@@ -1,9 +1,9 @@
 ghost use Rattle.std.specs.Prelude.{◌≡◌, IfOk, OnOk};
-ghost use Rattle.typing.specs.Names.{folded, is_among};
+ghost use Rattle.typing.specs.Names.{folded, heading_name, is_among};
 
 use scopes::{Denotation, RequiredFunction, RequiredProcedure};
 use std::alloc::{AllocError, Global};
-use syntax_tree::Name;
+use syntax_tree::{Heading, Name};
 use types::{MAXINT, TypeTable};
 
 /// A name in small letters: small and capital letters are alike (6.1.3).
@@ -23,6 +23,17 @@ pub(crate) fn fold_into(key: &mut Vec<u8>, name: &[u8]) -> Result<(), AllocError
     key.extend_from_slice(name)?;
     key.make_ascii_lowercase();
     Ok(())
+}
+
+/// The name of a procedure or function.
+pub fn heading_name<'a>(heading: &Heading<'a>) -> Name<'a>
+    ensures { result ≡ heading_name heading.now }
+{
+    match heading {
+        Heading::Procedure { name, .. }
+        | Heading::Function { name, .. }
+        | Heading::Resumed { name } => *name,
+    }
 }
 
 // Whether a name is among others.

@@ -5,7 +5,7 @@ ghost use Rattle.typing.specs.Passing.{after};
 
 use crate::names::{REQUIRED, fold_into, folded};
 use crate::rules::placed;
-use crate::typer::{MOST_ENTRIES, MOST_SITES, Typer};
+use crate::typer::{MOST_BLOCKS, MOST_ENTRIES, MOST_SITES, Typer};
 use place::Place;
 use scopes::Denotation;
 use syntax_tree::Name;
@@ -22,6 +22,17 @@ impl Typer {
         ensures { spec.pass place self.old ≡ Ok (after tt [] self.new) }
     {
         self.latest = place;
+    }
+
+    /// S4 at the place, where a block that is nested so deep, that of the program being the first, is too deep.
+    #[tactic(auto, unfolding(crate::specs::Steps::nest))]
+    pub fn nest(&self, depth: u32, place: Place) -> Result<(), TypeFault>
+        ensures { Tells (spec.nest depth place self.now) result self.now }
+    {
+        if depth > MOST_BLOCKS {
+            return Err(TypeFault::NestedTooDeep(place));
+        }
+        Ok(())
     }
 
     /// The number of the statement or expression that is entered.

@@ -18,6 +18,9 @@ use types::TypeTable;
 /// The most sites, and the most points, of a program.
 pub const MOST_SITES: usize = 1_000_000;
 
+/// How deep blocks may be nested, of which that of the program is the first.
+pub const MOST_BLOCKS: u32 = 1;
+
 /// The most variables of a program.
 pub const MOST_VARIABLES: usize = 1_000_000;
 

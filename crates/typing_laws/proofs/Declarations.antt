@@ -10,7 +10,9 @@ use Rattle.std.specs.declared.alloc.Global.{Global}
 use Rattle.std.proofs.lemmas.List.Sums.{sum_by_push}
 use Rattle.std.specs.Cmp.Lexicographic.{pointwise}
 use Rattle.place.specs.declared.Place.{Place}
+use Rattle.syntax_tree.specs.declared.Block.TheViews.{out-Block}
 use Rattle.syntax_tree.specs.declared.Program.{Program}
+use Rattle.syntax_tree.specs.declared.Routine.{Routine}
 use Rattle.syntax_tree.specs.declared.Name.{Name}
 use Rattle.syntax_tree.specs.declared.Constant.{Constant}
 use Rattle.syntax_tree.specs.declared.ConstantDefinition.{ConstantDefinition}
@@ -35,15 +37,15 @@ use Rattle.scopes.specs.declared.fault.ScopeFault.TheVariants as scope
 use Rattle.typed_tree.specs.declared.fault.TypeFault.TheVariants as fault
 use Rattle.typed_tree.specs.declared.tree.Variable.{Variable}
 use Rattle.typed_tree.specs.WellFormed.{is_character, are_characters, most_variables}
-use Rattle.typing.specs.Names.{folded, all_folded, defined_names, required_region}
+use Rattle.typing.specs.Names.{folded, all_folded, routine_name, defined_names, required_region}
 use Rattle.typing.specs.Passing.{Passed, Checked, After, Passing, after, and_then, behind_marks, pure, fail, given, each, ◌>>=◌, ◌>>◌, ◌>>?◌}
 use Rattle.typing.specs.Steps.{told, fits, value_of, pass, find, open_required, open_block, declare, add_type, keep_text, latest, give_output, next_root}
-use Rattle.typing.specs.Steps.{reserve}
+use Rattle.typing.specs.Steps.{most_blocks, nest, reserve}
 use Rattle.typing.specs.Strings.{string_characters, string_type, string_constant}
 use Rattle.typing.specs.Constants.{as_ordinal, unsigned_constant, constant, ordinal_constant}
 use Rattle.typing.specs.Denoters.{WrittenDenoter, named_type, type_of_name, constants_from, enumeration, between, subrange, index_type, index_types, arrays}
 use Rattle.typing.specs.Denoters.{array, named_fields, grouped_fields, record_type, denoter_step, written_denoter, denoted_type}
-use Rattle.typing.specs.Typing.{parameter_of_program, definition, type_definition, variable, group, declarations}
+use Rattle.typing.specs.Typing.{parameter_of_program, definition, type_definition, variable, group, routine, declarations}
 use Rattle.typing_laws.proofs.WholeRanges.{IfWhole}
 use Rattle.typing_laws.proofs.Tables.{IsLonger, AreLawful, HaveTypes, AreTexts, as_long, cells_in, lawful_more, required_stand, one_has_type, have_types_longer}
 use Rattle.typing_laws.proofs.Tables.{cells_in_longer, texts_more}
@@ -638,6 +640,22 @@ unfolding group
 group_keeps g = keeps_then (denoted_type_keeps g.names.items g.denoter) λ type_id.
     behind (λ x s is. is.0) (each_keeps (variable_keeps type_id) g.names.items)
 
+-- ---- procedures and functions
+
+nest_keeps : (depth : ℕ) (place : Place) → Keeps IsReady (nest depth place) Readied
+unfolding nest
+nest_keeps depth place = record { keeps = λ s a is r. by (nat_le depth most_blocks) s a is r }
+  where
+    by : (test : Bool) (s : Passed) (a : After (Unit {0})) → (if test then Ok (after tt [] s) else Err (fault.NestedTooDeep place)) ≡ Ok a → IsReady s
+        → (a.look ≡ []) × Readied a.answer a.passed
+    by true s a is r =
+        let same : after tt [] s ≡ a = cc in subst (λ (z : After (Unit {0})). (z.look ≡ []) × Readied z.answer z.passed) same (refl, r)
+    by false s a is r = absurd cc
+
+routine_keeps : (depth : ℕ) (r : Routine) → Keeps IsReady (routine depth r) Readied
+unfolding routine
+routine_keeps depth r = nest_keeps depth (routine_name r).place
+
 -- what stands before the statements
 pub declarations_keep : (program : Program) → Keeps IsReady (declarations program) Readied
 unfolding declarations
@@ -645,6 +663,7 @@ declarations_keep program =
     keeps_then open_required_keeps λ _.
     keeps_then (open_block_keeps (all_folded (defined_names program))) λ _.
     keeps_then (each_keeps parameter_keeps program.parameters.items) λ _.
-    keeps_then (each_keeps definition_keeps program.block.constants.items) λ _.
-    keeps_then (each_keeps type_definition_keeps program.block.types.items) λ _.
-    each_keeps group_keeps program.block.variables.items
+    keeps_then (each_keeps definition_keeps (out-Block program.block).constants.items) λ _.
+    keeps_then (each_keeps type_definition_keeps (out-Block program.block).types.items) λ _.
+    keeps_then (each_keeps group_keeps (out-Block program.block).variables.items) λ _.
+    each_keeps (routine_keeps 2) (out-Block program.block).routines.items

@@ -3,7 +3,11 @@ use Rattle.std.proofs.Common.{◌≡◌, List, [], ◌∷◌, ◌++◌, length, 
 use Rattle.std.specs.List.{range_with_len, list_all, flat_map}
 use Rattle.syntax_tree.specs.declared.Program.{Program}
 use Rattle.syntax_tree.specs.declared.Block.{Block}
-use Rattle.syntax_tree.specs.Places.{name_places, definition_places, type_definition_places, group_places, stmt_places, program_places}
+use Rattle.syntax_tree.specs.declared.Block.TheViews.{out-Block, roll-out-Block}
+use Rattle.syntax_tree.specs.declared.Block.TheFolds.{map-Block, fold-roll-Block}
+use Rattle.syntax_tree.specs.declared.Routine.{Routine}
+use Rattle.syntax_tree.specs.Places.{Places, joined_places, name_places, definition_places, type_definition_places, group_places, stmt_places, routine_step}
+use Rattle.syntax_tree.specs.Places.{routine_places, block_step, block_places, program_places}
 use Rattle.typed_tree.specs.declared.tree.Variable.{Variable}
 use Rattle.typed_tree.specs.Ids.{Stands, AreByPlace}
 use Rattle.typed_tree.specs.Look.{BlockEnds, entries_of_look, loops_of_look, is_formed_mark}
@@ -22,27 +26,36 @@ use Rattle.typing_laws.proofs.Declarations.{IsReady, declarations_keep}
 
 -- the statements of a block
 statement_part_does : (variables : List Variable) (least : Reached) (block : Block)
-    → Does variables least (Covers 0 (flat_map stmt_places block.statements.items)) (statement_part block) Anything
+    → Does variables least (Covers 0 (flat_map stmt_places (out-Block block).statements.items)) (statement_part block) Anything
 unfolding statement_part
 statement_part_does variables least block =
-    let items = block.statements.items in
+    let items = (out-Block block).statements.items in
     last ((compound_does variables (flat_map stmt_places items) (map statement items) (statements_lawful variables items)).passes least) λ _ _ _ _.
-    mark_does (BlockEnds block.end) refl refl (λ n h. refl)
+    mark_does (BlockEnds (out-Block block).end) refl refl (λ n h. refl)
+
+-- the places of a block, part by part
+block_in_parts : (b : Block) → block_places b ≡ block_step (map-Block Block Routine Places Places block_places routine_places (out-Block b))
+block_in_parts b = ap block_places (sym (roll-out-Block b)) ∙ fold-roll-Block Places Places block_step routine_step (out-Block b)
 
 -- the places of the statements are among those of the program
-program_covers : (program : Program) (sites : List Stands) → Covers 0 (flat_map stmt_places program.block.statements.items) sites
+program_covers : (program : Program) (sites : List Stands) → Covers 0 (flat_map stmt_places (out-Block program.block).statements.items) sites
     → Covers 0 (program_places program) sites
 program_covers program sites has =
-    let statements = flat_map stmt_places program.block.statements.items in
-    let definitions = flat_map definition_places program.block.constants.items in
-    let types = flat_map type_definition_places program.block.types.items in
-    let groups = flat_map group_places program.block.variables.items in
-    let ends = program.block.end ∷ [] in
-    covers_skip 0 program.name.place (name_places program.parameters.items ++ (definitions ++ (types ++ (groups ++ (statements ++ ends))))) sites
-    (covers_behind 0 (name_places program.parameters.items) (definitions ++ (types ++ (groups ++ (statements ++ ends)))) sites
-    (covers_behind 0 definitions (types ++ (groups ++ (statements ++ ends))) sites
-    (covers_behind 0 types (groups ++ (statements ++ ends)) sites
-    (covers_behind 0 groups (statements ++ ends) sites (covers_more 0 statements ends sites has)))))
+    let block = out-Block program.block in
+    let statements = flat_map stmt_places block.statements.items in
+    let definitions = flat_map definition_places block.constants.items in
+    let types = flat_map type_definition_places block.types.items in
+    let groups = flat_map group_places block.variables.items in
+    let routines = joined_places (map routine_places block.routines.items) in
+    let ends = block.end ∷ [] in
+    subst (λ places. Covers 0 (program.name.place ∷ (name_places program.parameters.items ++ places)) sites) (sym (block_in_parts program.block))
+    (covers_skip 0 program.name.place
+    (name_places program.parameters.items ++ (definitions ++ (types ++ (groups ++ (routines ++ (statements ++ ends)))))) sites
+    (covers_behind 0 (name_places program.parameters.items) (definitions ++ (types ++ (groups ++ (routines ++ (statements ++ ends))))) sites
+    (covers_behind 0 definitions (types ++ (groups ++ (routines ++ (statements ++ ends)))) sites
+    (covers_behind 0 types (groups ++ (routines ++ (statements ++ ends))) sites
+    (covers_behind 0 groups (routines ++ (statements ++ ends)) sites
+    (covers_behind 0 routines (statements ++ ends) sites (covers_more 0 statements ends sites has)))))))
 
 -- behind the declarations
 fine_ready : (s : Passed) → IsReady s → Fine s.variables s
@@ -55,7 +68,7 @@ fine_ready s r = record {
 }
 
 grown_lawful : (program : Program) (s : Passed) (a : After (Unit {0})) → IsReady s
-    → Grown s.variables (Covers 0 (flat_map stmt_places program.block.statements.items)) a.look s a.passed → Lawful program a
+    → Grown s.variables (Covers 0 (flat_map stmt_places (out-Block program.block).statements.items)) a.look s a.passed → Lawful program a
 grown_lawful program s a r g = record {
   numbered = g.numbered ∙ ap (λ n. range_with_len n (length (entries_of_look a.look))) r.entries;
   few_entries = omega (arith, g.entered, g.few_entries);

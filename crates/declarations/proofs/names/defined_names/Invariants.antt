@@ -1,3 +1,4 @@
+use Rattle.syntax_tree.specs.declared.Block.TheViews.{out-Block}
 use Rattle.std.proofs.Common.{◌≡◌, ◌++◌, map, take}
 use Rattle.typing.specs.Names.{all_folded}
 use Rattle.declarations.specs.Declared.{texts}
@@ -6,4 +7,4 @@ use Rattle.declarations.proofs.names.defined_names.Given as goal
 -- the names so far
 abbrev pub invariant-loop-definition : goal.invariant-loop-definition
 invariant-loop-definition l =
-    texts l.keys.items ≡ all_folded (l.program.parameters.items ++ map (λ d. d.name) (take l.definition-index l.program.block.constants.items))
+    texts l.keys.items ≡ all_folded (l.program.parameters.items ++ map (λ d. d.name) (take l.definition-index (out-Block l.program.block).constants.items))

@@ -1,3 +1,4 @@
+use Rattle.syntax_tree.specs.declared.Block.TheViews.{out-Block}
 use Rattle.std.proofs.Common.{[], ◌∙◌, ap, sym, subst}
 use Rattle.typing.specs.Passing.{each}
 use Rattle.typing.specs.Typing.{definition, type_definition, parameter_of_program}
@@ -24,7 +25,7 @@ declare_constants-requires c =
     let names = ap texts c.deref.ensures.value ∙ c.in_ok-names.ensures in
     let known = constants_are_known c.args.program.now c.deref.result.now c.open_required.new.self opened c.in_ok-open_block.ensures names in
     let still = definitions_stay (each parameter_of_program parameters) (each_keeps parameter_of_program parameters parameter_keeps) tt [] opened new
-    c.in_ok-declare_parameters.ensures c.args.program.now.block.constants.items known in
+    c.in_ok-declare_parameters.ensures (out-Block c.args.program.now.block).constants.items known in
     record { known = subst (λ l. AreKnownDefinitions l new.regions) (sym c.deref-3.ensures.value) still }
 
 -- it knows its types, and still does behind the constants
@@ -32,7 +33,7 @@ pub declare_types-requires : goal.declare_types-requires
 declare_types-requires c =
     let parameters = c.deref-2.result.now in
     let constants = c.deref-3.result.now in
-    let definitions = c.args.program.now.block.types.items in
+    let definitions = (out-Block c.args.program.now.block).types.items in
     let opened = c.open_block.new.self in
     let between = c.declare_parameters.new.typer in
     let new = c.declare_constants.new.typer in
@@ -50,7 +51,7 @@ declare_groups-requires c =
     let parameters = c.deref-2.result.now in
     let constants = c.deref-3.result.now in
     let types = c.deref-4.result.now in
-    let groups = c.args.program.now.block.variables.items in
+    let groups = (out-Block c.args.program.now.block).variables.items in
     let opened = c.open_block.new.self in
     let between = c.declare_parameters.new.typer in
     let later = c.declare_constants.new.typer in

@@ -1,3 +1,4 @@
+use Rattle.syntax_tree.specs.declared.Block.TheViews.{out-Block}
 use Rattle.std.proofs.Common.{rules, ◌≡◌, [], ◌∷◌, ◌++◌, map, Ok, refl, sym, ap, subst, ◌∙◌}
 use Rattle.typed_tree.specs.declared.tree.Block.{Block}
 use Rattle.typed_tree.specs.Look.{look_stmt}
@@ -32,8 +33,8 @@ returns c =
     let program = c.args.program.now in
     let m = c.in_ok-typer.typer in
     let n = c.compound.new.typer in
-    let block : Block = record { body = c.in_ok-body.body; end = program.block.end } in
-    let ends : compound (map statement program.block.statements.items) m ≡ Ok (after tt (look_stmt block.body) n) =
+    let block : Block = record { body = c.in_ok-body.body; end = (out-Block program.block).end } in
+    let ends : compound (map statement (out-Block program.block).statements.items) m ≡ Ok (after tt (look_stmt block.body) n) =
     ap (λ l. compound (map statement l) m) (sym c.deref.ensures.value) ∙ c.in_ok-body.ensures in
     let blocks : c.tree.result.blocks.items ≡ block ∷ [] =
     ap (λ v. v.items) c.tree.ensures.blocks ∙ c.in_ok-push.ensures.items ∙ ap (λ l. l ++ block ∷ []) c.new-blocks.ensures.items in
