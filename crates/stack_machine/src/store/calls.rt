@@ -1,5 +1,5 @@
-ghost use Rattle.std.specs.Prelude.{◌≡◌, ℕ, ◌+◌, ◌-◌, ◌<◌, ◌≤◌, ◌++◌, take, drop, IfOk, MatchResult, Some};
-ghost use Rattle.std.specs.Prelude.{vec_len, Ok, Err};
+ghost use Rattle.std.specs.Prelude.{◌≡◌, ℕ, ◌+◌, ◌-◌, ◌^◌, ◌<◌, ◌≤◌, ◌++◌, length, take, drop, IfOk};
+ghost use Rattle.std.specs.Prelude.{vec_len, MatchResult, Some, Ok, Err};
 ghost use Rattle.stack_machine.specs.Calls as calls;
 
 use crate::cell::Cell;
@@ -61,32 +61,13 @@ impl Store {
     {
         let results = results as usize;
         self.has(results)?;
-        let caller = self.caller(count)?;
+        let cells = &self.cells.as_slice()[..self.used];
+        let caller = caller_of(cells, self.frame, self.size, count)?;
         self.take_along(results);
         self.used = self.frame + results;
         self.frame = caller.frame;
         self.limit = caller.limit;
         Ok(caller.place)
-    }
-
-    /// Where the frame was called from, in code of so many instructions. A number outside is told before a link that is
-    /// no number.
-    fn caller(&self, count: usize) -> Result<Caller, MachineFault>
-        ensures within { IfOk result
-            (λ caller. (caller.frame + 4 ≤ self.now.frame) × (caller.limit ≤ self.now.size)) }
-        ensures value { result ≡ calls.caller count (view self.now) }
-    {
-        let (frame, frames) = (self.cells[self.frame + 1], self.frame.saturating_sub(3));
-        let place = self.cells[self.frame + 2];
-        let (limit, limits) = (self.cells[self.frame + 3], self.size + 1);
-        not_outside(frame, frames)?;
-        not_outside(place, count)?;
-        not_outside(limit, limits)?;
-        Ok(Caller {
-            frame: link_below(frame, frames)?,
-            place: link_below(place, count)?,
-            limit: link_below(limit, limits)?,
-        })
     }
 
     /// Copies so many of the topmost cells to where the frame begins.
@@ -105,6 +86,34 @@ impl Store {
             self.cells[self.frame + offset] = self.cells[first + offset];
         }
     }
+}
+
+/// Where the frame was called from that begins at this cell, in a store of so many cells and code of so many
+/// instructions. A number outside is told before a link that is no number. Kept out of the run loop, whose registers it
+/// would take.
+#[inline(never)]
+fn caller_of(
+    cells: &[Cell],
+    frame: usize,
+    size: usize,
+    count: usize,
+) -> Result<Caller, MachineFault>
+    requires in_use { frame + 4 ≤ length cells.now }
+    requires small { size < 2 ^ 32 }
+    ensures within { IfOk result (λ caller. (caller.frame + 4 ≤ frame) × (caller.limit ≤ size)) }
+    ensures value { result ≡ calls.caller count size frame cells.now }
+{
+    let (back, backs) = (cells[frame + 1], frame.saturating_sub(3));
+    let place = cells[frame + 2];
+    let (limit, limits) = (cells[frame + 3], size + 1);
+    not_outside(back, backs)?;
+    not_outside(place, count)?;
+    not_outside(limit, limits)?;
+    Ok(Caller {
+        frame: link_below(back, backs)?,
+        place: link_below(place, count)?,
+        limit: link_below(limit, limits)?,
+    })
 }
 
 /// The index of an instruction as a number of 32 bits.
