@@ -1,5 +1,6 @@
 -- The rules of blocks and programs read each spelling of their form.
-use Rattle.std.proofs.Common.{◌≡◌, ℕ, ◌<◌, ◌≤◌, ◌+◌, max, Bool, true, false, ◌&&◌, List, [], ◌∷◌, ◌++◌, length, map, Option, Some, None, subst, sym, ap, ◌∙◌, arith}
+use Rattle.std.proofs.Common.{◌≡◌, ℕ, ◌<◌, ◌≤◌, ◌+◌, max, Bool, true, false, ◌&&◌, List, [], ◌∷◌, ◌++◌, length, map, Option, Some}
+use Rattle.std.proofs.Common.{None, subst, sym, ap, ◌∙◌, arith}
 use Rattle.std.specs.List.{list_all}
 use Rattle.place.specs.declared.Place.{Place}
 use Rattle.lexer.specs.declared.token.Kind.TheVariants as kind
@@ -16,7 +17,8 @@ use Rattle.syntax_tree.specs.declared.Block.TheViews.{out-Block, roll-Block, rol
 use Rattle.syntax_tree.specs.declared.Routine.{Routine}
 use Rattle.syntax_tree.specs.declared.Program.{Program}
 use Rattle.grammar.specs.Spelling.{Spelling, Reads, of_kind_at, mark, word_symbol, identifier, identifiers, separated, joined, in_parentheses, group_spelling}
-use Rattle.grammar.specs.Spelling.{forward, definition_spelling, type_definition_spelling, constants_spelling, types_spelling, variables_spelling, stmt_spelling, routine_spelling, block_spelling}
+use Rattle.grammar.specs.Spelling.{forward, definition_spelling, type_definition_spelling, constants_spelling, types_spelling, variables_spelling}
+use Rattle.grammar.specs.Spelling.{stmt_spelling, routine_spelling, block_spelling}
 use Rattle.grammar.specs.WellFormed.{is_definition, is_type_definition, is_group, is_statement, is_routine, has_items}
 use Rattle.grammar.specs.Nesting.{stmt_levels, deepest, types_levels, groups_levels, routine_levels, block_levels}
 use Rattle.grammar.specs.Begins.{BeginsParameters, BeginsGroups, BeginsConstantPart, BeginsTypePart, BeginsVariables, BeginsRoutines, BeginsCompound}

@@ -273,7 +273,8 @@ function_behind_name p n a b c d (Resumed name) k l h =
 signature_first : (a c : List Token) (formals : List FormalGroup) (result : Name) → BeginsSignature a c (formals, result)
     → NoNext (kind.Symbol symbol.Semicolon) a
 signature_first a c [] result h =
-    other_kind (kind.Symbol symbol.Colon) (kind.Symbol symbol.Semicolon) a (begins (mark symbol.Colon) (identifier result ∷ mark symbol.Semicolon ∷ []) a c h.spelled) (λ e. cc)
+    other_kind (kind.Symbol symbol.Colon) (kind.Symbol symbol.Semicolon) a
+    (begins (mark symbol.Colon) (identifier result ∷ mark symbol.Semicolon ∷ []) a c h.spelled) (λ e. cc)
 signature_first a c (g ∷ gs) result h =
     let list = separated symbol.Semicolon (map formal_spelling (g ∷ gs)) ++ mark symbol.CloseParenthesis ∷ [] in
     other_kind (kind.Symbol symbol.OpenParenthesis) (kind.Symbol symbol.Semicolon) a

@@ -11,7 +11,8 @@ use Rattle.syntax_tree.specs.declared.Passing.TheVariants.{Value, Variable}
 use Rattle.syntax_tree.specs.declared.FormalGroup.{FormalGroup}
 use Rattle.syntax_tree.specs.declared.Heading.{Heading}
 use Rattle.syntax_tree.specs.declared.Heading.TheVariants.{Procedure, Function, Resumed}
-use Rattle.grammar.specs.Spelling.{Lexeme, Spelling, Reads, of_kind_at, mark, word_symbol, identifier, identifiers, separated, passing_spelling, formal_spelling}
+use Rattle.grammar.specs.Spelling.{Lexeme, Spelling, Reads, of_kind_at, mark, word_symbol, identifier, identifiers, separated, passing_spelling}
+use Rattle.grammar.specs.Spelling.{formal_spelling}
 use Rattle.grammar.specs.Spelling.{formals_spelling, signature_spelling, heading_spelling}
 use Rattle.grammar.specs.WellFormed.{has_items, is_formal}
 use Rattle.grammar.specs.Following.{next_kind, NoNext, Next}
@@ -226,9 +227,11 @@ resumed_alike a c d m n h k =
 pub heading_alike : (a c d : List Token) (g h : Heading) → BeginsHeading a c g → BeginsHeading a d h
     → Alike Notation (heading_notation g) (heading_notation h) c d
 heading_alike a c d (Procedure m xs) (Procedure n ys) h k = procedures_alike a c d m n xs.items ys.items h.spelled k.spelled h.formed k.formed
-heading_alike a c d (Procedure m xs) (Function n ys s) h k = absurd (unlike a c d (behind_word (Procedure m xs)) (behind_word (Function n ys s)) h.spelled k.spelled)
+heading_alike a c d (Procedure m xs) (Function n ys s) h k =
+    absurd (unlike a c d (behind_word (Procedure m xs)) (behind_word (Function n ys s)) h.spelled k.spelled)
 heading_alike a c d (Procedure m xs) (Resumed n) h k = absurd (unlike a c d (behind_word (Procedure m xs)) (behind_word (Resumed n)) h.spelled k.spelled)
-heading_alike a c d (Function m xs r) (Procedure n ys) h k = absurd (unlike a d c (behind_word (Procedure n ys)) (behind_word (Function m xs r)) k.spelled h.spelled)
+heading_alike a c d (Function m xs r) (Procedure n ys) h k =
+    absurd (unlike a d c (behind_word (Procedure n ys)) (behind_word (Function m xs r)) k.spelled h.spelled)
 heading_alike a c d (Function m xs r) (Function n ys s) h k = functions_alike a c d m n xs.items ys.items r s h.spelled k.spelled h.formed k.formed
 heading_alike a c d (Function m xs r) (Resumed n) h k = absurd (other_end m n xs.items r a c d h.spelled k.spelled h.formed)
 heading_alike a c d (Resumed m) (Procedure n ys) h k = absurd (unlike a d c (behind_word (Procedure n ys)) (behind_word (Resumed m)) k.spelled h.spelled)

@@ -19,7 +19,8 @@ use Rattle.grammar.specs.Begins.{BeginsConstantPart, BeginsTypePart, BeginsVaria
 use Rattle.grammar.specs.Following.{EndsConstants, EndsTypes, EndsVariables, BeginsStatementPart}
 use Rattle.grammar.proofs.Lists.{and_true}
 use Rattle.grammar.proofs.Reading.{both}
-use Rattle.grammar.proofs.BlockEquations.{Layer, compound_of, behind_variables, behind_types, behind_constants, is_compound, is_declared, is_body, is_typed_body}
+use Rattle.grammar.proofs.BlockEquations.{Layer, compound_of, behind_variables, behind_types, behind_constants, is_compound, is_declared, is_body}
+use Rattle.grammar.proofs.BlockEquations.{is_typed_body}
 use Rattle.grammar.proofs.BlockEquations.{spelling-Layer, form-Layer, levels-Layer}
 use Rattle.grammar.proofs.Blocks.{BlockParts, BlockBehindConstants, BlockBehindTypes, BlockBehindVariables, BlockBehindRoutines}
 use Rattle.expression_parser.specs.Reading.{ReadsEach, ReadsDeep}

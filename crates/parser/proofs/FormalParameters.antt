@@ -16,7 +16,8 @@ use Rattle.syntax_tree.specs.declared.FormalGroup.{FormalGroup}
 use Rattle.syntax_tree.specs.declared.Heading.TheVariants.{Procedure, Function, Resumed}
 use Rattle.token_cursor.specs.declared.cursor.Cursor.{Cursor}
 use Rattle.token_cursor.specs.Cursor.{Took}
-use Rattle.grammar.specs.Spelling.{Reads, of_kind_at, mark, word_symbol, identifier, identifiers, separated, passing_spelling, formal_spelling, formals_spelling}
+use Rattle.grammar.specs.Spelling.{Reads, of_kind_at, mark, word_symbol, identifier, identifiers, separated, passing_spelling, formal_spelling}
+use Rattle.grammar.specs.Spelling.{formals_spelling}
 use Rattle.grammar.specs.Spelling.{signature_spelling}
 use Rattle.grammar.specs.WellFormed.{has_items, is_formal}
 use Rattle.grammar.specs.Following.{NoNext, Anything}
@@ -127,8 +128,8 @@ formals_behind_list a b others formals reads o =
 
 -- ---- headings
 
-pub procedure_stands : (a b c d e : Cursor) (p q : Place) (name : Name) (formals : Vec FormalGroup Global) → Took a b (of_kind_at (kind.Word word.Procedure) p ∷ [])
-    → Took b c (identifier name ∷ []) → Read BeginsFormals c d formals.items → Took d e (of_kind_at (kind.Symbol symbol.Semicolon) q ∷ [])
+pub procedure_stands : (a b c d e : Cursor) (p q : Place) (name : Name) (formals : Vec FormalGroup Global)
+    → Took a b (of_kind_at (kind.Word word.Procedure) p ∷ []) → Took b c (identifier name ∷ []) → Read BeginsFormals c d formals.items → Took d e (of_kind_at (kind.Symbol symbol.Semicolon) q ∷ [])
     → Read BeginsHeading a e (Procedure name formals)
 procedure_stands a b c d e p q name formals opened named listed closed = record {
   spelled = both (word_symbol word.Procedure ∷ []) (identifier name ∷ formals_spelling formals.items ++ mark symbol.Semicolon ∷ []) a.rest.now b.rest.now

@@ -1,4 +1,5 @@
-ghost use Rattle.std.specs.Prelude.{◌≡◌, false, [], ◌∷◌, IfSome, IfOk, ℕ, ◌↔◌, IsTrue, IfErr, IfNone, MatchBool, MatchResult};
+ghost use Rattle.std.specs.Prelude.{◌≡◌, false, [], ◌∷◌, IfSome, IfOk, ℕ, ◌↔◌, IsTrue, IfErr, IfNone, MatchBool};
+ghost use Rattle.std.specs.Prelude.{MatchResult};
 ghost use Rattle.grammar.specs.Spelling.{IsSpelledBy, forward};
 ghost use Rattle.token_cursor.specs.Cursor.{end_of};
 
