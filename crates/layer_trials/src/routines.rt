@@ -35,8 +35,14 @@ static DECLARATIONS: [(&str, &str); 22] = [
     ("procedure q(); begin end;", "1:24: no program"),
     ("procedure q(a); begin end;", "1:25: no program"),
     ("procedure q(a: char;); begin end;", "1:32: no program"),
-    ("procedure q(a: char, b: char); begin end;", "1:31: no program"),
-    ("procedure q(var var a: char); begin end;", "1:28: no program"),
+    (
+        "procedure q(a: char, b: char); begin end;",
+        "1:31: no program",
+    ),
+    (
+        "procedure q(var var a: char); begin end;",
+        "1:28: no program",
+    ),
     ("procedure q(a: 1..2); begin end;", "1:27: no program"),
     ("procedure q(procedure r); begin end;", "1:24: no program"),
     ("function f: ; begin end;", "1:24: no program"),

@@ -91,8 +91,8 @@ module _ (program : Program) where
     unfolding typing
     on = ap (λ r. and_then r (λ a. behind_marks a.look (statement_part program.block a.passed))) passes
 
-    pub stops_in_statements :
-        (why : TypeFault) → IsFault (compound (map statement (out-Block program.block).statements.items) m) why → IsFault (typing program) why
+    pub stops_in_statements : (why : TypeFault) → IsFault (compound (map statement (out-Block program.block).statements.items) m) why
+        → IsFault (typing program) why
     unfolding statement_part
     stops_in_statements why (inl memory) = inl memory
     stops_in_statements why (inr stops) = inr (
@@ -107,8 +107,8 @@ module _ (program : Program) where
     -- the tree of the program
     pub is_resolved : (n : Passed) (block : Block) (tree : Tree)
         → compound (map statement (out-Block program.block).statements.items) m ≡ Ok (after tt (look_stmt block.body) n)
-        → block.end ≡ (out-Block program.block).end → tree.blocks.items ≡ block ∷ []
-        → IsLeft n tree → IsTableOf block.body tree.loops.items → IsResolved program tree
+        → block.end ≡ (out-Block program.block).end → tree.blocks.items ≡ block ∷ [] → IsLeft n tree → IsTableOf block.body tree.loops.items
+        → IsResolved program tree
     is_resolved n block tree ends end blocks left table = record {
       is_typed = record {
         left = n;
