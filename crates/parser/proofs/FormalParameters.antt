@@ -129,7 +129,8 @@ formals_behind_list a b others formals reads o =
 -- ---- headings
 
 pub procedure_stands : (a b c d e : Cursor) (p q : Place) (name : Name) (formals : Vec FormalGroup Global)
-    → Took a b (of_kind_at (kind.Word word.Procedure) p ∷ []) → Took b c (identifier name ∷ []) → Read BeginsFormals c d formals.items → Took d e (of_kind_at (kind.Symbol symbol.Semicolon) q ∷ [])
+    → Took a b (of_kind_at (kind.Word word.Procedure) p ∷ []) → Took b c (identifier name ∷ []) → Read BeginsFormals c d formals.items
+    → Took d e (of_kind_at (kind.Symbol symbol.Semicolon) q ∷ [])
     → Read BeginsHeading a e (Procedure name formals)
 procedure_stands a b c d e p q name formals opened named listed closed = record {
   spelled = both (word_symbol word.Procedure ∷ []) (identifier name ∷ formals_spelling formals.items ++ mark symbol.Semicolon ∷ []) a.rest.now b.rest.now

@@ -1,6 +1,6 @@
 -- The typing of a program (ISO 7185:1990, 6.2, 6.3, 6.4.1, 6.5.1, 6.6, 6.10): its declarations in the order of the
--- text, and then its statements. It answers the first broken rule, with its place, or how the program's typed tree looks
--- and what the program has: its variables and its sites. It says nothing of what a program does.
+-- text, and then its statements. It answers the first broken rule, with its place, or how the program's typed tree
+-- looks and what the program has: its variables and its sites. It says nothing of what a program does.
 use Rattle.std.specs.Prelude.{ℕ, [], if◌then◌else◌, map, nat_eq, codes}
 use Rattle.std.specs.Cmp.Lexicographic.{pointwise}
 use Rattle.syntax_tree.specs.declared.Program.{Program}
