@@ -11,9 +11,9 @@ use Rattle.typed_tree.specs.declared.tree.Link.{Link}
 use Rattle.typed_tree.specs.declared.tree.Expr.TheVariants.{Chain}
 use Rattle.meaning.specs.declared.outcome.Ending.{Ending}
 use Rattle.meaning.specs.declared.outcome.Ending.TheVariants as ending
-use Rattle.meaning.specs.Store.{Environment}
+
 use Rattle.meaning.specs.Effect.{State, Reply, Gives, Stops}
-use Rattle.meaning.specs.Meaning.{meaning, run, value_of}
+use Rattle.meaning.specs.Meaning.{Surroundings, meaning, run, value_of}
 
 -- the same state with more turns left
 abbrev pub with_turns : ℕ → State → State
@@ -62,6 +62,6 @@ EndingsStay =
 abbrev pub ChainsGoLeftToRight : Type 0
 ChainsGoLeftToRight =
     (first : Box Expr Global) (rest longer : Vec Link Global) (more : List Link)
-    (env : Environment) (s t : State) (end : Ending)
+    (env : Surroundings) (s t : State) (end : Ending)
     → longer.items ≡ rest.items ++ more → value_of (Chain first rest) env s ≡ Stops end t
     → value_of (Chain first longer) env s ≡ Stops end t
