@@ -11,7 +11,6 @@ use Rattle.typed_tree.specs.declared.tree.Link.{Link}
 use Rattle.typed_tree.specs.declared.tree.Expr.TheVariants.{Chain}
 use Rattle.meaning.specs.declared.outcome.Ending.{Ending}
 use Rattle.meaning.specs.declared.outcome.Ending.TheVariants as ending
-
 use Rattle.meaning.specs.Effect.{State, Reply, Gives, Stops}
 use Rattle.meaning.specs.Meaning.{Surroundings, meaning, run, value_of}
 

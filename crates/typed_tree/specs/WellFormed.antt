@@ -273,7 +273,8 @@ module _ (outline : Outline) (block : ℕ) where
 
   -- a test of a value that is passed, a copy of so many cells, and a variable
   abbrev pub passes_value : RangeTest → ℕ → ℕ → Bool
-  passes_value fits callee position = is_well_formed_test fits && is_passed_to (takes_value outline fits) callee position
+  passes_value fits callee position =
+      is_well_formed_test fits && is_passed_to (takes_value outline fits) callee position
 
   abbrev pub passes_whole : TypeId → ℕ → ℕ → ℕ → Bool
   passes_whole type_id cells callee position = is_passed_to (takes_whole outline type_id cells) callee position
@@ -401,7 +402,8 @@ variables_of block variables = filter (λ variable. nat_eq variable.block block)
 -- they take no more cells than a block has
 abbrev pub are_few_cells : Outline → ℕ → Bool
 are_few_cells outline block =
-    nat_le (sum_by (λ variable. cells_of outline.types variable.type_id) (variables_of block outline.variables)) most_cells
+    nat_le
+    (sum_by (λ variable. cells_of outline.types variable.type_id) (variables_of block outline.variables)) most_cells
 
 -- the roots of the variables of which a test holds, where the first has this root
 abbrev pub roots_where : (DeclaredVariable → Bool) → ℕ → List DeclaredVariable → List ℕ
@@ -463,7 +465,8 @@ is_heading outline block heading =
 -- a block is well formed
 abbrev pub is_well_formed_block : Outline → ℕ → Block → Bool
 is_well_formed_block outline number block =
-    is_heading outline number block.heading && (are_few_cells outline number && is_well_formed_stmt outline number block.body)
+    is_heading outline number block.heading
+    && (are_few_cells outline number && is_well_formed_stmt outline number block.body)
 
 -- these blocks, which are numbered from one on
 abbrev pub are_well_formed_blocks : Outline → ℕ → List Block → Bool
