@@ -34,7 +34,7 @@ use Rattle.typed_tree.specs.Look.{Look, link_look, expression_look, look_expr, l
 use Rattle.typed_tree.specs.Look.{Operation, Applied, Begins, Operator, Ends, Empty, Assign, Target, Fits, Write, Compound, If, Then, Else, While, Do, Repeat}
 use Rattle.typed_tree.specs.Look.{Until, For, Case, arms_look, look_whole, look_access, Compared, WholeTarget, Copied}
 use Rattle.typed_tree.specs.WellFormed.{length_of}
-pub use Rattle.typed_tree.proofs.Measured.{entries_are, formed_are}
+pub use Rattle.typed_tree.proofs.Measured.{entries_are}
 
 -- how an actual parameter looks, for a callee and the place of a formal one
 abbrev Passing : Type 0

@@ -42,7 +42,7 @@ use Rattle.typed_tree.specs.WellFormed.{is_well_formed_expr, is_well_formed_link
 use Rattle.typed_tree.specs.WellFormed.{are_characters, length_of, whole_indexes, is_well_formed_whole, is_well_formed_written}
 use Rattle.typed_tree.specs.WellFormed.{leads_to_ordinal, are_well_formed, is_well_formed_value}
 use Rattle.typed_tree.specs.WellFormed.{are_whole, stmt_is_well_formed, is_well_formed_stmt, is_well_formed_block}
-use Rattle.typed_tree.specs.Look.{passed_look, call_look, look_passed, heading_look, Called, ForValue, ForWhole, ForVariable, block_behind, are_formed}
+use Rattle.typed_tree.specs.Look.{passed_look, call_look, look_passed, heading_look, Called, ForValue, ForWhole, ForVariable}
 use Rattle.typed_tree.specs.Look.{Mark, Look, link_look, expression_look, look_expr, look_link, look_width, look_parameter, arms_look, statement_look}
 use Rattle.typed_tree.specs.Look.{look_stmt, look_block, tree_look, mark_entries, entries_of_look, is_formed_mark, Ends, If as IfMark, Then, Else, Do, Until}
 use Rattle.typed_tree.specs.Look.{Fits as FitsMark, Written as WrittenMark, Width as WidthMark, BlockEnds, Compared, WrittenString, look_whole, look_written}
@@ -695,6 +695,7 @@ module _ (outline : Outline) (block_number : ℕ) where
       (formed_cut (look_expr index) (inside ++ (Ends ∷ []))
       ∙ ap₂ (λ a b. a && b) (formed_expr index) (formed_ended inside Ends refl ∙ formed_arms constants.items arms.items))
 
-  formed_stmt : (s : Stmt) → is_formed (look_stmt s) ≡ is_well_formed_stmt outline block_number s
+  -- the look of a statement tells whether it is well formed
+  pub formed_stmt : (s : Stmt) → is_formed (look_stmt s) ≡ is_well_formed_stmt outline block_number s
   formed_stmt = measured_stmt is_formed (stmt_is_well_formed outline block_number) formed_stmt_layer
 

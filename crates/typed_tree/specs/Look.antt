@@ -371,14 +371,22 @@ is_formed_mark outline block (Case number site) = nat_lt site outline.sites
 is_formed_mark outline block (Arm constants) = list_all is_whole constants
 is_formed_mark outline block (BlockEnds number around parameters result end) = true
 
--- the number of the block whose end comes next
-abbrev pub block_behind : Look → ℕ
-block_behind [] = 0
-block_behind (BlockEnds number around parameters result end ∷ marks) = number
-block_behind (mark ∷ marks) = block_behind marks
+-- the number of a block that ends
+abbrev pub mark_blocks : Mark → List ℕ
+mark_blocks (BlockEnds number around parameters result end) = number ∷ []
+mark_blocks other = []
 
--- with what a program declares, each form alone is well formed in the block whose end comes next
+-- the numbers of the blocks that end in what looks so
+abbrev pub blocks_of_look : Look → List ℕ
+blocks_of_look = flat_map mark_blocks
+
+-- the first of these, which are the blocks that end next
+abbrev pub next_of : List ℕ → ℕ
+next_of [] = 0
+next_of (number ∷ numbers) = number
+
+-- with what a program declares, each form alone is well formed in the block that ends next
 abbrev pub are_formed : Outline → Look → Bool
 are_formed outline [] = true
 are_formed outline (mark ∷ marks) =
-    is_formed_mark outline (block_behind (mark ∷ marks)) mark && are_formed outline marks
+    is_formed_mark outline (next_of (blocks_of_look (mark ∷ marks))) mark && are_formed outline marks
