@@ -4,3 +4,4 @@ mod LeftToRight
 pub mod Loops
 pub mod Replies
 pub mod Turns
+pub mod Walks
