@@ -4,5 +4,6 @@ pub mod Expressions
 mod LeftToRight
 pub mod Loops
 pub mod Replies
+pub mod Returns
 pub mod Turns
 pub mod Walks
