@@ -5,5 +5,6 @@ mod LeftToRight
 pub mod Loops
 pub mod Replies
 pub mod Returns
+mod Routines
 pub mod Turns
 pub mod Walks
