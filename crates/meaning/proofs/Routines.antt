@@ -1,13 +1,16 @@
 -- The meaning of small programs with routines, worked out by hand.
-use Rattle.std.proofs.Common.{◌≡◌, ℕ, ◌<◌, ◌^◌, Bool, true, false, ℤ, pos, negsuc, List, [], ◌∷◌, length, map, Option, Some, None, Vec, Box, Global, codes, arith, refl, ap}
+use Rattle.std.proofs.Common.{◌≡◌, ℕ, ◌<◌, ◌^◌, Bool, true, false, ℤ, pos, negsuc, List, [], ◌∷◌, ◌++◌, length, Option, Some, None, Vec, Box, Global, codes, arith, refl, ap}
 use Rattle.types.specs.declared.form.OrdinalRange.{OrdinalRange}
-use Rattle.types.specs.Types.{integer, required_forms}
+use Rattle.types.specs.declared.form.TypeId.{TypeId}
+use Rattle.types.specs.Forms.{Subrange, Array}
+use Rattle.types.specs.Types.{char, integer, required_forms}
 use Rattle.typed_tree.specs.declared.tree.Tree.{Tree}
 use Rattle.typed_tree.specs.declared.tree.Block.{Block}
 use Rattle.typed_tree.specs.declared.tree.Heading.{Heading}
 use Rattle.typed_tree.specs.declared.tree.FunctionResult.{FunctionResult}
 use Rattle.typed_tree.specs.declared.tree.Call.{Call}
 use Rattle.typed_tree.specs.declared.tree.Access.{Access}
+use Rattle.typed_tree.specs.declared.tree.Selector.TheVariants.{Element}
 use Rattle.typed_tree.specs.declared.tree.RangeTest.{RangeTest}
 use Rattle.typed_tree.specs.declared.tree.Variable.{Variable as DeclaredVariable}
 use Rattle.typed_tree.specs.declared.tree.VariableKind.{VariableKind}
@@ -23,8 +26,8 @@ use Rattle.typed_tree.specs.declared.tree.Expr.{Expr}
 use Rattle.typed_tree.specs.declared.tree.Passed.{Passed}
 use Rattle.typed_tree.specs.declared.tree.Link.{Link}
 use Rattle.typed_tree.specs.declared.tree.Stmt.{Stmt}
-use Rattle.typed_tree.specs.declared.tree.Expr.TheOpen.Expr-F.{Constant, Variable, Chain, Monadic as MonadicOf}
-use Rattle.typed_tree.specs.declared.tree.Expr.TheOpen.Passed-F.{Value as PassedValue}
+use Rattle.typed_tree.specs.declared.tree.Expr.TheOpen.Expr-F.{Constant, Variable, Chain, Monadic as MonadicOf, Call as CallOf}
+use Rattle.typed_tree.specs.declared.tree.Expr.TheOpen.Passed-F.{Value as PassedValue, Reference}
 use Rattle.typed_tree.specs.declared.tree.Expr.TheFolds.{map-Expr, map-Passed, map-Link, fold-roll-Expr, fold-roll-Passed, fold-roll-Link}
 use Rattle.typed_tree.specs.declared.tree.Expr.TheOpen.{Expr-F, Passed-F, Link-F}
 use Rattle.typed_tree.specs.declared.tree.Expr.TheViews.{roll-Expr, roll-Passed, roll-Link}
@@ -36,8 +39,8 @@ use Rattle.meaning.specs.declared.outcome.Ending.TheVariants.{Error, Finished, M
 use Rattle.meaning.specs.declared.store.Value.{Value}
 use Rattle.meaning.specs.declared.store.Value.TheVariants.{Number}
 use Rattle.meaning.specs.Effect.{State}
-use Rattle.meaning.specs.Meaning.{Surroundings, value_of, passing_of, link_of, Meaning, Evaluation, Passing, Combination, Execution, value_step, passed_step, link_step, effect_step, effect_of, meaning}
-use Rattle.meaning.specs.Effect.{enter}
+use Rattle.meaning.specs.Meaning.{Surroundings, value_of, passing_of, link_of, Meaning, Evaluation, Passing, Combination, Execution, value_step, passed_step, link_step, effect_step, effect_of, meaning, run}
+use Rattle.meaning.specs.Laws.{state_after}
 
 -- a layer does what it does of what its parts do
 stmt_does : (x : Stmt-F Stmt) (env : Surroundings) (s : State) → effect_of (roll-Stmt x) env s ≡ effect_step (map-Stmt Stmt Execution effect_of x) env s
@@ -111,6 +114,26 @@ module _ (heap : Vec ℕ Global) (some_call : Call) where
   abbrev calls : ℕ → ℕ → (actuals : List Passed) → length actuals < 2 ^ 63 → Stmt
   calls number block actuals small = roll-Stmt (Calling (call number block) (vec actuals small))
 
+  abbrev calling : ℕ → ℕ → (actuals : List Passed) → length actuals < 2 ^ 63 → Expr
+  calling number block actuals small = roll-Expr (CallOf (call number block) (vec actuals small))
+
+  -- an element of the array of root 0, whose index is tested at the site 7
+  abbrev element_access : Access
+  element_access = record {
+    number = 0;
+    root = 0;
+    selectors = vec (Element (record { site = 7; range = record { first = pos 1; last = pos 2 } }) 1 ∷ []) (omega arith);
+  }
+
+  abbrev to_element : ℕ → Expr → Expr → Stmt
+  to_element number index value = roll-Stmt (Assign number some_call.name element_access (vec (index ∷ []) (omega arith)) (any_integer 8) value)
+
+  abbrev of_element : Expr → Expr
+  of_element index = roll-Expr (Variable element_access (vec (index ∷ []) (omega arith)) 9)
+
+  abbrev element : Expr → Passed
+  element index = roll-Passed (Reference char element_access (vec (index ∷ []) (omega arith)))
+
   abbrev when : ℕ → Expr → Stmt → Stmt
   when number condition statement = roll-Stmt (If number condition (boxed statement) None)
 
@@ -120,8 +143,8 @@ module _ (heap : Vec ℕ Global) (some_call : Call) where
   abbrev block : Heading → Stmt → Block
   block heading body = record { heading = heading; body = body; end = some_call.name }
 
-  abbrev declared : ℕ → VariableKind → DeclaredVariable
-  declared block how = record { block = block; type_id = integer; kind = how }
+  abbrev declared : ℕ → VariableKind → TypeId → DeclaredVariable
+  declared block how type_id = record { block = block; type_id = type_id; kind = how }
 
   abbrev program : (blocks : List Block) (variables : List DeclaredVariable) → length blocks < 2 ^ 63 → length variables < 2 ^ 63 → Tree
   program blocks variables few small = record {
@@ -131,7 +154,7 @@ module _ (heap : Vec ℕ Global) (some_call : Call) where
     sites = vec [] (omega arith);
     points = vec [] (omega arith);
     loops = vec [] (omega arith);
-    types = required_forms;
+    types = required_forms ++ Subrange integer (pos 1) (pos 2) ∷ Array false (record { index = 3 }) char ∷ [];
   }
 
   -- procedure a(n: char); var x: char; procedure b; begin write(x) end;
@@ -151,7 +174,87 @@ module _ (heap : Vec ℕ Global) (some_call : Call) where
       (omega arith))
       ∷ block (heading (0 ∷ 1 ∷ []) [] None (omega arith) (omega arith)) (compound 0 (writes 1 (written (variable 2 1 1) ∷ []) (omega arith) ∷ []) (omega arith))
       ∷ [])
-      (declared 1 kind.ValueParameter ∷ declared 1 kind.Local ∷ []) (omega arith) (omega arith)
+      (declared 1 kind.ValueParameter char ∷ declared 1 kind.Local char ∷ []) (omega arith) (omega arith)
 
   nested_means : meaning nested [] 4 ≡ record { output = codes "ab"; ending = Finished }
   nested_means = simp does
+
+  -- an activation of a routine uses a turn, and the program's uses none: with three the last activation of b wants one
+  nested_wants_more : meaning nested [] 3 ≡ record { output = codes "a"; ending = More }
+  nested_wants_more = simp does
+
+  -- function f(n: integer): integer; begin if n < 2 then f := 1 else f := n * f(n - 1) end; begin write(chr(f(5))) end.
+  abbrev factorial : Tree
+  factorial =
+      program
+      (block (heading [] [] None (omega arith) (omega arith))
+      (compound 13
+      (writes 14 (written (roll-Expr (MonadicOf 15 (monadic.Chr 9) (boxed (calling 16 1 (by_value (constant 17 (pos 5)) 10 ∷ []) (omega arith))))) ∷ [])
+      (omega arith) ∷ [])
+      (omega arith))
+      ∷ block (heading (0 ∷ []) (1 ∷ []) (Some (record { root = 0; defined = 8 })) (omega arith) (omega arith))
+      (compound 0
+      (roll-Stmt (If 1 (two (variable 2 1 0) 3 (dyadic.Relation relation.Less) (constant 4 (pos 2))) (boxed (assign 5 6 0 1 (constant 7 (pos 1))))
+      (Some (boxed (assign 8 9 0 2 (two (variable 10 1 3) 11 (dyadic.Times 4)
+      (calling 12 1 (by_value (two (variable 13 1 5) 14 (dyadic.Minus 6) (constant 15 (pos 1))) 7 ∷ []) (omega arith))))))) ∷ [])
+      (omega arith))
+      ∷ [])
+      (declared 1 kind.Result integer ∷ declared 1 kind.ValueParameter integer ∷ []) (omega arith) (omega arith)
+
+  factorial_means : meaning factorial [] 5 ≡ record { output = codes "x"; ending = Finished }
+  factorial_means = simp does
+
+  -- function f: char; begin if false then f := 'a' end; begin write(f) end.
+  abbrev unresolved : Tree
+  unresolved =
+      program
+      (block (heading [] [] None (omega arith) (omega arith))
+      (compound 5 (writes 6 (written (calling 7 1 [] (omega arith)) ∷ []) (omega arith) ∷ []) (omega arith))
+      ∷ block (heading (0 ∷ []) [] (Some (record { root = 0; defined = 1 })) (omega arith) (omega arith))
+      (compound 0 (when 1 (constant 2 (pos 0)) (assign 3 4 0 0 (constant 5 (pos 97))) ∷ []) (omega arith))
+      ∷ [])
+      (declared 1 kind.Result char ∷ []) (omega arith) (omega arith)
+
+  -- at its end the result of the function is undefined
+  undefined_result : meaning unresolved [] 1 ≡ record { output = []; ending = Error 1 }
+  undefined_result = simp does
+
+  -- var a: array [1..2] of char; i: 1..2; procedure swap(var x, y: char); var t: char; begin t := x; x := y; y := t end;
+  -- begin a[1] := 'p'; a[2] := 'q'; i := 1; swap(a[i], a[i]); swap(a[1], a[2]); write(a[1], a[2]) end.
+  abbrev swaps : Tree
+  swaps =
+      program
+      (block (heading [] [] None (omega arith) (omega arith))
+      (compound 10
+      (to_element 11 (constant 13 (pos 1)) (constant 14 (pos 112))
+      ∷ to_element 15 (constant 17 (pos 2)) (constant 18 (pos 113))
+      ∷ assign 19 20 1 4 (constant 21 (pos 1))
+      ∷ calls 22 1 (element (variable 24 1 5) ∷ element (variable 26 1 6) ∷ []) (omega arith)
+      ∷ calls 27 1 (element (constant 29 (pos 1)) ∷ element (constant 31 (pos 2)) ∷ []) (omega arith)
+      ∷ writes 32 (written (of_element (constant 34 (pos 1))) ∷ written (of_element (constant 36 (pos 2))) ∷ []) (omega arith)
+      ∷ [])
+      (omega arith))
+      ∷ block (heading (0 ∷ []) (2 ∷ 3 ∷ []) None (omega arith) (omega arith))
+      (compound 0 (assign 1 2 4 0 (variable 3 2 1) ∷ assign 4 5 2 0 (variable 6 3 2) ∷ assign 7 8 3 0 (variable 9 4 3) ∷ []) (omega arith))
+      ∷ [])
+      (declared 0 kind.Local (record { index = 4 }) ∷ declared 0 kind.Local (record { index = 3 }) ∷ declared 1 kind.VariableParameter char
+      ∷ declared 1 kind.VariableParameter char ∷ declared 1 kind.Local char ∷ [])
+      (omega arith) (omega arith)
+
+  swaps_means : meaning swaps [] 2 ≡ record { output = codes "qp"; ending = Finished }
+  swaps_means = simp does
+
+  -- procedure q; begin q end; begin q end.
+  abbrev endless : Tree
+  endless =
+      program
+      (block (heading [] [] None (omega arith) (omega arith)) (compound 2 (calls 3 1 [] (omega arith) ∷ []) (omega arith))
+      ∷ block (heading (0 ∷ []) [] None (omega arith) (omega arith)) (compound 0 (calls 1 1 [] (omega arith) ∷ []) (omega arith)) ∷ [])
+      [] (omega arith) (omega arith)
+
+  endless_wants_more : meaning endless [] 3 ≡ record { output = []; ending = More }
+  endless_wants_more = simp does
+
+  -- the activation that wants the fourth turn, and those in which it would begin
+  three_last : (state_after (run endless [] 3)).starved ≡ 1 ∷ 1 ∷ 1 ∷ 1 ∷ 0 ∷ []
+  three_last = simp does
