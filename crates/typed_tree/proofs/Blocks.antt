@@ -56,7 +56,7 @@ formed_block outline number block rest =
     ∙ ap (λ b. b && are_formed outline rest) (formed_stmt outline number block.body)
 
 -- the statement of a block is well formed, if the block is there
-abbrev is_formed_block : Outline → ℕ → Option Block → Bool
+abbrev pub is_formed_block : Outline → ℕ → Option Block → Bool
 is_formed_block outline number None = true
 is_formed_block outline number (Some block) = is_well_formed_stmt outline number block.body
 
@@ -65,12 +65,21 @@ formed_one : (outline : Outline) (number : ℕ) (block : Option Block) (rest : L
 formed_one outline number None rest = refl
 formed_one outline number (Some block) rest = formed_block outline number block rest
 
+-- a block is one of those whose statements the text has
+pub among_bodies : (tree : Tree) → IsPermutation (range_with_len 0 (length tree.blocks.items)) tree.bodies.items
+    → (number : ℕ) → number < length tree.blocks.items → Contains tree.bodies.items number
+among_bodies tree bodies number there =
+    let count = length tree.blocks.items in
+    let plain : 0 + number ≡ number = omega arith in
+    Contains-permutation (range_with_len 0 count) tree.bodies.items number bodies
+    (number, omega (arith, there, length-range_with_len 0 count), get_or-range_with_len 0 count number number there ∙ plain)
+
 module _ (outline : Outline) (tree : Tree) where
   abbrev block_at : ℕ → Option Block
   block_at number = slice_get tree.blocks.items number
 
   -- the look of a tree tells whether the statements of its blocks are well formed
-  formed_are : are_formed outline (tree_look tree) ≡ list_all (λ number. is_formed_block outline number (block_at number)) tree.bodies.items
+  pub formed_are : are_formed outline (tree_look tree) ≡ list_all (λ number. is_formed_block outline number (block_at number)) tree.bodies.items
   formed_are = by tree.bodies.items
     where
       by : (bodies : List ℕ)
@@ -81,27 +90,14 @@ module _ (outline : Outline) (tree : Tree) where
           formed_one outline number (block_at number) (flat_map (λ n. of_block look_block n (block_at n)) bodies)
           ∙ ap (λ b. is_formed_block outline number (block_at number) && b) (by bodies)
 
-  module _ (bodies : IsPermutation (range_with_len 0 (length tree.blocks.items)) tree.bodies.items) where
-    -- a block is one of those whose statements the text has
-    among_bodies : (number : ℕ) → number < length tree.blocks.items → Contains tree.bodies.items number
-    among_bodies number there =
-        let count = length tree.blocks.items in
-        let plain : 0 + number ≡ number = omega arith in
-        Contains-permutation (range_with_len 0 count) tree.bodies.items number bodies
-        (number, omega (arith, there, length-range_with_len 0 count), get_or-range_with_len 0 count number number there ∙ plain)
-
-    -- what each body passes, each block passes
-    pub each_block : (test : ℕ → Bool) → list_all test tree.bodies.items ≡ true → (number : ℕ) → number < length tree.blocks.items → test number ≡ true
-    each_block test all number there =
-        let at = among_bodies number there in
-        subst (λ n. test n ≡ true) at.2 (AllPass-from_list_all test tree.bodies.items all at.0 number at.1)
-
-    -- where each form of a tree's look is well formed, so is each block's statement
-    pub bodies_are_formed : are_formed outline (tree_look tree) ≡ true → (number : ℕ) (block : Block) → block_at number ≡ Some block
-        → is_well_formed_stmt outline number block.body ≡ true
-    bodies_are_formed formed number block is =
-        subst (λ one. is_formed_block outline number one ≡ true) is
-        (each_block (λ n. is_formed_block outline n (block_at n)) (sym formed_are ∙ formed) number (slice_get_within tree.blocks.items number block is))
+  -- where each form of a tree's look is well formed, so is each block's statement
+  pub bodies_are_formed : IsPermutation (range_with_len 0 (length tree.blocks.items)) tree.bodies.items → are_formed outline (tree_look tree) ≡ true
+      → (number : ℕ) (block : Block) → block_at number ≡ Some block → is_well_formed_stmt outline number block.body ≡ true
+  bodies_are_formed bodies formed number block is =
+      let test : ℕ → Bool = λ n. is_formed_block outline n (block_at n) in
+      let at = among_bodies tree bodies number (slice_get_within tree.blocks.items number block is) in
+      let passes = AllPass-from_list_all test tree.bodies.items (sym formed_are ∙ formed) at.0 number at.1 in
+      subst (λ one. is_formed_block outline number one ≡ true) is (subst (λ n. test n ≡ true) at.2 passes)
 
 -- ---- blocks by their numbers
 

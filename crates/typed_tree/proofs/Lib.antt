@@ -4,3 +4,4 @@ pub mod LoopNumbers
 pub mod Looks
 pub mod Measured
 pub mod Quiet
+pub mod Rows
