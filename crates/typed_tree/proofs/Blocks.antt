@@ -12,24 +12,26 @@ use Rattle.std.proofs.lemmas.List.Sums.{AllPass-from_list_all}
 use Rattle.std.proofs.lemmas.Option.{slice_get_within}
 use Rattle.typed_tree.specs.declared.tree.Tree.{Tree}
 use Rattle.typed_tree.specs.declared.tree.Block.{Block}
+use Rattle.place.specs.declared.Place.{Place}
+use Rattle.typed_tree.specs.declared.tree.FunctionResult.{FunctionResult}
 use Rattle.typed_tree.specs.declared.tree.Loop.{Loop}
 use Rattle.typed_tree.specs.Entries.{of_block}
 use Rattle.typed_tree.specs.Loops.{AreLoops, AreLoopsOf, loops_of_block}
 use Rattle.typed_tree.specs.WellFormed.{Outline, is_well_formed_stmt, is_well_formed_block, are_well_formed_blocks}
-use Rattle.typed_tree.specs.Look.{Mark, Look, look_stmt, look_block, tree_look, heading_look, is_formed_mark, mark_blocks, blocks_of_look, next_of, are_formed}
+use Rattle.typed_tree.specs.Look.{Mark, Look, look_stmt, look_block, tree_look, heading_look, is_formed_mark, mark_blocks, blocks_of_look, next_of, are_formed, BlockEnds}
 use Rattle.typed_tree.proofs.Quiet.{inner_stmt}
 use Rattle.typed_tree.proofs.Measured.{formed_stmt}
 
 -- ---- forms, block by block
 
 -- of two rows together that hold nothing
-first_nil : (a b : List ℕ) → a ++ b ≡ [] → a ≡ []
-first_nil [] b is = refl
-first_nil (x ∷ a) b is = absurd cc
-
 second_nil : (a b : List ℕ) → a ++ b ≡ [] → b ≡ []
 second_nil [] b is = is
 second_nil (x ∷ a) b is = absurd cc
+
+and_grouped : (a b c : Bool) → (a && (b && c)) ≡ ((a && b) && c)
+and_grouped true b c = refl
+and_grouped false b c = refl
 
 -- forms in which no block ends stand in the block that ends next behind them
 pub formed_before : (outline : Outline) (number : ℕ) (look rest : Look) → blocks_of_look look ≡ [] → next_of (blocks_of_look rest) ≡ number
@@ -41,10 +43,26 @@ formed_before outline number (mark ∷ look) rest inner next =
     ap₂ (λ a b. a && b) (ap (λ numbers. is_formed_mark outline (next_of numbers) mark) behind ∙ ap (λ n. is_formed_mark outline n mark) next)
     (formed_before outline number look rest (second_nil (mark_blocks mark) (blocks_of_look look) inner) next)
     ∙ and_grouped (is_formed_mark outline number mark) (list_all (is_formed_mark outline number) look) (are_formed outline rest)
-  where
-    and_grouped : (a b c : Bool) → (a && (b && c)) ≡ ((a && b) && c)
-    and_grouped true b c = refl
-    and_grouped false b c = refl
+
+-- the first of some numbers stands first whatever comes behind them
+next_kept : (numbers more : List ℕ) (number : ℕ) → next_of ((numbers ++ number ∷ []) ++ more) ≡ next_of (numbers ++ number ∷ [])
+next_kept [] more number = refl
+next_kept (other ∷ numbers) more number = refl
+
+-- forms as far as where a block ends, and then others
+pub formed_as_far : (outline : Outline) (look rest : Look) (number : ℕ) (around parameters : List ℕ) (result : Option FunctionResult) (end : Place)
+    → are_formed outline ((look ++ (BlockEnds number around parameters result end ∷ [])) ++ rest)
+    ≡ (are_formed outline (look ++ (BlockEnds number around parameters result end ∷ [])) && are_formed outline rest)
+formed_as_far outline [] rest number around parameters result end = refl
+formed_as_far outline (mark ∷ look) rest number around parameters result end =
+    let last : Look = BlockEnds number around parameters result end ∷ [] in
+    let inside : blocks_of_look ((mark ∷ look) ++ last) ≡ blocks_of_look (mark ∷ look) ++ number ∷ [] = flat_map-append mark_blocks (mark ∷ look) last in
+    let with_rest : blocks_of_look (((mark ∷ look) ++ last) ++ rest) ≡ (blocks_of_look (mark ∷ look) ++ number ∷ []) ++ blocks_of_look rest =
+    flat_map-append mark_blocks ((mark ∷ look) ++ last) rest ∙ ap (λ numbers. numbers ++ blocks_of_look rest) inside in
+    let next : next_of (blocks_of_look (((mark ∷ look) ++ last) ++ rest)) ≡ next_of (blocks_of_look ((mark ∷ look) ++ last)) =
+    ap next_of with_rest ∙ next_kept (blocks_of_look (mark ∷ look)) (blocks_of_look rest) number ∙ ap next_of (sym inside) in
+    ap₂ (λ n b. is_formed_mark outline n mark && b) next (formed_as_far outline look rest number around parameters result end)
+    ∙ and_grouped (is_formed_mark outline (next_of (blocks_of_look ((mark ∷ look) ++ last))) mark) (are_formed outline (look ++ last)) (are_formed outline rest)
 
 -- a block, and then others
 formed_block : (outline : Outline) (number : ℕ) (block : Block) (rest : Look)
