@@ -1,7 +1,7 @@
 -- How deep activations may stand in one another: each uses a turn, so where the bound is greater than the turns that are
 -- left, a greater one changes nothing, and a call is what an activation is that makes such calls itself. And so more turns
 -- only extend whole runs.
-use Rattle.std.proofs.Common.{◌≡◌, ◌≢◌, ℕ, zero, suc, ◌+◌, ◌≤◌, ◌<◌, arith, List, ◌∷◌, Option, Some, None, map, slice_get, sym, ◌∙◌, ap, subst, refl}
+use Rattle.std.proofs.Common.{◌≡◌, ℕ, zero, suc, ◌+◌, ◌≤◌, ◌<◌, arith, List, ◌∷◌, Option, Some, None, map, slice_get, sym, ◌∙◌, ap, subst, refl}
 use Rattle.typed_tree.specs.declared.tree.Tree.{Tree}
 use Rattle.typed_tree.specs.declared.tree.Block.{Block}
 use Rattle.typed_tree.specs.declared.tree.Expr.{Expr}
@@ -9,8 +9,8 @@ use Rattle.typed_tree.specs.declared.tree.Stmt.{Stmt}
 use Rattle.meaning.specs.declared.outcome.Ending.TheVariants as ending
 use Rattle.meaning.specs.declared.store.Value.{Value}
 use Rattle.meaning.specs.Store.{Environment}
-use Rattle.meaning.specs.Effect.{State, Reply, Gives, Stops, Action, Round, ◌>>=◌, and_then, give, stop, another, looping, looped, begin_with, living_now, end_with}
-use Rattle.meaning.specs.Meaning.{Argument, Calls, Surroundings, Activation, all_of, value_of, effect_of, executed, activated, calls_of, run_of, run, first_state}
+use Rattle.meaning.specs.Effect.{State, Reply, Gives, Stops, Action, Round, ◌>>=◌, and_then, give, stop, another, looping, looped, begin_with, end_with}
+use Rattle.meaning.specs.Meaning.{Argument, Calls, all_of, value_of, effect_of, activated, calls_of, run_of, run, first_state}
 use Rattle.meaning.specs.Laws.{state_after, Extends, TurnsGoOn, TurnsExtendTheOutput, EndingsStay, DepthsAreEnough}
 use Rattle.meaning.proofs.Walks.{Closed, RelatedCalls, of_value, of_effect, of_statements, of_executed}
 use Rattle.meaning.proofs.Turns.{Extended, extended_give, extended_stop, extended_enter, extended_fetch, extended_store, extended_undefine, extended_write}

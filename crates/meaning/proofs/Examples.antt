@@ -1,6 +1,6 @@
 -- The definitions on small rows, worked out by hand.
 use Rattle.std.proofs.Common.{◌≡◌, inl, inr, ℕ, ℤ, ap, refl, true, false, pos, negsuc, List, [], ◌∷◌, Option, Some, None, Box, Vec, Global, codes, map}
-use Rattle.std.proofs.Common.{if◌then◌else◌, slice_get}
+use Rattle.std.proofs.Common.{if◌then◌else◌}
 use Rattle.typed_tree.specs.declared.tree.Dyadic.{Dyadic}
 use Rattle.typed_tree.specs.declared.tree.Relation.{Relation}
 use Rattle.typed_tree.specs.declared.tree.Direction.{Direction}
@@ -8,7 +8,6 @@ use Rattle.typed_tree.specs.declared.tree.Direction.TheVariants.{To, DownTo}
 use Rattle.typed_tree.specs.declared.tree.Dyadic.TheVariants as dyadic
 use Rattle.typed_tree.specs.declared.tree.Monadic.TheVariants as monadic
 use Rattle.typed_tree.specs.declared.tree.Relation.TheVariants.{Equal, Less}
-use Rattle.typed_tree.specs.declared.tree.Tree.{Tree}
 use Rattle.typed_tree.specs.declared.tree.Selector.{Selector}
 use Rattle.typed_tree.specs.declared.tree.Selector.TheVariants.{Element as SelectElement, Field as SelectField}
 use Rattle.typed_tree.specs.declared.tree.Expr.{Expr}
@@ -29,12 +28,13 @@ use Rattle.types.specs.declared.form.Step.{Step}
 use Rattle.types.specs.declared.form.Step.TheVariants.{Element, Field}
 use Rattle.meaning.specs.Store.{Place, stored, written, undefined, overlap}
 use Rattle.meaning.specs.Integers.{is_integer_number}
-use Rattle.meaning.specs.Effect.{State, Reply, Gives, Stops, Action, Round, looped, ◌>>=◌, and_then, give, stop, enter, fetch, store, undefine, require, use_turn}
+use Rattle.meaning.specs.Effect.{State, Reply, Gives, Stops, Action, Round, looped, ◌>>=◌, and_then, give, stop, enter, fetch, store, undefine, require}
+use Rattle.meaning.specs.Effect.{use_turn}
 use Rattle.meaning.specs.Effect.{fetch_all, store_all, write, is_in, is_positive, places, boolean_text, char_text, row_text, text_of}
 use Rattle.meaning.specs.Meaning.{Evaluation, Combination, Execution, effect_step, is_so, alternative_of, combined, while_round, repeat_round, for_between}
 use Rattle.meaning.specs.Meaning.{selected, arm_of, Meaning, ended, link_step, in_turn, operated}
 use Rattle.meaning.specs.Meaning.{value_of, compared, order_of, default_width, width_of, written_of, completed, first_state}
-use Rattle.meaning.specs.Meaning.{Surroundings, Argument, OfValue, OfPlace, Activation, seen_from, own_place}
+use Rattle.meaning.specs.Meaning.{Surroundings, OfValue, OfPlace, Activation, seen_from, own_place}
 use Rattle.meaning.specs.Laws.{Extends}
 
 abbrev place : ℕ → List Step → Place

@@ -12,12 +12,14 @@ use Rattle.typed_tree.specs.declared.tree.RangeTest.{RangeTest}
 use Rattle.types.specs.declared.form.TypeId.{TypeId}
 use Rattle.typed_tree.specs.declared.tree.Expr.TheVariants as expr
 use Rattle.typed_tree.specs.declared.tree.Passed.TheVariants as actual
-use Rattle.typed_tree.specs.declared.tree.Expr.TheOpen.Expr-F.{Variable as Variable-F, Monadic as Monadic-F, Chain as Chain-F, Compare as Compare-F, Call as Call-F}
+use Rattle.typed_tree.specs.declared.tree.Expr.TheOpen.Expr-F.{Variable as Variable-F, Monadic as Monadic-F, Chain as Chain-F, Compare as Compare-F}
+use Rattle.typed_tree.specs.declared.tree.Expr.TheOpen.Expr-F.{Call as Call-F}
 use Rattle.typed_tree.specs.declared.tree.Expr.TheOpen.Passed-F.{Value as Value-F, Whole as Whole-F, Reference as Reference-F}
 use Rattle.typed_tree.specs.declared.tree.Expr.TheFolds.{fold-roll-Expr, fold-roll-Passed, fold_out-Link}
 use Rattle.meaning.specs.declared.store.Value.{Value}
 use Rattle.meaning.specs.Effect.{◌>>=◌, give, enter, fetch, is_in, require}
-use Rattle.meaning.specs.Meaning.{Surroundings, Evaluation, Passing, Combination, OfValue, OfRow, OfPlace, value_step, passed_step, link_step, operated, combined, compared, in_turn, accessed, whole_of}
+use Rattle.meaning.specs.Meaning.{Surroundings, Evaluation, Passing, Combination, OfValue, OfRow, OfPlace, value_step, passed_step, link_step, operated}
+use Rattle.meaning.specs.Meaning.{combined, compared, in_turn, accessed, whole_of}
 use Rattle.meaning.specs.Meaning.{value_of, values_of, passing_of, link_of, call_of}
 
 pub value-Variable : (a : Access) (indexes : Vec Expr Global) (defined : ℕ) (env : Surroundings) →

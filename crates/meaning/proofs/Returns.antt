@@ -7,9 +7,9 @@ use Rattle.typed_tree.specs.declared.tree.Stmt.{Stmt}
 use Rattle.meaning.specs.declared.outcome.Ending.TheVariants as ending
 use Rattle.meaning.specs.declared.store.Value.{Value}
 use Rattle.meaning.specs.Store.{Environment, held}
-use Rattle.meaning.specs.Effect.{State, Reply, Gives, Stops, Action, Round, ◌>>=◌, and_then, give, stop, another, looping, looped, take_turn, fetched}
+use Rattle.meaning.specs.Effect.{State, Reply, Gives, Stops, Action, Round, ◌>>=◌, and_then, give, stop, another, looping, take_turn, fetched}
 use Rattle.meaning.specs.Effect.{begin_with, end_with}
-use Rattle.meaning.specs.Meaning.{Argument, Calls, Surroundings, Activation, all_of, value_of, effect_of, executed, activated, calls_of}
+use Rattle.meaning.specs.Meaning.{Argument, Calls, Surroundings, all_of, value_of, effect_of, executed, activated, calls_of}
 use Rattle.meaning.specs.Laws.{CallsReturn}
 use Rattle.meaning.proofs.Walks.{Closed, of_value, of_effect, of_statements}
 use Rattle.meaning.proofs.Turns.{activation_of}
@@ -96,7 +96,8 @@ calls_return tree depth number arguments caller s t v is =
 
 -- calls behind which the same last
 abbrev pub LastingCalls : Calls → Type 0
-LastingCalls calls = (number : ℕ) (arguments : List Argument) (caller : Environment) → Lasts Value (calls number arguments caller) (calls number arguments caller)
+LastingCalls calls =
+    (number : ℕ) (arguments : List Argument) (caller : Environment) → Lasts Value (calls number arguments caller) (calls number arguments caller)
 
 pub calls_last : (tree : Tree) (depth : ℕ) → LastingCalls (calls_of tree depth)
 calls_last tree depth number arguments caller s = lasting_calls tree depth number arguments caller s

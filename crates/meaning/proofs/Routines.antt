@@ -1,6 +1,6 @@
 -- The meaning of small programs with routines, worked out by hand.
-use Rattle.std.proofs.Common.{◌≡◌, ℕ, ◌<◌, ◌^◌, Bool, true, false, ℤ, pos, negsuc, List, [], ◌∷◌, ◌++◌, length, Option, Some, None, Vec, Box, Global, codes, arith, refl, ap}
-use Rattle.types.specs.declared.form.OrdinalRange.{OrdinalRange}
+use Rattle.std.proofs.Common.{◌≡◌, ℕ, ◌<◌, ◌^◌, false, ℤ, pos, negsuc, List, [], ◌∷◌, ◌++◌, length, Option, Some, None, Vec, Box, Global, codes, arith, refl}
+use Rattle.std.proofs.Common.{ap}
 use Rattle.types.specs.declared.form.TypeId.{TypeId}
 use Rattle.types.specs.Forms.{Subrange, Array}
 use Rattle.types.specs.Types.{char, integer, required_forms}
@@ -37,9 +37,9 @@ use Rattle.typed_tree.specs.declared.tree.Stmt.TheOpen.{Stmt-F}
 use Rattle.typed_tree.specs.declared.tree.Stmt.TheViews.{roll-Stmt}
 use Rattle.meaning.specs.declared.outcome.Ending.TheVariants.{Error, Finished, More}
 use Rattle.meaning.specs.declared.store.Value.{Value}
-use Rattle.meaning.specs.declared.store.Value.TheVariants.{Number}
 use Rattle.meaning.specs.Effect.{State}
-use Rattle.meaning.specs.Meaning.{Surroundings, value_of, passing_of, link_of, Meaning, Evaluation, Passing, Combination, Execution, value_step, passed_step, link_step, effect_step, effect_of, meaning, run}
+use Rattle.meaning.specs.Meaning.{Surroundings, value_of, passing_of, link_of, Evaluation, Passing, Combination, Execution, value_step, passed_step, link_step}
+use Rattle.meaning.specs.Meaning.{effect_step, effect_of, meaning, run}
 use Rattle.meaning.specs.Laws.{state_after}
 
 -- a layer does what it does of what its parts do

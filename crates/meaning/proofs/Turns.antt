@@ -1,7 +1,7 @@
 -- More turns only extend a run. For each action three facts: the output only grows, the turns only fall, and with more
 -- turns the action goes on from where it was with fewer.
 use Rattle.std.proofs.Common.{◌≡◌, ◌≢◌, inl, inr, ℕ, zero, suc, ◌+◌, ◌≤◌, arith}
-use Rattle.std.proofs.Common.{List, [], ◌∷◌, ◌++◌, append-nil, append_assoc, Bool, true, false, Option, Some, None, map, slice_get}
+use Rattle.std.proofs.Common.{List, [], ◌∷◌, ◌++◌, append-nil, append_assoc, Option, Some, None, map, slice_get}
 use Rattle.std.proofs.Common.{sym, ◌∙◌, ap, subst, refl}
 use Rattle.typed_tree.specs.declared.tree.Tree.{Tree}
 use Rattle.typed_tree.specs.declared.tree.Block.{Block}
@@ -18,7 +18,7 @@ use Rattle.meaning.specs.Store.{Environment, Place, held}
 use Rattle.meaning.specs.Effect.{State, Reply, Gives, Stops, Action, Round, ◌>>=◌, and_then, give, stop, enter, take_turn, use_turn, another, looping, looped}
 use Rattle.meaning.specs.Effect.{fetched, fetch, store, undefine, write, begin_with, begin, living_now, end_with}
 use Rattle.meaning.specs.Meaning.{Argument, Calls, Surroundings, Activation, all_of, accessed, whole_of, values_of, value_of, passing_of, effect_of, call_of}
-use Rattle.meaning.specs.Meaning.{executed, activated, calls_of, Meaning, run_of, run, ended, first_state}
+use Rattle.meaning.specs.Meaning.{executed, activated, calls_of, Meaning, run_of, ended}
 use Rattle.meaning.specs.Laws.{with_turns, reply_with_turns, state_after, Begins, Extends}
 use Rattle.meaning.proofs.Walks.{Closed, of_value, of_passing, of_access, of_whole_value, of_called, of_effect, of_statements, of_executed}
 

@@ -320,7 +320,8 @@ module _ (R : (A : Type 0) → Action A → Action A → Type 0) (closed : Close
     all_actuals [] = refl
     all_actuals (one ∷ rest) = ap (λ others. one ∷ others) (all_actuals rest)
 
-    pub of_access : (access : Access) (indexes : List Expr) → R (Option Place) (accessed access (values_of indexes) here) (accessed access (values_of indexes) there)
+    pub of_access : (access : Access) (indexes : List Expr)
+        → R (Option Place) (accessed access (values_of indexes) here) (accessed access (values_of indexes) there)
     of_access access indexes =
         subst (λ all. R (Option Place) (accessed access (values_of all) here) (accessed access (values_of all) there)) (all_indexes indexes)
         (of_accessed access (all_related indexes))

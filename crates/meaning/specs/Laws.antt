@@ -64,7 +64,8 @@ EndingsStay =
 abbrev pub DepthsAreEnough : Type 0
 DepthsAreEnough =
     (tree : Tree) (depth more number : ℕ) (arguments : List Argument) (caller : Environment) (s : State) →
-    s.turns < depth → calls_of tree (depth + more) number arguments caller s ≡ calls_of tree depth number arguments caller s
+    s.turns < depth →
+    calls_of tree (depth + more) number arguments caller s ≡ calls_of tree depth number arguments caller s
 
 -- behind a call that returns, the activations last that lasted before it
 abbrev pub CallsReturn : Type 0

@@ -516,9 +516,9 @@ result_of (Some result) visible = fetch (visible.variables result.root) result.d
 abbrev pub executed : Tree → Calls → Block → Activation → Action Value
 executed tree calls block activation =
     let visible = environment_of tree activation in do
-    _ ← assign_all tree visible block.heading.parameters.items activation.arguments
-    _ ← effect_of block.body (record { visible = visible; calls = calls })
-    result_of block.heading.result visible
+      _ ← assign_all tree visible block.heading.parameters.items activation.arguments
+      _ ← effect_of block.body (record { visible = visible; calls = calls })
+      result_of block.heading.result visible
 
 -- an activation of a routine, from its begin to its end
 abbrev pub activated : Tree → Calls → ℕ → Option Block → List Argument → Environment → Action Value

@@ -18,8 +18,8 @@ pub fn endings_stay()
     ensures { EndingsStay }
 {}
 
-/// Where the bound on how deep activations stand in one another is greater than the turns that are left, a greater bound
-/// changes nothing.
+/// Where the bound on how deep activations stand in one another is greater than the turns that are left, a greater
+/// bound changes nothing.
 pub fn depths_are_enough()
     ensures { DepthsAreEnough }
 {}

@@ -18,7 +18,8 @@ use Rattle.typed_tree.specs.declared.tree.Loop.{Loop}
 use Rattle.typed_tree.specs.Entries.{of_block}
 use Rattle.typed_tree.specs.Loops.{AreLoops, AreLoopsOf, loops_of_block}
 use Rattle.typed_tree.specs.WellFormed.{Outline, is_well_formed_stmt, is_well_formed_block, are_well_formed_blocks}
-use Rattle.typed_tree.specs.Look.{Mark, Look, look_stmt, look_block, tree_look, heading_look, is_formed_mark, mark_blocks, blocks_of_look, next_of, are_formed, BlockEnds}
+use Rattle.typed_tree.specs.Look.{Look, look_stmt, look_block, tree_look, heading_look, is_formed_mark, mark_blocks, blocks_of_look, next_of, are_formed}
+use Rattle.typed_tree.specs.Look.{BlockEnds}
 use Rattle.typed_tree.proofs.Quiet.{inner_stmt}
 use Rattle.typed_tree.proofs.Measured.{formed_stmt}
 

@@ -1,6 +1,6 @@
 -- How the forms of a typed tree look, as code builds them; and that the look of a tree tells its entries, and whether its
 -- blocks are well formed.
-use Rattle.std.proofs.Common.{◌≡◌, ℕ, ℤ, Bool, true, false, List, [], ◌∷◌, ◌++◌, length, map, Some, None, sym, ap, ◌∙◌}
+use Rattle.std.proofs.Common.{◌≡◌, ℕ, ℤ, Bool, true, false, [], ◌∷◌, ◌++◌, length, map, Some, None, sym, ap, ◌∙◌}
 use Rattle.std.proofs.Common.{Box, Vec}
 use Rattle.std.specs.Prelude.{flat_map}
 use Rattle.std.specs.declared.alloc.Global.{Global}

@@ -6,19 +6,7 @@ use Rattle.std.proofs.lemmas.List.{map-append}
 use Rattle.std.proofs.lemmas.List.Concat.{flat_map-append}
 use Rattle.typed_tree.specs.declared.tree.Tree.{Tree}
 use Rattle.typed_tree.specs.declared.tree.Block.{Block}
-use Rattle.typed_tree.specs.declared.tree.Width.{Width as TotalWidth}
-use Rattle.typed_tree.specs.declared.tree.WriteParameter.{WriteParameter}
-use Rattle.typed_tree.specs.declared.tree.Written.{Written as WrittenValue}
-use Rattle.typed_tree.specs.declared.tree.Written.TheVariants.{Ordinal, String}
-use Rattle.typed_tree.specs.declared.tree.Access.{Access}
-use Rattle.typed_tree.specs.declared.tree.Dyadic.TheVariants as dyadic
-use Rattle.typed_tree.specs.declared.tree.Whole.{Whole}
-use Rattle.typed_tree.specs.declared.tree.Whole.TheVariants.{Text as TextOf, Variable as WholeOf}
 use Rattle.typed_tree.specs.declared.tree.Expr.{Expr}
-use Rattle.typed_tree.specs.declared.tree.Link.{Link}
-use Rattle.typed_tree.specs.declared.tree.Expr.TheOpen.{Expr-F, Link-F}
-use Rattle.typed_tree.specs.declared.tree.Expr.TheOpen.Expr-F.{Constant, Variable, Monadic as MonadicOf, Chain, Compare}
-use Rattle.typed_tree.specs.declared.tree.Expr.TheFolds.{map-Expr, map-Link, fold-roll-Expr, fold-roll-Link, ind-Expr}
 use Rattle.typed_tree.specs.declared.tree.Stmt.{Stmt}
 use Rattle.typed_tree.specs.declared.tree.Stmt.TheOpen.{Stmt-F}
 use Rattle.typed_tree.specs.declared.tree.Stmt.TheOpen.Stmt-F.{Empty, Assign, Write, Compound, If, While, Repeat, For, Case, Copy, Call as Calling}
@@ -27,10 +15,10 @@ use Rattle.typed_tree.specs.Entries.{joined, of_block}
 use Rattle.typed_tree.specs.WellFormed.{length_of}
 use Rattle.typed_tree.specs.Loops.{Inside, statement_inside, inside_of, loops_of, loops_of_block}
 use Rattle.typed_tree.proofs.Quiet.{quiet_expr, quiet_accessed, quiet_value, quiet_parameters, quiet_called}
-use Rattle.typed_tree.specs.Look.{Mark, Look, link_look, expression_look, look_expr, look_link, look_width, look_parameter, arms_look, statement_look}
-use Rattle.typed_tree.specs.Look.{look_stmt, look_block, look_written, access_look, whole_look, look_access, look_whole, Value, WholeValue, Target, WholeTarget}
-use Rattle.typed_tree.specs.Look.{tree_look, mark_loops, loops_of_look, Ends, Then, Else, Do, Until, Fits as FitsMark, heading_look, Written as WrittenMark}
-use Rattle.typed_tree.specs.Look.{Width as WidthMark, BlockEnds, Applied, Operator, Compared, Copied, WrittenString}
+use Rattle.typed_tree.specs.Look.{Mark, Look, look_expr, look_parameter, arms_look, statement_look}
+use Rattle.typed_tree.specs.Look.{look_stmt, look_block, look_access, look_whole, Target, WholeTarget}
+use Rattle.typed_tree.specs.Look.{tree_look, mark_loops, loops_of_look, Ends, Then, Else, Do, Until, Fits as FitsMark, heading_look}
+use Rattle.typed_tree.specs.Look.{Copied}
 
 -- a form, and then one that is no loop
 ended : (look : Look) (end : Mark) → mark_loops end ≡ [] → loops_of_look (look ++ (end ∷ [])) ≡ loops_of_look look

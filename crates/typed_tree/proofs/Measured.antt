@@ -1,6 +1,6 @@
 -- What the look of a tree tells of it: the numbers of its entries, and whether its blocks are well formed.
 use Rattle.std.specs.declared.alloc.Global.{Global}
-use Rattle.std.proofs.Common.{Vec, ℤ, ◌≡◌, ℕ, zero, suc, Bool, true, false, ◌&&◌, slice_get, nat_lt, nat_eq, List, [], ◌∷◌, ◌++◌, length, map, Option, Some, None}
+use Rattle.std.proofs.Common.{Vec, ℤ, ◌≡◌, ℕ, suc, Bool, true, false, ◌&&◌, slice_get, nat_lt, nat_eq, List, [], ◌∷◌, ◌++◌, length, map, Option, Some, None}
 use Rattle.std.proofs.Common.{refl, sym, ap, ap₂, ◌∙◌, append-nil}
 use Rattle.std.proofs.Math.Bool.{and-true}
 use Rattle.std.specs.Prelude.{flat_map}
@@ -41,11 +41,11 @@ use Rattle.typed_tree.specs.WellFormed.{all_hold, is_whole, monadic_is_well_form
 use Rattle.typed_tree.specs.WellFormed.{is_well_formed_expr, is_well_formed_link, is_well_formed_width, is_well_formed_parameter, is_well_formed_test}
 use Rattle.typed_tree.specs.WellFormed.{are_characters, length_of, whole_indexes, is_well_formed_whole, is_well_formed_written}
 use Rattle.typed_tree.specs.WellFormed.{leads_to_ordinal, are_well_formed, is_well_formed_value}
-use Rattle.typed_tree.specs.WellFormed.{are_whole, stmt_is_well_formed, is_well_formed_stmt, is_well_formed_block}
+use Rattle.typed_tree.specs.WellFormed.{are_whole, stmt_is_well_formed, is_well_formed_stmt}
 use Rattle.typed_tree.specs.Look.{passed_look, call_look, look_passed, heading_look, Called, ForValue, ForWhole, ForVariable}
 use Rattle.typed_tree.specs.Look.{Mark, Look, link_look, expression_look, look_expr, look_link, look_width, look_parameter, arms_look, statement_look}
 use Rattle.typed_tree.specs.Look.{look_stmt, look_block, tree_look, mark_entries, entries_of_look, is_formed_mark, Ends, If as IfMark, Then, Else, Do, Until}
-use Rattle.typed_tree.specs.Look.{Fits as FitsMark, Written as WrittenMark, Width as WidthMark, BlockEnds, Compared, WrittenString, look_whole, look_written}
+use Rattle.typed_tree.specs.Look.{Fits as FitsMark, Written as WrittenMark, Width as WidthMark, Compared, WrittenString, look_whole, look_written}
 use Rattle.typed_tree.specs.Look.{Applied, Operator, Copied, access_look, whole_look, look_access, Value, WholeValue, Target, WholeTarget}
 
 -- ---- a measure of looks that is a fold over trees
@@ -246,7 +246,6 @@ entries_layer (Compare number relation left left_indexes right right_indexes) =
     (flat_map-append mark_entries second end ∙ append-nil (entries_of_look second)
     ∙ entries_whole right (map look_expr others) (map entries_of_expression others)
     (entries_joined look_expr entries_of_expression right_indexes.items))
-
 entries_layer (CallOf call actuals) =
     entries_call true call (map look_passed (map (λ p. p.0) actuals.items)) (map entries_of_passed (map (λ p. p.0) actuals.items))
     (entries_placed actuals.items call.block 0)
@@ -494,7 +493,8 @@ module _ (outline : Outline) (block_number : ℕ) where
       ∙ ap₂ (λ a b. a && (b && true)) told (ap may counted)
       ∙ and_turned (all_hold (placed call.block 0 tests)) (may (length tests))
 
-  formed_layer : Layers is_formed formed_view (expr_is_well_formed outline block_number) (passed_is_well_formed outline block_number) (link_is_well_formed outline block_number)
+  formed_layer : Layers is_formed formed_view (expr_is_well_formed outline block_number) (passed_is_well_formed outline block_number)
+      (link_is_well_formed outline block_number)
   formed_layer (Constant number value) = and-true (is_whole value)
   formed_layer (Variable access indexes defined) =
       let inside = map (λ e. e.0) indexes.items in
@@ -530,7 +530,6 @@ module _ (outline : Outline) (block_number : ℕ) where
       ∙ and_compared (all_hold (whole_indexes left (map test inside))) (is_well_formed_whole outline block_number left (length (map test inside)))
       (all_hold (whole_indexes right (map test others))) (is_well_formed_whole outline block_number right (length (map test others)))
       (nat_eq (length_of left) (length_of right))
-
   formed_layer (CallOf call actuals) =
       let inside = map (λ p. p.0) actuals.items in
       let tests = map (is_well_formed_passed outline block_number) inside in
@@ -698,4 +697,3 @@ module _ (outline : Outline) (block_number : ℕ) where
   -- the look of a statement tells whether it is well formed
   pub formed_stmt : (s : Stmt) → is_formed (look_stmt s) ≡ is_well_formed_stmt outline block_number s
   formed_stmt = measured_stmt is_formed (stmt_is_well_formed outline block_number) formed_stmt_layer
-
