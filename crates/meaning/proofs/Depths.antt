@@ -12,7 +12,7 @@ use Rattle.meaning.specs.Store.{Environment}
 use Rattle.meaning.specs.Effect.{State, Reply, Gives, Stops, Action, Round, ◌>>=◌, and_then, give, stop, another, looping, looped, begin_with, end_with}
 use Rattle.meaning.specs.Meaning.{Argument, Calls, all_of, value_of, effect_of, activated, calls_of, run_of, run, first_state}
 use Rattle.meaning.specs.Laws.{state_after, Extends, TurnsGoOn, TurnsExtendTheOutput, EndingsStay, DepthsAreEnough}
-use Rattle.meaning.proofs.Walks.{Closed, RelatedCalls, of_value, of_effect, of_statements, of_executed}
+use Rattle.meaning.proofs.Walks.{Closed, closed_by_rounds, RelatedCalls, of_value, of_effect, of_statements, of_executed}
 use Rattle.meaning.proofs.Turns.{Extended, extended_give, extended_stop, extended_enter, extended_fetch, extended_store, extended_undefine, extended_write}
 use Rattle.meaning.proofs.Turns.{extended_use_turn, extended_end_with, extended_run, activation_of, output_extended, ending_kept}
 
@@ -59,7 +59,7 @@ module _ (bound : ℕ) where
     agreed_looped a s below = agreed_looping s.turns a s below
 
   pub agreed_closed : Closed (Agree bound)
-  agreed_closed = record {
+  agreed_closed = closed_by_rounds (Agree bound) (record {
     follows = λ action other rest others first each. agreed_then action other rest others first each;
     gives = λ a. agrees bound (give a) (extended_give a);
     errs = λ site. agrees bound (stop (ending.Error site)) (extended_stop (ending.Error site));
@@ -69,8 +69,7 @@ module _ (bound : ℕ) where
     undefines = λ place. agrees bound _ (extended_undefine place);
     writes = λ bytes. agrees bound _ (extended_write bytes);
     turns = agrees bound _ extended_use_turn;
-    loops = λ round other each a. agreed_looped round other each a;
-  }
+  }) (λ A round other each a. agreed_looped round other each a)
 
 -- an activation begins, and then comes what agrees with one turn less
 agreed_begun : {A : Type 0} (bound turns number : ℕ) (rest others : ℕ → Action A) (s : State) → turns ≤ s.turns → turns < suc bound

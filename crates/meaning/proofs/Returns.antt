@@ -11,7 +11,7 @@ use Rattle.meaning.specs.Effect.{State, Reply, Gives, Stops, Action, Round, ◌>
 use Rattle.meaning.specs.Effect.{begin_with, end_with}
 use Rattle.meaning.specs.Meaning.{Argument, Calls, Surroundings, all_of, value_of, effect_of, executed, activated, calls_of}
 use Rattle.meaning.specs.Laws.{CallsReturn}
-use Rattle.meaning.proofs.Walks.{Closed, of_value, of_effect, of_statements}
+use Rattle.meaning.proofs.Walks.{Closed, closed_by_rounds, of_value, of_effect, of_statements}
 use Rattle.meaning.proofs.Turns.{activation_of}
 
 -- if there is a value, these activations last
@@ -51,7 +51,7 @@ module _ {A : Type 0} (round : Round A) (each : (a : A) (s : State) → Lasting 
       (λ more t. lasting_another more (looping left round) (lasting_looping left) t)
 
 lasts_closed : Closed Lasts
-lasts_closed = record {
+lasts_closed = closed_by_rounds Lasts (record {
   follows = λ action other rest others first each s. lasting_rest s.living (action s) rest (first s) each;
   gives = λ a s. refl;
   errs = λ site s. tt;
@@ -61,8 +61,7 @@ lasts_closed = record {
   undefines = λ place s. refl;
   writes = λ bytes s. refl;
   turns = λ s. lasting_turn s.turns s;
-  loops = λ round other each a s. lasting_looping round each s.turns a s;
-}
+}) (λ A round other each a s. lasting_looping round each s.turns a s)
 
 -- ---- calls
 

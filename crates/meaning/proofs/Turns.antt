@@ -20,7 +20,7 @@ use Rattle.meaning.specs.Effect.{fetched, fetch, store, undefine, write, begin_w
 use Rattle.meaning.specs.Meaning.{Argument, Calls, Surroundings, Activation, all_of, accessed, whole_of, values_of, value_of, passing_of, effect_of, call_of}
 use Rattle.meaning.specs.Meaning.{executed, activated, calls_of, Meaning, run_of, ended}
 use Rattle.meaning.specs.Laws.{with_turns, reply_with_turns, state_after, Begins, Extends}
-use Rattle.meaning.proofs.Walks.{Closed, of_value, of_passing, of_access, of_whole_value, of_called, of_effect, of_statements, of_executed}
+use Rattle.meaning.proofs.Walks.{Closed, closed_by_rounds, of_value, of_passing, of_access, of_whole_value, of_called, of_effect, of_statements, of_executed}
 
 -- nothing more was written
 nothing : (output : List ℕ) → Begins output output
@@ -220,7 +220,7 @@ extended_end_with living = record { grows = λ s. nothing s.output; falls = λ s
 -- ---- pieces
 
 pub extended_closed : Closed (λ A action other. Extended action)
-extended_closed = record {
+extended_closed = closed_by_rounds (λ A action other. Extended action) (record {
   follows = λ action other rest others first each. extended_then action rest first each;
   gives = λ a. extended_give a;
   errs = λ site. extended_stop (ending.Error site);
@@ -230,8 +230,7 @@ extended_closed = record {
   undefines = extended_undefine;
   writes = extended_write;
   turns = extended_use_turn;
-  loops = λ round other each a. extended_looped round each a;
-}
+}) (λ A round other each a. extended_looped round each a)
 
 -- what calls do, more turns only extend
 abbrev pub ExtendedCalls : Calls → Type 0

@@ -57,7 +57,29 @@ use Rattle.meaning.specs.Meaning.{compared, selected, accessed, whole_of, values
 use Rattle.meaning.specs.Meaning.{line_ended, is_so, turn_if, while_round, repeat_round, for_round, for_rounds, for_between, is_among, arm_of}
 use Rattle.meaning.specs.Meaning.{value_of, passing_of, link_of, effect_of, assign, assign_all, result_of, Activation, environment_of, executed}
 
--- a relation of what actions do that goes from the actions of which pieces are made to whole pieces
+-- a relation of what actions do that holds of those of which pieces are made, and of one after the other
+pub record OfActions (R : (A : Type 0) → Action A → Action A → Type 0) : Type 1 where
+  pub follows : {A B : Type 0} (a b : Action A) (f g : A → Action B) → R A a b → ((x : A) → R B (f x) (g x)) → R B (a >>= f) (b >>= g)
+  pub gives : {A : Type 0} (a : A) → R A (give a) (give a)
+  pub errs : {A : Type 0} (site : ℕ) → R A (stop (ending.Error site)) (stop (ending.Error site))
+  pub enters : (number : ℕ) (visible : Environment) → R (Unit {0}) (enter number visible) (enter number visible)
+  pub fetches : (place : Option Place) (site : ℕ) → R Value (fetch place site) (fetch place site)
+  pub stores : (place : Option Place) (v : Value) → R (Unit {0}) (store place v) (store place v)
+  pub undefines : (place : Option Place) → R (Unit {0}) (undefine place) (undefine place)
+  pub writes : (bytes : List ℕ) → R (Unit {0}) (write bytes) (write bytes)
+  pub turns : R (Unit {0}) use_turn use_turn
+
+-- rounds of loops, of what they are made of
+abbrev pub while_again : Action Value → Action (Unit {0}) → Round (Unit {0})
+while_again condition body start = condition >>= λ v. turn_if (is_so v) body
+
+abbrev pub repeat_again : Action (Unit {0}) → Action Value → Round (Unit {0})
+repeat_again body condition start = use_turn >>= λ _. body >>= λ _. condition >>= λ v. give (if is_so v then None else Some tt)
+
+abbrev pub for_again : Option Place → Direction → ℤ → Action (Unit {0}) → Round ℤ
+for_again place direction last body n = store place (Number n) >>= λ _. use_turn >>= λ _. body >>= λ _. give (value_behind direction last n)
+
+-- a relation that goes from the actions of which pieces are made to whole pieces
 pub record Closed (R : (A : Type 0) → Action A → Action A → Type 0) : Type 1 where
   pub follows : {A B : Type 0} (a b : Action A) (f g : A → Action B) → R A a b → ((x : A) → R B (f x) (g x)) → R B (a >>= f) (b >>= g)
   pub gives : {A : Type 0} (a : A) → R A (give a) (give a)
@@ -68,8 +90,45 @@ pub record Closed (R : (A : Type 0) → Action A → Action A → Type 0) : Type
   pub undefines : (place : Option Place) → R (Unit {0}) (undefine place) (undefine place)
   pub writes : (bytes : List ℕ) → R (Unit {0}) (write bytes) (write bytes)
   pub turns : R (Unit {0}) use_turn use_turn
-  pub loops : {A : Type 0} (round other : Round A) → ((a : A) → R (Option A) (round a) (other a)) → (a : A)
-      → R (Unit {0}) (looped round a) (looped other a)
+  pub whiles : (condition test : Action Value) (body other : Action (Unit {0})) → R Value condition test → R (Unit {0}) body other
+      → R (Unit {0}) (looped (while_again condition body) tt) (looped (while_again test other) tt)
+  pub repeats : (body other : Action (Unit {0})) (condition test : Action Value) → R (Unit {0}) body other → R Value condition test
+      → R (Unit {0}) (looped (repeat_again body condition) tt) (looped (repeat_again other test) tt)
+  pub fors : (place : Option Place) (direction : Direction) (last : ℤ) (body other : Action (Unit {0})) → R (Unit {0}) body other → (first : ℤ)
+      → R (Unit {0}) (looped (for_again place direction last body) first) (looped (for_again place direction last other) first)
+
+-- one that goes from the rounds of a loop to the loop is such a relation
+module _ (R : (A : Type 0) → Action A → Action A → Type 0) (actions : OfActions R) where
+  turn_if_related : (so : Bool) (body other : Action (Unit {0})) → R (Unit {0}) body other → R (Option (Unit {0})) (turn_if so body) (turn_if so other)
+  turn_if_related false body other done = actions.gives None
+  turn_if_related true body other done =
+      actions.follows _ _ _ _ actions.turns (λ _. actions.follows _ _ _ _ done (λ _. actions.gives (Some tt)))
+
+  pub closed_by_rounds :
+      ((A : Type 0) (round other : Round A) → ((a : A) → R (Option A) (round a) (other a)) → (a : A) → R (Unit {0}) (looped round a) (looped other a))
+      → Closed R
+  closed_by_rounds loops = record {
+    follows = λ a b f g one each. actions.follows a b f g one each;
+    gives = actions.gives;
+    errs = actions.errs;
+    enters = actions.enters;
+    fetches = actions.fetches;
+    stores = actions.stores;
+    undefines = actions.undefines;
+    writes = actions.writes;
+    turns = actions.turns;
+    whiles = λ condition test body other tested done.
+        loops (Unit {0}) (while_again condition body) (while_again test other)
+        (λ start. actions.follows _ _ _ _ tested (λ v. turn_if_related (is_so v) body other done)) tt;
+    repeats = λ body other condition test done tested.
+        loops (Unit {0}) (repeat_again body condition) (repeat_again other test)
+        (λ start. actions.follows _ _ _ _ actions.turns
+        (λ _. actions.follows _ _ _ _ done (λ _. actions.follows _ _ _ _ tested (λ v. actions.gives (if is_so v then None else Some tt))))) tt;
+    fors = λ place direction last body other done first.
+        loops ℤ (for_again place direction last body) (for_again place direction last other)
+        (λ n. actions.follows _ _ _ _ (actions.stores place (Number n))
+        (λ _. actions.follows _ _ _ _ actions.turns (λ _. actions.follows _ _ _ _ done (λ _. actions.gives (value_behind direction last n))))) first;
+  }
 
 module _ (R : (A : Type 0) → Action A → Action A → Type 0) (closed : Closed R) where
   -- ---- what doesn't depend on calls
@@ -130,12 +189,6 @@ module _ (R : (A : Type 0) → Action A → Action A → Type 0) (closed : Close
       → R A (if b then one else other) (if b then two else second)
   of_chosen true one two other second first rest = first
   of_chosen false one two other second first rest = rest
-
-  -- ---- the rounds of loops, of what they are made of
-
-  of_turn_if : (so : Bool) (body other : Action (Unit {0})) → R (Unit {0}) body other → R (Option (Unit {0})) (turn_if so body) (turn_if so other)
-  of_turn_if false body other done = closed.gives None
-  of_turn_if true body other done = closed.follows _ _ _ _ closed.turns (λ _. closed.follows _ _ _ _ done (λ _. closed.gives (Some tt)))
 
   -- what is passed is written to a value parameter
   of_assign : (types : List Form) (place : Option Place) (formal : Option DeclaredVariable) (argument : Argument)
@@ -354,24 +407,7 @@ module _ (R : (A : Type 0) → Action A → Action A → Type 0) (closed : Close
     of_parameters (parameter ∷ parameters) =
         closed.follows _ _ _ _ (of_written parameter.value parameter.width) (λ _. of_parameters parameters)
 
-    -- ---- rounds of loops
-
-    of_while_round : (condition : Evaluation) (body : Execution) → R Value (condition here) (condition there) → R (Unit {0}) (body here) (body there)
-        → (start : Unit {0}) → R (Option (Unit {0})) (while_round condition body here start) (while_round condition body there start)
-    of_while_round condition body tested done start =
-        closed.follows _ _ _ _ tested (λ v. of_turn_if (is_so v) (body here) (body there) done)
-
-    of_repeat_round : (body : Execution) (condition : Evaluation) → R (Unit {0}) (body here) (body there) → R Value (condition here) (condition there)
-        → (start : Unit {0}) → R (Option (Unit {0})) (repeat_round body condition here start) (repeat_round body condition there start)
-    of_repeat_round body condition done tested start =
-        closed.follows _ _ _ _ closed.turns
-        (λ _. closed.follows _ _ _ _ done (λ _. closed.follows _ _ _ _ tested (λ v. closed.gives (if is_so v then None else Some tt))))
-
-    of_for_round : (control : ℕ) (direction : Direction) (last : ℤ) (body : Execution) → R (Unit {0}) (body here) (body there)
-        → (n : ℤ) → R (Option ℤ) (for_round control direction last body here n) (for_round control direction last body there n)
-    of_for_round control direction last body done n =
-        closed.follows _ _ _ _ (closed.stores (visible.variables control) (Number n))
-        (λ _. closed.follows _ _ _ _ closed.turns (λ _. closed.follows _ _ _ _ done (λ _. closed.gives (value_behind direction last n))))
+    -- ---- the rounds of a for
 
     of_for_rounds : (control : ℕ) (first_fits : RangeTest) (direction : Direction) (last_fits : RangeTest) (body : Execution)
         → R (Unit {0}) (body here) (body there) → (first last : ℤ)
@@ -380,8 +416,7 @@ module _ (R : (A : Type 0) → Action A → Action A → Type 0) (closed : Close
     of_for_rounds control first_fits direction last_fits body done first last =
         closed.follows _ _ _ _ (of_require (is_in first_fits.range (Number first)) first_fits.site)
         (λ _. closed.follows _ _ _ _ (of_require (is_in last_fits.range (Number last)) last_fits.site)
-        (λ _. closed.loops (for_round control direction last body here) (for_round control direction last body there)
-        (of_for_round control direction last body done) first))
+        (λ _. closed.fors (visible.variables control) direction last (body here) (body there) done first))
 
     of_for_between : (control : ℕ) (first_fits : RangeTest) (direction : Direction) (last_fits : RangeTest) (body : Execution)
         → R (Unit {0}) (body here) (body there) → (first last : Value)
@@ -451,13 +486,12 @@ module _ (R : (A : Type 0) → Action A → Action A → Type 0) (closed : Close
         (effect_of alternative.value.0 there) consequence.value.1 alternative.value.1))
     of_stmt_layer (While number loop_number place condition body) =
         closed.follows _ _ _ _ (closed.enters number visible)
-        (λ _. closed.loops (while_round (value_of condition) (effect_of body.value.0) here) (while_round (value_of condition) (effect_of body.value.0) there)
-        (of_while_round (value_of condition) (effect_of body.value.0) (of_value condition) body.value.1) tt)
+        (λ _. closed.whiles (value_of condition here) (value_of condition there) (effect_of body.value.0 here) (effect_of body.value.0 there)
+        (of_value condition) body.value.1)
     of_stmt_layer (Repeat number loop_number place statements condition) =
         let all : Execution = all_of (map effect_of (map (λ e. e.0) statements.items)) in
         closed.follows _ _ _ _ (closed.enters number visible)
-        (λ _. closed.loops (repeat_round all (value_of condition) here) (repeat_round all (value_of condition) there)
-        (of_repeat_round all (value_of condition) (of_all statements.items) (of_value condition)) tt)
+        (λ _. closed.repeats (all here) (all there) (value_of condition here) (value_of condition there) (of_all statements.items) (of_value condition))
     of_stmt_layer (For number loop_number place control first first_fits direction last last_fits body) =
         closed.follows _ _ _ _ (closed.enters number visible)
         (λ _. closed.follows _ _ _ _ (of_value first)
