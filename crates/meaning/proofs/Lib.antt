@@ -7,4 +7,5 @@ pub mod Replies
 pub mod Returns
 mod Routines
 pub mod Turns
+pub mod Used
 pub mod Walks

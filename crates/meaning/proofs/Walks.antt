@@ -54,7 +54,7 @@ use Rattle.meaning.specs.Effect.{is_in, is_positive, number_of, row_text, text_o
 use Rattle.meaning.specs.Meaning.{Argument, OfValue, OfRow, OfPlace, Calls, Surroundings, Evaluation, Passing, Combination, Execution}
 use Rattle.meaning.specs.Meaning.{value_step, passed_step, link_step, effect_step, whole, operated, combined, in_turn, all_of, all_passed, call_of}
 use Rattle.meaning.specs.Meaning.{compared, selected, accessed, whole_of, values_of, default_width, width_of, written_of, parameter_of}
-use Rattle.meaning.specs.Meaning.{line_ended, is_so, turn_if, while_round, repeat_round, for_round, for_rounds, for_between, is_among, arm_of}
+use Rattle.meaning.specs.Meaning.{line_ended, is_so, turn_if, for_rounds, for_between, is_among, arm_of}
 use Rattle.meaning.specs.Meaning.{value_of, passing_of, link_of, effect_of, assign, assign_all, result_of, Activation, environment_of, executed}
 
 -- a relation of what actions do that holds of those of which pieces are made, and of one after the other

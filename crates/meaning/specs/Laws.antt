@@ -8,13 +8,14 @@ use Rattle.std.specs.declared.vec.Vec.{Vec}
 use Rattle.typed_tree.specs.declared.tree.Tree.{Tree}
 use Rattle.typed_tree.specs.declared.tree.Expr.{Expr}
 use Rattle.typed_tree.specs.declared.tree.Link.{Link}
+use Rattle.typed_tree.specs.declared.tree.Stmt.{Stmt}
 use Rattle.typed_tree.specs.declared.tree.Expr.TheVariants.{Chain}
 use Rattle.meaning.specs.declared.outcome.Ending.{Ending}
 use Rattle.meaning.specs.declared.outcome.Ending.TheVariants as ending
 use Rattle.meaning.specs.declared.store.Value.{Value}
 use Rattle.meaning.specs.Store.{Environment}
-use Rattle.meaning.specs.Effect.{State, Reply, Gives, Stops}
-use Rattle.meaning.specs.Meaning.{Argument, Surroundings, calls_of, meaning, run, value_of}
+use Rattle.meaning.specs.Effect.{State, Reply, Gives, Stops, Action}
+use Rattle.meaning.specs.Meaning.{Argument, Surroundings, calls_of, effect_of, meaning, run, value_of}
 
 -- the same state with more turns left
 abbrev pub with_turns : ℕ → State → State
@@ -72,6 +73,22 @@ abbrev pub CallsReturn : Type 0
 CallsReturn =
     (tree : Tree) (depth number : ℕ) (arguments : List Argument) (caller : Environment) (s t : State) (v : Value) →
     calls_of tree depth number arguments caller s ≡ Gives v t → t.living ≡ s.living
+
+-- between two states a piece, which gave this, used some turns; and it does the same with those and whatever is left
+abbrev pub UsedTurns : {A : Type 0} → Action A → State → State → A → Type 0
+UsedTurns action s t a =
+    (used : ℕ) × (s.turns ≡ used + t.turns)
+    × ((left : ℕ) → action (record s { turns = used + left }) ≡ Gives a (record t { turns = left }))
+
+-- where a piece gives a value, as many turns as it used are enough, and none that are left change what it does
+abbrev pub UsesTurnsExactly : {A : Type 0} → Action A → Type 0
+UsesTurnsExactly {A} action = (s t : State) (a : A) → action s ≡ Gives a t → UsedTurns action s t a
+
+-- each statement does so, wherever it stands
+abbrev pub StatementsUseTurnsExactly : Type 0
+StatementsUseTurnsExactly =
+    (tree : Tree) (depth : ℕ) (visible : Environment) (statement : Stmt) →
+    UsesTurnsExactly (effect_of statement (record { visible = visible; calls = calls_of tree depth }))
 
 -- where the beginning of a chain stops, the chain stops there, whatever stands to the right
 abbrev pub ChainsGoLeftToRight : Type 0
