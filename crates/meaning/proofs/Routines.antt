@@ -172,7 +172,8 @@ module _ (heap : Vec ℕ Global) (some_call : Call) where
       (calls 11 1 (by_value (roll-Expr (MonadicOf 12 (monadic.Pred 5 (pos 0)) (boxed (variable 13 0 6)))) 7 ∷ []) (omega arith))
       ∷ calls 15 2 [] (omega arith) ∷ [])
       (omega arith))
-      ∷ block (heading (0 ∷ 1 ∷ []) [] None (omega arith) (omega arith)) (compound 0 (writes 1 (written (variable 2 1 1) ∷ []) (omega arith) ∷ []) (omega arith))
+      ∷ block (heading (0 ∷ 1 ∷ []) [] None (omega arith) (omega arith))
+      (compound 0 (writes 1 (written (variable 2 1 1) ∷ []) (omega arith) ∷ []) (omega arith))
       ∷ [])
       (declared 1 kind.ValueParameter char ∷ declared 1 kind.Local char ∷ []) (omega arith) (omega arith)
 
