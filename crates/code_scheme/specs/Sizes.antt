@@ -8,10 +8,10 @@ use Rattle.std.specs.declared.alloc.AllocError.{AllocError}
 use Rattle.typed_tree.specs.declared.tree.Stmt.{Stmt}
 use Rattle.typed_tree.specs.declared.tree.Stmt.TheOpen.{Stmt-F}
 use Rattle.typed_tree.specs.declared.tree.Stmt.TheOpen.Stmt-F.{Empty, Assign, Write, Compound, If, While, Repeat, For}
-use Rattle.typed_tree.specs.declared.tree.Stmt.TheOpen.Stmt-F.{Case, Copy}
+use Rattle.typed_tree.specs.declared.tree.Stmt.TheOpen.Stmt-F.{Case, Copy, Call}
 use Rattle.typed_tree.specs.declared.tree.Stmt.TheFolds.{fold-Stmt}
 use Rattle.code_scheme.specs.Scopes.{Scope, holding}
-use Rattle.code_scheme.specs.Code.{assign_code, copy_code, expr_code, write_code}
+use Rattle.code_scheme.specs.Code.{assign_code, call_code, copy_code, expr_code, passed_code, write_code}
 
 -- a number, or the greatest number of 32 bits
 abbrev pub capped : ℕ → ℕ
@@ -64,6 +64,8 @@ measured_step (Copy number becomes target indexes type_id value value_indexes) s
     record { size = length (copy_code scope target indexes.items value value_indexes.items); inner = [] }
 measured_step (Write number name parameters ends_line) scope =
     record { size = length (write_code scope parameters.items ends_line); inner = [] }
+measured_step (Call call actuals) scope =
+    record { size = length (call_code scope call (map (passed_code scope) actuals.items)); inner = [] }
 measured_step (Compound number statements) scope =
     let parts = map (λ (measure : Scope → Measured). measure scope) statements.items in
     record { size = all_sizes parts; inner = all_tables parts }
