@@ -45,7 +45,8 @@ use Rattle.typed_tree.specs.declared.tree.Stmt.TheOpen.Stmt-F.{Empty, Assign, Wr
 use Rattle.typed_tree.specs.declared.tree.Stmt.TheOpen.Stmt-F.{Case, Copy, Call as Calling}
 use Rattle.typed_tree.specs.declared.tree.Stmt.TheFolds.{fold-Stmt}
 use Rattle.typed_tree.specs.WellFormed.{length_of}
-use Rattle.code_scheme.specs.Scopes.{Routine, Scope, offset, count, row_length, held_offset, holding, links_to}
+use Rattle.code_scheme.specs.declared.home.Routine.{Routine}
+use Rattle.code_scheme.specs.Scopes.{Scope, offset, count, row_length, held_offset, holding, links_to}
 use Rattle.code_scheme.specs.Scopes.{access_offset, behind_fields, block_level, block_scope, called_routine}
 use Rattle.code_scheme.specs.Scopes.{other_cells, parameter_cells, variable_home}
 use Rattle.code_scheme.specs.Depth.{block_depth}
@@ -443,7 +444,7 @@ blocks_code tree routines number (block ∷ blocks) place =
 -- a routine whose code begins at a place, by the number of its block: how long a call is does not rest on the place
 abbrev pub routine_at : Tree → ℕ → ℕ → Routine
 routine_at tree number place =
-    record { level = block_level tree number - 1; cells = parameter_cells tree number; place = place }
+    record { level = block_level tree number - 1; cells = count (parameter_cells tree number); place = place }
 
 -- these blocks as routines, one after another from this place on; as long as with these routines for their calls
 abbrev pub routines_from : Tree → List Routine → ℕ → List Block → ℕ → List Routine

@@ -13,6 +13,8 @@ use Rattle.typed_tree.specs.declared.tree.Selector.{Selector}
 use Rattle.typed_tree.specs.declared.tree.Selector.TheVariants.{Field}
 use Rattle.typed_tree.specs.declared.tree.Variable.{Variable}
 use Rattle.typed_tree.specs.WellFormed.{is_parameter_kind, is_variable_kind}
+use Rattle.code_scheme.specs.declared.home.Home.{Home}
+use Rattle.code_scheme.specs.declared.home.Routine.{Routine}
 
 -- a number as an offset, or the greatest offset
 abbrev pub offset : ℕ → ℕ
@@ -29,20 +31,6 @@ row_length n = min n 65536
 -- a number of static links to follow, or the greatest number
 abbrev pub links : ℕ → ℕ
 links n = min n 15
-
--- where a variable lies: the level of its block, the program's being 0; the offset in the frame of that; and whether it
--- is a variable parameter, whose cell there has an address
-pub record Home : Type 0 where
-  pub level : ℕ
-  pub start : ℕ
-  pub refers : Bool
-
--- a routine as its calls need it: the level of the block that declares it, how many cells its parameters take in its
--- frame, and the place of its code
-pub record Routine : Type 0 where
-  pub level : ℕ
-  pub cells : ℕ
-  pub place : ℕ
 
 -- where code runs: the variables by root, and the routines by the number of their block; the level of its own block;
 -- where in the frame the cells begin that are held above the variables, and how many are held while it runs
@@ -141,6 +129,12 @@ fields_offset other = 0
 abbrev pub behind_fields : List Selector → List Selector
 behind_fields (Field position before ∷ selectors) = behind_fields selectors
 behind_fields other = other
+
+-- the selectors from which code goes on over an address: from that of a variable parameter's actual one all of them,
+-- else those from the first index on
+abbrev pub selectors_from : Bool → List Selector → List Selector
+selectors_from true selectors = selectors
+selectors_from false selectors = behind_fields selectors
 
 -- where in the frame that component begins, if the variable is no variable parameter
 abbrev pub access_offset : Scope → Access → ℕ

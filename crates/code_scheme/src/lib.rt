@@ -4,5 +4,6 @@
 
 pub mod depth;
 pub mod frame;
+pub mod home;
 pub mod scope;
 pub mod size;
