@@ -221,7 +221,7 @@ fn needed_by_call(actuals: &[Passed]) -> u32
     ensures { result ≡ capped (call_depth (map passed_depth actuals.now)) }
 {
     let mut held = LINKS;
-    let mut depth = LINKS;
+    let mut depth = 0;
     for actual in actuals {
         depth = depth.max(held.saturating_add(needed_by_passed(actual)));
         held = held.saturating_add(cells_of_passed(actual));
