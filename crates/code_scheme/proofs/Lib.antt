@@ -1,3 +1,5 @@
+pub mod Frames
+pub mod Lengths
 pub mod Measures
 pub mod Pieces
 pub mod Selectors

@@ -15,6 +15,8 @@ use Rattle.typed_tree.specs.declared.tree.Whole.{Whole}
 use Rattle.typed_tree.specs.declared.tree.Expr.{Expr}
 use Rattle.typed_tree.specs.declared.tree.Call.{Call}
 use Rattle.typed_tree.specs.declared.tree.Passed.{Passed}
+use Rattle.typed_tree.specs.declared.tree.Block.{Block}
+use Rattle.typed_tree.specs.declared.tree.Tree.{Tree}
 use Rattle.typed_tree.specs.declared.tree.Variable.{Variable}
 use Rattle.typed_tree.specs.WellFormed.{is_variable_kind}
 use Rattle.typed_tree.specs.declared.tree.Stmt.TheVariants as stmt
@@ -25,10 +27,12 @@ use Rattle.typed_tree.specs.declared.tree.Stmt.TheOpen.{Stmt-F}
 use Rattle.typed_tree.specs.declared.tree.Stmt.TheOpen.Stmt-F.{Empty, Assign, Write, Compound, If, While, Repeat, For, Case, Copy, Call as Calling}
 use Rattle.typed_tree.specs.declared.tree.Stmt.TheViews.{roll-Stmt}
 use Rattle.typed_tree.specs.declared.tree.Stmt.TheFolds.{map-Stmt, fold-roll-Stmt, ind-Stmt}
-use Rattle.code_scheme.specs.Scopes.{Scope, holding, home_or_none}
+use Rattle.code_scheme.specs.Scopes.{Scope, block_scope, holding, home_or_none, homes_from}
 use Rattle.code_scheme.specs.Code.{Placed, placed, row_code, arms_code, expr_code, stmt_code, stmt_step}
+use Rattle.code_scheme.specs.Code.{block_code, end_code}
 use Rattle.code_scheme.specs.Code.{assign_code, call_code, copy_code, passed_code}
 use Rattle.code_scheme.specs.declared.home.Home.{Home}
+use Rattle.code_scheme.specs.declared.home.Routine.{Routine}
 use Rattle.code_scheme.specs.Sizes.{IsScopeOf, refers}
 use Rattle.code_scheme.specs.Sizes.{Measured, measured, measured_step, table_of, all_sizes, all_tables, arms_size, arms_table}
 use Rattle.code_scheme.proofs.Pieces.{length-If, length-If-else, length-While, length-Repeat, length-For}
@@ -298,3 +302,20 @@ pub plainly : (variables : List Variable) → IsScopeOf variables (plain_scope v
 plainly [] root = refl
 plainly (variable ∷ variables) zero = refl
 plainly (variable ∷ variables) (suc root) = plainly variables root
+
+-- the scope of a block has the variables of its tree, and stays such a scope while more is held
+homes_refer : (tree : Tree) (start : ℕ) (variables : List Variable) (root : ℕ)
+    → (home_or_none (slice_get (homes_from tree start variables) root)).refers ≡ refers (slice_get variables root)
+homes_refer tree start [] root = refl
+homes_refer tree start (variable ∷ variables) zero = refl
+homes_refer tree start (variable ∷ variables) (suc root) = homes_refer tree (suc start) variables root
+
+pub in_block : (tree : Tree) (routines : List Routine) (number : ℕ) → IsScopeOf tree.variables.items (block_scope tree routines number)
+in_block tree routines number = homes_refer tree 0 tree.variables.items
+
+-- how many instructions a block has
+pub length-block : (tree : Tree) (number : ℕ) (block : Block) (scope : Scope) (place : ℕ)
+    → length (block_code tree number block scope place) ≡ 1 + length (stmt_code block.body scope (place + 1)) + length
+    (end_code scope number block.heading.result)
+length-block tree number block scope place =
+    omega (arith, length-append (stmt_code block.body scope (place + 1)) (end_code scope number block.heading.result))
