@@ -36,7 +36,7 @@ use Rattle.typed_tree.specs.declared.tree.Stmt.TheOpen.Stmt-F.{Empty, Assign, Wr
 use Rattle.typed_tree.specs.declared.tree.Stmt.TheViews.{roll-Stmt}
 use Rattle.typed_tree.specs.declared.tree.Stmt.TheFolds.{map-Stmt, fold-roll-Stmt, ind-Stmt}
 use Rattle.typed_tree.specs.WellFormed.{length_of}
-use Rattle.code_scheme.specs.declared.home.Routine.{Routine}
+use Rattle.code_scheme.specs.declared.routine.Routine.{Routine}
 use Rattle.code_scheme.specs.Scopes.{Scope, behind_fields, block_scope, called_routine, holding, row_length, selectors_from, variable_home}
 use Rattle.code_scheme.specs.Code.{At, By, Reached, address_code, address_of, assign_code, block_code, blocks_code, call_code, compare_code, copy_code}
 use Rattle.code_scheme.specs.Code.{default_width, dyadic_code, check_positive, end_code, expr_code, expr_step, fetch_code, field_code, index_codes, joined}
@@ -519,7 +519,7 @@ same_blocks tree routines others number (block ∷ blocks) place other =
     )
 
 -- the next block has the next number
-next_is : (n : ℕ) → suc n ≡ n + 1
+pub next_is : (n : ℕ) → suc n ≡ n + 1
 next_is n = omega arith
 
 pub length-blocks : (tree : Tree) (routines : List Routine) (number : ℕ) (block : Block) (blocks : List Block) (place : ℕ)

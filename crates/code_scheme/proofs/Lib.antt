@@ -2,4 +2,5 @@ pub mod Frames
 pub mod Lengths
 pub mod Measures
 pub mod Pieces
+pub mod Routines
 pub mod Selectors

@@ -32,7 +32,7 @@ use Rattle.code_scheme.specs.Code.{Placed, placed, row_code, arms_code, expr_cod
 use Rattle.code_scheme.specs.Code.{block_code, end_code}
 use Rattle.code_scheme.specs.Code.{assign_code, call_code, copy_code, passed_code}
 use Rattle.code_scheme.specs.declared.home.Home.{Home}
-use Rattle.code_scheme.specs.declared.home.Routine.{Routine}
+use Rattle.code_scheme.specs.declared.routine.Routine.{Routine}
 use Rattle.code_scheme.specs.Sizes.{IsScopeOf, refers}
 use Rattle.code_scheme.specs.Sizes.{Measured, measured, measured_step, table_of, all_sizes, all_tables, arms_size, arms_table}
 use Rattle.code_scheme.proofs.Pieces.{length-If, length-If-else, length-While, length-Repeat, length-For}

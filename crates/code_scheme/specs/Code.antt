@@ -45,7 +45,7 @@ use Rattle.typed_tree.specs.declared.tree.Stmt.TheOpen.Stmt-F.{Empty, Assign, Wr
 use Rattle.typed_tree.specs.declared.tree.Stmt.TheOpen.Stmt-F.{Case, Copy, Call as Calling}
 use Rattle.typed_tree.specs.declared.tree.Stmt.TheFolds.{fold-Stmt}
 use Rattle.typed_tree.specs.WellFormed.{length_of}
-use Rattle.code_scheme.specs.declared.home.Routine.{Routine}
+use Rattle.code_scheme.specs.declared.routine.Routine.{Routine}
 use Rattle.code_scheme.specs.Scopes.{Scope, offset, count, row_length, held_offset, holding, links_to}
 use Rattle.code_scheme.specs.Scopes.{access_offset, behind_fields, block_level, block_scope, called_routine}
 use Rattle.code_scheme.specs.Scopes.{other_cells, parameter_cells, variable_home}

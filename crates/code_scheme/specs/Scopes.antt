@@ -14,7 +14,7 @@ use Rattle.typed_tree.specs.declared.tree.Selector.TheVariants.{Field}
 use Rattle.typed_tree.specs.declared.tree.Variable.{Variable}
 use Rattle.typed_tree.specs.WellFormed.{is_parameter_kind, is_variable_kind}
 use Rattle.code_scheme.specs.declared.home.Home.{Home}
-use Rattle.code_scheme.specs.declared.home.Routine.{Routine}
+use Rattle.code_scheme.specs.declared.routine.Routine.{Routine}
 
 -- a number as an offset, or the greatest offset
 abbrev pub offset : ℕ → ℕ

@@ -8,14 +8,3 @@ pub struct Home {
     /// Whether it is a variable parameter (ISO 7185:1990, 6.6.3.3), whose one cell has the address of its actual one.
     pub refers: bool,
 }
-
-/// A routine, as its calls need it.
-#[derive(Clone, Copy)]
-pub struct Routine {
-    /// The level of the block that declares it.
-    pub level: usize,
-    /// How many cells its parameters take in its frame, or the most cells of a frame.
-    pub cells: u32,
-    /// The place of its first instruction.
-    pub place: u32,
-}

@@ -5,5 +5,6 @@
 pub mod depth;
 pub mod frame;
 pub mod home;
+pub mod routine;
 pub mod scope;
 pub mod size;

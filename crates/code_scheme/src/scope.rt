@@ -3,7 +3,8 @@ ghost use Rattle.code_scheme.specs.Scopes.{behind_fields as behind, fields_offse
 ghost use Rattle.code_scheme.specs.Scopes.{selectors_from as from};
 ghost use Rattle.code_scheme.specs.Sizes.{capped};
 
-use crate::home::{Home, Routine};
+use crate::home::Home;
+use crate::routine::Routine;
 use std::marker::Model;
 use typed_tree::tree::{Access, Selector};
 

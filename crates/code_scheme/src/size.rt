@@ -35,7 +35,7 @@ pub fn program_size(tree: &Tree) -> u32
 }
 
 /// The same of a block of a number.
-fn block_size(variables: &[Variable], number: usize, block: &Block) -> u32
+pub fn block_size(variables: &[Variable], number: usize, block: &Block) -> u32
     ensures { (tree : Tree) (scope : Scope) (place : ℕ) → IsScopeOf variables.now scope →
         result ≡ capped (length (block_code tree number block.now scope place)) }
 {
