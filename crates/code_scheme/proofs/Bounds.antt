@@ -69,7 +69,7 @@ abbrev Instrs : Type 0
 Instrs = (code : List Instr) × InBounds code
 
 append_in_bounds : (xs ys : List Instr) → InBounds xs → InBounds ys → InBounds (xs ++ ys)
-append_in_bounds xs ys first then = list_all-append in_bounds xs ys ∙ ap (λ b. b && list_all in_bounds ys) first ∙ then
+append_in_bounds xs ys first second = list_all-append in_bounds xs ys ∙ ap (λ b. b && list_all in_bounds ys) first ∙ second
 
 -- what is cut at a bound is in it
 cut_at : (n bound : ℕ) → nat_le (min n bound) bound ≡ true
@@ -135,7 +135,7 @@ selectors_in_bounds (Element fits cells ∷ selectors) (code ∷ codes) =
 
 -- two bounds are met
 both : (a b : Bool) → a ≡ true → b ≡ true → (a && b) ≡ true
-both a b first then = ap (λ x. x && b) first ∙ then
+both a b first second = ap (λ x. x && b) first ∙ second
 
 -- what code reaches is in bounds
 abbrev ReachedIn : Reached → Type 0
@@ -159,13 +159,14 @@ from_in : (level start : ℕ) (selectors : List Selector) (codes : List Instrs) 
     → ReachedIn (reached_from level start selectors (map (λ p. p.0) codes))
 from_in level start [] codes near inside = (near, inside)
 from_in level start (selector ∷ selectors) codes near inside =
-    (one_more (instr.LoadAddress level start) _ (both _ _ near inside) (record { all = selectors_in_bounds (selector ∷ selectors) codes })).all
+    (one_more (instr.LoadAddress level start) (selectors_code (selector ∷ selectors) (map (λ p. p.0) codes)) (both _ _ near inside) (record { all = selectors_in_bounds (selector ∷ selectors) codes })).all
 
 any_in : (refers : Bool) (level start place : ℕ) (selectors : List Selector) (codes : List Instrs) → is_level level ≡ true → is_offset start ≡ true
     → is_offset place ≡ true → ReachedIn (if refers then By (instr.Load level start ∷ selectors_code selectors (map (λ p. p.0) codes)) else
     reached_from level place (behind_fields selectors) (map (λ p. p.0) codes))
 any_in true level start place selectors codes near begins inside =
-    (one_more (instr.Load level start) _ (both _ _ near begins) (record { all = selectors_in_bounds selectors codes })).all
+    (one_more (instr.Load level start) (selectors_code selectors (map (λ p. p.0) codes)) (both _ _ near begins)
+    (record { all = selectors_in_bounds selectors codes })).all
 any_in false level start place selectors codes near begins inside = from_in level place (behind_fields selectors) codes near inside
 
 -- each variable begins at an offset
@@ -245,9 +246,10 @@ module _ (scope : Scope) (homes : HomesIn scope) where
   call_in_bounds : (call : Call) (pieces : List (List Instr)) → InBounds (joined pieces) → InBounds (call_code scope call pieces)
   call_in_bounds call pieces inside =
       let routine = called_routine scope call.block in
-      (one_more (instr.MarkStack (links_to scope routine.level)) _ (links_in scope routine.level) (record {
-        all = append_in_bounds (joined pieces) _ inside
-        (one_more (instr.CallProcedure (row_length routine.cells) routine.place) _ (cut_at routine.cells 65536) no_more).all;
+      let jump = instr.CallProcedure (row_length routine.cells) routine.place ∷ [] in
+      (one_more (instr.MarkStack (links_to scope routine.level)) (joined pieces ++ jump) (links_in scope routine.level) (record {
+        all = append_in_bounds (joined pieces) jump inside
+        (one_more (instr.CallProcedure (row_length routine.cells) routine.place) [] (cut_at routine.cells 65536) no_more).all;
       })).all
 
   rolled_expr : (x : Expr-F Expr Passed Link)
@@ -545,9 +547,10 @@ block_in_bounds : (tree : Tree) (routines : List Routine) (number : ℕ) (block 
 block_in_bounds tree routines number block place =
     let scope = block_scope tree routines number in
     let homes = homes_in tree 0 tree.variables.items in
-    (one_more (instr.Enter (count (other_cells tree number)) (count (block_depth block))) _
+    let end = end_code scope number block.heading.result in
+    (one_more (instr.Enter (count (other_cells tree number)) (count (block_depth block))) (stmt_code block.body scope (place + 1) ++ end)
     (frame_in_bounds (other_cells tree number) (block_depth block)) (record {
-      all = append_in_bounds (stmt_code block.body scope (place + 1)) _ (stmt_in_bounds block.body scope homes (place + 1))
+      all = append_in_bounds (stmt_code block.body scope (place + 1)) end (stmt_in_bounds block.body scope homes (place + 1))
       (end_in scope homes number block.heading.result);
     })).all
 

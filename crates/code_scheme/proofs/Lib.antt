@@ -1,3 +1,4 @@
+pub mod Bounds
 pub mod Depths
 pub mod Frames
 pub mod Lengths

@@ -118,3 +118,30 @@ emit_selectors-returns t c =
     let codes = index_codes c.args.scope.now (drop c.loop-selector.next c.args.indexes.now) in
     let last = drop_all c.loop-selector.selector-index c.args.selectors.now c.loop-selector-test.false in
     sym (append-nil code) ∙ ap (λ ss. code ++ selectors_code ss codes) (sym last) ∙ c.loop-selector.invariant.1
+
+pub emit_fetch-returns-in-Some : goal.emit_fetch-returns-in-Some
+emit_fetch-returns-in-Some t c = ?
+
+pub emit_fetch-returns-in_ok-emit_address-in-None : goal.emit_fetch-returns-in_ok-emit_address-in-None
+emit_fetch-returns-in_ok-emit_address-in-None t c = ?
+
+pub emit_address-returns : goal.emit_address-returns
+emit_address-returns t c = ?
+
+pub emit_expr-returns-in-Call : goal.emit_expr-returns-in-Call
+emit_expr-returns-in-Call t c = ?
+
+pub emit_call-loop-actual-preserved : goal.emit_call-loop-actual-preserved
+emit_call-loop-actual-preserved t c = ?
+
+pub emit_call-returns : goal.emit_call-returns
+emit_call-returns t c = ?
+
+pub emit_passed-returns-in-Whole : goal.emit_passed-returns-in-Whole
+emit_passed-returns-in-Whole t c = ?
+
+pub emit_passed-returns-in-Reference : goal.emit_passed-returns-in-Reference
+emit_passed-returns-in-Reference t c = ?
+
+pub emit_passed-returns-in_ok-emit_expr-in-Value : goal.emit_passed-returns-in_ok-emit_expr-in-Value
+emit_passed-returns-in_ok-emit_expr-in-Value t c = ?
