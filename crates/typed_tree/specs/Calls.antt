@@ -1,8 +1,7 @@
 -- Which expressions hold a call of a function (ISO 7185:1990, 6.7.3): a call may change variables, so what is known of
 -- an expression that holds one isn't known behind it. It says nothing of what a call changes.
-use Rattle.std.specs.Prelude.{ℕ, ◌||◌, Bool, true, false, List, Vec, map}
+use Rattle.std.specs.Prelude.{◌||◌, Bool, true, false, List, map}
 use Rattle.std.specs.List.{list_any}
-use Rattle.std.specs.declared.alloc.Global.{Global}
 use Rattle.typed_tree.specs.declared.tree.Whole.{Whole}
 use Rattle.typed_tree.specs.declared.tree.Expr.{Expr}
 use Rattle.typed_tree.specs.declared.tree.Passed.{Passed}

@@ -1,6 +1,6 @@
 -- The loops of a typed tree, its repetitive statements (ISO 7185:1990, 6.8.3.6), in the order of their first words: the
 -- number of each, and the control variables of the for statements inside it. It says nothing of what a loop does.
-use Rattle.std.specs.Prelude.{◌≡◌, ℕ, suc, ◌++◌, List, [], ◌∷◌, Option, Some, None, flat_map, slice_get}
+use Rattle.std.specs.Prelude.{◌≡◌, ℕ, suc, ◌++◌, List, [], ◌∷◌, Option, Some, None, flat_map, map, slice_get}
 use Rattle.std.specs.declared.alloc.Global.{Global}
 use Rattle.std.specs.declared.boxed.Box.{Box}
 use Rattle.typed_tree.specs.declared.tree.Block.{Block}
@@ -78,6 +78,18 @@ loops_of_block block = loops_of_statement block.body
 -- the loops of a program, in the order of the text
 abbrev pub loops_of : Tree → List (ℕ × List ℕ)
 loops_of = in_text (λ number. loops_of_block)
+
+-- what a row of the table tells: the block of a loop, and the control variables of the for statements inside it
+abbrev pub loop_row : Loop → ℕ × List ℕ
+loop_row row = (row.block, row.controls.items)
+
+-- the rows of the loops of a block of a number
+abbrev pub loop_rows_of_block : ℕ → Block → List (ℕ × List ℕ)
+loop_rows_of_block number block = map (λ one. (number, one.1)) (loops_of_block block)
+
+-- the rows of the loops of a program, in the order of the text
+abbrev pub loop_rows : Tree → List (ℕ × List ℕ)
+loop_rows = in_text loop_rows_of_block
 
 -- a loop has a row in the table, with its block and the control variables of the for statements inside it
 abbrev pub IsLoop : List Loop → ℕ → ℕ × List ℕ → Type 0
