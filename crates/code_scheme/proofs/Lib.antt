@@ -1,5 +1,6 @@
 pub mod Bounds
 pub mod Depths
+mod Examples
 pub mod Frames
 pub mod Lengths
 pub mod Measures
