@@ -51,7 +51,7 @@ use Rattle.typed_tree.specs.declared.tree.Stmt.TheFolds.{map-Stmt, fold-roll-Stm
 use Rattle.typed_tree.specs.WellFormed.{length_of}
 use Rattle.code_scheme.specs.declared.routine.Routine.{Routine}
 use Rattle.code_scheme.specs.Scopes.{Scope, access_offset, behind_fields, block_scope, called_routine, count, fields_offset, held_offset, holding, home_or_none}
-use Rattle.code_scheme.specs.Scopes.{homes_from, links_to, offset, other_cells, row_length, start_of, variable_home}
+use Rattle.code_scheme.specs.Scopes.{homes_from, links_to, other_cells, row_length, start_of, variable_home}
 use Rattle.code_scheme.specs.Code.{At, By, Reached, address_of, reached, reached_from, fetch_code, store_code, call_code, passed_code, passed_step}
 use Rattle.code_scheme.specs.Code.{field_code, selectors_code, address_code, variable_code, index_codes, assign_code, copy_code, control_offset}
 use Rattle.code_scheme.specs.Code.{joined, placed, Placed, monadic_code, relation_instr, dyadic_code, expr_code, link_code, expr_step, link_step}
@@ -249,7 +249,7 @@ module _ (scope : Scope) (homes : HomesIn scope) where
       let jump = instr.CallProcedure (row_length routine.cells) routine.place ∷ [] in
       (one_more (instr.MarkStack (links_to scope routine.level)) (joined pieces ++ jump) (links_in scope routine.level) (record {
         all = append_in_bounds (joined pieces) jump inside
-        (one_more (instr.CallProcedure (row_length routine.cells) routine.place) [] (cut_at routine.cells 65536) no_more).all;
+            (one_more (instr.CallProcedure (row_length routine.cells) routine.place) [] (cut_at routine.cells 65536) no_more).all;
       })).all
 
   rolled_expr : (x : Expr-F Expr Passed Link)
@@ -286,7 +286,6 @@ module _ (scope : Scope) (homes : HomesIn scope) where
       (whole_code scope right (map (expr_code scope) (map (λ (e : ProvedExpr). e.0) right_indexes.items)))
       (subst (λ codes. InBounds (whole_code scope left codes)) (bare_codes left_indexes.items) (whole_in_bounds scope homes left (coded left_indexes.items)))
       (subst (λ codes. InBounds (whole_code scope right codes)) (bare_codes right_indexes.items) (whole_in_bounds scope homes right (coded right_indexes.items))))
-
   expr_layer (CallOf call actuals) =
       rolled_expr (bare_expr (CallOf call actuals))
       (call_in_bounds call (map (passed_code scope) (map (λ (p : ProvedPassed). p.0) actuals.items)) (actuals_in_bounds actuals.items))
@@ -551,7 +550,7 @@ block_in_bounds tree routines number block place =
     (one_more (instr.Enter (count (other_cells tree number)) (count (block_depth block))) (stmt_code block.body scope (place + 1) ++ end)
     (frame_in_bounds (other_cells tree number) (block_depth block)) (record {
       all = append_in_bounds (stmt_code block.body scope (place + 1)) end (stmt_in_bounds block.body scope homes (place + 1))
-      (end_in scope homes number block.heading.result);
+          (end_in scope homes number block.heading.result);
     })).all
 
 blocks_in_bounds : (tree : Tree) (routines : List Routine) (number : ℕ) (blocks : List Block) (place : ℕ)

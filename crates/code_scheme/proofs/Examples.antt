@@ -1,9 +1,8 @@
 -- The code of programs and what it needs, worked out by hand.
-use Rattle.std.proofs.Common.{◌≡◌, ℕ, ◌+◌, ◌<◌, ◌^◌, true, false, Bool, ℤ, pos, negsuc, List, [], ◌∷◌, ◌++◌, length, Option, Some, None, Vec, Box, Global, arith}
+use Rattle.std.proofs.Common.{◌≡◌, ℕ, ◌+◌, ◌<◌, ◌^◌, true, false, Bool, ℤ, pos, negsuc, List, [], ◌∷◌, ◌++◌, length, Option, Some, None, Vec, Global, arith}
 use Rattle.std.proofs.Common.{refl, ap, ◌∙◌}
 use Rattle.pcode_assembler.specs.declared.instr.Instr.{Instr}
 use Rattle.pcode_assembler.specs.declared.instr.Instr.TheVariants as instr
-use Rattle.types.specs.declared.form.TypeId.{TypeId}
 use Rattle.types.specs.Types.{integer, required_forms}
 use Rattle.typed_tree.specs.declared.tree.Tree.{Tree}
 use Rattle.typed_tree.specs.declared.tree.Block.{Block}
@@ -11,7 +10,6 @@ use Rattle.typed_tree.specs.declared.tree.Heading.{Heading}
 use Rattle.typed_tree.specs.declared.tree.FunctionResult.{FunctionResult}
 use Rattle.typed_tree.specs.declared.tree.Call.{Call}
 use Rattle.typed_tree.specs.declared.tree.Access.{Access}
-use Rattle.typed_tree.specs.declared.tree.Selector.{Selector}
 use Rattle.typed_tree.specs.declared.tree.Selector.TheVariants.{Element, Field}
 use Rattle.typed_tree.specs.declared.tree.RangeTest.{RangeTest}
 use Rattle.typed_tree.specs.declared.tree.Variable.{Variable as DeclaredVariable}
@@ -27,18 +25,18 @@ use Rattle.typed_tree.specs.declared.tree.Expr.{Expr}
 use Rattle.typed_tree.specs.declared.tree.Passed.{Passed}
 use Rattle.typed_tree.specs.declared.tree.Link.{Link}
 use Rattle.typed_tree.specs.declared.tree.Stmt.{Stmt}
-use Rattle.typed_tree.specs.declared.tree.Expr.TheOpen.{Expr-F, Passed-F, Link-F}
+use Rattle.typed_tree.specs.declared.tree.Expr.TheOpen.{Expr-F, Passed-F}
 use Rattle.typed_tree.specs.declared.tree.Expr.TheOpen.Expr-F.{Constant, Variable, Compare, Call as CallOf}
 use Rattle.typed_tree.specs.declared.tree.Expr.TheOpen.Passed-F.{Value as PassedValue, Reference}
-use Rattle.typed_tree.specs.declared.tree.Expr.TheViews.{roll-Expr, roll-Passed, roll-Link}
+use Rattle.typed_tree.specs.declared.tree.Expr.TheViews.{roll-Expr, roll-Passed}
 use Rattle.typed_tree.specs.declared.tree.Expr.TheFolds.{fold-Link, map-Expr, map-Passed, fold-roll-Expr, fold-roll-Passed}
 use Rattle.typed_tree.specs.declared.tree.Stmt.TheOpen.{Stmt-F}
 use Rattle.typed_tree.specs.declared.tree.Stmt.TheOpen.Stmt-F.{Assign, Write, Compound, Call as Calling}
 use Rattle.typed_tree.specs.declared.tree.Stmt.TheViews.{roll-Stmt}
 use Rattle.typed_tree.specs.declared.tree.Stmt.TheFolds.{map-Stmt, fold-roll-Stmt}
-use Rattle.code_scheme.specs.Scopes.{Scope, homes_of, parameter_cells, other_cells}
+use Rattle.code_scheme.specs.Scopes.{Scope, homes_of}
 use Rattle.code_scheme.specs.Code.{Placed, expr_code, expr_step, link_code, link_step, parameter_code, passed_code, passed_step, placed, program_code}
-use Rattle.code_scheme.specs.Code.{routines_of, stmt_code, stmt_step}
+use Rattle.code_scheme.specs.Code.{stmt_code, stmt_step}
 use Rattle.code_scheme.specs.Depth.{PassedDepth, expr_depth, expr_depth_step, link_depth, link_depth_step, parameter_depth, passed_depth, passed_depth_step}
 use Rattle.code_scheme.specs.Depth.{stmt_depth, stmt_depth_step}
 use Rattle.code_scheme.specs.Need.{block_need, expr_need, expr_need_step, link_need_step, living_need, parameter_need, passed_need, passed_need_step}

@@ -1,7 +1,7 @@
 -- Frames as their variables are counted one by one, and where each variable lies.
-use Rattle.std.proofs.Common.{◌≡◌, ℕ, ◌+◌, ◌-◌, ◌<◌, ◌≤◌, Bool, true, false, ◌&&◌, nat_eq, List, [], ◌∷◌, ◌++◌, Some, None, if◌then◌else◌, drop, get_or, length, take}
+use Rattle.std.proofs.Common.{◌≡◌, ℕ, ◌+◌, ◌-◌, ◌<◌, ◌≤◌, Bool, true, false, ◌&&◌, nat_eq, List, [], ◌∷◌, ◌++◌, if◌then◌else◌, drop, get_or, length, take}
 use Rattle.std.proofs.Common.{refl, ap, sym, subst, ◌∙◌, append_assoc, arith}
-use Rattle.std.specs.Prelude.{filter, not, slice_get, slice_set, sum_by, suc, zero}
+use Rattle.std.specs.Prelude.{filter, not, slice_set, sum_by, suc, zero}
 use Rattle.std.proofs.lemmas.List.Sums.{sum_by-cons}
 use Rattle.std.proofs.lemmas.Bool.{eqb-true, eqb-false}
 use Rattle.std.proofs.lemmas.List.{drop_more}
@@ -180,7 +180,7 @@ one_home tree homes pushed before seen all items i d home start inside same here
     let rest = drop (i + 1) items in
     let counts = subst (λ vs. AreCounted tree.types (take i vs) before) same here in
     let at = is
-    ∙ ap (λ n. record { level = block_level tree v.block; start = n; refers = is_variable_kind v.kind }) 
+    ∙ ap (λ n. record { level = block_level tree v.block; start = n; refers = is_variable_kind v.kind })
     (begins ∙ ap (λ fs. start_with fs all v) saw ∙ start_counted tree before all i v counts there) in
     ap (λ hs. hs ++ homes_from tree (i + 1) rest) grown
     ∙ append_assoc homes (home ∷ []) (homes_from tree (i + 1) rest)

@@ -1,7 +1,7 @@
 -- How long code is rests on no more than which variables are variable parameters: not on where they lie, nor on places.
 use Rattle.std.proofs.Common.{◌≡◌, ℕ, ◌+◌, Bool, true, false, List, [], ◌∷◌, ◌++◌, length, length-append, map, Option, Some, None, if◌then◌else◌, refl, ap, sym, subst, ◌∙◌}
 use Rattle.std.proofs.Common.{arith}
-use Rattle.std.specs.Prelude.{ℤ, ◌*◌, pos, suc, zero}
+use Rattle.std.specs.Prelude.{ℤ, pos, suc, zero}
 use Rattle.std.specs.List.{flat_map}
 use Rattle.std.specs.Global.{Vec}
 use Rattle.std.proofs.lemmas.List.Sums.{sum_by-cons}
@@ -39,12 +39,12 @@ use Rattle.typed_tree.specs.WellFormed.{length_of}
 use Rattle.code_scheme.specs.declared.routine.Routine.{Routine}
 use Rattle.code_scheme.specs.Scopes.{Scope, behind_fields, block_scope, called_routine, holding, row_length, selectors_from, variable_home}
 use Rattle.code_scheme.specs.Code.{At, By, Reached, address_code, address_of, assign_code, block_code, blocks_code, call_code, compare_code, copy_code}
-use Rattle.code_scheme.specs.Code.{default_width, dyadic_code, check_positive, end_code, expr_code, expr_step, fetch_code, field_code, index_codes, joined}
+use Rattle.code_scheme.specs.Code.{dyadic_code, check_positive, end_code, expr_code, expr_step, fetch_code, field_code, index_codes, joined}
 use Rattle.code_scheme.specs.Code.{line_end_code, link_code, link_step, monadic_code, parameter_code, passed_code, passed_step, range_check, reached, reached_from}
 use Rattle.code_scheme.specs.Code.{relation_instr, selectors_code, store_code, stmt_code, variable_code, whole_code, width_code, write_code, write_instr}
 use Rattle.code_scheme.specs.Code.{written_code}
 use Rattle.code_scheme.specs.Sizes.{Measured, all_sizes, arms_size, is_at, measured, measured_step}
-use Rattle.code_scheme.proofs.Measures.{in_block, is_measured, length-block}
+use Rattle.code_scheme.proofs.Measures.{is_measured, length-block}
 use Rattle.code_scheme.proofs.Selectors.{length-address}
 
 -- pieces of code that are as long as others, one by one

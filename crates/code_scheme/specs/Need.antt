@@ -1,7 +1,7 @@
 -- How many cells an activation of a block may need at most; a store with as many as those together that last is never
 -- full: 8, the cells of its variables and its result, 1 and the cells of each parameter, and 8 and the cells of its
 -- value for each statement and each expression of the block. It does not say how many a frame takes, which is no more.
-use Rattle.std.specs.Prelude.{ℕ, ◌+◌, ◌&&◌, Bool, List, Option, Some, None, if◌then◌else◌, map, nat_eq, sum, sum_by}
+use Rattle.std.specs.Prelude.{ℕ, ◌+◌, List, Option, Some, None, if◌then◌else◌, map, sum, sum_by}
 use Rattle.std.specs.Prelude.{slice_get}
 use Rattle.std.specs.declared.alloc.Global.{Global}
 use Rattle.std.specs.declared.boxed.Box.{Box}

@@ -1,14 +1,13 @@
 -- Where the cells of a block's frame lie: behind its four links those of its parameters, then those of its other
 -- variables, each as many as the type of the variable takes, and above them what is held while its statements run. A
 -- variable parameter has one cell, with the address at which its actual one lies. It does not say what the others hold.
-use Rattle.std.specs.Prelude.{ℕ, zero, suc, ◌+◌, ◌-◌, ◌&&◌, min, Bool, true, false, List, [], ◌∷◌, Option, Some, None}
-use Rattle.std.specs.Prelude.{filter, if◌then◌else◌, length, map, nat_eq, not, slice_get, sum_by, take}
+use Rattle.std.specs.Prelude.{ℕ, suc, ◌+◌, ◌-◌, ◌&&◌, min, Bool, true, false, List, [], ◌∷◌, Option, Some, None}
+use Rattle.std.specs.Prelude.{filter, if◌then◌else◌, length, nat_eq, not, slice_get, sum_by, take}
 use Rattle.types.specs.Forms.{Form}
 use Rattle.types.specs.Types.{cells_of}
 use Rattle.typed_tree.specs.declared.tree.Tree.{Tree}
 use Rattle.typed_tree.specs.declared.tree.Access.{Access}
 use Rattle.typed_tree.specs.declared.tree.Block.{Block}
-use Rattle.typed_tree.specs.declared.tree.Heading.{Heading}
 use Rattle.typed_tree.specs.declared.tree.Selector.{Selector}
 use Rattle.typed_tree.specs.declared.tree.Selector.TheVariants.{Field}
 use Rattle.typed_tree.specs.declared.tree.Variable.{Variable}

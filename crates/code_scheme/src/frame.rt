@@ -81,7 +81,9 @@ fn start_in(before: &[Frame], all: &[Frame], variable: Variable) -> u32
     let cells = match variable.kind {
         VariableKind::ValueParameter | VariableKind::VariableParameter => before.parameters,
         VariableKind::Local | VariableKind::Result => {
-            frame_at(all, block).parameters.saturating_add(before.others)
+            frame_at(all, block)
+                .parameters
+                .saturating_add(before.others)
         }
     };
     cells.saturating_add(LINKS).min(GREATEST_OFFSET)
@@ -90,9 +92,9 @@ fn start_in(before: &[Frame], all: &[Frame], variable: Variable) -> u32
 /// Where a variable lies that begins here in the frame of its block.
 fn home_at(tree: &Tree, variable: Variable, start: u32) -> Home
     ensures { result ≡ record {
-        level = block_level tree.now variable.block;
-        start = start;
-        refers = is_variable_kind variable.kind;
+      level = block_level tree.now variable.block;
+      start = start;
+      refers = is_variable_kind variable.kind;
     } }
 {
     Home {

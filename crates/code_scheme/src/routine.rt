@@ -43,9 +43,9 @@ pub fn routines(alloc: Global, tree: &Tree, frames: &[Frame]) -> Result<Vec<Rout
 /// The routine whose block has this number, and whose code begins at this place.
 fn routine_at(tree: &Tree, frames: &[Frame], number: usize, place: u32) -> Routine
     ensures { result ≡ record {
-        level = block_level tree.now number - 1;
-        cells = count (frame_in frames.now number).parameters;
-        place = place;
+      level = block_level tree.now number - 1;
+      cells = count (frame_in frames.now number).parameters;
+      place = place;
     } }
 {
     Routine {

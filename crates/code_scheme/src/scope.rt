@@ -41,11 +41,11 @@ impl<'s> Model for Scope<'s> {
     ghost Value = { Scope };
 
     ghost view = { λ s. record {
-        homes = s.homes.now;
-        routines = s.routines.now;
-        level = s.level;
-        above = s.above;
-        height = s.height;
+      homes = s.homes.now;
+      routines = s.routines.now;
+      level = s.level;
+      above = s.above;
+      height = s.height;
     } };
 }
 
@@ -62,11 +62,11 @@ impl<'s> Scope<'s> {
     ) -> Scope<'s>
         requires { cells ≤ 33554432 }
         ensures { result ≡ record {
-            homes = homes.now;
-            routines = routines.now;
-            level = level;
-            above = 4 + cells;
-            height = 0;
+          homes = homes.now;
+          routines = routines.now;
+          level = level;
+          above = 4 + cells;
+          height = 0;
         } }
     {
         Scope {

@@ -73,7 +73,13 @@ fn stmt_size(variables: &[Variable], stmt: &Stmt) -> u32
             value,
             value_indexes,
             ..
-        } => copy_size(variables, target, indexes.as_slice(), value, value_indexes.as_slice()),
+        } => copy_size(
+            variables,
+            target,
+            indexes.as_slice(),
+            value,
+            value_indexes.as_slice(),
+        ),
         Stmt::Write {
             parameters,
             ends_line,
@@ -163,7 +169,11 @@ pub fn measure(sizes: &mut Vec<u32>, variables: &[Variable], stmt: &Stmt) -> Res
 
 /// The same of the statements in it alone.
 #[cycle(measure)]
-fn measure_parts(sizes: &mut Vec<u32>, variables: &[Variable], stmt: &Stmt) -> Result<u32, AllocError>
+fn measure_parts(
+    sizes: &mut Vec<u32>,
+    variables: &[Variable],
+    stmt: &Stmt,
+) -> Result<u32, AllocError>
     ensures { (scope : Scope) → IsScopeOf variables.now scope →
         IsTold result sizes.old.items sizes.new.items (measured stmt.now scope) (measured stmt.now scope).inner }
 {
@@ -181,7 +191,13 @@ fn measure_parts(sizes: &mut Vec<u32>, variables: &[Variable], stmt: &Stmt) -> R
             value,
             value_indexes,
             ..
-        } => Ok(copy_size(variables, target, indexes.as_slice(), value, value_indexes.as_slice())),
+        } => Ok(copy_size(
+            variables,
+            target,
+            indexes.as_slice(),
+            value,
+            value_indexes.as_slice(),
+        )),
         Stmt::Write {
             parameters,
             ends_line,
@@ -195,7 +211,11 @@ fn measure_parts(sizes: &mut Vec<u32>, variables: &[Variable], stmt: &Stmt) -> R
             alternative,
             ..
         } => {
-            let size = if_size(variables, condition, measure(sizes, variables, consequence)?);
+            let size = if_size(
+                variables,
+                condition,
+                measure(sizes, variables, consequence)?,
+            );
             match alternative {
                 None => Ok(size),
                 Some(alternative) => Ok(with_else(size, measure(sizes, variables, alternative)?)),
@@ -210,7 +230,11 @@ fn measure_parts(sizes: &mut Vec<u32>, variables: &[Variable], stmt: &Stmt) -> R
             statements,
             condition,
             ..
-        } => Ok(repeat_size(variables, measure_statements(sizes, variables, statements)?, condition)),
+        } => Ok(repeat_size(
+            variables,
+            measure_statements(sizes, variables, statements)?,
+            condition,
+        )),
         Stmt::For {
             first,
             last,
@@ -222,13 +246,21 @@ fn measure_parts(sizes: &mut Vec<u32>, variables: &[Variable], stmt: &Stmt) -> R
             constants,
             arms,
             ..
-        } => Ok(case_size(variables, index, measure_arms(sizes, variables, constants, arms)?)),
+        } => Ok(case_size(
+            variables,
+            index,
+            measure_arms(sizes, variables, constants, arms)?,
+        )),
     }
 }
 
 /// The same of some statements, and answers their sizes together.
 #[cycle(measure)]
-fn measure_statements(sizes: &mut Vec<u32>, variables: &[Variable], statements: &Vec<Stmt>) -> Result<u32, AllocError>
+fn measure_statements(
+    sizes: &mut Vec<u32>,
+    variables: &[Variable],
+    statements: &Vec<Stmt>,
+) -> Result<u32, AllocError>
     ensures { (scope : Scope) → IsScopeOf variables.now scope → AreTold result sizes.old.items sizes.new.items
         (map (λ s. measured s scope) statements.now.items) }
 {
@@ -241,7 +273,9 @@ fn measure_statements(sizes: &mut Vec<u32>, variables: &[Variable], statements: 
 
 /// The same of the arms of a case statement behind their rows of constants.
 #[cycle(measure)]
-fn measure_arms(sizes: &mut Vec<u32>, variables: &[Variable],
+fn measure_arms(
+    sizes: &mut Vec<u32>,
+    variables: &[Variable],
     constants: &Vec<Vec<i32>>,
     arms: &Vec<Stmt>,
 ) -> Result<u32, AllocError>
@@ -272,7 +306,13 @@ fn assign_size(variables: &[Variable], target: &Access, indexes: &[Expr], value:
 }
 
 /// The same of an assignment of a whole value.
-fn copy_size(variables: &[Variable], target: &Access, indexes: &[Expr], value: &Whole, value_indexes: &[Expr]) -> u32
+fn copy_size(
+    variables: &[Variable],
+    target: &Access,
+    indexes: &[Expr],
+    value: &Whole,
+    value_indexes: &[Expr],
+) -> u32
     ensures { (scope : Scope) → IsScopeOf variables.now scope →
         result ≡ capped (length (copy_code scope target.now indexes.now value.now value_indexes.now)) }
 {
@@ -334,7 +374,9 @@ fn for_size(variables: &[Variable], first: &Expr, last: &Expr, body: u32) -> u32
 fn case_size(variables: &[Variable], index: &Expr, arms: u32) -> u32
     ensures { (scope : Scope) → IsScopeOf variables.now scope → result ≡ capped (length (expr_code scope index.now) + arms + 2) }
 {
-    expr_size(variables, index).saturating_add(arms).saturating_add(2)
+    expr_size(variables, index)
+        .saturating_add(arms)
+        .saturating_add(2)
 }
 
 /// The same of an arm of one behind its row of constants, which has so many by itself.
@@ -491,7 +533,9 @@ fn whole_size(variables: &[Variable], value: &Whole, indexes: &[Expr]) -> u32
 {
     match value {
         Whole::Text { characters, .. } => u32::try_from(characters.len()).unwrap_or(u32::MAX),
-        Whole::Variable { access, .. } => address_size(variables, access, indexes).saturating_add(2),
+        Whole::Variable { access, .. } => address_size(variables, access, indexes).saturating_add(
+            2,
+        ),
     }
 }
 

@@ -11,7 +11,7 @@ loop-variable-preserved c =
     let items = c.deref-variable-items.result.now in
     let i = c.loop-variable.variable-index in (
       subst (λ vs. AreCounted tree.types vs c.count_in.new.frames.items) (sym (take_more items i _ c.loop-variable-test.true))
-      (c.in_ok-count_in.ensures (take i items) c.loop-variable.invariant.0),
+          (c.in_ok-count_in.ensures (take i items) c.loop-variable.invariant.0),
       λ all.
           one_home tree c.loop-variable.homes.items c.push.new.self.items c.loop-variable.before.items c.deref.result.now c.args.frames.now items i _
           c.home_at.result c.start_in-start.result c.loop-variable-test.true c.deref-variable-items.ensures.value c.loop-variable.invariant.0 all

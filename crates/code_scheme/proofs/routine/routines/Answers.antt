@@ -1,10 +1,10 @@
 use Rattle.std.proofs.Common.{◌≡◌, ◌+◌, ◌-◌, ◌∷◌, ◌++◌, [], drop, length, ap, sym, subst, ◌∙◌, append-nil, refl, arith}
 use Rattle.std.proofs.lemmas.List.{drop_all, drop_more}
-use Rattle.code_scheme.specs.Code.{block_code, blocks_code, routine_at, routines_from, routines_of}
+use Rattle.code_scheme.specs.Code.{block_code, blocks_code, routines_from, routines_of}
 use Rattle.code_scheme.specs.declared.frame.Frame.{Frame}
 use Rattle.code_scheme.specs.Frames.{frame_at}
 use Rattle.code_scheme.specs.Scopes.{block_level, block_scope, count, parameter_cells}
-use Rattle.code_scheme.specs.Sizes.{IsScopeOf, capped}
+use Rattle.code_scheme.specs.Sizes.{IsScopeOf}
 use Rattle.code_scheme.proofs.Lengths.{length-blocks, same_blocks}
 use Rattle.code_scheme.proofs.Measures.{in_block}
 use Rattle.code_scheme.proofs.Routines.{one_routine}
@@ -49,8 +49,8 @@ loop-block-preserved c =
           ∙ ap (λ k. record { level = block_level tree n - 1; cells = k; place = place }) cells in (
             omega (arith, so_far.0, further, split, same),
             one_routine tree c.loop-block.routines.items c.push.new.self.items n place c.saturating_add-place.result block rest c.routine_at-routine.result
-            routine c.in_ok-push.ensures.items further
-            (sym (ap (λ bs. c.loop-block.routines.items ++ routines_from tree [] n bs place) next) ∙ so_far.1),
+                routine c.in_ok-push.ensures.items further
+                (sym (ap (λ bs. c.loop-block.routines.items ++ routines_from tree [] n bs place) next) ∙ so_far.1),
           ),
     )
 
