@@ -1,10 +1,10 @@
 -- Code that reaches what is accessed, as it is emitted.
-use Rattle.std.proofs.Common.{◌≡◌, ℕ, Bool, true, false, List, [], ◌∷◌, ◌++◌, Option, Some, None, if◌then◌else◌, refl, ap, sym, ◌∙◌}
+use Rattle.std.proofs.Common.{◌≡◌, ℕ, Bool, true, false, List, [], ◌∷◌, ◌++◌, Some, None, if◌then◌else◌, refl, ap, sym}
 use Rattle.pcode_assembler.specs.declared.instr.Instr.{Instr}
 use Rattle.pcode_assembler.specs.declared.instr.Instr.TheVariants as instr
 use Rattle.typed_tree.specs.declared.tree.Access.{Access}
 use Rattle.typed_tree.specs.declared.tree.Selector.{Selector}
-use Rattle.code_scheme.specs.Code.{At, By, Reached, address_code, address_of, fetch_code, reached, reached_from, selectors_code, store_code}
+use Rattle.code_scheme.specs.Code.{At, By, Reached, address_code, address_of, fetch_code, reached_from, selectors_code, store_code}
 use Rattle.code_scheme.specs.Scopes.{Scope, access_offset, behind_fields, links_to, selectors_from, variable_home}
 use Rattle.code_emitter.specs.declared.access.Cell.{Cell}
 use Rattle.code_emitter.specs.Reaching.{address_instr, cell_of}

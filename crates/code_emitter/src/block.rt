@@ -30,7 +30,8 @@ pub fn emit_block(
     block: &Block,
 ) -> Result<(), AllocError>
     ensures { (tree : TypedTree) → IsScopeOf variables.now scope.now → others ≡ count (other_cells tree number)
-        → length code.old.items + length (block_code tree number block.now scope.now (length code.old.items)) ≤ 4294967295
+        → length code.old.items + length (block_code tree number block.now scope.now (length code.old.items))
+        ≤ 4294967295
         → OnOk result (
         code.new.items ≡ code.old.items ++ block_code tree number block.now scope.now (length code.old.items)) }
 {

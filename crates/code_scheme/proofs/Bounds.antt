@@ -1,5 +1,6 @@
 -- Each instruction of a program's code is in bounds.
-use Rattle.std.proofs.Common.{◌≡◌, ℕ, ◌+◌, ◌-◌, min, Bool, true, false, ◌&&◌, nat_le, List, [], ◌∷◌, ◌++◌, length, map, Option, Some, None, if◌then◌else◌, refl, ap, sym, subst}
+use Rattle.std.proofs.Common.{◌≡◌, ℕ, ◌+◌, ◌-◌, min, Bool, true, false, ◌&&◌, nat_le, List, [], ◌∷◌, ◌++◌, length, map, Option, Some, None}
+use Rattle.std.proofs.Common.{if◌then◌else◌, refl, ap, sym, subst}
 use Rattle.std.proofs.Common.{◌∙◌}
 use Rattle.std.specs.Prelude.{slice_get, pos, ℤ, zero, suc}
 use Rattle.std.specs.Global.{Vec}
@@ -159,7 +160,8 @@ from_in : (level start : ℕ) (selectors : List Selector) (codes : List Instrs) 
     → ReachedIn (reached_from level start selectors (map (λ p. p.0) codes))
 from_in level start [] codes near inside = (near, inside)
 from_in level start (selector ∷ selectors) codes near inside =
-    (one_more (instr.LoadAddress level start) (selectors_code (selector ∷ selectors) (map (λ p. p.0) codes)) (both _ _ near inside) (record { all = selectors_in_bounds (selector ∷ selectors) codes })).all
+    (one_more (instr.LoadAddress level start) (selectors_code (selector ∷ selectors) (map (λ p. p.0) codes)) (both _ _ near inside)
+    (record { all = selectors_in_bounds (selector ∷ selectors) codes })).all
 
 any_in : (refers : Bool) (level start place : ℕ) (selectors : List Selector) (codes : List Instrs) → is_level level ≡ true → is_offset start ≡ true
     → is_offset place ≡ true → ReachedIn (if refers then By (instr.Load level start ∷ selectors_code selectors (map (λ p. p.0) codes)) else
@@ -285,7 +287,8 @@ module _ (scope : Scope) (homes : HomesIn scope) where
       (compare_in_bounds r (length_of left) (whole_code scope left (map (expr_code scope) (map (λ (e : ProvedExpr). e.0) left_indexes.items)))
       (whole_code scope right (map (expr_code scope) (map (λ (e : ProvedExpr). e.0) right_indexes.items)))
       (subst (λ codes. InBounds (whole_code scope left codes)) (bare_codes left_indexes.items) (whole_in_bounds scope homes left (coded left_indexes.items)))
-      (subst (λ codes. InBounds (whole_code scope right codes)) (bare_codes right_indexes.items) (whole_in_bounds scope homes right (coded right_indexes.items))))
+      (subst (λ codes. InBounds (whole_code scope right codes)) (bare_codes right_indexes.items)
+      (whole_in_bounds scope homes right (coded right_indexes.items))))
   expr_layer (CallOf call actuals) =
       rolled_expr (bare_expr (CallOf call actuals))
       (call_in_bounds call (map (passed_code scope) (map (λ (p : ProvedPassed). p.0) actuals.items)) (actuals_in_bounds actuals.items))

@@ -99,11 +99,15 @@ whole_within (VariableOf access type_id cells defined) indexes = omega (arith, a
 
 rolled_expr : (x : Expr-F Expr Passed Link) → expr_depth_step (map-Expr Expr Passed Link ℕ PassedDepth ℕ expr_depth passed_depth link_depth x) ≤ expr_need_step
     (map-Expr Expr Passed Link ℕ ℕ ℕ expr_need passed_need link_need x) → ExprWithin (roll-Expr x)
-rolled_expr x = same_within _ _ _ _ (fold-roll-Expr ℕ PassedDepth ℕ expr_depth_step passed_depth_step link_depth_step x) (fold-roll-Expr ℕ ℕ ℕ expr_need_step passed_need_step link_need_step x)
+rolled_expr x =
+    same_within _ _ _ _ (fold-roll-Expr ℕ PassedDepth ℕ expr_depth_step passed_depth_step link_depth_step x)
+    (fold-roll-Expr ℕ ℕ ℕ expr_need_step passed_need_step link_need_step x)
 
 rolled_link : (x : Link-F Expr Passed Link) → link_depth_step (map-Link Expr Passed Link ℕ PassedDepth ℕ expr_depth passed_depth link_depth x) ≤ link_need_step
     (map-Link Expr Passed Link ℕ ℕ ℕ expr_need passed_need link_need x) → LinkWithin (roll-Link x)
-rolled_link x = same_within _ _ _ _ (fold-roll-Link ℕ PassedDepth ℕ expr_depth_step passed_depth_step link_depth_step x) (fold-roll-Link ℕ ℕ ℕ expr_need_step passed_need_step link_need_step x)
+rolled_link x =
+    same_within _ _ _ _ (fold-roll-Link ℕ PassedDepth ℕ expr_depth_step passed_depth_step link_depth_step x)
+    (fold-roll-Link ℕ ℕ ℕ expr_need_step passed_need_step link_need_step x)
 
 -- an operation on one operand needs two cells at most
 monadic_within : (operation : Monadic) → monadic_depth operation ≤ 2
@@ -143,7 +147,8 @@ held_within : (held : ℕ) (depths : List PassedDepth) → held ≤ actuals_dept
 held_within held [] = omega arith
 held_within held (d ∷ depths) = omega (arith, held_within (held + d.cells) depths)
 
-one_of : (x : Expr-F Expr Passed Link) → 1 ≤ expr_depth_step (map-Expr Expr Passed Link ℕ PassedDepth ℕ expr_depth passed_depth link_depth x) → NeedsOne (roll-Expr x)
+one_of : (x : Expr-F Expr Passed Link) → 1 ≤ expr_depth_step (map-Expr Expr Passed Link ℕ PassedDepth ℕ expr_depth passed_depth link_depth x)
+    → NeedsOne (roll-Expr x)
 one_of x h = subst (λ n. 1 ≤ n) (sym (fold-roll-Expr ℕ PassedDepth ℕ expr_depth_step passed_depth_step link_depth_step x)) h
 
 one_layer : (y : Expr-F HereNeedsOne PassedHere LinkHere) → NeedsOne (roll-Expr (bare_one y))
@@ -165,7 +170,8 @@ link_one : (y : Link-F HereNeedsOne PassedHere LinkHere)
     → LinkNeedsOne (roll-Link (map-Link HereNeedsOne PassedHere LinkHere Expr Passed Link (λ e. e.0) (λ p. p.0) (λ l. l.0) y))
 link_one y =
     subst (λ n. 1 ≤ n)
-    (sym (fold-roll-Link ℕ PassedDepth ℕ expr_depth_step passed_depth_step link_depth_step (map-Link HereNeedsOne PassedHere LinkHere Expr Passed Link (λ e. e.0) (λ p. p.0) (λ l. l.0) y))) (omega arith)
+    (sym (fold-roll-Link ℕ PassedDepth ℕ expr_depth_step passed_depth_step link_depth_step
+    (map-Link HereNeedsOne PassedHere LinkHere Expr Passed Link (λ e. e.0) (λ p. p.0) (λ l. l.0) y))) (omega arith)
 
 needs_one : (e : Expr) → NeedsOne e
 needs_one =

@@ -12,7 +12,8 @@ use Rattle.typed_tree.specs.WellFormed.{is_parameter_kind, is_variable_kind}
 use Rattle.code_scheme.specs.declared.frame.Frame.{Frame}
 use Rattle.code_scheme.specs.declared.home.Home.{Home}
 use Rattle.code_scheme.specs.Frames.{AreCounted, frame_at, frame_of, no_frame, start_with}
-use Rattle.code_scheme.specs.Scopes.{block_level, cells_where, home_of, homes_from, homes_of, is_other_of, is_parameter_of, offset, parameter_cells, slot_cells, start_of}
+use Rattle.code_scheme.specs.Scopes.{block_level, cells_where, home_of, homes_from, homes_of, is_other_of, is_parameter_of, offset, parameter_cells}
+use Rattle.code_scheme.specs.Scopes.{slot_cells, start_of}
 use Rattle.code_scheme.specs.Sizes.{capped}
 
 -- an empty frame behind others changes none

@@ -1,5 +1,6 @@
 -- How long code is rests on no more than which variables are variable parameters: not on where they lie, nor on places.
-use Rattle.std.proofs.Common.{◌≡◌, ℕ, ◌+◌, Bool, true, false, List, [], ◌∷◌, ◌++◌, length, length-append, map, Option, Some, None, if◌then◌else◌, refl, ap, sym, subst, ◌∙◌}
+use Rattle.std.proofs.Common.{◌≡◌, ℕ, ◌+◌, Bool, true, false, List, [], ◌∷◌, ◌++◌, length, length-append, map, Option, Some, None, if◌then◌else◌}
+use Rattle.std.proofs.Common.{refl, ap, sym, subst, ◌∙◌}
 use Rattle.std.proofs.Common.{arith}
 use Rattle.std.specs.Prelude.{ℤ, pos, suc, zero}
 use Rattle.std.specs.List.{flat_map}
@@ -40,7 +41,8 @@ use Rattle.code_scheme.specs.declared.routine.Routine.{Routine}
 use Rattle.code_scheme.specs.Scopes.{Scope, behind_fields, block_scope, called_routine, holding, row_length, selectors_from, variable_home}
 use Rattle.code_scheme.specs.Code.{At, By, Reached, address_code, address_of, assign_code, block_code, blocks_code, call_code, compare_code, copy_code}
 use Rattle.code_scheme.specs.Code.{dyadic_code, check_positive, end_code, expr_code, expr_step, fetch_code, field_code, index_codes, joined}
-use Rattle.code_scheme.specs.Code.{line_end_code, link_code, link_step, monadic_code, parameter_code, passed_code, passed_step, range_check, reached, reached_from}
+use Rattle.code_scheme.specs.Code.{line_end_code, link_code, link_step, monadic_code, parameter_code, passed_code, passed_step, range_check, reached}
+use Rattle.code_scheme.specs.Code.{reached_from}
 use Rattle.code_scheme.specs.Code.{relation_instr, selectors_code, store_code, stmt_code, variable_code, whole_code, width_code, write_code, write_instr}
 use Rattle.code_scheme.specs.Code.{written_code}
 use Rattle.code_scheme.specs.Sizes.{Measured, all_sizes, arms_size, is_at, measured, measured_step}
@@ -273,7 +275,8 @@ module _ (s t : Scope) (alike : Alike s t) where
   layer (Compare number r left left_indexes right right_indexes) =
       rolled (bare (Compare number r left left_indexes right right_indexes))
       (compare_alike r (length_of left) _ _ _ _
-      (whole_alike left (map (expr_code s) (map (λ (e : HereExpr). e.0) left_indexes.items)) (map (expr_code t) (map (λ (e : HereExpr). e.0) left_indexes.items))
+      (whole_alike left (map (expr_code s) (map (λ (e : HereExpr). e.0) left_indexes.items))
+      (map (expr_code t) (map (λ (e : HereExpr). e.0) left_indexes.items))
       (rows_alike (expr_code s) (expr_code t) left_indexes.items))
       (whole_alike right (map (expr_code s) (map (λ (e : HereExpr). e.0) right_indexes.items))
       (map (expr_code t) (map (λ (e : HereExpr). e.0) right_indexes.items)) (rows_alike (expr_code s) (expr_code t) right_indexes.items)))

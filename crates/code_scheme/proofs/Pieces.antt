@@ -58,7 +58,8 @@ joined-map piece_of (x ∷ xs) = ap (λ rest. piece_of x ++ rest) (joined-map pi
 pub expr_code-Chain : (scope : Scope) (first : Box Expr) (rest : Vec Link)
     → expr_code scope (Chain first rest) ≡ expr_code scope first.value ++ flat_map (link_code scope) rest.items
 expr_code-Chain scope first rest =
-    ap (expr_code scope) (sym (rolls-Chain first rest)) ∙ fold-roll-Expr (List Instr) (List Instr) (List Instr) (expr_step scope) (passed_step scope) link_step (Chain-layer first rest)
+    ap (expr_code scope) (sym (rolls-Chain first rest))
+    ∙ fold-roll-Expr (List Instr) (List Instr) (List Instr) (expr_step scope) (passed_step scope) link_step (Chain-layer first rest)
     ∙ ap (λ p. expr_code scope first.value ++ p) (joined-map (link_code scope) rest.items)
 
 -- the value of a variable or of a component
@@ -74,7 +75,8 @@ pub expr_code-Compare : (scope : Scope) (number : ℕ) (r : Relation) (left : Wh
     (whole_code scope left (index_codes scope left_indexes.items)) (whole_code scope right (index_codes scope right_indexes.items))
 expr_code-Compare scope number r left left_indexes right right_indexes =
     ap (expr_code scope) (sym (rolls-Compare number r left left_indexes right right_indexes))
-    ∙ fold-roll-Expr (List Instr) (List Instr) (List Instr) (expr_step scope) (passed_step scope) link_step (Compare-layer number r left left_indexes right right_indexes)
+    ∙ fold-roll-Expr (List Instr) (List Instr) (List Instr) (expr_step scope) (passed_step scope) link_step
+    (Compare-layer number r left left_indexes right right_indexes)
 
 -- a call of a function
 pub expr_code-Call : (scope : Scope) (call : Call) (actuals : Vec Passed)
@@ -261,7 +263,8 @@ length-Write scope place number name parameters ends_line =
 pub expr_depth-Variable : (access : Access) (indexes : Vec Expr) (defined : ℕ)
     → expr_depth (Variable access indexes defined) ≡ access_depth (index_depths indexes.items)
 expr_depth-Variable access indexes defined =
-    ap expr_depth (sym (rolls-Variable access indexes defined)) ∙ fold-roll-Expr ℕ PassedDepth ℕ expr_depth_step passed_depth_step link_depth_step (Variable-layer access indexes defined)
+    ap expr_depth (sym (rolls-Variable access indexes defined))
+    ∙ fold-roll-Expr ℕ PassedDepth ℕ expr_depth_step passed_depth_step link_depth_step (Variable-layer access indexes defined)
 
 pub expr_depth-Compare : (number : ℕ) (r : Relation) (left : Whole) (left_indexes : Vec Expr) (right : Whole) (right_indexes : Vec Expr)
     → expr_depth (Compare number r left left_indexes right right_indexes) ≡ max (whole_depth left (index_depths left_indexes.items))

@@ -279,7 +279,8 @@ fn measure_arms(
     constants: &Vec<Vec<i32>>,
     arms: &Vec<Stmt>,
 ) -> Result<u32, AllocError>
-    ensures { (scope : Scope) → IsScopeOf variables.now scope → ArmsAreTold result sizes.old.items sizes.new.items constants.now.items
+    ensures { (scope : Scope) → IsScopeOf variables.now scope →
+        ArmsAreTold result sizes.old.items sizes.new.items constants.now.items
         (map (λ s. measured s scope) arms.now.items) }
 {
     let mut rows = constants.as_slice();
@@ -323,14 +324,16 @@ fn copy_size(
 
 /// The same of a write or writeln.
 fn write_size(variables: &[Variable], parameters: &[WriteParameter], ends_line: bool) -> u32
-    ensures { (scope : Scope) → IsScopeOf variables.now scope → result ≡ capped (length (write_code scope parameters.now ends_line)) }
+    ensures { (scope : Scope) → IsScopeOf variables.now scope →
+        result ≡ capped (length (write_code scope parameters.now ends_line)) }
 {
     parameters_size(variables, parameters).saturating_add(line_end_size(ends_line))
 }
 
 /// The same of an if statement without `else`, whose consequence has so many.
 fn if_size(variables: &[Variable], condition: &Expr, consequence: u32) -> u32
-    ensures { (scope : Scope) → IsScopeOf variables.now scope → result ≡ capped (length (expr_code scope condition.now) + 1 + consequence) }
+    ensures { (scope : Scope) → IsScopeOf variables.now scope →
+        result ≡ capped (length (expr_code scope condition.now) + 1 + consequence) }
 {
     expr_size(variables, condition)
         .saturating_add(1)
@@ -346,14 +349,16 @@ fn with_else(size: u32, alternative: u32) -> u32
 
 /// The same of a while statement, whose body has so many.
 fn while_size(variables: &[Variable], condition: &Expr, body: u32) -> u32
-    ensures { (scope : Scope) → IsScopeOf variables.now scope → result ≡ capped (length (expr_code scope condition.now) + 1 + body + 1) }
+    ensures { (scope : Scope) → IsScopeOf variables.now scope →
+        result ≡ capped (length (expr_code scope condition.now) + 1 + body + 1) }
 {
     if_size(variables, condition, body).saturating_add(1)
 }
 
 /// The same of a repeat statement, whose statements have so many.
 fn repeat_size(variables: &[Variable], statements: u32, condition: &Expr) -> u32
-    ensures { (scope : Scope) → IsScopeOf variables.now scope → result ≡ capped (statements + (length (expr_code scope condition.now) + 1)) }
+    ensures { (scope : Scope) → IsScopeOf variables.now scope →
+        result ≡ capped (statements + (length (expr_code scope condition.now) + 1)) }
 {
     statements.saturating_add(expr_size(variables, condition).saturating_add(1))
 }
@@ -372,7 +377,8 @@ fn for_size(variables: &[Variable], first: &Expr, last: &Expr, body: u32) -> u32
 
 /// The same of a case statement, whose arms have so many with their rows of constants.
 fn case_size(variables: &[Variable], index: &Expr, arms: u32) -> u32
-    ensures { (scope : Scope) → IsScopeOf variables.now scope → result ≡ capped (length (expr_code scope index.now) + arms + 2) }
+    ensures { (scope : Scope) → IsScopeOf variables.now scope →
+        result ≡ capped (length (expr_code scope index.now) + arms + 2) }
 {
     expr_size(variables, index)
         .saturating_add(arms)
@@ -399,7 +405,8 @@ pub fn row_size(row: &[i32]) -> u32
 
 /// The same of the values of a write or writeln.
 fn parameters_size(variables: &[Variable], parameters: &[WriteParameter]) -> u32
-    ensures { (scope : Scope) → IsScopeOf variables.now scope → result ≡ capped (length (flat_map (parameter_code scope) parameters.now)) }
+    ensures { (scope : Scope) → IsScopeOf variables.now scope →
+        result ≡ capped (length (flat_map (parameter_code scope) parameters.now)) }
 {
     let mut size = 0u32;
     for parameter in parameters {
@@ -410,7 +417,8 @@ fn parameters_size(variables: &[Variable], parameters: &[WriteParameter]) -> u32
 
 /// The same of a value that is written, and its width.
 fn parameter_size(variables: &[Variable], parameter: &WriteParameter) -> u32
-    ensures { (scope : Scope) → IsScopeOf variables.now scope → result ≡ capped (length (parameter_code scope parameter.now)) }
+    ensures { (scope : Scope) → IsScopeOf variables.now scope →
+        result ≡ capped (length (parameter_code scope parameter.now)) }
 {
     written_size(variables, &parameter.value)
         .saturating_add(width_size(variables, parameter))
@@ -419,7 +427,8 @@ fn parameter_size(variables: &[Variable], parameter: &WriteParameter) -> u32
 
 /// The same of the value alone.
 fn written_size(variables: &[Variable], value: &Written) -> u32
-    ensures { (scope : Scope) → IsScopeOf variables.now scope → result ≡ capped (length (written_code scope value.now)) }
+    ensures { (scope : Scope) → IsScopeOf variables.now scope →
+        result ≡ capped (length (written_code scope value.now)) }
 {
     match value {
         Written::Ordinal { value, .. } => expr_size(variables, value),

@@ -1,6 +1,7 @@
 use Rattle.std.proofs.Common.{◌≡◌, max, ap, sym, ◌∙◌, map, arith}
 use Rattle.std.proofs.lemmas.List.{drop_all, take_all}
-use Rattle.code_scheme.specs.Depth.{access_depth, arms_depth, call_depth, expr_depth, greatest, index_depths, parameter_depth, passed_depth, stmt_depth, store_depth, whole_depth}
+use Rattle.code_scheme.specs.Depth.{access_depth, arms_depth, call_depth, expr_depth, greatest, index_depths, parameter_depth, passed_depth}
+use Rattle.code_scheme.specs.Depth.{stmt_depth, store_depth, whole_depth}
 use Rattle.code_scheme.specs.Sizes.{capped}
 use Rattle.code_scheme.proofs.Pieces.{stmt_depth-Assign, stmt_depth-Call, stmt_depth-Copy, stmt_depth-Write, greatest_one_more, arms_depth-none}
 use Rattle.code_scheme.proofs.depth.+needed_by.Goals as goal

@@ -19,7 +19,8 @@ address_size-returns t c = λ scope h.
     let access = c.args.access.now in
     let codes = index_codes scope c.args.indexes.now in
     let from = c.selectors_from-selectors.ensures ∙ ap (selectors_from c.refers-refers.result) c.as_slice.ensures.value in
-    let long = length-address scope access codes c.refers-refers.result c.selectors_from-selectors.result.now (h access.root ∙ sym c.refers-refers.ensures) from in
+    let long = length-address scope access codes c.refers-refers.result c.selectors_from-selectors.result.now
+    (h access.root ∙ sym c.refers-refers.ensures) from in
     omega (arith, long, c.selectors_size.ensures scope h, c.saturating_add.ensures)
 
 pub variable_size-returns-then-lies_in_frame : goal.variable_size-returns-then-lies_in_frame

@@ -12,7 +12,8 @@ invariant-expr_size-loop-link l = (scope : Scope) (first : ℕ) → IsScopeOf l.
 abbrev pub invariant-selectors_size-loop-selector : goal.invariant-selectors_size-loop-selector
 invariant-selectors_size-loop-selector l =
     (l.size ≤ 4294967295) × (l.next ≤ length l.indexes)
-    × ((scope : Scope) → IsScopeOf l.variables scope → capped (l.size + length (selectors_code (drop l.selector-index l.selectors) (index_codes scope (drop l.next l.indexes))))
+    × ((scope : Scope) → IsScopeOf l.variables scope
+    → capped (l.size + length (selectors_code (drop l.selector-index l.selectors) (index_codes scope (drop l.next l.indexes))))
     ≡ capped (length (selectors_code l.selectors (index_codes scope l.indexes))))
 
 abbrev pub invariant-call_size-loop-actual : goal.invariant-call_size-loop-actual

@@ -5,7 +5,8 @@ use Rattle.code_scheme.proofs.size.+measure.Given as goal
 
 abbrev pub invariant-measure_statements-loop-statement : goal.invariant-measure_statements-loop-statement
 invariant-measure_statements-loop-statement l =
-    (scope : Scope) → IsScopeOf l.variables scope → (l.size ≡ capped (all_sizes (map (λ s. measured s scope) (take l.statement-index l.statement-items)))) × (l.sizes.items ≡
+    (scope : Scope) → IsScopeOf l.variables scope
+    → (l.size ≡ capped (all_sizes (map (λ s. measured s scope) (take l.statement-index l.statement-items)))) × (l.sizes.items ≡
     l.initial.sizes.items ++ all_tables (map (λ s. measured s scope) (take l.statement-index l.statement-items)))
 
 abbrev pub invariant-measure_arms-loop-arm : goal.invariant-measure_arms-loop-arm
