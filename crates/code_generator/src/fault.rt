@@ -9,7 +9,7 @@ use thiserror::Error;
 pub enum GenFault {
     #[error("no memory")]
     Memory,
-    /// G1: over 1,000,000 instructions, or a first frame of over 16,777,216 cells, which no program text has.
+    /// G1: over 1,000,000 instructions, or a block whose frame has over 16,777,216 cells, which no program text has.
     #[error("over 1000000 instructions")]
     TooLarge,
 }
