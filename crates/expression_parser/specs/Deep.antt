@@ -10,9 +10,11 @@ use Rattle.lexer.specs.declared.token.Token.{Token}
 use Rattle.token_cursor.specs.declared.fault.ParseFault.{ParseFault}
 use Rattle.token_cursor.specs.declared.fault.ParseFault.TheVariants.{TooDeep}
 
--- how many levels a token of this kind opens: `begin`, `if`, `while`, `repeat`, `for`, `case`, `array`, `record`,
--- `not`, the opening parenthesis and the opening bracket open one
+-- how many levels a token of this kind opens: `procedure`, `function`, `begin`, `if`, `while`, `repeat`, `for`, `case`,
+-- `array`, `record`, `not`, the opening parenthesis and the opening bracket open one
 abbrev pub opens : Kind → ℕ
+opens (kind.Word word.Procedure) = 1
+opens (kind.Word word.Function) = 1
 opens (kind.Word word.Begin) = 1
 opens (kind.Word word.If) = 1
 opens (kind.Word word.While) = 1

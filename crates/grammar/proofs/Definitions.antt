@@ -13,7 +13,8 @@ use Rattle.syntax_tree.specs.declared.ConstantDefinition.{ConstantDefinition}
 use Rattle.grammar.specs.Spelling.{Reads, of_kind_at, mark, word_symbol, identifier, joined, constant_spelling, definition_spelling}
 use Rattle.grammar.specs.WellFormed.{is_constant, is_definition}
 use Rattle.grammar.specs.Begins.{BeginsConstant, BeginsDefinition, BeginsDefinitions, BeginsConstantPart}
-use Rattle.grammar.specs.Following.{next_kind, NoNext, Next, EndsConstants, type_part, no_types, EndsTypes, variable_part, statement_part}
+use Rattle.grammar.specs.Following.{next_kind, NoNext, Next, EndsConstants, type_part, no_types, EndsTypes, variable_part, no_variables, EndsVariables}
+use Rattle.grammar.specs.Following.{routine_part, statement_part, procedure, function}
 use Rattle.grammar.proofs.Lists.{and_left, and_right}
 use Rattle.grammar.proofs.Rows.{parted, begins, same_first}
 use Rattle.grammar.proofs.Reading.{reads_fewer}
@@ -115,24 +116,33 @@ definitions_end start a left none definitions others h ends =
 
 -- ---- the part of a block
 
--- what doesn't come next behind the types
-pub types_end_with : (a : List Token) (k : Kind) → ¬ (Some (kind.Word word.Var) ≡ Some k) → ¬ (Some (kind.Word word.Begin) ≡ Some k) → EndsTypes a → NoNext k a
-types_end_with a k var begin (variable_part h) e = var (sym h ∙ e)
-types_end_with a k var begin (statement_part h) e = begin (sym h ∙ e)
+-- what doesn't come next behind the variables
+pub variables_end_with : (a : List Token) (k : Kind) → ¬ (Some (kind.Word word.Procedure) ≡ Some k) → ¬ (Some (kind.Word word.Function) ≡ Some k)
+    → ¬ (Some (kind.Word word.Begin) ≡ Some k) → EndsVariables a → NoNext k a
+variables_end_with a k proc func begin (routine_part (procedure h)) e = proc (sym h ∙ e)
+variables_end_with a k proc func begin (routine_part (function h)) e = func (sym h ∙ e)
+variables_end_with a k proc func begin (statement_part h) e = begin (sym h ∙ e)
+
+-- nor behind the types
+pub types_end_with : (a : List Token) (k : Kind) → ¬ (Some (kind.Word word.Var) ≡ Some k) → ¬ (Some (kind.Word word.Procedure) ≡ Some k)
+    → ¬ (Some (kind.Word word.Function) ≡ Some k) → ¬ (Some (kind.Word word.Begin) ≡ Some k) → EndsTypes a → NoNext k a
+types_end_with a k var proc func begin (variable_part h) e = var (sym h ∙ e)
+types_end_with a k var proc func begin (no_variables h) e = variables_end_with a k proc func begin h e
 
 -- nor behind the constants
 ends_with : (a : List Token) (k : Kind) → ¬ (Some (kind.Word word.Type) ≡ Some k) → ¬ (Some (kind.Word word.Var) ≡ Some k)
-    → ¬ (Some (kind.Word word.Begin) ≡ Some k) → EndsConstants a → NoNext k a
-ends_with a k type var begin (type_part h) e = type (sym h ∙ e)
-ends_with a k type var begin (no_types h) e = types_end_with a k var begin h e
+    → ¬ (Some (kind.Word word.Procedure) ≡ Some k) → ¬ (Some (kind.Word word.Function) ≡ Some k) → ¬ (Some (kind.Word word.Begin) ≡ Some k)
+    → EndsConstants a → NoNext k a
+ends_with a k type var proc func begin (type_part h) e = type (sym h ∙ e)
+ends_with a k type var proc func begin (no_types h) e = types_end_with a k var proc func begin h e
 
 -- there the definitions end
 pub constants_end : (a : List Token) → EndsConstants a → NoNext kind.Identifier a
-constants_end a h = ends_with a kind.Identifier (λ e. cc) (λ e. cc) (λ e. cc) h
+constants_end a h = ends_with a kind.Identifier (λ e. cc) (λ e. cc) (λ e. cc) (λ e. cc) (λ e. cc) h
 
 -- and no second part begins
 pub constants_no_const : (a : List Token) → EndsConstants a → NoNext (kind.Word word.Const) a
-constants_no_const a h = ends_with a (kind.Word word.Const) (λ e. cc) (λ e. cc) (λ e. cc) h
+constants_no_const a h = ends_with a (kind.Word word.Const) (λ e. cc) (λ e. cc) (λ e. cc) (λ e. cc) (λ e. cc) h
 
 -- behind `const`
 pub constants_opened : (p : Place) (a b c : List Token) (ds : List ConstantDefinition) → Reads a (of_kind_at (kind.Word word.Const) p ∷ []) b

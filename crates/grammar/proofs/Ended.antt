@@ -124,7 +124,7 @@ behind_with A of levels p (x ∷ xs) s a b c k h f n =
 
 semicolon_at : (s : Spelling) (a c : List Token) → Reads a (mark symbol.Semicolon ∷ s) c
     → (p : Place) × (b : List Token) × Reads a (of_kind_at (kind.Symbol symbol.Semicolon) p ∷ []) b × Reads b s c
-semicolon_at s a c h = (h.0.place, h.1, (h.0, h.1, h.2, record { kind = h.3.kind; text = tt; place = refl }, refl), h.4)
+semicolon_at s a c h = (h.0.place, h.1, (h.0, h.1, h.2, record { kind = h.3.kind; text = tt; letters = tt; place = refl }, refl), h.4)
 
 -- no part begins with `end`
 abbrev pub NoEnd : (A : Type 0) → Parts A → Type 0

@@ -1,5 +1,7 @@
 pub mod Actuals
 pub mod Arms
+pub mod BlockEquations
+pub mod Blocks
 pub mod Cases
 pub mod Chains
 pub mod Conditionals
@@ -9,6 +11,7 @@ pub mod Denoters
 pub mod Ended
 pub mod Equations
 pub mod Expressions
+pub mod Formals
 pub mod Forms
 pub mod Led
 pub mod Lists
@@ -23,6 +26,8 @@ pub mod OneTreeExpressions
 pub mod OneTreeLists
 pub mod OneTreeNames
 pub mod OneTreePrograms
+pub mod OneTreeBlocks
+pub mod OneTreeFormals
 pub mod OneTreeSelectors
 pub mod OneTreeStatements
 pub mod OneTreeTypes
@@ -30,6 +35,7 @@ pub mod Parts
 pub mod ProgramPlaces
 pub mod Programs
 pub mod Reading
+pub mod Routines
 pub mod Rows
 pub mod Selectors
 pub mod Starts

@@ -29,7 +29,16 @@ use Rattle.syntax_tree.specs.declared.TypeDenoter.TheOpen as denoter
 use Rattle.syntax_tree.specs.declared.TypeDenoter.TheViews.{roll-TypeDenoter}
 use Rattle.syntax_tree.specs.declared.TypeDenoter.TheFolds.{map-TypeDenoter, fold-roll-TypeDenoter, ind-TypeDenoter}
 use Rattle.syntax_tree.specs.declared.VariableGroup.{VariableGroup}
+use Rattle.syntax_tree.specs.declared.Passing.{Passing}
+use Rattle.syntax_tree.specs.declared.Passing.TheVariants.{Value, Variable}
+use Rattle.syntax_tree.specs.declared.FormalGroup.{FormalGroup}
+use Rattle.syntax_tree.specs.declared.Heading.{Heading}
+use Rattle.syntax_tree.specs.declared.Heading.TheVariants.{Procedure, Function, Resumed}
 use Rattle.syntax_tree.specs.declared.Block.{Block}
+use Rattle.syntax_tree.specs.declared.Routine.{Routine}
+use Rattle.syntax_tree.specs.declared.Block.TheOpen.{Block-F, Routine-F}
+use Rattle.syntax_tree.specs.declared.Block.TheViews.{roll-Block, roll-Routine}
+use Rattle.syntax_tree.specs.declared.Block.TheFolds.{map-Block, map-Routine, fold-roll-Block, fold-roll-Routine, ind-Block}
 use Rattle.syntax_tree.specs.declared.Program.{Program}
 use Rattle.syntax_tree.specs.declared.Stmt.{Stmt}
 use Rattle.syntax_tree.specs.declared.Stmt.TheOpen as stmt
@@ -41,11 +50,12 @@ use Rattle.grammar.specs.Spelling.{Lexeme, Spelling, IsSpelledBy, Reads, Spells,
 use Rattle.grammar.specs.Spelling.{identifiers, direction_word, sign, sign_spelling, value_lexeme, constant_spelling, arm_spelling, case_end, expr_spelling}
 use Rattle.grammar.specs.Spelling.{actual_spelling, stmt_spelling, denoter_spelling, group_spelling, variables_spelling, block_spelling, program_spelling}
 use Rattle.grammar.specs.Spelling.{definition_spelling, constants_spelling, type_definition_spelling, types_spelling, selectors_spelling, field_spelling}
-use Rattle.grammar.specs.Spelling.{packed_spelling, array_spelling}
+use Rattle.grammar.specs.Spelling.{packed_spelling, array_spelling, passing_spelling, formal_spelling, formals_spelling, heading_spelling, forward}
+use Rattle.grammar.specs.Spelling.{routine_spelling}
 use Rattle.grammar.specs.Spelling as spell
 use Rattle.grammar.proofs.TreePlaces.{kept, kept_places, kept_both, AllKept, each_kept, all_kept, joined_kept, separated_kept, parenthesized_kept, expr_kept}
 use Rattle.grammar.proofs.TreePlaces.{actual_kept, selectors_kept}
-use Rattle.grammar.proofs.Programs.{behind_types, behind_constants}
+use Rattle.grammar.proofs.BlockEquations.{compound_of, behind_variables, behind_types, behind_constants}
 
 -- ---- statements
 
@@ -317,28 +327,109 @@ variables_kept [] = refl
 variables_kept (g ∷ gs) =
     joined_kept VariableGroup group_spelling group_places (g ∷ gs) (each_kept VariableGroup group_spelling group_places (g ∷ gs) group_kept)
 
--- what stands behind the types of a block
-body_kept : (b : Block) → flat_map group_places b.variables.items ++ (flat_map stmt_places b.statements.items ++ (b.end ∷ []))
-    ≡ kept_places (behind_types b)
-body_kept b =
-    let statements = separated symbol.Semicolon (map stmt_spelling b.statements.items) in
-    let end : Spelling = of_kind_at (kind.Word word.End) b.end ∷ [] in
-    let first = variables_kept b.variables.items in
-    let others = separated_kept Stmt symbol.Semicolon stmt_spelling stmt_places b.statements.items
-    (each_kept Stmt stmt_spelling stmt_places b.statements.items stmt_kept) in
-    (λ i. first i ++ (others i ++ b.end ∷ []))
-    ∙ sym (append_assoc (kept_places (variables_spelling b.variables.items)) (kept_places statements) (b.end ∷ []))
-    ∙ ap (λ ps. ps ++ b.end ∷ []) (sym (kept_both (variables_spelling b.variables.items) (word_symbol word.Begin ∷ statements)))
-    ∙ sym (kept_both (variables_spelling b.variables.items ++ word_symbol word.Begin ∷ statements) end)
+-- formal parameters that are declared together
+passing_kept : (by : Passing) (s : Spelling) → kept_places s ≡ kept_places (passing_spelling by ++ s)
+passing_kept Value s = refl
+passing_kept Variable s = refl
 
-block_kept : (b : Block) → block_places b ≡ kept_places (block_spelling b)
-block_kept b =
-    let constants = constants_kept b.constants.items in
-    let types = types_kept b.types.items in
-    let behind = body_kept b in
-    (λ i. constants i ++ (types i ++ behind i))
-    ∙ ap (λ ps. kept_places (constants_spelling b.constants.items) ++ ps) (sym (kept_both (types_spelling b.types.items) (behind_types b)))
-    ∙ sym (kept_both (constants_spelling b.constants.items) (behind_constants b))
+formal_kept : (g : FormalGroup) → place.formal_places g ≡ kept_places (formal_spelling g)
+formal_kept g =
+    let list = separated symbol.Comma (identifiers g.names.items) in
+    let type : Spelling = mark symbol.Colon ∷ identifier g.type_name ∷ [] in
+    let names = names_in_turn g.names.items ∙ separated_kept Name symbol.Comma one_name one_place g.names.items (names_kept g.names.items) in
+    ap (λ ps. ps ++ g.type_name.place ∷ []) names ∙ sym (kept_both list type) ∙ passing_kept g.by (list ++ type)
+
+formals_kept : (formals : List FormalGroup) → flat_map place.formal_places formals ≡ kept_places (formals_spelling formals)
+formals_kept [] = refl
+formals_kept (g ∷ gs) =
+    separated_kept FormalGroup symbol.Semicolon formal_spelling place.formal_places (g ∷ gs)
+    (each_kept FormalGroup formal_spelling place.formal_places (g ∷ gs) formal_kept)
+    ∙ sym (append-nil _) ∙ sym (kept_both (separated symbol.Semicolon (map formal_spelling (g ∷ gs))) (mark symbol.CloseParenthesis ∷ []))
+
+heading_kept : (h : Heading) → place.heading_places h ≡ kept_places (heading_spelling h)
+heading_kept (Procedure name formals) =
+    ap (λ ps. name.place ∷ ps)
+    (formals_kept formals.items ∙ sym (append-nil _) ∙ sym (kept_both (formals_spelling formals.items) (mark symbol.Semicolon ∷ [])))
+heading_kept (Function name formals result) =
+    ap (λ ps. name.place ∷ ps)
+    (ap (λ ps. ps ++ result.place ∷ []) (formals_kept formals.items)
+    ∙ sym (kept_both (formals_spelling formals.items) (mark symbol.Colon ∷ identifier result ∷ mark symbol.Semicolon ∷ [])))
+heading_kept (Resumed name) = refl
+
+-- a block and a declaration: the places are those that the spelling keeps
+abbrev BlockKept : Block → Type 0
+BlockKept b = block_places b ≡ kept_places (block_spelling b)
+
+abbrev RoutineKept : Routine → Type 0
+RoutineKept r = place.routine_places r ≡ kept_places (routine_spelling r)
+
+abbrev KeptBlock : Type 0
+KeptBlock = (b : Block) × BlockKept b
+
+abbrev KeptRoutine : Type 0
+KeptRoutine = (r : Routine) × RoutineKept r
+
+-- one layer of each, its parts without what is known of them
+abbrev block_parts : Block-F KeptBlock KeptRoutine → Block-F Block Routine
+block_parts = map-Block KeptBlock KeptRoutine Block Routine (λ b. b.0) (λ r. r.0)
+
+abbrev routine_parts : Routine-F KeptBlock KeptRoutine → Routine-F Block Routine
+routine_parts = map-Routine KeptBlock KeptRoutine Block Routine (λ b. b.0) (λ r. r.0)
+
+-- the statements of a block, and its `end`
+compound_kept : (statements : List Stmt) (p : Place) → flat_map stmt_places statements ++ p ∷ []
+    ≡ kept_places (word_symbol word.Begin ∷ separated symbol.Semicolon (map stmt_spelling statements) ++ of_kind_at (kind.Word word.End) p ∷ [])
+compound_kept statements p =
+    ap (λ ps. ps ++ p ∷ []) (separated_kept Stmt symbol.Semicolon stmt_spelling stmt_places statements
+    (each_kept Stmt stmt_spelling stmt_places statements stmt_kept))
+    ∙ sym (kept_both (separated symbol.Semicolon (map stmt_spelling statements)) (of_kind_at (kind.Word word.End) p ∷ []))
+
+block_layer : (y : Block-F KeptBlock KeptRoutine)
+    → place.block_step (map-Block Block Routine Places Places block_places place.routine_places (block_parts y))
+    ≡ kept_places (spell.block_step (map-Block Block Routine Spelling Spelling block_spelling routine_spelling (block_parts y)))
+block_layer y =
+    let d = block_parts y in
+    let routines = map (λ (r : KeptRoutine). r.0) y.routines.items in
+    let constants = constants_kept d.constants.items in
+    let types = types_kept d.types.items in
+    let variables = variables_kept d.variables.items in
+    let declared = flat_map-map (λ row. row) place.routine_places routines
+    ∙ joined_kept Routine routine_spelling place.routine_places routines (all_kept Routine routine_spelling place.routine_places y.routines.items) in
+    let statements = compound_kept d.statements.items d.end in
+    (λ i. constants i ++ (types i ++ (variables i ++ (declared i ++ statements i))))
+    ∙ ap (λ ps. kept_places (constants_spelling d.constants.items) ++ (kept_places (types_spelling d.types.items)
+    ++ (kept_places (variables_spelling d.variables.items) ++ ps)))
+    (sym (kept_both (joined (map routine_spelling routines)) (compound_of d)))
+    ∙ ap (λ ps. kept_places (constants_spelling d.constants.items) ++ (kept_places (types_spelling d.types.items) ++ ps))
+    (sym (kept_both (variables_spelling d.variables.items) (behind_variables d)))
+    ∙ ap (λ ps. kept_places (constants_spelling d.constants.items) ++ ps) (sym (kept_both (types_spelling d.types.items) (behind_types d)))
+    ∙ sym (kept_both (constants_spelling d.constants.items) (behind_constants d))
+
+block_rolled : (y : Block-F KeptBlock KeptRoutine) → BlockKept (roll-Block (block_parts y))
+block_rolled y =
+    fold-roll-Block Places Places place.block_step place.routine_step (block_parts y) ∙ block_layer y
+    ∙ sym (ap kept_places (fold-roll-Block Spelling Spelling spell.block_step spell.routine_step (block_parts y)))
+
+with_body : (h : Heading) (body : Option KeptBlock)
+    → place.routine_step (map-Routine Block Routine Places Places block_places place.routine_places (routine_parts (record { heading = h; block = body })))
+    ≡ kept_places (spell.routine_step (map-Routine Block Routine Spelling Spelling block_spelling routine_spelling
+    (routine_parts (record { heading = h; block = body }))))
+with_body h None =
+    ap (λ ps. ps ++ []) (heading_kept h) ∙ sym (kept_both (heading_spelling h) (forward ∷ mark symbol.Semicolon ∷ []))
+with_body h (Some b) =
+    let heading = heading_kept h in
+    let body = b.1 ∙ sym (append-nil _) ∙ sym (kept_both (block_spelling b.0) (mark symbol.Semicolon ∷ [])) in
+    (λ i. heading i ++ body i) ∙ sym (kept_both (heading_spelling h) (block_spelling b.0 ++ mark symbol.Semicolon ∷ []))
+
+routine_rolled : (y : Routine-F KeptBlock KeptRoutine) → RoutineKept (roll-Routine (routine_parts y))
+routine_rolled y =
+    fold-roll-Routine Places Places place.block_step place.routine_step (routine_parts y) ∙ with_body y.heading y.block
+    ∙ sym (ap kept_places (fold-roll-Routine Spelling Spelling spell.block_step spell.routine_step (routine_parts y)))
+
+block_kept : (b : Block) → BlockKept b
+block_kept = ind-Block BlockKept RoutineKept
+    (λ x y is. subst (λ z. BlockKept (roll-Block z)) is (block_rolled y))
+    (λ x y is. subst (λ z. RoutineKept (roll-Routine z)) is (routine_rolled y))
 
 pub program_kept : (p : Program) → program_places p ≡ kept_places (program_spelling p)
 program_kept p =

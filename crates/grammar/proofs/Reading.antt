@@ -20,7 +20,7 @@ both (l ∷ s) t a b c h k = (h.0, h.1, h.2, h.3, both s t h.1 b c h.4 k)
 
 -- a token whose place isn't kept
 pub without_place : (k : Kind) (p : Place) (s : Spelling) (a b : List Token) → Reads a (of_kind_at k p ∷ s) b → Reads a (of_kind k ∷ s) b
-without_place k p s a b h = (h.0, h.1, h.2, record { kind = h.3.kind; text = tt; place = tt }, h.4)
+without_place k p s a b h = (h.0, h.1, h.2, record { kind = h.3.kind; text = tt; letters = tt; place = tt }, h.4)
 
 -- the same of the last token
 pub without_last_place : (k : Kind) (p : Place) (s : Spelling) (a b : List Token) → Reads a (s ++ of_kind_at k p ∷ []) b → Reads a (s ++ of_kind k ∷ []) b

@@ -160,7 +160,7 @@ becomes_missed levels ss a c missed (called xs none h f n) = (
 
 -- a token whose place is asked for
 with_place : (k : Kind) (a c : List Token) → Reads a (of_kind k ∷ []) c → (p : Place) × Reads a (of_kind_at k p ∷ []) c
-with_place k a c h = (h.0.place, (h.0, h.1, h.2, record { kind = h.3.kind; text = tt; place = refl }, h.4))
+with_place k a c h = (h.0.place, (h.0, h.1, h.2, record { kind = h.3.kind; text = tt; letters = tt; place = refl }, h.4))
 
 with_last_place : (k : Kind) (s : Spelling) (a c : List Token) → Reads a (s ++ of_kind k ∷ []) c → (p : Place) × Reads a (s ++ of_kind_at k p ∷ []) c
 with_last_place k [] a c h = with_place k a c h

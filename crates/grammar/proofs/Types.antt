@@ -122,11 +122,11 @@ types_end start a left none depth types others h ends = let r = left depth types
 
 -- there the definitions end
 pub type_part_ends : (a : List Token) → EndsTypes a → NoNext kind.Identifier a
-type_part_ends a h = types_end_with a kind.Identifier (λ e. cc) (λ e. cc) h
+type_part_ends a h = types_end_with a kind.Identifier (λ e. cc) (λ e. cc) (λ e. cc) (λ e. cc) h
 
 -- and no second part begins
 pub types_no_type : (a : List Token) → EndsTypes a → NoNext (kind.Word word.Type) a
-types_no_type a h = types_end_with a (kind.Word word.Type) (λ e. cc) (λ e. cc) h
+types_no_type a h = types_end_with a (kind.Word word.Type) (λ e. cc) (λ e. cc) (λ e. cc) (λ e. cc) h
 
 -- behind `type`
 pub types_opened : (levels : ℕ) (p : Place) (a b c : List Token) (ds : List TypeDefinition) → Reads a (of_kind_at (kind.Word word.Type) p ∷ []) b

@@ -4,6 +4,7 @@
 use Rattle.std.specs.Prelude.{◌≡◌, ℕ, ◌+◌, ◌<◌, ◌≤◌, true, List, [], ◌∷◌, ◌++◌, map, length, Bool, ◌&&◌, Option, Some}
 use Rattle.std.specs.Prelude.{None, false}
 use Rattle.std.specs.List.{list_all}
+use Rattle.std.specs.Option.{option_map}
 use Rattle.std.specs.declared.alloc.Global.{Global}
 use Rattle.std.specs.declared.boxed.Box.{Box}
 use Rattle.place.specs.declared.Place.{Place}
@@ -26,7 +27,10 @@ use Rattle.syntax_tree.specs.declared.Name.{Name}
 use Rattle.syntax_tree.specs.declared.TypeDefinition.{TypeDefinition}
 use Rattle.syntax_tree.specs.declared.TypeDenoter.{TypeDenoter}
 use Rattle.syntax_tree.specs.declared.VariableGroup.{VariableGroup}
+use Rattle.syntax_tree.specs.declared.FormalGroup.{FormalGroup}
+use Rattle.syntax_tree.specs.declared.Heading.{Heading}
 use Rattle.syntax_tree.specs.declared.Block.{Block}
+use Rattle.syntax_tree.specs.declared.Routine.{Routine}
 use Rattle.syntax_tree.specs.declared.Program.{Program}
 use Rattle.grammar.specs.Spelling.{Spelling, Reads, expr_spelling, link_spelling, actual_spelling, stmt_spelling}
 use Rattle.grammar.specs.Spelling.{joined, identifiers, group_spelling, variables_spelling, block_spelling}
@@ -38,10 +42,14 @@ use Rattle.grammar.specs.Spelling.{record_spelling, type_definition_spelling, ty
 use Rattle.grammar.specs.WellFormed.{expr_form, link_form, fits, relation_level, is_link, is_actual, is_constant}
 use Rattle.grammar.specs.WellFormed.{is_expression, are_selectors, may_join}
 use Rattle.grammar.specs.WellFormed.{is_row, is_statement, is_definition, is_denoter, is_type_definition, is_group}
+use Rattle.grammar.specs.Spelling.{formal_spelling, formals_spelling, signature_spelling, heading_spelling}
+use Rattle.grammar.specs.Spelling.{body_spelling, routine_spelling}
+use Rattle.grammar.specs.WellFormed.{is_formal, is_heading, is_body, is_routine}
 use Rattle.grammar.specs.WellFormed.{is_block, is_program, has_items, may_end}
 use Rattle.grammar.specs.Following.{NoNext, NoSelector, LeavesNoElse}
 use Rattle.grammar.specs.Nesting.{expr_levels, link_levels, actual_levels, stmt_levels, deepest, index_levels}
-use Rattle.grammar.specs.Nesting.{denoter_levels, types_levels, groups_levels, block_levels, nesting}
+use Rattle.grammar.specs.Nesting.{denoter_levels, types_levels, groups_levels, body_levels, routine_levels}
+use Rattle.grammar.specs.Nesting.{block_levels, nesting}
 
 -- an expression of at least this level
 pub record BeginsExpr (level levels : ℕ) (tokens others : List Token) (e : Expr) : Type 0 where
@@ -325,6 +333,49 @@ pub record BeginsVariables (levels : ℕ) (tokens others : List Token) (groups :
   pub spelled : Reads tokens (variables_spelling groups) others
   pub formed : list_all is_group groups ≡ true
   pub nests : groups_levels groups ≤ levels
+
+-- formal parameters that are declared together
+pub record BeginsFormal (tokens others : List Token) (g : FormalGroup) : Type 0 where
+  pub spelled : Reads tokens (formal_spelling g) others
+  pub formed : is_formal g ≡ true
+
+-- one or more of these with a semicolon between each two
+pub record BeginsFormalList (tokens others : List Token) (formals : List FormalGroup) : Type 0 where
+  pub list : BeginsList symbol.Semicolon tokens others (map formal_spelling formals)
+  pub formed : list_all is_formal formals ≡ true
+
+-- formal parameters in parentheses, or none
+pub record BeginsFormals (tokens others : List Token) (formals : List FormalGroup) : Type 0 where
+  pub spelled : Reads tokens (formals_spelling formals) others
+  pub formed : list_all is_formal formals ≡ true
+
+-- a heading with its semicolon
+pub record BeginsHeading (tokens others : List Token) (h : Heading) : Type 0 where
+  pub spelled : Reads tokens (heading_spelling h) others
+  pub formed : is_heading h ≡ true
+
+-- the formal parameters of a function, and the type of its result
+pub record BeginsSignature (tokens others : List Token) (found : List FormalGroup × Name) : Type 0 where
+  pub spelled : Reads tokens (signature_spelling found.0 found.1) others
+  pub formed : list_all is_formal found.0 ≡ true
+
+-- the block of a procedure or function, which is a level of its own, or `forward` where it may stand
+pub record BeginsBody (directive : Bool) (levels : ℕ) (tokens others : List Token) (body : Option Block) : Type 0 where
+  pub spelled : Reads tokens (body_spelling (option_map block_spelling body)) others
+  pub formed : is_body directive (option_map is_block body) ≡ true
+  pub nests : body_levels (option_map block_levels body) ≤ levels
+
+-- the declaration of a procedure or function
+pub record BeginsRoutine (levels : ℕ) (tokens others : List Token) (r : Routine) : Type 0 where
+  pub spelled : Reads tokens (routine_spelling r) others
+  pub formed : is_routine r ≡ true
+  pub nests : routine_levels r ≤ levels
+
+-- declarations of procedures and functions one behind another, or none
+pub record BeginsRoutines (levels : ℕ) (tokens others : List Token) (routines : List Routine) : Type 0 where
+  pub spelled : Reads tokens (joined (map routine_spelling routines)) others
+  pub formed : list_all is_routine routines ≡ true
+  pub nests : deepest (map routine_levels routines) ≤ levels
 
 -- a block, whose compound statement is a level of its own, as each of its type denoters is
 pub record BeginsBlock (levels : ℕ) (tokens others : List Token) (b : Block) : Type 0 where

@@ -11,7 +11,7 @@ use Rattle.lexer.specs.declared.token.Word.{Word}
 use Rattle.syntax_tree.specs.declared.Sign.{Sign}
 use Rattle.syntax_tree.specs.declared.Operator.{Operator}
 use Rattle.syntax_tree.specs.declared.Stmt.{Stmt}
-use Rattle.grammar.specs.Spelling.{sign, operator_kind}
+use Rattle.grammar.specs.Spelling.{IsSpelledBy, sign, operator_kind, forward}
 use Rattle.grammar.specs.WellFormed.{operator_level, relation_level, ends_open}
 
 -- the kind of the first token
@@ -68,10 +68,24 @@ pub data EndsStatements (others : List Token) : Type 0 where
 abbrev pub BeginsStatementPart : List Token → Type 0
 BeginsStatementPart = Next (kind.Word word.Begin)
 
--- what comes next behind the types of a block: its variables, or its compound statement
+-- no directive comes next with which a heading would go on
+abbrev pub NoForward : List Token → Type 0
+NoForward others = (token : Token) (behind : List Token) → others ≡ token ∷ behind → ¬ IsSpelledBy forward token
+
+-- a procedure or function comes next
+pub data BeginsRoutinePart (others : List Token) : Type 0 where
+  procedure : Next (kind.Word word.Procedure) others → BeginsRoutinePart others
+  function : Next (kind.Word word.Function) others → BeginsRoutinePart others
+
+-- what comes next behind the variables of a block: its procedures and functions, or its compound statement
+pub data EndsVariables (others : List Token) : Type 0 where
+  routine_part : BeginsRoutinePart others → EndsVariables others
+  statement_part : BeginsStatementPart others → EndsVariables others
+
+-- what comes next behind its types: its variables, or what comes next behind these
 pub data EndsTypes (others : List Token) : Type 0 where
   variable_part : Next (kind.Word word.Var) others → EndsTypes others
-  statement_part : BeginsStatementPart others → EndsTypes others
+  no_variables : EndsVariables others → EndsTypes others
 
 -- what comes next behind its constants: its types, or what comes next behind these
 pub data EndsConstants (others : List Token) : Type 0 where

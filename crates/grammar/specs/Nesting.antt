@@ -2,12 +2,16 @@
 -- each actual with its width, each index expression, each expression in parentheses and each operand of `not` is one
 -- level below what it stands in. A type denoter is a level of its own too: each that no other one stands in is the
 -- first, and the index types and the element type of an array, and the types of a record's fields, are one level below
--- it.
+-- it. The block of a procedure or function is one level below the block that it is declared in, and its types and its
+-- compound statement are one level below that.
 -- A chain of operators is a list and no nesting. The standard sets no bound.
 use Rattle.std.specs.Prelude.{ℕ, ◌+◌, List, Option, Some, None, map, max, fold}
 use Rattle.std.specs.declared.alloc.Global.{Global}
 use Rattle.std.specs.declared.boxed.Box.{Box}
 use Rattle.syntax_tree.specs.declared.Block.{Block}
+use Rattle.syntax_tree.specs.declared.Block.TheOpen.{Block-F, Routine-F}
+use Rattle.syntax_tree.specs.declared.Block.TheFolds.{fold-Block, fold-Routine}
+use Rattle.syntax_tree.specs.declared.Routine.{Routine}
 use Rattle.syntax_tree.specs.declared.Program.{Program}
 use Rattle.syntax_tree.specs.declared.TypeDefinition.{TypeDefinition}
 use Rattle.syntax_tree.specs.declared.TypeDenoter.{TypeDenoter}
@@ -110,11 +114,29 @@ types_levels types = deepest (map (λ d. denoter_levels d.denoter) types)
 abbrev pub groups_levels : List VariableGroup → ℕ
 groups_levels groups = deepest (map (λ g. denoter_levels g.denoter) groups)
 
--- the levels in a block: its types and variables, and its compound statement, which is a level of its own
-abbrev pub block_levels : Block → ℕ
-block_levels b =
+-- the levels of the block of a procedure or function, its own among them; `forward` has none
+abbrev pub body_levels : Option ℕ → ℕ
+body_levels None = 0
+body_levels (Some block) = 1 + block
+
+abbrev pub routine_step : Routine-F ℕ ℕ → ℕ
+routine_step r = body_levels r.block
+
+-- one layer of a block: its types and variables, its procedures and functions, and its compound statement, which is a
+-- level of its own
+abbrev pub block_step : Block-F ℕ ℕ → ℕ
+block_step b =
     max (types_levels b.types.items)
-    (max (groups_levels b.variables.items) (1 + deepest (map stmt_levels b.statements.items)))
+    (max (groups_levels b.variables.items)
+    (max (deepest b.routines.items) (1 + deepest (map stmt_levels b.statements.items))))
+
+-- the levels in a block, its own left out
+abbrev pub block_levels : Block → ℕ
+block_levels = fold-Block ℕ ℕ block_step routine_step
+
+-- the levels in the declaration of a procedure or function
+abbrev pub routine_levels : Routine → ℕ
+routine_levels = fold-Routine ℕ ℕ block_step routine_step
 
 -- the levels of a program
 abbrev pub nesting : Program → ℕ

@@ -20,7 +20,13 @@ use Rattle.syntax_tree.specs.declared.TypeDenoter.TheOpen.{TypeDenoter-F}
 use Rattle.syntax_tree.specs.declared.TypeDenoter.TheOpen as denoter
 use Rattle.syntax_tree.specs.declared.TypeDenoter.TheFolds.{fold-TypeDenoter}
 use Rattle.syntax_tree.specs.declared.VariableGroup.{VariableGroup}
+use Rattle.syntax_tree.specs.declared.FormalGroup.{FormalGroup}
+use Rattle.syntax_tree.specs.declared.Heading.{Heading}
+use Rattle.syntax_tree.specs.declared.Heading.TheVariants.{Procedure, Function, Resumed}
 use Rattle.syntax_tree.specs.declared.Block.{Block}
+use Rattle.syntax_tree.specs.declared.Block.TheOpen.{Block-F, Routine-F}
+use Rattle.syntax_tree.specs.declared.Block.TheFolds.{fold-Block, fold-Routine}
+use Rattle.syntax_tree.specs.declared.Routine.{Routine}
 use Rattle.syntax_tree.specs.declared.Program.{Program}
 use Rattle.syntax_tree.specs.declared.Expr.{Expr}
 use Rattle.syntax_tree.specs.declared.Link.{Link}
@@ -33,7 +39,8 @@ use Rattle.syntax_tree.specs.declared.Stmt.TheOpen.{Stmt-F}
 use Rattle.syntax_tree.specs.declared.Stmt.TheOpen as stmt
 use Rattle.syntax_tree.specs.declared.Stmt.TheFolds.{fold-Stmt}
 use Rattle.grammar.specs.Spelling.{Lexeme, of_kind_at, word_symbol, identifier, character_string, sign, operator}
-use Rattle.grammar.specs.Spelling.{direction_word, constant_spelling, case_end, packed_spelling}
+use Rattle.grammar.specs.Spelling.{direction_word, constant_spelling, case_end, packed_spelling, passing_spelling}
+use Rattle.grammar.specs.Spelling.{forward}
 
 -- the forms of expressions, of statements and of declarations
 pub data Shape : Type 0 where
@@ -67,6 +74,11 @@ pub data Shape : Type 0 where
   field : Shape
   fields : Shape
   group : Shape
+  formal : Shape
+  procedure_heading : Shape
+  function_heading : Shape
+  resumed_heading : Shape
+  routine : Shape
   parameters : Shape
   block : Shape
   program : Shape
@@ -228,13 +240,46 @@ type_definition_notation d = bracketed type_definition (token (identifier d.name
 abbrev pub group_notation : VariableGroup → Notation
 group_notation g = bracketed group (names_notation g.names.items ++ denoter_notation g.denoter)
 
--- a block, its last `end` last
-abbrev pub block_notation : Block → Notation
-block_notation b =
+-- formal parameters that are declared together, the name of their type last
+abbrev pub formal_notation : FormalGroup → Notation
+formal_notation g =
+    bracketed formal
+    (map token (passing_spelling g.by) ++ (names_notation g.names.items ++ token (identifier g.type_name) ∷ []))
+
+-- the heading of a procedure or function
+abbrev pub heading_notation : Heading → Notation
+heading_notation (Procedure n formals) =
+    bracketed procedure_heading (token (identifier n) ∷ row (map formal_notation formals.items))
+heading_notation (Function n formals result) =
+    bracketed function_heading
+    (token (identifier n) ∷ row (map formal_notation formals.items) ++ token (identifier result) ∷ [])
+heading_notation (Resumed n) = bracketed resumed_heading (token (identifier n) ∷ [])
+
+-- its block, or `forward`
+abbrev pub body_notation : Option Notation → Notation
+body_notation None = token forward ∷ []
+body_notation (Some inner) = inner
+
+-- the declaration of a procedure or function
+abbrev pub routine_step : Routine-F Notation Notation → Notation
+routine_step r = bracketed routine (heading_notation r.heading ++ body_notation r.block)
+
+-- one layer of a block, its procedures and functions written out, its last `end` last
+abbrev pub block_step : Block-F Notation Notation → Notation
+block_step b =
     bracketed block (row (map definition_notation b.constants.items)
     ++ (row (map type_definition_notation b.types.items)
-    ++ (row (map group_notation b.variables.items) ++ row (map stmt_notation b.statements.items)
-    ++ token (of_kind_at (kind.Word word.End) b.end) ∷ [])))
+    ++ (row (map group_notation b.variables.items)
+    ++ (row b.routines.items
+    ++ (row (map stmt_notation b.statements.items) ++ token (of_kind_at (kind.Word word.End) b.end) ∷ [])))))
+
+-- a block
+abbrev pub block_notation : Block → Notation
+block_notation = fold-Block Notation Notation block_step routine_step
+
+-- the declaration of a procedure or function
+abbrev pub routine_notation : Routine → Notation
+routine_notation = fold-Routine Notation Notation block_step routine_step
 
 -- a program
 abbrev pub notation : Program → Notation

@@ -1,8 +1,9 @@
 -- The tokens that spell a syntax tree: ISO 7185:1990, 6.7.1 (expressions), 6.5.3 (components), 6.8 (statements), 6.2.1
--- (blocks), 6.3 (constants), 6.4.1 (types), 6.5.1 (variables), 6.10 (programs). A tree keeps its parentheses, so each
--- tree has one spelling.
+-- (blocks), 6.3 (constants), 6.4.1 (types), 6.5.1 (variables), 6.6 (procedures and functions), 6.10 (programs). A tree
+-- keeps its parentheses, so each tree has one spelling, but for the capitals of `forward`.
 -- This doesn't say which trees there may be: see WellFormed and Nesting.
-use Rattle.std.specs.Prelude.{◌≡◌, ℕ, List, [], ◌∷◌, ◌++◌, map, Option, Some, None, IfSome, Bool, true, false}
+use Rattle.std.specs.Prelude.{◌≡◌, ℕ, List, [], ◌∷◌, ◌++◌, map, Option, Some, None, IfSome, Bool, true, false, codes}
+use Rattle.std.specs.Char.{to_ascii_lowercase}
 use Rattle.std.specs.declared.alloc.Global.{Global}
 use Rattle.std.specs.declared.boxed.Box.{Box}
 use Rattle.place.specs.declared.Place.{Place}
@@ -34,7 +35,15 @@ use Rattle.syntax_tree.specs.declared.TypeDenoter.TheOpen.{TypeDenoter-F}
 use Rattle.syntax_tree.specs.declared.TypeDenoter.TheOpen as denoter
 use Rattle.syntax_tree.specs.declared.TypeDenoter.TheFolds.{fold-TypeDenoter}
 use Rattle.syntax_tree.specs.declared.VariableGroup.{VariableGroup}
+use Rattle.syntax_tree.specs.declared.Passing.{Passing}
+use Rattle.syntax_tree.specs.declared.Passing.TheVariants.{Value, Variable}
+use Rattle.syntax_tree.specs.declared.FormalGroup.{FormalGroup}
+use Rattle.syntax_tree.specs.declared.Heading.{Heading}
+use Rattle.syntax_tree.specs.declared.Heading.TheVariants.{Procedure, Function, Resumed}
 use Rattle.syntax_tree.specs.declared.Block.{Block}
+use Rattle.syntax_tree.specs.declared.Block.TheOpen.{Block-F, Routine-F}
+use Rattle.syntax_tree.specs.declared.Block.TheFolds.{fold-Block, fold-Routine}
+use Rattle.syntax_tree.specs.declared.Routine.{Routine}
 use Rattle.syntax_tree.specs.declared.Program.{Program}
 use Rattle.syntax_tree.specs.declared.Expr.{Expr}
 use Rattle.syntax_tree.specs.declared.Link.{Link}
@@ -47,10 +56,12 @@ use Rattle.syntax_tree.specs.declared.Stmt.TheOpen.{Stmt-F}
 use Rattle.syntax_tree.specs.declared.Stmt.TheOpen as stmt
 use Rattle.syntax_tree.specs.declared.Stmt.TheFolds.{fold-Stmt}
 
--- what a tree says of a token: its kind, and where the tree keeps them its text and its place
+-- what a tree says of a token: its kind, and where the tree keeps them its text, or its letters, small or capital, and
+-- its place
 pub record Lexeme : Type 0 where
   pub kind : Kind
   pub text : Option (List ℕ)
+  pub letters : Option (List ℕ)
   pub place : Option Place
 
 abbrev pub Spelling : Type 0
@@ -60,6 +71,7 @@ Spelling = List Lexeme
 pub record IsSpelledBy (lexeme : Lexeme) (token : Token) : Type 0 where
   pub kind : token.kind ≡ lexeme.kind
   pub text : IfSome lexeme.text (λ text. token.text.now ≡ text)
+  pub letters : IfSome lexeme.letters (λ letters. map to_ascii_lowercase token.text.now ≡ letters)
   pub place : IfSome lexeme.place (λ place. token.place ≡ place)
 
 -- the tokens begin with the spelling, and then these are left
@@ -75,10 +87,10 @@ Spells tokens spelling = Reads tokens spelling []
 
 -- a token of which the tree keeps the kind alone, or the place too
 abbrev pub of_kind : Kind → Lexeme
-of_kind k = record { kind = k; text = None; place = None }
+of_kind k = record { kind = k; text = None; letters = None; place = None }
 
 abbrev pub of_kind_at : Kind → Place → Lexeme
-of_kind_at k place = record { kind = k; text = None; place = Some place }
+of_kind_at k place = record { kind = k; text = None; letters = None; place = Some place }
 
 abbrev pub word_symbol : Word → Lexeme
 word_symbol w = of_kind (kind.Word w)
@@ -88,11 +100,15 @@ mark s = of_kind (kind.Symbol s)
 
 -- an identifier (6.1.3)
 abbrev pub identifier : Name → Lexeme
-identifier name = record { kind = kind.Identifier; text = Some name.text.now; place = Some name.place }
+identifier name = record { kind = kind.Identifier; text = Some name.text.now; letters = None; place = Some name.place }
+
+-- the directive of a procedure or function whose block stands elsewhere (6.1.4, 6.6.1): an identifier of these letters
+abbrev pub forward : Lexeme
+forward = record { kind = kind.Identifier; text = None; letters = Some (codes "forward"); place = None }
 
 -- a character string with its apostrophes (6.1.7)
 abbrev pub character_string : List ℕ → Place → Lexeme
-character_string text place = record { kind = kind.Text; text = Some text; place = Some place }
+character_string text place = record { kind = kind.Text; text = Some text; letters = None; place = Some place }
 
 -- a sign
 abbrev pub sign : Sign → Place → Lexeme
@@ -329,14 +345,63 @@ abbrev pub variables_spelling : List VariableGroup → Spelling
 variables_spelling [] = []
 variables_spelling (one ∷ others) = word_symbol word.Var ∷ joined (map group_spelling (one ∷ others))
 
--- a block (6.2.1)
-abbrev pub block_spelling : Block → Spelling
-block_spelling b =
+-- the word symbol before variable parameters, and nothing before value parameters (6.6.3.1)
+abbrev pub passing_spelling : Passing → Spelling
+passing_spelling Value = []
+passing_spelling Variable = word_symbol word.Var ∷ []
+
+-- formal parameters that are declared together (6.6.3.1)
+abbrev pub formal_spelling : FormalGroup → Spelling
+formal_spelling g =
+    passing_spelling g.by
+    ++ (separated symbol.Comma (identifiers g.names.items) ++ mark symbol.Colon ∷ identifier g.type_name ∷ [])
+
+-- formal parameters in their parentheses, which are left out where there are none
+abbrev pub formals_spelling : List FormalGroup → Spelling
+formals_spelling [] = []
+formals_spelling (one ∷ others) =
+    mark symbol.OpenParenthesis ∷ separated symbol.Semicolon (map formal_spelling (one ∷ others))
+    ++ mark symbol.CloseParenthesis ∷ []
+
+-- what stands behind the name of a function (6.6.2): its formal parameters, and the type of its result
+abbrev pub signature_spelling : List FormalGroup → Name → Spelling
+signature_spelling formals result =
+    formals_spelling formals ++ mark symbol.Colon ∷ identifier result ∷ mark symbol.Semicolon ∷ []
+
+-- the heading of a procedure (6.6.1) or of a function (6.6.2), with its semicolon
+abbrev pub heading_spelling : Heading → Spelling
+heading_spelling (Procedure name formals) =
+    word_symbol word.Procedure ∷ identifier name ∷ formals_spelling formals.items ++ mark symbol.Semicolon ∷ []
+heading_spelling (Function name formals result) =
+    word_symbol word.Function ∷ identifier name ∷ signature_spelling formals.items result
+heading_spelling (Resumed name) = word_symbol word.Function ∷ identifier name ∷ mark symbol.Semicolon ∷ []
+
+-- the block of a procedure or function, or `forward` in its place
+abbrev pub body_spelling : Option Spelling → Spelling
+body_spelling None = forward ∷ []
+body_spelling (Some block) = block
+
+-- the declaration of a procedure or function, with its semicolon
+abbrev pub routine_step : Routine-F Spelling Spelling → Spelling
+routine_step r = heading_spelling r.heading ++ (body_spelling r.block ++ mark symbol.Semicolon ∷ [])
+
+-- one layer of a block, its procedures and functions spelled
+abbrev pub block_step : Block-F Spelling Spelling → Spelling
+block_step b =
     constants_spelling b.constants.items
     ++ (types_spelling b.types.items
     ++ (variables_spelling b.variables.items
-    ++ word_symbol word.Begin ∷ separated symbol.Semicolon (map stmt_spelling b.statements.items)
-    ++ of_kind_at (kind.Word word.End) b.end ∷ []))
+    ++ (joined b.routines.items
+    ++ (word_symbol word.Begin ∷ separated symbol.Semicolon (map stmt_spelling b.statements.items)
+    ++ of_kind_at (kind.Word word.End) b.end ∷ []))))
+
+-- a block (6.2.1)
+abbrev pub block_spelling : Block → Spelling
+block_spelling = fold-Block Spelling Spelling block_step routine_step
+
+-- the declaration of a procedure or function
+abbrev pub routine_spelling : Routine → Spelling
+routine_spelling = fold-Routine Spelling Spelling block_step routine_step
 
 -- a program (6.10)
 abbrev pub program_spelling : Program → Spelling

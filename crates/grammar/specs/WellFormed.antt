@@ -1,7 +1,8 @@
 -- Which trees there may be: operators nest by precedence (ISO 7185:1990, 6.7.1, 6.7.2.1), a sign stands at the first
 -- term of a sum or alone, a relation has one operator, an `else` belongs to the nearest `if` that has none (6.8.3.4),
 -- no sign stands before a string (6.3), an index is joined to an index alone (6.5.3), no semicolon stands in a record
--- without fields (6.4.3.3), and lists that the grammar wants nonempty are nonempty.
+-- without fields (6.4.3.3), the later declaration of a function has its block (6.6.2), and lists that the grammar wants
+-- nonempty are nonempty.
 -- This says nothing of names and types.
 use Rattle.std.specs.Prelude.{ℕ, ◌+◌, if◌then◌else◌, List, [], ◌∷◌, length, Bool, true, false, not, ◌&&◌, ◌||◌, Option}
 use Rattle.std.specs.Prelude.{Some, None, nat_eq, nat_lt, nat_le, map}
@@ -22,7 +23,13 @@ use Rattle.syntax_tree.specs.declared.TypeDenoter.TheOpen.{TypeDenoter-F}
 use Rattle.syntax_tree.specs.declared.TypeDenoter.TheOpen as denoter
 use Rattle.syntax_tree.specs.declared.TypeDenoter.TheFolds.{fold-TypeDenoter}
 use Rattle.syntax_tree.specs.declared.VariableGroup.{VariableGroup}
+use Rattle.syntax_tree.specs.declared.FormalGroup.{FormalGroup}
+use Rattle.syntax_tree.specs.declared.Heading.{Heading}
+use Rattle.syntax_tree.specs.declared.Heading.TheVariants.{Procedure, Function, Resumed}
 use Rattle.syntax_tree.specs.declared.Block.{Block}
+use Rattle.syntax_tree.specs.declared.Block.TheOpen.{Block-F, Routine-F}
+use Rattle.syntax_tree.specs.declared.Block.TheFolds.{fold-Block, fold-Routine}
+use Rattle.syntax_tree.specs.declared.Routine.{Routine}
 use Rattle.syntax_tree.specs.declared.Program.{Program}
 use Rattle.syntax_tree.specs.declared.Expr.{Expr}
 use Rattle.syntax_tree.specs.declared.Link.{Link}
@@ -267,12 +274,43 @@ is_type_definition d = is_denoter d.denoter
 abbrev pub is_group : VariableGroup → Bool
 is_group g = has_items g.names.items && is_denoter g.denoter
 
-abbrev pub is_block : Block → Bool
-is_block b =
+-- formal parameters that are declared together have one or more names
+abbrev pub is_formal : FormalGroup → Bool
+is_formal g = has_items g.names.items
+
+abbrev pub is_heading : Heading → Bool
+is_heading (Procedure name formals) = list_all is_formal formals.items
+is_heading (Function name formals result) = list_all is_formal formals.items
+is_heading (Resumed name) = true
+
+-- `forward` may stand behind the heading (6.6.1, 6.6.2)
+abbrev pub takes_directive : Heading → Bool
+takes_directive (Procedure name formals) = true
+takes_directive (Function name formals result) = true
+takes_directive (Resumed name) = false
+
+-- a well formed block, or `forward` where it may stand
+abbrev pub is_body : Bool → Option Bool → Bool
+is_body directive None = directive
+is_body directive (Some well) = well
+
+abbrev pub routine_step : Routine-F Bool Bool → Bool
+routine_step r = is_heading r.heading && is_body (takes_directive r.heading) r.block
+
+-- one layer of a block
+abbrev pub block_step : Block-F Bool Bool → Bool
+block_step b =
     list_all is_definition b.constants.items
     && (list_all is_type_definition b.types.items
     && (list_all is_group b.variables.items
-    && (has_items b.statements.items && list_all is_statement b.statements.items)))
+    && (list_all (λ well. well) b.routines.items
+    && (has_items b.statements.items && list_all is_statement b.statements.items))))
+
+abbrev pub is_block : Block → Bool
+is_block = fold-Block Bool Bool block_step routine_step
+
+abbrev pub is_routine : Routine → Bool
+is_routine = fold-Routine Bool Bool block_step routine_step
 
 abbrev pub is_program : Program → Bool
 is_program p = is_block p.block

@@ -23,9 +23,9 @@ use Rattle.expression_parser.specs.Reading.{Stops, ReadsEach, ReadsDeep}
 use Rattle.parser.specs.Syntax.{most, IsRefused}
 use Rattle.grammar.proofs.Rows.{begins}
 use Rattle.grammar.proofs.Programs.{group_begins, group_names_end, GroupBehindNames, GroupsLeft, EachGroupsLeft, GroupNext, NamesThenClosed}
-use Rattle.grammar.proofs.Programs.{parameters_names_end, BlockParts, BlockBehindConstants, BlockBehindTypes, BlockBehindVariables}
-use Rattle.grammar.proofs.Programs.{ProgramBehindSemicolon, ProgramBehindParameters, ProgramBehindName}
-use Rattle.grammar.proofs.Programs.{program_parameters_end}
+use Rattle.grammar.proofs.Programs.{parameters_names_end}
+use Rattle.grammar.proofs.Blocks.{ProgramBehindSemicolon, ProgramBehindParameters, ProgramBehindName}
+use Rattle.grammar.proofs.Blocks.{program_parameters_end}
 
 -- behind the names read
 pub group_behind_names : (a b : Cursor) (names : Vec Name Global) → ReadsEach BeginsNames (NoNext (kind.Symbol symbol.Comma)) a b (Ok names)
@@ -61,35 +61,6 @@ pub parameters_behind_names : (a b : Cursor) (others : List Token) (names : Vec 
 parameters_behind_names a b others names reads o =
     let same : b.rest.now ≡ o.middle = reads o.names o.middle o.begun (parameters_names_end a.rest.now others o) in
     subst (λ x. Reads x (mark symbol.CloseParenthesis ∷ []) others) (sym same) o.closed
-
--- behind the constants read
-pub block_behind_constants : (levels : ℕ) (a b : Cursor) (others : List Token) (constants : Vec ConstantDefinition Global)
-    → ReadsEach BeginsConstantPart EndsConstants a b (Ok constants) → BlockParts levels a.rest.now others → BlockBehindConstants levels b.rest.now others
-block_behind_constants levels a b others constants reads p =
-    let same : b.rest.now ≡ p.middle = reads p.definitions p.middle p.defined p.ends in
-    subst (λ x. BlockBehindConstants levels x others) (sym same) p.behind
-
--- behind the types read
-pub block_behind_types : (levels depth : ℕ) (a b : Cursor) (others : List Token) (types : Vec TypeDefinition Global)
-    → ReadsDeep levels BeginsTypePart EndsTypes a b (Ok types) → BlockBehindConstants depth a.rest.now others → BlockBehindTypes depth b.rest.now others
-block_behind_types levels depth a b others types reads p =
-    let same : b.rest.now ≡ p.middle = reads depth p.types p.middle p.defined p.ends in
-    subst (λ x. BlockBehindTypes depth x others) (sym same) p.behind
-
--- behind the variables read
-pub block_behind_variables : (levels depth : ℕ) (a b : Cursor) (others : List Token) (variables : Vec VariableGroup Global)
-    → ReadsDeep levels BeginsVariables BeginsStatementPart a b (Ok variables)
-    → BlockBehindTypes depth a.rest.now others → BlockBehindVariables depth b.rest.now others
-block_behind_variables levels depth a b others variables reads p =
-    let same : b.rest.now ≡ p.middle = reads depth p.groups p.middle p.declared p.begins in
-    record {
-      statements = p.statements;
-      end = p.end;
-      below = p.below;
-      less = p.less;
-      begun = subst (λ x. BeginsCompound p.below x others (p.statements, p.end))
-          (sym same) p.begun;
-    }
 
 -- behind the parameters read
 pub program_behind_parameters : (levels : ℕ) (a b : Cursor) (others : List Token) (parameters : Vec Name Global)

@@ -1,7 +1,10 @@
+pub mod Blocks
 pub mod Definitions
 pub mod Denoters
 pub mod ExactPrograms
+pub mod FormalParameters
 pub mod Order
 pub mod Programs
+pub mod Routines
 pub mod Structured
 pub mod TypeDefinitions

@@ -31,10 +31,9 @@ use Rattle.grammar.specs.Begins.{BeginsDenoter, BeginsTypePart}
 use Rattle.parser.specs.Syntax.{most, IsTreeOf}
 use Rattle.grammar.proofs.Lists.{map_push, all_push, deepest_push, and_true, length_map}
 use Rattle.grammar.proofs.Reading.{both, without_place, joined_push}
-use Rattle.grammar.proofs.Programs.{behind_types, behind_constants}
 use Rattle.expression_parser.proofs.Lists.{list_goes_on, some_grown}
 
-has : {A : Type 0} (xs : List A) → 0 < length xs → has_items xs ≡ true
+pub has : {A : Type 0} (xs : List A) → 0 < length xs → has_items xs ≡ true
 has xs h = lt-ltb 0 (length xs) h
 
 -- one more name
@@ -117,38 +116,6 @@ pub variables_answer : (levels : ℕ) (a b c : Cursor) (p : Place) (answer : Res
     → MatchResult answer (λ found. Read (BeginsVariables levels) a c found.items) (Refused levels a)
 variables_answer levels a b c p (Ok groups) taken given = variable_part_read levels a b c p groups.items taken given
 variables_answer levels a b c p (Err fault) taken given = refused_behind levels a b (of_kind_at (kind.Word word.Var) p ∷ []) fault taken given
-
--- what stands behind the types of a block
-block_body : (levels inner : ℕ) (a b c : Cursor) (variables : List VariableGroup) (statements : List Stmt) (end : Place)
-    → Read (BeginsVariables levels) a b variables → Read (BeginsCompound inner) b c (statements, end)
-    → Took a c (variables_spelling variables
-    ++ word_symbol word.Begin ∷ separated symbol.Semicolon (map stmt_spelling statements) ++ of_kind_at (kind.Word word.End) end ∷ [])
-block_body levels inner a b c variables statements end declared given =
-    let compound : Spelling = word_symbol word.Begin ∷ separated symbol.Semicolon (map stmt_spelling statements) in
-    let last : Spelling = of_kind_at (kind.Word word.End) end ∷ [] in
-    subst (λ x. Took a c x) (sym (append_assoc (variables_spelling variables) compound last))
-    (both (variables_spelling variables) (compound ++ last) a.rest.now b.rest.now c.rest.now declared.spelled given.spelled)
-
--- a block
-pub block_stands : (levels inner : ℕ) (a b c d e : Cursor) (constants : Vec ConstantDefinition Global) (types : Vec TypeDefinition Global)
-    (variables : Vec VariableGroup Global) (statements : Vec Stmt Global) (end : Place)
-    → inner + 1 ≡ levels → Read BeginsConstantPart a b constants.items → Read (BeginsTypePart levels) b c types.items
-    → Read (BeginsVariables levels) c d variables.items
-    → Read (BeginsCompound inner) d e (statements.items, end)
-    → Read (BeginsBlock levels) a e (record { constants = constants; types = types; variables = variables; statements = statements; end = end })
-block_stands levels inner a b c d e constants types variables statements end less defined typed declared given = record {
-  spelled = let block : Block = record { constants = constants; types = types; variables = variables; statements = statements; end = end } in
-      both (constants_spelling constants.items) (behind_constants block) a.rest.now b.rest.now e.rest.now defined.spelled
-      (both (types_spelling types.items) (behind_types block) b.rest.now c.rest.now e.rest.now typed.spelled
-      (block_body levels inner c d e variables.items statements.items end declared given));
-  formed = let last = has_items statements.items && list_all is_statement statements.items in
-      and_true (list_all is_definition constants.items) (list_all is_type_definition types.items && (list_all is_group variables.items && last))
-      defined.formed
-      (and_true (list_all is_type_definition types.items) (list_all is_group variables.items && last) typed.formed
-      (and_true (list_all is_group variables.items) last declared.formed
-      (and_true (has_items statements.items) (list_all is_statement statements.items) (has statements.items given.some) given.formed)));
-  nests = let n = given.nests in let types = typed.nests in let groups = declared.nests in omega arith;
-}
 
 -- a program
 pub program_stands : (a b c d e f : Cursor) (p q : Place) (name : Name) (parameters : Vec Name Global) (block : Block)

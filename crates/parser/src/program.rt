@@ -4,28 +4,23 @@ ghost use Rattle.syntax_tree.specs.Places.{program_places};
 ghost use Rattle.grammar.specs.Laws.{HasOneTree};
 ghost use Rattle.token_cursor.specs.Cursor.{IsOfRules};
 ghost use Rattle.expression_parser.specs.Rules.{Read};
-ghost use Rattle.grammar.specs.Begins.{BeginsParameters, BeginsGroup, BeginsGroups};
-ghost use Rattle.grammar.specs.Begins.{BeginsVariables, BeginsBlock};
-ghost use Rattle.expression_parser.specs.Reading.{ReadsEach, ReadsDeep};
-ghost use Rattle.grammar.specs.Following.{NoNext, BeginsStatementPart, Anything};
+ghost use Rattle.grammar.specs.Begins.{BeginsParameters};
+ghost use Rattle.expression_parser.specs.Reading.{ReadsEach};
+ghost use Rattle.grammar.specs.Following.{NoNext};
 ghost use Rattle.token_cursor.specs.LeftOut.{first_left_out};
 ghost use Rattle.expression_parser.specs.Deep.{IsDeep};
 ghost use Rattle.expression_parser.specs.Refusing.{IsPlain, Refused};
 ghost use Rattle.parser.specs.Syntax.{most, IsTreeOf, IsRefused, Answers};
 
-use crate::constants::constants;
-use crate::denoter::denoter;
+use crate::block::block;
 use crate::names::names;
-use crate::types::types;
-use expression_parser::memory::put;
 use lexer::token::{Kind, Symbol, Token, Word};
-use statement_parser::statement::compound;
 use std::alloc::Global;
-use syntax_tree::{Block, Name, Program, VariableGroup};
+use syntax_tree::{Name, Program};
 use token_cursor::cursor::Cursor;
 use token_cursor::fault::ParseFault;
 use token_cursor::left_out::first_left_out;
-use token_cursor::nesting::{MAX_NESTING, inside};
+use token_cursor::nesting::MAX_NESTING;
 
 /// The syntax tree that the tokens spell (6.2 to 6.10), its parentheses kept. P3 where a token
 /// stands that only forms left out have: the first of these, before all else. Otherwise P1 at the
@@ -80,80 +75,4 @@ fn parameters<'a>(alloc: Global, cursor: &mut Cursor<'_, 'a>) -> Result<Vec<Name
     let names = names(alloc, cursor)?;
     cursor.expect_symbol(Symbol::CloseParenthesis)?;
     Ok(names)
-}
-
-// block = constants types variables compound
-/// A block (6.2.1) in something below which `levels` levels are left.
-fn block<'a>(
-    alloc: Global,
-    cursor: &mut Cursor<'_, 'a>,
-    levels: u32,
-) -> Result<Block<'a>, ParseFault>
-    ensures given { MatchResult result (Read (BeginsBlock levels) cursor.old cursor.new) (Refused levels cursor.old) }
-    ensures exact { ReadsDeep levels BeginsBlock Anything cursor.old cursor.new result }
-{
-    let constants = constants(alloc, cursor)?;
-    let types = types(alloc, cursor, levels)?;
-    let variables = variables(alloc, cursor, levels)?;
-    let levels = inside(levels, cursor.place())?;
-    let (statements, end) = compound(alloc, cursor, levels)?;
-    Ok(Block {
-        constants,
-        types,
-        variables,
-        statements,
-        end,
-    })
-}
-
-// variables = ["var" groups]
-fn variables<'a>(
-    alloc: Global,
-    cursor: &mut Cursor<'_, 'a>,
-    levels: u32,
-) -> Result<Vec<VariableGroup<'a>>, ParseFault>
-    ensures given { MatchResult result (λ found. Read (BeginsVariables levels) cursor.old cursor.new found.items)
-        (Refused levels cursor.old) }
-    ensures exact { ReadsDeep levels BeginsVariables BeginsStatementPart cursor.old cursor.new result }
-{
-    let Some(_) = cursor.take_word(Word::Var) else {
-        return Ok(Vec::new(alloc));
-    };
-    groups(alloc, cursor, levels)
-}
-
-// groups = group {group}
-fn groups<'a>(
-    alloc: Global,
-    cursor: &mut Cursor<'_, 'a>,
-    levels: u32,
-) -> Result<Vec<VariableGroup<'a>>, ParseFault>
-    ensures given { MatchResult result (λ found. Read (BeginsGroups levels) cursor.old cursor.new found.items)
-        (Refused levels cursor.old) }
-    ensures exact { ReadsDeep levels BeginsGroups (NoNext Kind.Identifier) cursor.old cursor.new result }
-{
-    let mut groups = Vec::new(alloc);
-    loop {
-        put(&mut groups, group(alloc, cursor, levels))?;
-        let Some(Kind::Identifier) = cursor.peek() else {
-            return Ok(groups);
-        };
-    }
-}
-
-// group = names ":" denoter ";"
-fn group<'a>(
-    alloc: Global,
-    cursor: &mut Cursor<'_, 'a>,
-    levels: u32,
-) -> Result<VariableGroup<'a>, ParseFault>
-    ensures given { MatchResult result (Read (BeginsGroup levels) cursor.old cursor.new)
-        (Refused levels cursor.old) }
-    ensures exact { ReadsDeep levels BeginsGroup Anything cursor.old cursor.new result }
-{
-    let names = names(alloc, cursor)?;
-    cursor.expect_symbol(Symbol::Colon)?;
-    let denoter = denoter(alloc, cursor, levels)?;
-    cursor.expect_symbol(Symbol::Semicolon)?;
-    Ok(VariableGroup { names, denoter })
 }

@@ -263,7 +263,7 @@ no_arms_left levels a c no_semicolon no_end h = no_end (begins (word_symbol word
 
 semicolon_at : (s : Spelling) (a c : List Token) → Reads a (mark symbol.Semicolon ∷ s) c
     → (p : Place) × (b : List Token) × Reads a (of_kind_at (kind.Symbol symbol.Semicolon) p ∷ []) b × Reads b s c
-semicolon_at s a c h = (h.0.place, h.1, (h.0, h.1, h.2, record { kind = h.3.kind; text = tt; place = refl }, refl), h.4)
+semicolon_at s a c h = (h.0.place, h.1, (h.0, h.1, h.2, record { kind = h.3.kind; text = tt; letters = tt; place = refl }, refl), h.4)
 
 ended_so : (levels : ℕ) (b c d : List Token) → Reads b (word_symbol word.End ∷ []) d → BehindSemicolon levels b c → d ≡ c
 ended_so levels b c d k (ended h) = (same_first (word_symbol word.End) (word_symbol word.End) [] b d c k h).1

@@ -24,6 +24,12 @@ use Rattle.syntax_tree.specs.declared.ConstantValue.TheVariants as constant
 use Rattle.syntax_tree.specs.declared.SignAt.{SignAt}
 use Rattle.syntax_tree.specs.declared.Program.{Program}
 use Rattle.syntax_tree.specs.declared.Block.{Block}
+use Rattle.syntax_tree.specs.declared.Block.TheOpen.{Block-F, Routine-F}
+use Rattle.syntax_tree.specs.declared.Block.TheFolds.{fold-Block, fold-Routine}
+use Rattle.syntax_tree.specs.declared.Routine.{Routine}
+use Rattle.syntax_tree.specs.declared.Heading.{Heading}
+use Rattle.syntax_tree.specs.declared.Heading.TheVariants.{Procedure, Function, Resumed}
+use Rattle.syntax_tree.specs.declared.FormalGroup.{FormalGroup}
 use Rattle.syntax_tree.specs.declared.Expr.{Expr}
 use Rattle.syntax_tree.specs.declared.Actual.{Actual}
 use Rattle.syntax_tree.specs.declared.Link.{Link}
@@ -164,13 +170,40 @@ type_definition_places d = d.name.place ∷ denoter_places d.denoter
 abbrev pub group_places : VariableGroup → Places
 group_places group = name_places group.names.items ++ denoter_places group.denoter
 
--- the places of a block
-abbrev pub block_places : Block → Places
-block_places block =
+-- the places of formal parameters that are declared together
+abbrev pub formal_places : FormalGroup → Places
+formal_places group = name_places group.names.items ++ (group.type_name.place ∷ [])
+
+-- the places of the heading of a procedure or function
+abbrev pub heading_places : Heading → Places
+heading_places (Procedure name formals) = name.place ∷ flat_map formal_places formals.items
+heading_places (Function name formals result) =
+    name.place ∷ (flat_map formal_places formals.items ++ (result.place ∷ []))
+heading_places (Resumed name) = name.place ∷ []
+
+-- the places of the block of a procedure or function, or of `forward`, which keeps none
+abbrev pub body_places : Option Places → Places
+body_places None = []
+body_places (Some places) = places
+
+abbrev pub routine_step : Routine-F Places Places → Places
+routine_step routine = heading_places routine.heading ++ body_places routine.block
+
+abbrev pub block_step : Block-F Places Places → Places
+block_step block =
     flat_map definition_places block.constants.items
     ++ (flat_map type_definition_places block.types.items
     ++ (flat_map group_places block.variables.items
-    ++ (flat_map stmt_places block.statements.items ++ (block.end ∷ []))))
+    ++ (joined_places block.routines.items
+    ++ (flat_map stmt_places block.statements.items ++ (block.end ∷ [])))))
+
+-- the places of a block
+abbrev pub block_places : Block → Places
+block_places = fold-Block Places Places block_step routine_step
+
+-- the places of the declaration of a procedure or function
+abbrev pub routine_places : Routine → Places
+routine_places = fold-Routine Places Places block_step routine_step
 
 -- the places of a program
 abbrev pub program_places : Program → Places

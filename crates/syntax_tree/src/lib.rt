@@ -20,6 +20,7 @@ pub struct Program<'a> {
 }
 
 /// A block (6.2.1).
+#[cycle(block)]
 #[derive(Drop)]
 pub struct Block<'a> {
     /// The constant definitions, in order; none where no part of them stands.
@@ -27,10 +28,58 @@ pub struct Block<'a> {
     /// The type definitions, in order; none where no part of them stands.
     pub types: Vec<TypeDefinition<'a>>,
     pub variables: Vec<VariableGroup<'a>>,
+    /// The declarations of procedures and functions, in order; none where no part of them stands.
+    pub routines: Vec<Routine<'a>>,
     /// The statements of its compound statement: one or more.
     pub statements: Vec<Stmt<'a>>,
     /// Its last `end`.
     pub end: Place,
+}
+
+/// The declaration of a procedure (6.6.1) or of a function (6.6.2).
+#[cycle(block)]
+#[derive(Drop)]
+pub struct Routine<'a> {
+    pub heading: Heading<'a>,
+    /// Its block; none where the directive `forward` stands in its place.
+    pub block: Option<Block<'a>>,
+}
+
+/// What stands before the block of a procedure or function, or before `forward`.
+#[derive(Drop)]
+pub enum Heading<'a> {
+    /// `procedure name formals`: of a later declaration too, behind one with `forward` (6.6.1).
+    Procedure {
+        name: Name<'a>,
+        formals: Vec<FormalGroup<'a>>,
+    },
+    /// `function name formals: result` (6.6.2), the name of its type last.
+    Function {
+        name: Name<'a>,
+        formals: Vec<FormalGroup<'a>>,
+        result: Name<'a>,
+    },
+    /// `function name` (6.6.2): the later declaration of a function, behind one with `forward`.
+    Resumed {
+        name: Name<'a>,
+    },
+}
+
+/// Formal parameters that are declared together (6.6.3.1): one or more names, and the name of their type.
+#[derive(Drop)]
+pub struct FormalGroup<'a> {
+    pub by: Passing,
+    pub names: Vec<Name<'a>>,
+    pub type_name: Name<'a>,
+}
+
+/// How actual parameters are passed.
+#[derive(Clone, Copy)]
+pub enum Passing {
+    /// To a value parameter (6.6.3.2).
+    Value,
+    /// To a variable parameter (6.6.3.3), which stands behind `var`.
+    Variable,
 }
 
 /// The definition of a constant (6.3): `name = value`.

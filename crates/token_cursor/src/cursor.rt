@@ -1,4 +1,5 @@
-ghost use Rattle.std.specs.Prelude.{◌≡◌, [], ◌∷◌, IfSome, IfOk, ℕ, ◌↔◌, IsTrue, IfErr, IfNone, MatchBool, MatchResult};
+ghost use Rattle.std.specs.Prelude.{◌≡◌, false, [], ◌∷◌, IfSome, IfOk, ℕ, ◌↔◌, IsTrue, IfErr, IfNone, MatchBool, MatchResult};
+ghost use Rattle.grammar.specs.Spelling.{IsSpelledBy, forward};
 ghost use Rattle.token_cursor.specs.Cursor.{end_of};
 
 use crate::fault::ParseFault;
@@ -17,12 +18,12 @@ pub struct Cursor<'t, 'a> {
 
 impl<'t, 'a> Cursor<'t, 'a> {
     ghost use Rattle.grammar.specs.Spelling.{of_kind_at, word_symbol, identifier, character_string, sign, operator};
-    ghost use Rattle.grammar.specs.Spelling.{direction_word};
+    ghost use Rattle.grammar.specs.Spelling.{direction_word, forward};
     ghost use Rattle.grammar.specs.WellFormed.{operator_level};
     ghost use Rattle.token_cursor.specs.Level.{level_number};
     ghost use Rattle.token_cursor.specs.Cursor.{place_of_next, Took};
     ghost use Rattle.grammar.specs.Begins.{Stop};
-    ghost use Rattle.grammar.specs.Following.{next_kind, NoSign, NoOperator};
+    ghost use Rattle.grammar.specs.Following.{next_kind, NoSign, NoOperator, NoForward};
 
     pub fn new(tokens: &'t [Token<'a>]) -> Self
         ensures rest { result.rest.now ≡ tokens.now }
@@ -148,6 +149,20 @@ impl<'t, 'a> Cursor<'t, 'a> {
         ensures spelled { IfOk result (λ name. Took self.old self.new (identifier name ∷ [])) }
     {
         self.take_name().ok_or(self.no_program())
+    }
+
+    /// Whether the directive `forward` (6.1.4) is next, which is taken.
+    pub fn take_forward(&mut self) -> bool
+        ensures given { MatchBool result (Took self.old self.new (forward ∷ [])) (self.new ≡ self.old) }
+        ensures missed { result ≡ false → NoForward self.old.rest.now }
+    {
+        match self.rest {
+            [token, rest @ ..] if is_forward(token) => {
+                self.rest = rest;
+                true
+            }
+            _ => false,
+        }
     }
 
     /// Takes a number, if one is next.
@@ -281,6 +296,13 @@ fn is_of_kind(token: &Token<'_>, kind: Kind) -> bool
     ensures { IsTrue result ↔ (token.now.kind ≡ kind) }
 {
     token.kind == kind
+}
+
+/// Whether a token is the directive `forward`, in small or capital letters.
+fn is_forward(token: &Token<'_>) -> bool
+    ensures { IsTrue result ↔ IsSpelledBy forward token.now }
+{
+    token.kind == Kind::Identifier && token.text.eq_ignore_ascii_case(b"forward")
 }
 
 /// Just past the last token, or where a text begins if there is none.

@@ -7,7 +7,8 @@ use place::Place;
 /// How deep a program may nest. Its own compound statement is the first level; each statement in
 /// another statement, each actual with its width, each index expression, each expression in
 /// parentheses and each operand of `not` is one level below what it stands in. So is each type
-/// denoter in another one, of which the outermost is the first level.
+/// denoter in another one, of which the outermost is the first level. The block of a procedure or
+/// function is one level below the block that it is declared in.
 pub const MAX_NESTING: u32 = 128;
 
 /// The levels that are left inside the next one, which begins at `place`, or P2.

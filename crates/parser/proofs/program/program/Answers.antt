@@ -9,7 +9,7 @@ use Rattle.expression_parser.specs.Refusing.{Refused}
 use Rattle.expression_parser.proofs.Deep.{refused_behind}
 use Rattle.parser.specs.Syntax.{most, IsRefused}
 use Rattle.grammar.proofs.Rows.{begins}
-use Rattle.grammar.proofs.Programs.{program_first, program_named, program_behind_name, program_parameters_end, program_behind_semicolon}
+use Rattle.grammar.proofs.Blocks.{program_first, program_named, program_behind_name, program_parameters_end, program_behind_semicolon}
 use Rattle.parser.proofs.ExactPrograms.{program_behind_parameters, program_behind_block, refused}
 use Rattle.parser.proofs.Programs.{program_stands}
 use Rattle.parser.proofs.program.program.Goals as goal

@@ -12,8 +12,8 @@ use Rattle.grammar.proofs.Lists.{pushed, emptied}
 use Rattle.grammar.proofs.Programs.{groups_begin_with, groups_go_on_with, groups_end, group_fewer}
 use Rattle.parser.proofs.ExactPrograms.{groups_left}
 use Rattle.parser.proofs.Programs.{GroupsGrow, groups_grow_first, groups_grow}
-use Rattle.parser.proofs.program.groups.Goals as goal
-use Rattle.parser.proofs.program.groups.Goals.{in_default-via-in-Some+in_default, in_default-via-in_default}
+use Rattle.parser.proofs.variables.groups.Goals as goal
+use Rattle.parser.proofs.variables.groups.Goals.{in_default-via-in-Some+in_default, in_default-via-in_default}
 
 pub loop-groups-init : goal.loop-groups-init
 loop-groups-init c = (

@@ -2,7 +2,7 @@ use Rattle.token_cursor.specs.Cursor.{left}
 use Rattle.expression_parser.proofs.Deep.{Front}
 use Rattle.grammar.proofs.Programs.{GroupNext}
 use Rattle.parser.proofs.Programs.{GroupsGrow}
-use Rattle.parser.proofs.program.groups.Given as goal
+use Rattle.parser.proofs.variables.groups.Given as goal
 
 abbrev pub invariant-loop-groups : goal.invariant-loop-groups
 invariant-loop-groups l =

@@ -10,7 +10,7 @@ use Rattle.grammar.proofs.Programs.{group_begins, group_names_end, group_behind_
 use Rattle.parser.proofs.ExactPrograms.{group_behind_names}
 use Rattle.parser.proofs.Programs.{group_stands}
 use Rattle.parser.proofs.TypeDefinitions.{behind_denoter}
-use Rattle.parser.proofs.program.group.Goals as goal
+use Rattle.parser.proofs.variables.group.Goals as goal
 
 pub returns-clause-given : goal.returns-clause-given
 returns-clause-given c =
