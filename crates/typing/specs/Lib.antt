@@ -6,6 +6,7 @@ pub mod Constants
 pub mod Denoters
 pub mod Expressions
 pub mod Statements
+pub mod Routines
 pub mod Typing
 pub mod Outcomes
 pub mod Sound
