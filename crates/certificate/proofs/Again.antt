@@ -10,9 +10,11 @@ use Rattle.domain.specs.Interval.{Interval}
 use Rattle.domain.specs.Facts.{Fact as VariableFact, Bound, Path}
 use Rattle.domain.specs.Facts.{Range, Defined, Stretch, Order}
 use Rattle.certificate.specs.Bounds.{bound_words}
-use Rattle.certificate.specs.Building.{is_claim, said_line}
-use Rattle.certificate.specs.Contents.{is_bound, is_constant, is_fact, is_path, is_plain, is_small}
-use Rattle.certificate.specs.Lines.{Claim, Block, Loop, Change, Fact, defined_at, defined_fact, fact_of, fact_words, line_of, order_fact, range_fact, range_of}
+use Rattle.certificate.specs.declared.AliasPair.{AliasPair}
+use Rattle.certificate.specs.Building.{is_content, said_line}
+use Rattle.certificate.specs.Contents.{is_bound, is_claim, is_constant, is_fact, is_path, is_plain, is_small}
+use Rattle.certificate.specs.Lines.{Claim, Alias, Change, Entry, Exit, Fact, Content, Block, Loop, Claimed, claim_of, claim_words, pair_of}
+use Rattle.certificate.specs.Lines.{defined_at, defined_fact, fact_of, fact_words, line_of, order_fact, range_fact, range_of}
 use Rattle.certificate.specs.Lines.{reading, stretch_fact}
 use Rattle.certificate.specs.Paths.{path_words}
 use Rattle.certificate.specs.Text.{lines}
@@ -95,12 +97,35 @@ fact_again (Defined path) fits = defined_again path fits
 fact_again (Stretch path first last) fits = stretch_again path first last fits
 fact_again (Order root other number) fits = order_fact_again root other number fits
 
+pair_again : (pair : AliasPair) → is_claim (Alias pair) ≡ true → pair_of (variable pair.first ++ 32 ∷ variable pair.second) ≡ Ok pair
+pair_again pair fits =
+    let small = and_parts (is_small pair.first) (is_small pair.second) fits in
+    rw (
+      parted_again (variable pair.first) (variable pair.second) (variable_above 32 pair.first (omega arith) small.0),
+      number_again pair.first small.0,
+      number_again pair.second small.1,
+    ) refl
+
+claim_again : (claim : Claim) → is_claim claim ≡ true → claim_of (claim_words claim) ≡ Ok claim
+claim_again (Alias pair) fits = rw (pair_again pair fits) refl
+claim_again (Change root) fits = rw (number_again root fits) refl
+claim_again (Entry fact) fits = rw (fact_again fact fits) refl
+claim_again (Exit fact) fits = rw (fact_again fact fits) refl
+claim_again (Fact fact) fits = rw (fact_again fact fits) refl
+
+-- no claim's line is a heading's
+claimed_again : (claim : Claim) → is_claim claim ≡ true → reading (claim_words claim) ≡ Ok (Claimed claim)
+claimed_again (Alias pair) fits = rw (claim_again (Alias pair) fits) refl
+claimed_again (Change root) fits = rw (claim_again (Change root) fits) refl
+claimed_again (Entry fact) fits = rw (claim_again (Entry fact) fits) refl
+claimed_again (Exit fact) fits = rw (claim_again (Exit fact) fits) refl
+claimed_again (Fact fact) fits = rw (claim_again (Fact fact) fits) refl
+
 -- a line that says something is read as that
-pub line_again : (claim : Claim) → is_claim claim ≡ true → reading (line_of claim) ≡ Ok claim
+pub line_again : (content : Content) → is_content content ≡ true → reading (line_of content) ≡ Ok content
 line_again (Block number) fits = rw (number_again number fits) refl
 line_again (Loop number) fits = rw (number_again number fits) refl
-line_again (Change root) fits = rw (number_again root fits) refl
-line_again (Fact fact) fits = rw (fact_again fact fits) refl
+line_again (Claimed claim) fits = claimed_again claim fits
 
 -- ---- lines
 
@@ -123,11 +148,19 @@ fact_above (Order root other number) fits =
     above_append 10 (decimal root) _ (number_above 10 root (omega arith) small.0)
     (above_append 10 (decimal other) _ (number_above 10 other (omega arith) bound.0) (constant_above 10 number (omega arith) bound.1))
 
-line_above : (claim : Claim) → is_claim claim ≡ true → are_above 10 (line_of claim) ≡ true
+claim_above : (claim : Claim) → is_claim claim ≡ true → are_above 10 (claim_words claim) ≡ true
+claim_above (Alias pair) fits =
+    let small = and_parts (is_small pair.first) (is_small pair.second) fits in
+    above_append 10 (decimal pair.first) _ (number_above 10 pair.first (omega arith) small.0) (number_above 10 pair.second (omega arith) small.1)
+claim_above (Change root) fits = number_above 10 root (omega arith) fits
+claim_above (Entry fact) fits = fact_above fact fits
+claim_above (Exit fact) fits = fact_above fact fits
+claim_above (Fact fact) fits = fact_above fact fits
+
+line_above : (content : Content) → is_content content ≡ true → are_above 10 (line_of content) ≡ true
 line_above (Block number) fits = number_above 10 number (omega arith) fits
 line_above (Loop number) fits = number_above 10 number (omega arith) fits
-line_above (Change root) fits = number_above 10 root (omega arith) fits
-line_above (Fact fact) fits = fact_above fact fits
+line_above (Claimed claim) fits = claim_above claim fits
 
 lines_at : (line rest : List ℕ) → are_above 10 line ≡ true → lines (line ++ 10 ∷ rest) ≡ record { bytes = line; ended = true } ∷ lines rest
 lines_at [] rest above = refl
@@ -136,6 +169,6 @@ lines_at (byte ∷ line) rest above =
     let other : byte == 10 ≡ false = grind (arith, nat_tests) in
     rw (other, lines_at line rest parts.1) refl
 
--- a text that begins with the line of a claim
-pub line_at : (claim : Claim) (rest : List ℕ) → is_claim claim ≡ true → lines (line_of claim ++ 10 ∷ rest) ≡ said_line claim ∷ lines rest
-line_at claim rest fits = lines_at (line_of claim) rest (line_above claim fits)
+-- a text that begins with a line that says something
+pub line_at : (content : Content) (rest : List ℕ) → is_content content ≡ true → lines (line_of content ++ 10 ∷ rest) ≡ said_line content ∷ lines rest
+line_at content rest fits = lines_at (line_of content) rest (line_above content fits)

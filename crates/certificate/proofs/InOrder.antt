@@ -1,203 +1,187 @@
 -- Lines that stand where they may are those of sections in order, and the other way round.
 use Rattle.std.proofs.Common.{◌≡◌, ℕ, Bool, true, false, not, ◌&&◌, List, [], ◌∷◌, ◌++◌, map, Option, Some, None, refl, ap, ◌∙◌, append_assoc}
 use Rattle.std.specs.List.{flat_map}
+use Rattle.std.specs.Option.{is_some}
 use Rattle.std.specs.Ordering.{nat_cmp}
-use Rattle.domain.specs.Facts.{Fact as VariableFact, subject_order}
-use Rattle.certificate.specs.Lines.{Claim, Block, Loop, Change, Fact}
+use Rattle.certificate.specs.Lines.{Claim, Content, Block, Loop, Claimed}
 use Rattle.certificate.specs.Text.{Above}
-use Rattle.certificate.specs.Building.{is_claim}
-use Rattle.certificate.specs.Contents.{LoopClaims, Section, are_in_order, are_listed, claims_of, claims_of_loop, claims_of_section, comes_behind, is_empty}
-use Rattle.certificate.specs.Contents.{is_fact, is_loop, is_section, is_small}
+use Rattle.certificate.specs.Building.{is_content}
+use Rattle.certificate.specs.Contents.{LoopClaims, Section, are_claims, are_in_order, are_listed, claim_order, claims_of_block, claims_of_loop}
+use Rattle.certificate.specs.Contents.{comes_behind, is_claim, is_empty, is_loop, is_right, is_section, is_small, lines_of, lines_of_loop, lines_of_section}
+use Rattle.certificate.specs.Contents.{may_stand}
 use Rattle.certificate.specs.Text.{admits, below, nothing}
 
 -- a heading has below it what it needs there
-abbrev pub has_line : Claim → List Claim → Bool
+abbrev pub has_line : Content → List Content → Bool
 has_line (Block number) [] = false
 has_line (Block number) (Block next ∷ more) = false
 has_line (Block number) (Loop next ∷ more) = true
-has_line (Block number) (Change next ∷ more) = true
-has_line (Block number) (Fact next ∷ more) = true
+has_line (Block number) (Claimed claim ∷ more) = true
 has_line (Loop number) [] = false
 has_line (Loop number) (Block next ∷ more) = false
 has_line (Loop number) (Loop next ∷ more) = false
-has_line (Loop number) (Change next ∷ more) = true
-has_line (Loop number) (Fact next ∷ more) = true
-has_line (Change root) more = true
-has_line (Fact fact) more = true
+has_line (Loop number) (Claimed claim ∷ more) = true
+has_line (Claimed claim) more = true
 
--- claims may be said below others
-abbrev pub orderly : Above → List Claim → Bool
+-- lines may stand below others
+abbrev pub orderly : Above → List Content → Bool
 orderly above [] = true
-orderly above (claim ∷ more) = is_claim claim && (admits above claim && (has_line claim more && orderly (below above claim) more))
+orderly above (content ∷ more) =
+    is_content content && (admits above content && (has_line content more && orderly (below above content) more))
 
--- nothing more is said of a loop, or of a block
-abbrev ends_loop : List Claim → Bool
-ends_loop [] = true
-ends_loop (Block number ∷ more) = true
-ends_loop (Loop number ∷ more) = true
-ends_loop (Change root ∷ more) = false
-ends_loop (Fact fact ∷ more) = false
+-- nothing more is said of a loop or a block itself, or of a block
+abbrev ends_claims : List Content → Bool
+ends_claims [] = true
+ends_claims (Block number ∷ more) = true
+ends_claims (Loop number ∷ more) = true
+ends_claims (Claimed claim ∷ more) = false
 
-abbrev ends_section : List Claim → Bool
+abbrev ends_section : List Content → Bool
 ends_section [] = true
 ends_section (Block number ∷ more) = true
 ends_section (Loop number ∷ more) = false
-ends_section (Change root ∷ more) = false
-ends_section (Fact fact ∷ more) = false
+ends_section (Claimed claim ∷ more) = false
 
-abbrev at : Option ℕ → Option ℕ → Option ℕ → Option VariableFact → Above
-at block number change fact = record { block = block; loop_number = number; change = change; fact = fact }
+abbrev at : Option ℕ → Option ℕ → Option Claim → Above
+at block number claim = record { block = block; loop_number = number; claim = claim }
 
--- what is said behind a loop doesn't hang on its changes and facts, and what is said behind a block not on its loops
-loop_forgotten : (b n c d : Option ℕ) (f g : Option VariableFact) (rest : List Claim) → ends_loop rest ≡ true
-    → orderly (at b n c f) rest ≡ orderly (at b n d g) rest
-loop_forgotten b n c d f g [] ends = refl
-loop_forgotten b n c d f g (Block number ∷ rest) ends = refl
-loop_forgotten b n c d f g (Loop number ∷ rest) ends = refl
-loop_forgotten b n c d f g (Change root ∷ rest) ends = absurd cc
-loop_forgotten b n c d f g (Fact fact ∷ rest) ends = absurd cc
+-- what is said behind claims doesn't hang on them, and what is said behind a block not on its loops
+claims_forgotten : (b n : Option ℕ) (c d : Option Claim) (rest : List Content) → ends_claims rest ≡ true → orderly (at b n c) rest ≡ orderly (at b n d) rest
+claims_forgotten b n c d [] ends = refl
+claims_forgotten b n c d (Block number ∷ rest) ends = refl
+claims_forgotten b n c d (Loop number ∷ rest) ends = refl
+claims_forgotten b n c d (Claimed claim ∷ rest) ends = absurd cc
 
-section_forgotten : (b m n c d : Option ℕ) (f g : Option VariableFact) (rest : List Claim) → ends_section rest ≡ true
-    → orderly (at b m c f) rest ≡ orderly (at b n d g) rest
-section_forgotten b m n c d f g [] ends = refl
-section_forgotten b m n c d f g (Block number ∷ rest) ends = refl
-section_forgotten b m n c d f g (Loop number ∷ rest) ends = absurd cc
-section_forgotten b m n c d f g (Change root ∷ rest) ends = absurd cc
-section_forgotten b m n c d f g (Fact fact ∷ rest) ends = absurd cc
+section_forgotten : (b m n : Option ℕ) (c d : Option Claim) (rest : List Content) → ends_section rest ≡ true → orderly (at b m c) rest ≡ orderly (at b n d) rest
+section_forgotten b m n c d [] ends = refl
+section_forgotten b m n c d (Block number ∷ rest) ends = refl
+section_forgotten b m n c d (Loop number ∷ rest) ends = absurd cc
+section_forgotten b m n c d (Claimed claim ∷ rest) ends = absurd cc
 
--- ---- facts and changes
+-- ---- claims
 
-step_and : (right behind more rest : Bool) → (right && (behind && (more && rest))) ≡ ((behind && (right && more)) && rest)
-step_and true true more rest = refl
-step_and true false more rest = refl
-step_and false true more rest = refl
-step_and false false more rest = refl
+claim_and : (right stands behind claims rest : Bool)
+    → (right && ((stands && behind) && (claims && rest))) ≡ ((behind && ((right && stands) && claims)) && rest)
+claim_and true true true claims rest = refl
+claim_and true true false claims rest = refl
+claim_and true false true claims rest = refl
+claim_and true false false claims rest = refl
+claim_and false stands true claims rest = refl
+claim_and false stands false claims rest = refl
 
-facts_in_order : (b : Option ℕ) (n : ℕ) (c : Option ℕ) (f : Option VariableFact) (facts : List VariableFact) (rest : List Claim)
-    → ends_loop rest ≡ true
-    → orderly (at b (Some n) c f) (map Fact facts ++ rest)
-    ≡ (are_listed subject_order (λ fact. fact) is_fact f facts && orderly (at b (Some n) None None) rest)
-facts_in_order b n c f [] rest ends = loop_forgotten b (Some n) c None f None rest ends
-facts_in_order b n c f (fact ∷ facts) rest ends =
-    ap (λ more. is_fact fact && (comes_behind subject_order f fact && more)) (facts_in_order b n c (Some fact) facts rest ends)
-    ∙ step_and (is_fact fact) (comes_behind subject_order f fact) _ _
-
-changes_in_order : (b : Option ℕ) (n : ℕ) (c : Option ℕ) (changes : List ℕ) (facts : List VariableFact) (rest : List Claim)
-    → ends_loop rest ≡ true
-    → orderly (at b (Some n) c None) (map Change changes ++ (map Fact facts ++ rest))
-    ≡ (are_listed nat_cmp (λ root. root) is_small c changes
-    && (are_listed subject_order (λ fact. fact) is_fact None facts && orderly (at b (Some n) None None) rest))
-changes_in_order b n c [] facts rest ends = facts_in_order b n c None facts rest ends
-changes_in_order b n c (root ∷ changes) facts rest ends =
-    ap (λ more. is_small root && (comes_behind nat_cmp c root && more)) (changes_in_order b n (Some root) changes facts rest ends)
-    ∙ step_and (is_small root) (comes_behind nat_cmp c root) _ _
+claims_in_order : (b : ℕ) (n : Option ℕ) (last : Option Claim) (claims : List Claim) (rest : List Content) → ends_claims rest ≡ true
+    → orderly (at (Some b) n last) (map Claimed claims ++ rest)
+    ≡ (are_listed claim_order (λ claim. claim) (is_right (is_some n)) last claims && orderly (at (Some b) n None) rest)
+claims_in_order b n last [] rest ends = claims_forgotten (Some b) n last None rest ends
+claims_in_order b n last (claim ∷ claims) rest ends =
+    ap (λ more. is_claim claim && ((may_stand (is_some n) claim && comes_behind claim_order last claim) && more))
+    (claims_in_order b n (Some claim) claims rest ends)
+    ∙ claim_and (is_claim claim) (may_stand (is_some n) claim) (comes_behind claim_order last claim) _ _
 
 -- ---- loops
 
-loop_has_line : (n : ℕ) (changes : List ℕ) (facts : List VariableFact) (rest : List Claim) → ends_loop rest ≡ true
-    → has_line (Loop n) (map Change changes ++ (map Fact facts ++ rest)) ≡ not (is_empty changes && is_empty facts)
-loop_has_line n [] [] [] ends = refl
-loop_has_line n [] [] (Block number ∷ rest) ends = refl
-loop_has_line n [] [] (Loop number ∷ rest) ends = refl
-loop_has_line n [] [] (Change root ∷ rest) ends = absurd cc
-loop_has_line n [] [] (Fact fact ∷ rest) ends = absurd cc
-loop_has_line n [] (fact ∷ facts) rest ends = refl
-loop_has_line n (root ∷ changes) facts rest ends = refl
+loop_has_line : (n : ℕ) (claims : List Claim) (rest : List Content) → ends_claims rest ≡ true
+    → has_line (Loop n) (map Claimed claims ++ rest) ≡ not (is_empty claims)
+loop_has_line n [] [] ends = refl
+loop_has_line n [] (Block number ∷ rest) ends = refl
+loop_has_line n [] (Loop number ∷ rest) ends = refl
+loop_has_line n [] (Claimed claim ∷ rest) ends = absurd cc
+loop_has_line n (claim ∷ claims) rest ends = refl
 
-loop_and : (small behind some changes facts rest : Bool)
-    → (small && (behind && (some && (changes && (facts && rest))))) ≡ (behind && ((small && (some && (changes && facts))) && rest))
-loop_and true true true true facts rest = refl
-loop_and true true true false facts rest = refl
-loop_and true true false changes facts rest = refl
-loop_and true false some changes facts rest = refl
-loop_and false true some changes facts rest = refl
-loop_and false false some changes facts rest = refl
+loop_and : (small behind some claims rest : Bool)
+    → (small && (behind && (some && (claims && rest)))) ≡ (behind && ((small && (some && claims)) && rest))
+loop_and true true true claims rest = refl
+loop_and true true false claims rest = refl
+loop_and true false some claims rest = refl
+loop_and false true some claims rest = refl
+loop_and false false some claims rest = refl
 
-loop_in_order : (b : ℕ) (n c : Option ℕ) (f : Option VariableFact) (claims : LoopClaims) (rest : List Claim) → ends_loop rest ≡ true
-    → orderly (at (Some b) n c f) (claims_of_loop claims ++ rest)
-    ≡ (comes_behind nat_cmp n claims.number && (is_loop claims && orderly (at (Some b) (Some claims.number) None None) rest))
-loop_in_order b n c f claims rest ends =
-    ap (λ more. is_small claims.number && (comes_behind nat_cmp n claims.number &&
-    (has_line (Loop claims.number) more && orderly (at (Some b) (Some claims.number) None None) more)))
-    (append_assoc (map Change claims.changes) (map Fact claims.facts) rest)
-    ∙ ap (λ some. is_small claims.number && (comes_behind nat_cmp n claims.number &&
-    (some && orderly (at (Some b) (Some claims.number) None None) (map Change claims.changes ++ (map Fact claims.facts ++ rest)))))
-    (loop_has_line claims.number claims.changes claims.facts rest ends)
-    ∙ ap (λ more. is_small claims.number && (comes_behind nat_cmp n claims.number && (not (is_empty claims.changes && is_empty claims.facts) && more)))
-    (changes_in_order (Some b) claims.number None claims.changes claims.facts rest ends)
-    ∙ loop_and (is_small claims.number) (comes_behind nat_cmp n claims.number) (not (is_empty claims.changes && is_empty claims.facts))
-    (are_listed nat_cmp (λ root. root) is_small None claims.changes) (are_listed subject_order (λ fact. fact) is_fact None claims.facts)
-    (orderly (at (Some b) (Some claims.number) None None) rest)
+loop_in_order : (b : ℕ) (n : Option ℕ) (last : Option Claim) (claims : LoopClaims) (rest : List Content) → ends_claims rest ≡ true
+    → orderly (at (Some b) n last) (lines_of_loop claims ++ rest)
+    ≡ (comes_behind nat_cmp n claims.number && (is_loop claims && orderly (at (Some b) (Some claims.number) None) rest))
+loop_in_order b n last claims rest ends =
+    let all = claims_of_loop claims in
+    ap (λ some. is_small claims.number && (comes_behind nat_cmp n claims.number &&
+    (some && orderly (at (Some b) (Some claims.number) None) (map Claimed all ++ rest)))) (loop_has_line claims.number all rest ends)
+    ∙ ap (λ more. is_small claims.number && (comes_behind nat_cmp n claims.number && (not (is_empty all) && more)))
+    (claims_in_order b (Some claims.number) None all rest ends)
+    ∙ loop_and (is_small claims.number) (comes_behind nat_cmp n claims.number) (not (is_empty all)) (are_claims true all)
+    (orderly (at (Some b) (Some claims.number) None) rest)
 
-section_ends_loop : (rest : List Claim) → ends_section rest ≡ true → ends_loop rest ≡ true
-section_ends_loop [] ends = refl
-section_ends_loop (Block number ∷ rest) ends = refl
-section_ends_loop (Loop number ∷ rest) ends = absurd cc
-section_ends_loop (Change root ∷ rest) ends = absurd cc
-section_ends_loop (Fact fact ∷ rest) ends = absurd cc
+section_ends_claims : (rest : List Content) → ends_section rest ≡ true → ends_claims rest ≡ true
+section_ends_claims [] ends = refl
+section_ends_claims (Block number ∷ rest) ends = refl
+section_ends_claims (Loop number ∷ rest) ends = absurd cc
+section_ends_claims (Claimed claim ∷ rest) ends = absurd cc
 
-loops_end_loop : (loops : List LoopClaims) (rest : List Claim) → ends_section rest ≡ true → ends_loop (flat_map claims_of_loop loops ++ rest) ≡ true
-loops_end_loop [] rest ends = section_ends_loop rest ends
-loops_end_loop (claims ∷ loops) rest ends = refl
+loops_end_claims : (loops : List LoopClaims) (rest : List Content) → ends_section rest ≡ true → ends_claims (flat_map lines_of_loop loops ++ rest) ≡ true
+loops_end_claims [] rest ends = section_ends_claims rest ends
+loops_end_claims (claims ∷ loops) rest ends = refl
 
 and_and : (behind right more rest : Bool) → (behind && (right && (more && rest))) ≡ ((behind && (right && more)) && rest)
 and_and true true more rest = refl
 and_and true false more rest = refl
 and_and false right more rest = refl
 
-loops_in_order : (b : ℕ) (n c : Option ℕ) (f : Option VariableFact) (loops : List LoopClaims) (rest : List Claim) → ends_section rest ≡ true
-    → orderly (at (Some b) n c f) (flat_map claims_of_loop loops ++ rest)
-    ≡ (are_listed nat_cmp (λ claims. claims.number) is_loop n loops && orderly (at (Some b) None None None) rest)
-loops_in_order b n c f [] rest ends = section_forgotten (Some b) n None c None f None rest ends
-loops_in_order b n c f (claims ∷ loops) rest ends =
-    ap (orderly (at (Some b) n c f)) (append_assoc (claims_of_loop claims) (flat_map claims_of_loop loops) rest)
-    ∙ loop_in_order b n c f claims (flat_map claims_of_loop loops ++ rest) (loops_end_loop loops rest ends)
-    ∙ ap (λ more. comes_behind nat_cmp n claims.number && (is_loop claims && more)) (loops_in_order b (Some claims.number) None None loops rest ends)
+loops_in_order : (b : ℕ) (n : Option ℕ) (last : Option Claim) (loops : List LoopClaims) (rest : List Content) → ends_section rest ≡ true
+    → orderly (at (Some b) n last) (flat_map lines_of_loop loops ++ rest)
+    ≡ (are_listed nat_cmp (λ claims. claims.number) is_loop n loops && orderly (at (Some b) None None) rest)
+loops_in_order b n last [] rest ends = section_forgotten (Some b) n None last None rest ends
+loops_in_order b n last (claims ∷ loops) rest ends =
+    ap (orderly (at (Some b) n last)) (append_assoc (lines_of_loop claims) (flat_map lines_of_loop loops) rest)
+    ∙ loop_in_order b n last claims (flat_map lines_of_loop loops ++ rest) (loops_end_claims loops rest ends)
+    ∙ ap (λ more. comes_behind nat_cmp n claims.number && (is_loop claims && more)) (loops_in_order b (Some claims.number) None loops rest ends)
     ∙ and_and (comes_behind nat_cmp n claims.number) (is_loop claims) (are_listed nat_cmp (λ claims. claims.number) is_loop (Some claims.number) loops)
-    (orderly (at (Some b) None None None) rest)
+    (orderly (at (Some b) None None) rest)
 
 -- ---- sections
 
-section_has_line : (b : ℕ) (loops : List LoopClaims) (rest : List Claim) → ends_section rest ≡ true
-    → has_line (Block b) (flat_map claims_of_loop loops ++ rest) ≡ not (is_empty loops)
-section_has_line b [] [] ends = refl
-section_has_line b [] (Block number ∷ rest) ends = refl
-section_has_line b [] (Loop number ∷ rest) ends = absurd cc
-section_has_line b [] (Change root ∷ rest) ends = absurd cc
-section_has_line b [] (Fact fact ∷ rest) ends = absurd cc
-section_has_line b (claims ∷ loops) rest ends = refl
+section_has_line : (b : ℕ) (claims : List Claim) (loops : List LoopClaims) (rest : List Content) → ends_section rest ≡ true
+    → has_line (Block b) (map Claimed claims ++ (flat_map lines_of_loop loops ++ rest)) ≡ not (is_empty claims && is_empty loops)
+section_has_line b [] [] [] ends = refl
+section_has_line b [] [] (Block number ∷ rest) ends = refl
+section_has_line b [] [] (Loop number ∷ rest) ends = absurd cc
+section_has_line b [] [] (Claimed claim ∷ rest) ends = absurd cc
+section_has_line b [] (claims ∷ loops) rest ends = refl
+section_has_line b (claim ∷ claims) loops rest ends = refl
 
-section_and : (small behind some loops rest : Bool)
-    → (small && (behind && (some && (loops && rest)))) ≡ (behind && ((small && (some && loops)) && rest))
-section_and true true true loops rest = refl
-section_and true true false loops rest = refl
-section_and true false some loops rest = refl
-section_and false true some loops rest = refl
-section_and false false some loops rest = refl
+section_and : (small behind some claims loops rest : Bool)
+    → (small && (behind && (some && (claims && (loops && rest))))) ≡ (behind && ((small && (some && (claims && loops))) && rest))
+section_and true true true true loops rest = refl
+section_and true true true false loops rest = refl
+section_and true true false claims loops rest = refl
+section_and true false some claims loops rest = refl
+section_and false true some claims loops rest = refl
+section_and false false some claims loops rest = refl
 
-section_in_order : (b n c : Option ℕ) (f : Option VariableFact) (section : Section) (rest : List Claim) → ends_section rest ≡ true
-    → orderly (at b n c f) (claims_of_section section ++ rest)
-    ≡ (comes_behind nat_cmp b section.block && (is_section section && orderly (at (Some section.block) None None None) rest))
-section_in_order b n c f section rest ends =
-    ap (λ some. is_small section.block && (comes_behind nat_cmp b section.block &&
-    (some && orderly (at (Some section.block) None None None) (flat_map claims_of_loop section.loops ++ rest))))
-    (section_has_line section.block section.loops rest ends)
-    ∙ ap (λ more. is_small section.block && (comes_behind nat_cmp b section.block && (not (is_empty section.loops) && more)))
-    (loops_in_order section.block None None None section.loops rest ends)
-    ∙ section_and (is_small section.block) (comes_behind nat_cmp b section.block) (not (is_empty section.loops))
-    (are_listed nat_cmp (λ claims. claims.number) is_loop None section.loops) (orderly (at (Some section.block) None None None) rest)
+section_in_order : (b n : Option ℕ) (last : Option Claim) (section : Section) (rest : List Content) → ends_section rest ≡ true
+    → orderly (at b n last) (lines_of_section section ++ rest)
+    ≡ (comes_behind nat_cmp b section.block && (is_section section && orderly (at (Some section.block) None None) rest))
+section_in_order b n last section rest ends =
+    let all = claims_of_block section in
+    let more = flat_map lines_of_loop section.loops ++ rest in
+    let some = not (is_empty all && is_empty section.loops) in
+    let front : (Bool → Bool → Bool) = λ has more. is_small section.block && (comes_behind nat_cmp b section.block && (has && more)) in
+    ap (λ lines. front (has_line (Block section.block) lines) (orderly (at (Some section.block) None None) lines))
+    (append_assoc (map Claimed all) (flat_map lines_of_loop section.loops) rest)
+    ∙ ap (λ has. front has (orderly (at (Some section.block) None None) (map Claimed all ++ more)))
+    (section_has_line section.block all section.loops rest ends)
+    ∙ ap (front some) (claims_in_order section.block None None all more (loops_end_claims section.loops rest ends))
+    ∙ ap (λ loops. front some (are_claims false all && loops)) (loops_in_order section.block None None section.loops rest ends)
+    ∙ section_and (is_small section.block) (comes_behind nat_cmp b section.block) some (are_claims false all)
+    (are_listed nat_cmp (λ claims. claims.number) is_loop None section.loops) (orderly (at (Some section.block) None None) rest)
 
-sections_end : (sections : List Section) → ends_section (claims_of sections) ≡ true
+sections_end : (sections : List Section) → ends_section (lines_of sections) ≡ true
 sections_end [] = refl
 sections_end (section ∷ sections) = refl
 
-sections_in_order : (b n c : Option ℕ) (f : Option VariableFact) (sections : List Section)
-    → orderly (at b n c f) (claims_of sections) ≡ are_listed nat_cmp (λ section. section.block) is_section b sections
-sections_in_order b n c f [] = refl
-sections_in_order b n c f (section ∷ sections) =
-    section_in_order b n c f section (claims_of sections) (sections_end sections)
-    ∙ ap (λ more. comes_behind nat_cmp b section.block && (is_section section && more)) (sections_in_order (Some section.block) None None None sections)
+sections_in_order : (b n : Option ℕ) (last : Option Claim) (sections : List Section)
+    → orderly (at b n last) (lines_of sections) ≡ are_listed nat_cmp (λ section. section.block) is_section b sections
+sections_in_order b n last [] = refl
+sections_in_order b n last (section ∷ sections) =
+    section_in_order b n last section (lines_of sections) (sections_end sections)
+    ∙ ap (λ more. comes_behind nat_cmp b section.block && (is_section section && more)) (sections_in_order (Some section.block) None None sections)
 
 -- the lines of sections stand where they may exactly if the sections are in order
-pub in_order : (sections : List Section) → orderly nothing (claims_of sections) ≡ are_in_order sections
-in_order sections = sections_in_order None None None None sections
+pub in_order : (sections : List Section) → orderly nothing (lines_of sections) ≡ are_in_order sections
+in_order sections = sections_in_order None None None sections

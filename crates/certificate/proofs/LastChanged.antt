@@ -1,9 +1,11 @@
 -- A list whose last element is changed.
-use Rattle.std.proofs.Common.{◌≡◌, ℕ, suc, zero, ◌-◌, ◌<◌, List, [], ◌∷◌, map, length, get_or, set, refl, ap, ◌∙◌, arith}
-use Rattle.certificate.specs.declared.claim.Claim.{Claim as KeptClaim}
-use Rattle.certificate.specs.declared.claim.Claim.TheVariants as kept
-use Rattle.certificate.specs.Contents.{LoopClaims, Section}
-use Rattle.certificate.specs.Building.{added, in_last, in_loop, in_section, said_claim}
+use Rattle.std.proofs.Common.{◌≡◌, ℕ, suc, zero, ◌-◌, ◌<◌, false, List, [], ◌∷◌, map, length, get_or, set, refl, ap, ◌∙◌, arith}
+use Rattle.certificate.specs.declared.LoopClaims.{LoopClaims as KeptLoop}
+use Rattle.certificate.specs.declared.claim.Content.{Content as KeptContent}
+use Rattle.certificate.specs.declared.claim.Content.TheVariants as kept
+use Rattle.certificate.specs.Lines.{Claim}
+use Rattle.certificate.specs.Contents.{LoopClaims, Section, is_empty, loop_of}
+use Rattle.certificate.specs.Building.{added, in_last, in_loop, in_section, said_content, with_claim}
 
 changed_at : {K A : Type 0} (view : K → A) (change : A → A) (xs : List K) (d y : K) (i : ℕ) → suc i ≡ length xs
     → view y ≡ change (view (get_or xs i d)) → map view (set xs i y) ≡ in_last change (map view xs)
@@ -20,18 +22,19 @@ pub last_changed : {K A : Type 0} (view : K → A) (change : A → A) (xs : List
 last_changed view change xs len one y all some is changed =
     changed_at view change xs one y (len - 1) (omega arith) (changed ∙ ap (λ x. change (view x)) is)
 
--- a claim that is no loop's heading goes to the last loop of a section
-pub in_last_loop : (claim : KeptClaim) (section : Section) (loops : List LoopClaims) → ((number : ℕ) → claim ≡ kept.Loop number → ⊥)
-    → loops ≡ in_last (in_loop (said_claim claim)) section.loops → record section { loops = loops } ≡ in_section (said_claim claim) section
-in_last_loop (kept.Block number) section loops other is = ap (λ (l : List LoopClaims). record section { loops = l }) is
-in_last_loop (kept.Loop number) section loops other is = absurd (other number refl)
-in_last_loop (kept.Change root) section loops other is = ap (λ (l : List LoopClaims). record section { loops = l }) is
-in_last_loop (kept.Fact fact) section loops other is = ap (λ (l : List LoopClaims). record section { loops = l }) is
+-- a claim goes to the last loop of a section that has one
+pub in_last_loop : (claim : Claim) (section : Section) (loops : List LoopClaims) → is_empty section.loops ≡ false
+    → loops ≡ in_last (in_loop claim) section.loops → record section { loops = loops } ≡ with_claim claim section
+in_last_loop claim section loops some is = rw some (ap (λ (l : List LoopClaims). record section { loops = l }) is)
 
--- a claim that is no block's heading goes to the last section
-pub in_last_section : (claim : KeptClaim) (sections new : List Section) → ((number : ℕ) → claim ≡ kept.Block number → ⊥)
-    → new ≡ in_last (in_section (said_claim claim)) sections → new ≡ added (said_claim claim) sections
+-- a line that is no block's heading goes to the last section
+pub in_last_section : (content : KeptContent) (sections new : List Section) → ((number : ℕ) → content ≡ kept.Block number → ⊥)
+    → new ≡ in_last (in_section (said_content content)) sections → new ≡ added (said_content content) sections
 in_last_section (kept.Block number) sections new other is = absurd (other number refl)
 in_last_section (kept.Loop number) sections new other is = is
-in_last_section (kept.Change root) sections new other is = is
-in_last_section (kept.Fact fact) sections new other is = is
+in_last_section (kept.Claimed claim) sections new other is = is
+
+-- a vector that isn't empty has loops as it is seen
+pub some_loops : (loops : List KeptLoop) (n : ℕ) → n ≡ length loops → 0 < n → is_empty (map loop_of loops) ≡ false
+some_loops [] n len some = absurd (omega arith)
+some_loops (one ∷ loops) n len some = refl

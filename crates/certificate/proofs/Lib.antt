@@ -1,5 +1,6 @@
 pub mod Again
 pub mod BoundLaws
+pub mod ByWord
 pub mod Faults
 pub mod InOrder
 pub mod LastChanged

@@ -1,214 +1,200 @@
--- Claims in order are those of sections, and adding them one after another builds these sections.
-use Rattle.std.proofs.Common.{◌≡◌, ℕ, true, false, ◌&&◌, List, [], ◌∷◌, ◌++◌, map, Option, Some, None, refl, sym, ap, ◌∙◌, append_assoc}
+-- Lines in order are those of sections, and adding them one after another builds these sections.
+use Rattle.std.proofs.Common.{◌≡◌, ℕ, true, false, ◌&&◌, List, [], ◌∷◌, ◌++◌, map, refl, sym, ap, ◌∙◌, append_assoc}
 use Rattle.std.specs.List.{flat_map}
-use Rattle.std.specs.Option.{is_none, is_some}
-use Rattle.std.specs.Ordering.{nat_cmp}
-use Rattle.std.proofs.lemmas.Bool.{and_parts}
+use Rattle.std.specs.Option.{is_some}
+use Rattle.std.proofs.lemmas.Bool.{and_from, and_parts}
 use Rattle.std.proofs.lemmas.List.{append-nil}
-use Rattle.domain.specs.Facts.{Fact as VariableFact, subject_order}
-use Rattle.certificate.specs.Lines.{Claim, Block, Loop, Change, Fact}
+use Rattle.certificate.specs.Lines.{Claim, Alias, Change, Entry, Exit, Fact, Content, Block, Loop, Claimed}
 use Rattle.certificate.specs.Text.{Above}
-use Rattle.certificate.specs.Building.{added, built, in_last, in_loop, in_section, is_claim}
-use Rattle.certificate.specs.Contents.{LoopClaims, Section, claims_of, claims_of_loop, comes_behind}
+use Rattle.certificate.specs.Building.{added, begun, built, in_last, in_loop, in_section, is_content, with_claim}
+use Rattle.certificate.specs.Contents.{LoopClaims, Section, are_listed, claim_order, claims_of_block, claims_of_loop, comes_behind, is_right}
+use Rattle.certificate.specs.Contents.{lines_of, lines_of_loop, may_stand}
 use Rattle.certificate.specs.Text.{admits, below, nothing}
 use Rattle.certificate.proofs.InOrder.{has_line, orderly}
+use Rattle.certificate.proofs.ByWord.{block_again, entry_in, exit_in, facts_in, loop_again, pairs_in, roots_in}
 
--- ---- claims one after another
+-- ---- lines one after another
 
-pub built-append : (sections : List Section) (front back : List Claim) → built sections (front ++ back) ≡ built (built sections front) back
+pub built-append : (sections : List Section) (front back : List Content) → built sections (front ++ back) ≡ built (built sections front) back
 built-append sections [] back = refl
-built-append sections (claim ∷ front) back = built-append (added claim sections) front back
+built-append sections (content ∷ front) back = built-append (added content sections) front back
+
+claims-append : (sections : List Section) (front back : List Claim)
+    → built sections (map Claimed (front ++ back)) ≡ built (built sections (map Claimed front)) (map Claimed back)
+claims-append sections [] back = refl
+claims-append sections (claim ∷ front) back = claims-append (added (Claimed claim) sections) front back
 
 last_snoc : {A : Type 0} (change : A → A) (front : List A) (last : A) → in_last change (front ++ last ∷ []) ≡ front ++ change last ∷ []
 last_snoc change [] last = refl
 last_snoc change (one ∷ []) last = refl
 last_snoc change (one ∷ next ∷ more) last = ap (λ rest. one ∷ rest) (last_snoc change (next ∷ more) last)
 
--- sections that end with a block whose loops end with a loop
-abbrev ending : List Section → ℕ → List LoopClaims → LoopClaims → List Section
-ending front block loops last = front ++ record { block = block; loops = loops ++ last ∷ [] } ∷ []
+-- claims of one word go into one list of the last section
+built_list : {A : Type 0} (made : A → Claim) (filled : List A → Section) → ((front : List A) (one : A) → with_claim (made one) (filled front) ≡ filled (front ++ one ∷ []))
+    → (sections : List Section) (front more : List A)
+    → built (sections ++ filled front ∷ []) (map Claimed (map made more)) ≡ sections ++ filled (front ++ more) ∷ []
+built_list made filled one_more sections front [] = ap (λ all. sections ++ filled all ∷ []) (sym (append-nil front))
+built_list made filled one_more sections front (one ∷ more) =
+    ap (λ so_far. built so_far (map Claimed (map made more)))
+    (last_snoc (in_section (Claimed (made one))) sections (filled front) ∙ ap (λ section. sections ++ section ∷ []) (one_more front one))
+    ∙ built_list made filled one_more sections (front ++ one ∷ []) more
+    ∙ ap (λ all. sections ++ filled all ∷ []) (append_assoc front (one ∷ []) more)
 
-loop_added : (claim : Claim) (front : List Section) (block : ℕ) (loops : List LoopClaims) (last : LoopClaims)
-    → in_section claim (record { block = block; loops = loops ++ last ∷ [] }) ≡ record { block = block; loops = in_last (in_loop claim) (loops ++ last ∷ []) }
-    → in_last (in_section claim) (ending front block loops last) ≡ ending front block loops (in_loop claim last)
-loop_added claim front block loops last is =
-    last_snoc (in_section claim) front (record { block = block; loops = loops ++ last ∷ [] })
-    ∙ ap (λ (section : Section). front ++ section ∷ []) (is
-    ∙ ap (λ (l : List LoopClaims). record { block = block; loops = l }) (last_snoc (in_loop claim) loops last))
+-- a claim of the last loop of a section
+in_last_loop : (claim : Claim) (section : Section) (loops : List LoopClaims) (last : LoopClaims)
+    → with_claim claim (record section { loops = loops ++ last ∷ [] }) ≡ record section { loops = loops ++ in_loop claim last ∷ [] }
+in_last_loop claim section [] last = refl
+in_last_loop claim section (one ∷ loops) last = ap (λ (l : List LoopClaims). record section { loops = l }) (last_snoc (in_loop claim) (one ∷ loops) last)
 
-built_changes : (front : List Section) (block : ℕ) (loops : List LoopClaims) (number : ℕ) (changes more : List ℕ)
-    → built (ending front block loops (record { number = number; changes = changes; facts = [] })) (map Change more)
-    ≡ ending front block loops (record { number = number; changes = changes ++ more; facts = [] })
-built_changes front block loops number changes [] =
-    ap (λ (c : List ℕ). ending front block loops (record { number = number; changes = c; facts = [] })) (sym (append-nil changes))
-built_changes front block loops number changes (root ∷ more) =
-    ap (λ sections. built sections (map Change more))
-    (loop_added (Change root) front block loops (record { number = number; changes = changes; facts = [] }) refl)
-    ∙ built_changes front block loops number (changes ++ root ∷ []) more
-    ∙ ap (λ (c : List ℕ). ending front block loops (record { number = number; changes = c; facts = [] })) (append_assoc changes (root ∷ []) more)
-
-built_facts : (front : List Section) (block : ℕ) (loops : List LoopClaims) (number : ℕ) (changes : List ℕ) (facts more : List VariableFact)
-    → built (ending front block loops (record { number = number; changes = changes; facts = facts })) (map Fact more)
-    ≡ ending front block loops (record { number = number; changes = changes; facts = facts ++ more })
-built_facts front block loops number changes facts [] =
-    ap (λ (f : List VariableFact). ending front block loops (record { number = number; changes = changes; facts = f })) (sym (append-nil facts))
-built_facts front block loops number changes facts (fact ∷ more) =
-    ap (λ sections. built sections (map Fact more))
-    (loop_added (Fact fact) front block loops (record { number = number; changes = changes; facts = facts }) refl)
-    ∙ built_facts front block loops number changes (facts ++ fact ∷ []) more
-    ∙ ap (λ (f : List VariableFact). ending front block loops (record { number = number; changes = changes; facts = f })) (append_assoc facts (fact ∷ []) more)
-
-built_loop : (front : List Section) (block : ℕ) (loops : List LoopClaims) (claims : LoopClaims)
-    → built (front ++ record { block = block; loops = loops } ∷ []) (claims_of_loop claims) ≡ ending front block loops claims
-built_loop front block loops claims =
+built_loop : (front : List Section) (section : Section) (claims : LoopClaims)
+    → built (front ++ section ∷ []) (lines_of_loop claims) ≡ front ++ record section { loops = section.loops ++ claims ∷ [] } ∷ []
+built_loop front section claims =
+    let filled : LoopClaims → Section = λ last. record section { loops = section.loops ++ last ∷ [] } in
     let opened : LoopClaims = record { number = claims.number; changes = []; facts = [] } in
-    ap (λ sections. built sections (map Change claims.changes ++ map Fact claims.facts))
-    (last_snoc (in_section (Loop claims.number)) front (record { block = block; loops = loops }))
-    ∙ built-append (ending front block loops opened) (map Change claims.changes) (map Fact claims.facts)
-    ∙ ap (λ sections. built sections (map Fact claims.facts)) (built_changes front block loops claims.number [] claims.changes)
-    ∙ built_facts front block loops claims.number claims.changes [] claims.facts
+    let changed : LoopClaims = record { number = claims.number; changes = claims.changes; facts = [] } in
+    let facts = map Claimed (map Fact claims.facts) in
+    ap (λ sections. built sections (map Claimed (claims_of_loop claims))) (last_snoc (in_section (Loop claims.number)) front section)
+    ∙ claims-append (front ++ filled opened ∷ []) (map Change claims.changes) (map Fact claims.facts)
+    ∙ ap (λ sections. built sections facts)
+    (built_list Change (λ changes. filled (record opened { changes = changes })) (λ changes root. in_last_loop (Change root) section section.loops _)
+    front [] claims.changes)
+    ∙ built_list Fact (λ facts. filled (record changed { facts = facts })) (λ facts fact. in_last_loop (Fact fact) section section.loops _) front [] claims.facts
 
-built_loops : (front : List Section) (block : ℕ) (loops more : List LoopClaims)
-    → built (front ++ record { block = block; loops = loops } ∷ []) (flat_map claims_of_loop more)
-    ≡ front ++ record { block = block; loops = loops ++ more } ∷ []
-built_loops front block loops [] =
-    ap (λ (l : List LoopClaims). front ++ record { block = block; loops = l } ∷ []) (sym (append-nil loops))
-built_loops front block loops (claims ∷ more) =
-    built-append (front ++ record { block = block; loops = loops } ∷ []) (claims_of_loop claims) (flat_map claims_of_loop more)
-    ∙ ap (λ sections. built sections (flat_map claims_of_loop more)) (built_loop front block loops claims)
-    ∙ built_loops front block (loops ++ claims ∷ []) more
-    ∙ ap (λ (l : List LoopClaims). front ++ record { block = block; loops = l } ∷ []) (append_assoc loops (claims ∷ []) more)
+built_loops : (front : List Section) (section : Section) (more : List LoopClaims)
+    → built (front ++ section ∷ []) (flat_map lines_of_loop more) ≡ front ++ record section { loops = section.loops ++ more } ∷ []
+built_loops front section [] = ap (λ (l : List LoopClaims). front ++ record section { loops = l } ∷ []) (sym (append-nil section.loops))
+built_loops front section (claims ∷ more) =
+    built-append (front ++ section ∷ []) (lines_of_loop claims) (flat_map lines_of_loop more)
+    ∙ ap (λ sections. built sections (flat_map lines_of_loop more)) (built_loop front section claims)
+    ∙ built_loops front (record section { loops = section.loops ++ claims ∷ [] }) more
+    ∙ ap (λ (l : List LoopClaims). front ++ record section { loops = l } ∷ []) (append_assoc section.loops (claims ∷ []) more)
 
-built_sections : (front sections : List Section) → built front (claims_of sections) ≡ front ++ sections
+built_block : (front : List Section) (section : Section)
+    → built (front ++ begun section.block ∷ []) (map Claimed (claims_of_block section)) ≡ front ++ record section { loops = [] } ∷ []
+built_block front section =
+    let none : Section = begun section.block in
+    let aliased : Section = record none { aliases = section.aliases } in
+    let changed : Section = record aliased { changes = section.changes } in
+    let entered : Section = record changed { entry = section.entry } in
+    let exit = map Exit section.exit in
+    let entry = map Entry section.entry ++ exit in
+    let changes = map Change section.changes ++ entry in
+    claims-append (front ++ none ∷ []) (map Alias section.aliases) changes
+    ∙ ap (λ sections. built sections (map Claimed changes))
+    (built_list Alias (λ aliases. record none { aliases = aliases }) (λ aliases pair. refl) front [] section.aliases)
+    ∙ claims-append (front ++ aliased ∷ []) (map Change section.changes) entry
+    ∙ ap (λ sections. built sections (map Claimed entry))
+    (built_list Change (λ changes. record aliased { changes = changes }) (λ changes root. refl) front [] section.changes)
+    ∙ claims-append (front ++ changed ∷ []) (map Entry section.entry) exit
+    ∙ ap (λ sections. built sections (map Claimed exit))
+    (built_list Entry (λ entry. record changed { entry = entry }) (λ entry fact. refl) front [] section.entry)
+    ∙ built_list Exit (λ exit. record entered { exit = exit }) (λ exit fact. refl) front [] section.exit
+
+built_sections : (front sections : List Section) → built front (lines_of sections) ≡ front ++ sections
 built_sections front [] = sym (append-nil front)
 built_sections front (section ∷ sections) =
-    built-append (front ++ record { block = section.block; loops = [] } ∷ []) (flat_map claims_of_loop section.loops) (claims_of sections)
-    ∙ ap (λ built_so. built built_so (claims_of sections)) (built_loops front section.block [] section.loops)
+    let loops = flat_map lines_of_loop section.loops in
+    built-append (front ++ begun section.block ∷ []) (map Claimed (claims_of_block section) ++ loops) (lines_of sections)
+    ∙ ap (λ so_far. built so_far (lines_of sections))
+    (built-append (front ++ begun section.block ∷ []) (map Claimed (claims_of_block section)) loops
+    ∙ ap (λ so_far. built so_far loops) (built_block front section)
+    ∙ built_loops front (record section { loops = [] }) section.loops)
     ∙ built_sections (front ++ section ∷ []) sections
     ∙ append_assoc front (section ∷ []) sections
 
--- the claims of sections build these sections
-pub built_again : (sections : List Section) → built [] (claims_of sections) ≡ sections
+-- the lines of sections build these sections
+pub built_again : (sections : List Section) → built [] (lines_of sections) ≡ sections
 built_again sections = built_sections [] sections
 
--- ---- claims in order are those of sections
-
-some_no_none : {A : Type 0} (o : Option A) (a : A) → o ≡ Some a → is_none o ≡ true → ⊥
-some_no_none None a given free = absurd cc
-some_no_none (Some b) a given free = absurd cc
-
-none_no_some : {A : Type 0} (o : Option A) → o ≡ None → is_some o ≡ true → ⊥
-none_no_some None outside given = absurd cc
-none_no_some (Some a) outside given = absurd cc
+-- ---- lines in order are those of sections
 
 -- what is said before the first heading, the loops before the first block, and the sections
 record Parts : Type 0 where
-  changes : List ℕ
-  facts : List VariableFact
+  claims : List Claim
   loops : List LoopClaims
   sections : List Section
 
-abbrev with_claim : Claim → Parts → Parts
-with_claim (Block number) parts =
-    record { changes = []; facts = []; loops = []; sections = record { block = number; loops = parts.loops } ∷ parts.sections }
-with_claim (Loop number) parts =
-    record {
-      changes = [];
-      facts = [];
-      loops = record { number = number; changes = parts.changes; facts = parts.facts } ∷ parts.loops;
-      sections = parts.sections;
-    }
-with_claim (Change root) parts = record parts { changes = root ∷ parts.changes }
-with_claim (Fact fact) parts = record parts { facts = fact ∷ parts.facts }
+abbrev section_in : ℕ → Parts → Section
+section_in number parts = record {
+  block = number;
+  aliases = pairs_in parts.claims;
+  changes = roots_in parts.claims;
+  entry = entry_in parts.claims;
+  exit = exit_in parts.claims;
+  loops = parts.loops;
+}
 
-abbrev parts_of : List Claim → Parts
-parts_of [] = record { changes = []; facts = []; loops = []; sections = [] }
-parts_of (claim ∷ more) = with_claim claim (parts_of more)
+abbrev loop_in : ℕ → Parts → LoopClaims
+loop_in number parts = record { number = number; changes = roots_in parts.claims; facts = facts_in parts.claims }
 
-abbrev said_by : Parts → List Claim
-said_by parts = map Change parts.changes ++ (map Fact parts.facts ++ (flat_map claims_of_loop parts.loops ++ claims_of parts.sections))
+abbrev with_line : Content → Parts → Parts
+with_line (Block number) parts = record { claims = []; loops = []; sections = section_in number parts ∷ parts.sections }
+with_line (Loop number) parts = record { claims = []; loops = loop_in number parts ∷ parts.loops; sections = parts.sections }
+with_line (Claimed claim) parts = record { claims = claim ∷ parts.claims; loops = parts.loops; sections = parts.sections }
 
-orderly_parts : (above : Above) (claim : Claim) (more : List Claim) → orderly above (claim ∷ more) ≡ true
-    → (admits above claim ≡ true) × (orderly (below above claim) more ≡ true)
-orderly_parts above claim more is =
-    let admitted = and_parts (admits above claim) (has_line claim more && orderly (below above claim) more)
-    (and_parts (is_claim claim) (admits above claim && (has_line claim more && orderly (below above claim) more)) is).1 in
-    (admitted.0, (and_parts (has_line claim more) (orderly (below above claim) more) admitted.1).1)
+abbrev parts_of : List Content → Parts
+parts_of [] = record { claims = []; loops = []; sections = [] }
+parts_of (content ∷ more) = with_line content (parts_of more)
 
--- claims that may stand below a fact begin with no change
-no_changes : (above : Above) (fact : VariableFact) (claims : List Claim) → above.fact ≡ Some fact → orderly above claims ≡ true
-    → (parts_of claims).changes ≡ []
-no_changes above fact [] given is = refl
-no_changes above fact (Block number ∷ more) given is = refl
-no_changes above fact (Loop number ∷ more) given is = refl
-no_changes above fact (Change root ∷ more) given is =
-    let admitted = (orderly_parts above (Change root) more is).0 in
-    let free = (and_parts (is_none above.fact) (comes_behind nat_cmp above.change root)
-    (and_parts (is_some above.loop_number) (is_none above.fact && comes_behind nat_cmp above.change root) admitted).1).0 in
-    absurd (some_no_none above.fact fact given free)
-no_changes above fact (Fact next ∷ more) given is =
-    no_changes (below above (Fact next)) next more refl (orderly_parts above (Fact next) more is).1
+abbrev said_by : Parts → List Content
+said_by parts = map Claimed parts.claims ++ (flat_map lines_of_loop parts.loops ++ lines_of parts.sections)
 
--- claims that may stand outside a loop begin with no change and no fact
-no_claims : (above : Above) (claims : List Claim) → above.loop_number ≡ None → orderly above claims ≡ true
-    → ((parts_of claims).changes ≡ []) × ((parts_of claims).facts ≡ [])
-no_claims above [] outside is = (refl, refl)
-no_claims above (Block number ∷ more) outside is = (refl, refl)
-no_claims above (Loop number ∷ more) outside is = (refl, refl)
-no_claims above (Change root ∷ more) outside is =
-    absurd (none_no_some above.loop_number outside
-    (and_parts (is_some above.loop_number) (is_none above.fact && comes_behind nat_cmp above.change root) (orderly_parts above (Change root) more is).0).0)
-no_claims above (Fact fact ∷ more) outside is =
-    absurd (none_no_some above.loop_number outside
-    (and_parts (is_some above.loop_number) (comes_behind subject_order above.fact fact) (orderly_parts above (Fact fact) more is).0).0)
+orderly_parts : (above : Above) (content : Content) (more : List Content) → orderly above (content ∷ more) ≡ true
+    → (is_content content ≡ true) × (admits above content ≡ true) × (orderly (below above content) more ≡ true)
+orderly_parts above content more is =
+    let first = and_parts (is_content content) (admits above content && (has_line content more && orderly (below above content) more)) is in
+    let admitted = and_parts (admits above content) (has_line content more && orderly (below above content) more) first.1 in
+    (first.0, admitted.0, (and_parts (has_line content more) (orderly (below above content) more) admitted.1).1)
 
--- claims that may stand below the heading of a text begin with no loop
-no_loops : (claims : List Claim) → orderly nothing claims ≡ true → (parts_of claims).loops ≡ []
-no_loops [] is = refl
-no_loops (Block number ∷ more) is = refl
-no_loops (Loop number ∷ more) is = let never : false ≡ true = (orderly_parts nothing (Loop number) more is).0 in absurd cc
-no_loops (Change root ∷ more) is = let never : false ≡ true = (orderly_parts nothing (Change root) more is).0 in absurd cc
-no_loops (Fact fact ∷ more) is = let never : false ≡ true = (orderly_parts nothing (Fact fact) more is).0 in absurd cc
+-- the claims before the first heading are in order
+claims_listed : (above : Above) (lines : List Content) → orderly above lines ≡ true
+    → are_listed claim_order (λ claim. claim) (is_right (is_some above.loop_number)) above.claim (parts_of lines).claims ≡ true
+claims_listed above [] is = refl
+claims_listed above (Block number ∷ more) is = refl
+claims_listed above (Loop number ∷ more) is = refl
+claims_listed above (Claimed claim ∷ more) is =
+    let parts = orderly_parts above (Claimed claim) more is in
+    let stands = and_parts (may_stand (is_some above.loop_number) claim) (comes_behind claim_order above.claim claim)
+    (and_parts (is_some above.block) (may_stand (is_some above.loop_number) claim && comes_behind claim_order above.claim claim) parts.1).1 in
+    and_from _ _ stands.1 (and_from _ _ (and_from _ _ parts.0 stands.0) (claims_listed (below above (Claimed claim)) more parts.2))
 
-four_parts : (a b c d : List Claim) → ((a ++ b) ++ c) ++ d ≡ a ++ (b ++ (c ++ d))
-four_parts a b c d = append_assoc (a ++ b) c d ∙ append_assoc a b (c ++ d)
+-- lines that may stand below the heading of a text begin with no claim and no loop
+begin_with_block : (lines : List Content) → orderly nothing lines ≡ true → ((parts_of lines).claims ≡ []) × ((parts_of lines).loops ≡ [])
+begin_with_block [] is = (refl, refl)
+begin_with_block (Block number ∷ more) is = (refl, refl)
+begin_with_block (Loop number ∷ more) is = let never : false ≡ true = (orderly_parts nothing (Loop number) more is).1 in absurd cc
+begin_with_block (Claimed claim ∷ more) is = let never : false ≡ true = (orderly_parts nothing (Claimed claim) more is).1 in absurd cc
 
--- claims in order are those of their parts
-said_again : (above : Above) (claims : List Claim) → orderly above claims ≡ true → claims ≡ said_by (parts_of claims)
+-- lines in order are those of their parts
+said_again : (above : Above) (lines : List Content) → orderly above lines ≡ true → lines ≡ said_by (parts_of lines)
 said_again above [] is = refl
 said_again above (Block number ∷ more) is =
-    let rest = (orderly_parts above (Block number) more is).1 in
-    let outside = no_claims (below above (Block number)) more refl rest in
+    let rest = (orderly_parts above (Block number) more is).2 in
     let parts = parts_of more in
-    ap (λ claims. Block number ∷ claims)
+    let loops = flat_map lines_of_loop parts.loops in
+    ap (λ lines. Block number ∷ lines)
     (said_again (below above (Block number)) more rest
-    ∙ ap (λ (c : List ℕ). map Change c ++ (map Fact parts.facts ++ (flat_map claims_of_loop parts.loops ++ claims_of parts.sections))) outside.0
-    ∙ ap (λ (f : List VariableFact). map Fact f ++ (flat_map claims_of_loop parts.loops ++ claims_of parts.sections)) outside.1)
+    ∙ ap (λ claims. map Claimed claims ++ (loops ++ lines_of parts.sections)) (block_again parts.claims (claims_listed (below above (Block number)) more rest))
+    ∙ sym (append_assoc (map Claimed (claims_of_block (section_in number parts))) loops (lines_of parts.sections)))
 said_again above (Loop number ∷ more) is =
+    let rest = (orderly_parts above (Loop number) more is).2 in
     let parts = parts_of more in
-    ap (λ claims. Loop number ∷ claims)
-    (said_again (below above (Loop number)) more (orderly_parts above (Loop number) more is).1
-    ∙ sym (four_parts (map Change parts.changes) (map Fact parts.facts) (flat_map claims_of_loop parts.loops) (claims_of parts.sections)))
-said_again above (Change root ∷ more) is =
-    ap (λ claims. Change root ∷ claims) (said_again (below above (Change root)) more (orderly_parts above (Change root) more is).1)
-said_again above (Fact fact ∷ more) is =
-    let rest = (orderly_parts above (Fact fact) more is).1 in
-    let parts = parts_of more in
-    let none = no_changes (below above (Fact fact)) fact more refl rest in
-    let told : more ≡ map Fact parts.facts ++ (flat_map claims_of_loop parts.loops ++ claims_of parts.sections) =
-    said_again (below above (Fact fact)) more rest
-    ∙ ap (λ (c : List ℕ). map Change c ++ (map Fact parts.facts ++ (flat_map claims_of_loop parts.loops ++ claims_of parts.sections))) none in
-    ap (λ claims. Fact fact ∷ claims) told
-    ∙ ap (λ (c : List ℕ). map Change c ++ (map Fact (fact ∷ parts.facts) ++ (flat_map claims_of_loop parts.loops ++ claims_of parts.sections))) (sym none)
+    let loops = flat_map lines_of_loop parts.loops in
+    let claims = map Claimed (claims_of_loop (loop_in number parts)) in
+    ap (λ lines. Loop number ∷ lines)
+    (said_again (below above (Loop number)) more rest
+    ∙ ap (λ claims. map Claimed claims ++ (loops ++ lines_of parts.sections)) (loop_again parts.claims (claims_listed (below above (Loop number)) more rest))
+    ∙ sym (append_assoc claims loops (lines_of parts.sections)))
+said_again above (Claimed claim ∷ more) is =
+    ap (λ lines. Claimed claim ∷ lines) (said_again (below above (Claimed claim)) more (orderly_parts above (Claimed claim) more is).2)
 
--- claims in order below the heading are those of sections
-pub claims_again : (claims : List Claim) → orderly nothing claims ≡ true → (sections : List Section) × (claims ≡ claims_of sections)
-claims_again claims is =
-    let parts = parts_of claims in
-    let outside = no_claims nothing claims refl is in (
+-- lines in order below the heading are those of sections
+pub lines_of_sections : (lines : List Content) → orderly nothing lines ≡ true → (sections : List Section) × (lines ≡ lines_of sections)
+lines_of_sections lines is =
+    let parts = parts_of lines in
+    let none = begin_with_block lines is in (
       parts.sections,
-      said_again nothing claims is
-          ∙ ap (λ (c : List ℕ). map Change c ++ (map Fact parts.facts ++ (flat_map claims_of_loop parts.loops ++ claims_of parts.sections))) outside.0
-          ∙ ap (λ (f : List VariableFact). map Fact f ++ (flat_map claims_of_loop parts.loops ++ claims_of parts.sections)) outside.1
-          ∙ ap (λ (l : List LoopClaims). flat_map claims_of_loop l ++ claims_of parts.sections) (no_loops claims is),
+      said_again nothing lines is
+          ∙ ap (λ claims. map Claimed claims ++ (flat_map lines_of_loop parts.loops ++ lines_of parts.sections)) none.0
+          ∙ ap (λ loops. flat_map lines_of_loop loops ++ lines_of parts.sections) none.1,
     )

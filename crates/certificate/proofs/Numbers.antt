@@ -5,7 +5,7 @@ use Rattle.std.specs.List.{list_all, position}
 use Rattle.std.specs.Char.{is_ascii_digit}
 use Rattle.std.proofs.lemmas.Bool.{ne_eqb}
 use Rattle.std.proofs.lemmas.Bool.Decides.{nat_tests}
-use Rattle.certificate.specs.declared.claim.LineFault.TheVariants.{NotInGrammar, OutOfRange}
+use Rattle.certificate.specs.declared.words.LineFault.TheVariants.{NotInGrammar, OutOfRange}
 use Rattle.certificate.specs.Words.{is_number, value_of, value_up_to, parted}
 
 grows : (xs : List ℕ) (v : ℕ) → v ≤ fold (λ value digit. value * 10 + (digit - 48)) v xs

@@ -11,8 +11,8 @@ use Rattle.std.proofs.lemmas.Fmt.{digits_decimal}
 use Rattle.std.proofs.lemmas.List.{append-nil}
 use Rattle.std.proofs.lemmas.Slice.Eq.{bytes_eq-Decides}
 use Rattle.domain.specs.Facts.{Step, Path, Elements, Field}
-use Rattle.certificate.specs.declared.claim.LineFault.{LineFault}
-use Rattle.certificate.specs.declared.claim.LineFault.TheVariants.{NotInGrammar}
+use Rattle.certificate.specs.declared.words.LineFault.{LineFault}
+use Rattle.certificate.specs.declared.words.LineFault.TheVariants.{NotInGrammar}
 use Rattle.certificate.specs.Contents.{is_path, is_small, is_step}
 use Rattle.certificate.specs.Paths.{begins_step, cut, is_name, is_name_byte, is_piece, is_piece_behind, path_of, path_words, step_behind, step_in, step_words}
 use Rattle.certificate.specs.Paths.{steps_of}

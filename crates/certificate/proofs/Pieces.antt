@@ -5,8 +5,8 @@ use Rattle.std.proofs.lemmas.Bool.Decides.{nat_tests}
 use Rattle.std.specs.Bool.{if◌then◌else◌}
 use Rattle.std.specs.List.{list_all, position, position_or_len}
 use Rattle.domain.specs.Facts.{Path, Step}
-use Rattle.certificate.specs.declared.claim.LineFault.{LineFault}
-use Rattle.certificate.specs.declared.claim.LineFault.TheVariants.{NotInGrammar, OutOfRange}
+use Rattle.certificate.specs.declared.words.LineFault.{LineFault}
+use Rattle.certificate.specs.declared.words.LineFault.TheVariants.{NotInGrammar, OutOfRange}
 use Rattle.certificate.specs.Building.{pieces, steps_in}
 use Rattle.certificate.specs.Paths.{begins_step, cut, is_piece, path_of, steps_of}
 use Rattle.certificate.specs.Words.{◌>>=◌, both, variable_of}

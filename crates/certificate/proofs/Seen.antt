@@ -1,7 +1,7 @@
 -- Results as the definitions see them.
 use Rattle.std.proofs.Common.{◌≡◌, Result, Ok, Err, ap}
 use Rattle.std.specs.Result.{IsErrAnd, result_map_both}
-use Rattle.certificate.specs.declared.claim.LineFault.{LineFault}
+use Rattle.certificate.specs.declared.words.LineFault.{LineFault}
 
 abbrev pub seen : {A B : Type 0} → (A → B) → Result A LineFault → Result B LineFault
 seen f r = result_map_both f (λ fault. fault) r

@@ -1,6 +1,6 @@
 -- What a line says, and the line that says it.
 use Rattle.std.proofs.Common.{◌≡◌, ℕ, suc, ℤ, pos, Bool, true, false, not, ◌&&◌, int_le, int_lt, ◌==◌, List, ◌∷◌, ◌++◌, take, drop, Option}
-use Rattle.std.proofs.Common.{Some, None, Result, Ok, Err, refl, sym, ap, subst, ◌∙◌, arith, inl, inr, codes}
+use Rattle.std.proofs.Common.{Some, None, Result, Ok, Err, refl, sym, ap, subst, ◌∙◌, arith, inl, inr, codes, decimal}
 use Rattle.std.specs.Bool.{if◌then◌else◌}
 use Rattle.std.specs.List.{position}
 use Rattle.std.specs.Ordering.{int_eq}
@@ -10,15 +10,17 @@ use Rattle.std.proofs.lemmas.Int.{ints}
 use Rattle.domain.specs.Interval.{Interval, between}
 use Rattle.domain.specs.Facts.{Fact as VariableFact, Bound, Path}
 use Rattle.domain.specs.Facts.{Range, Defined, Stretch, Order}
-use Rattle.certificate.specs.declared.claim.LineFault.{LineFault}
-use Rattle.certificate.specs.declared.claim.LineFault.TheVariants.{NotInGrammar, OutOfRange}
+use Rattle.certificate.specs.declared.words.LineFault.{LineFault}
+use Rattle.certificate.specs.declared.words.LineFault.TheVariants.{NotInGrammar, OutOfRange}
 use Rattle.certificate.specs.Bounds.{bound_of}
-use Rattle.certificate.specs.Building.{is_claim}
-use Rattle.certificate.specs.Contents.{is_constant, is_fact, is_path, is_plain}
-use Rattle.certificate.specs.Lines.{Claim, Block, Loop, Change, Fact, defined_at, defined_fact, fact_of, fact_words, line_of, order_fact, range_fact, range_of}
+use Rattle.certificate.specs.declared.AliasPair.{AliasPair}
+use Rattle.certificate.specs.Building.{is_content}
+use Rattle.certificate.specs.Contents.{is_claim, is_constant, is_fact, is_path, is_plain, is_small}
+use Rattle.certificate.specs.Lines.{Claim, Alias, Change, Entry, Exit, Fact, Content, Block, Loop, Claimed, claim_of, claim_words, pair_of}
+use Rattle.certificate.specs.Lines.{defined_at, defined_fact, fact_of, fact_words, line_of, order_fact, range_fact, range_of}
 use Rattle.certificate.specs.Lines.{reading, stretch_fact}
 use Rattle.certificate.specs.Paths.{path_of, path_words}
-use Rattle.certificate.specs.Words.{◌>>=◌, behind, both, constant_of, number_of, parted, variable_of}
+use Rattle.certificate.specs.Words.{◌>>=◌, behind, both, constant_of, number_of, parted, variable, variable_of, when}
 use Rattle.certificate.proofs.BoundLaws.{bound_spelled}
 use Rattle.certificate.proofs.Numerals.{behind_some, bound_ok, constant_spelled, ok_is, when_ok}
 use Rattle.certificate.proofs.PathLaws.{path_spelled}
@@ -146,57 +148,68 @@ fact_spelled words fact e =
           ]
     ]
 
-line_behind : (word line rest rest_line : List ℕ) → behind word line ≡ Some rest → rest ≡ rest_line → line ≡ word ++ rest_line
-line_behind word line rest rest_line found is = behind_some word line rest found ∙ ap (λ more. word ++ more) is
+pair_spelled : (words : List ℕ) (pair : AliasPair) → pair_of words ≡ Ok pair
+    → (words ≡ variable pair.first ++ 32 ∷ variable pair.second) × (is_claim (Alias pair) ≡ true)
+pair_spelled words pair e =
+    let made : ℕ × ℕ → Result AliasPair LineFault = λ roots. Ok (record { first = roots.0; second = roots.1 }) in
+    let ends = bound_ok (parted words) (λ ends. both (variable_of ends.0) (variable_of ends.1) >>= made) pair e in
+    let roots = bound_ok (both (variable_of ends.0.0) (variable_of ends.0.1)) made pair ends.2 in
+    let two = both_ok (variable_of ends.0.0) (variable_of ends.0.1) roots.0.0 roots.0.1 roots.1 in
+    let first = variable_spelled ends.0.0 roots.0.0 two.0 in
+    let second = variable_spelled ends.0.1 roots.0.1 two.1 in
+    let whole = parted_spelled words ends.0.0 ends.0.1 ends.1 ∙ ap (λ front. front ++ 32 ∷ ends.0.1) first.0
+    ∙ ap (λ rest. variable roots.0.0 ++ 32 ∷ rest) second.0 in
+    subst (λ pair. (words ≡ variable pair.first ++ 32 ∷ variable pair.second) × (is_claim (Alias pair) ≡ true))
+    (ok_is (record { first = roots.0.0; second = roots.0.1 }) pair roots.2)
+    (whole, and_from _ _ first.1 second.1)
 
-block_spelled : (line rest : List ℕ) (claim : Claim) → behind (codes "proc ") line ≡ Some rest
-    → (number_of rest >>= λ number. Ok (Block number)) ≡ Ok claim → (line ≡ line_of claim) × (is_claim claim ≡ true)
-block_spelled line rest claim found e =
-    let number = bound_ok (number_of rest) (λ number. Ok (Block number)) claim e in
-    let spelled = number_spelled rest number.0 number.1 in
-    subst (λ claim. (line ≡ line_of claim) × (is_claim claim ≡ true)) (ok_is (Block number.0) claim number.2)
-    (line_behind (codes "proc ") line rest _ found spelled.0, spelled.1)
+-- ---- lines
 
-loop_spelled : (line rest : List ℕ) (claim : Claim) → behind (codes "loop ") line ≡ Some rest
-    → (number_of rest >>= λ number. Ok (Loop number)) ≡ Ok claim → (line ≡ line_of claim) × (is_claim claim ≡ true)
-loop_spelled line rest claim found e =
-    let number = bound_ok (number_of rest) (λ number. Ok (Loop number)) claim e in
-    let spelled = number_spelled rest number.0 number.1 in
-    subst (λ claim. (line ≡ line_of claim) × (is_claim claim ≡ true)) (ok_is (Loop number.0) claim number.2)
-    (line_behind (codes "loop ") line rest _ found spelled.0, spelled.1)
+-- what is read behind a word is spelled so, and so is the line that begins with it
+module _ {C A : Type 0} (spelled : C → List ℕ) (is_right : C → Bool) (word : List ℕ) (made : A → C) (words : A → List ℕ) (fits : A → Bool)
+    (line_is : (a : A) → spelled (made a) ≡ word ++ words a) (fits_are : (a : A) → is_right (made a) ≡ fits a)
+    (read : List ℕ → Result A LineFault) (read_spelled : (rest : List ℕ) (a : A) → read rest ≡ Ok a → (rest ≡ words a) × (fits a ≡ true)) where
+  word_spelled : (line rest : List ℕ) (c : C) → behind word line ≡ Some rest → (read rest >>= λ a. Ok (made a)) ≡ Ok c
+      → (line ≡ spelled c) × (is_right c ≡ true)
+  word_spelled line rest c found e =
+      let told = bound_ok (read rest) (λ a. Ok (made a)) c e in
+      let right = read_spelled rest told.0 told.1 in
+      subst (λ c. (line ≡ spelled c) × (is_right c ≡ true)) (ok_is (made told.0) c told.2)
+      (behind_some word line rest found ∙ ap (λ more. word ++ more) right.0 ∙ sym (line_is told.0), fits_are told.0 ∙ right.1)
 
-change_spelled : (line rest : List ℕ) (claim : Claim) → behind (codes "change ") line ≡ Some rest
-    → (variable_of rest >>= λ root. Ok (Change root)) ≡ Ok claim → (line ≡ line_of claim) × (is_claim claim ≡ true)
-change_spelled line rest claim found e =
-    let root = bound_ok (variable_of rest) (λ root. Ok (Change root)) claim e in
-    let spelled = variable_spelled rest root.0 root.1 in
-    subst (λ claim. (line ≡ line_of claim) × (is_claim claim ≡ true)) (ok_is (Change root.0) claim root.2)
-    (line_behind (codes "change ") line rest _ found spelled.0, spelled.1)
+  -- and so is a line that begins with it or is read otherwise
+  when_spelled : (line : List ℕ) (otherwise : Result C LineFault) (c : C) → (otherwise ≡ Ok c → (line ≡ spelled c) × (is_right c ≡ true))
+      → when (behind word line) (λ rest. read rest >>= λ a. Ok (made a)) otherwise ≡ Ok c → (line ≡ spelled c) × (is_right c ≡ true)
+  when_spelled line otherwise c others e =
+      elim (when_ok (behind word line) (λ rest. read rest >>= λ a. Ok (made a)) otherwise c e) [
+        | inl found ↦ word_spelled line found.0 c found.1 found.2
+        | inr rest ↦ others rest
+      ]
 
-fact_line_spelled : (line rest : List ℕ) (claim : Claim) → behind (codes "fact ") line ≡ Some rest
-    → (fact_of rest >>= λ fact. Ok (Fact fact)) ≡ Ok claim → (line ≡ line_of claim) × (is_claim claim ≡ true)
-fact_line_spelled line rest claim found e =
-    let fact = bound_ok (fact_of rest) (λ fact. Ok (Fact fact)) claim e in
-    let spelled = fact_spelled rest fact.0 fact.1 in
-    subst (λ claim. (line ≡ line_of claim) × (is_claim claim ≡ true)) (ok_is (Fact fact.0) claim fact.2)
-    (line_behind (codes "fact ") line rest _ found spelled.0, spelled.1)
+no_words : (line : List ℕ) (claim : Claim) → (let fault : Result Claim LineFault = Err NotInGrammar in fault ≡ Ok claim)
+    → (line ≡ claim_words claim) × (is_claim claim ≡ true)
+no_words line claim e = absurd cc
+
+claim_spelled : (line : List ℕ) (claim : Claim) → claim_of line ≡ Ok claim → (line ≡ claim_words claim) × (is_claim claim ≡ true)
+claim_spelled line claim e =
+    when_spelled claim_words is_claim (codes "alias ") Alias (λ pair. variable pair.first ++ 32 ∷ variable pair.second) (λ pair. is_claim (Alias pair))
+    (λ pair. refl) (λ pair. refl) pair_of pair_spelled line _ claim
+    (when_spelled claim_words is_claim (codes "change ") Change variable is_small (λ root. refl) (λ root. refl) variable_of variable_spelled line _ claim
+    (when_spelled claim_words is_claim (codes "entry ") Entry fact_words is_fact (λ fact. refl) (λ fact. refl) fact_of fact_spelled line _ claim
+    (when_spelled claim_words is_claim (codes "exit ") Exit fact_words is_fact (λ fact. refl) (λ fact. refl) fact_of fact_spelled line _ claim
+    (when_spelled claim_words is_claim (codes "fact ") Fact fact_words is_fact (λ fact. refl) (λ fact. refl) fact_of fact_spelled line _ claim
+    (no_words line claim))))) e
+
+claimed_spelled : (line : List ℕ) (content : Content) → (claim_of line >>= λ claim. Ok (Claimed claim)) ≡ Ok content
+    → (line ≡ line_of content) × (is_content content ≡ true)
+claimed_spelled line content e =
+    let told = bound_ok (claim_of line) (λ claim. Ok (Claimed claim)) content e in
+    subst (λ content. (line ≡ line_of content) × (is_content content ≡ true)) (ok_is (Claimed told.0) content told.2)
+    (claim_spelled line told.0 told.1)
 
 -- a line that says something is the line of what it says, and its numbers are in range
-pub line_spelled : (line : List ℕ) (claim : Claim) → reading line ≡ Ok claim → (line ≡ line_of claim) × (is_claim claim ≡ true)
-line_spelled line claim e =
-    elim (when_ok (behind (codes "proc ") line) (λ word. number_of word >>= λ number. Ok (Block number)) _ claim e) [
-      | inl found ↦ block_spelled line found.0 claim found.1 found.2
-      | inr others ↦
-          elim (when_ok (behind (codes "loop ") line) (λ word. number_of word >>= λ number. Ok (Loop number)) _ claim others) [
-            | inl found ↦ loop_spelled line found.0 claim found.1 found.2
-            | inr others ↦
-                elim (when_ok (behind (codes "change ") line) (λ word. variable_of word >>= λ root. Ok (Change root)) _ claim others) [
-                  | inl found ↦ change_spelled line found.0 claim found.1 found.2
-                  | inr others ↦
-                      elim (when_ok (behind (codes "fact ") line) (λ words. fact_of words >>= λ fact. Ok (Fact fact)) (Err NotInGrammar) claim others) [
-                        | inl found ↦ fact_line_spelled line found.0 claim found.1 found.2
-                        | inr fault ↦ absurd cc
-                      ]
-                ]
-          ]
-    ]
+pub line_spelled : (line : List ℕ) (content : Content) → reading line ≡ Ok content → (line ≡ line_of content) × (is_content content ≡ true)
+line_spelled line content e =
+    when_spelled line_of is_content (codes "proc ") Block decimal is_small (λ number. refl) (λ number. refl) number_of number_spelled line _ content
+    (when_spelled line_of is_content (codes "loop ") Loop decimal is_small (λ number. refl) (λ number. refl) number_of number_spelled line _ content
+    (claimed_spelled line content)) e

@@ -11,13 +11,13 @@ use Rattle.certificate.specs.declared.Version.{Version}
 use Rattle.certificate.specs.declared.Version.TheVariants.{One}
 use Rattle.certificate.specs.declared.fault.ReadFault.{ReadFault}
 use Rattle.certificate.specs.declared.fault.ReadFault.TheVariants as fault
-use Rattle.certificate.specs.Building.{built, is_claim, said_line}
-use Rattle.certificate.specs.Contents.{IsReadAs, Section, are_in_order, claims_of, ended, heading, spelling}
-use Rattle.certificate.specs.Lines.{Claim, line_of}
+use Rattle.certificate.specs.Building.{built, is_content, said_line}
+use Rattle.certificate.specs.Contents.{IsReadAs, Section, are_in_order, lines_of, ended, heading, spelling}
+use Rattle.certificate.specs.Lines.{Content, line_of}
 use Rattle.certificate.specs.Text.{Line, fault_from, fault_of_lines, first_fault, heading_fault, lines, nothing, or_else}
-use Rattle.certificate.proofs.Faults.{faultless-orderly, lines_of_claims, orderly-faultless, orderly-fits, same_claims}
+use Rattle.certificate.proofs.Faults.{faultless-orderly, lines_again, orderly-faultless, orderly-fits, same_lines}
 use Rattle.certificate.proofs.InOrder.{in_order, orderly}
-use Rattle.certificate.proofs.Nested.{built_again, claims_again}
+use Rattle.certificate.proofs.Nested.{built_again, lines_of_sections}
 use Rattle.certificate.proofs.TextLines.{unlines, unlines-lines}
 
 abbrev heading_line : Line
@@ -34,47 +34,47 @@ ended_heading bytes true none =
     ap (λ (b : List ℕ). let line : Line = record { bytes = b; ended = true } in line) (heading_only bytes (bytes_eq bytes (codes "pcert 1")) refl none)
 ended_heading bytes false none = absurd cc
 
-unlines_said : (claims : List Claim) → unlines (map said_line claims) ≡ flat_map (λ claim. ended (line_of claim)) claims
+unlines_said : (said : List Content) → unlines (map said_line said) ≡ flat_map (λ content. ended (line_of content)) said
 unlines_said [] = refl
-unlines_said (claim ∷ claims) =
-    ap (λ rest. line_of claim ++ 10 ∷ rest) (unlines_said claims)
-    ∙ sym (append_assoc (line_of claim) (10 ∷ []) (flat_map (λ claim. ended (line_of claim)) claims))
+unlines_said (content ∷ said) =
+    ap (λ rest. line_of content ++ 10 ∷ rest) (unlines_said said)
+    ∙ sym (append_assoc (line_of content) (10 ∷ []) (flat_map (λ content. ended (line_of content)) said))
 
--- a text whose lines are a heading and those of claims is spelled so
-text_spelled : (text : List ℕ) (first : Line) (below : List Line) (claims : List Claim) (version : Version) → lines text ≡ first ∷ below
-    → heading_fault first ≡ None → below ≡ map said_line claims
-    → text ≡ ended (heading version) ++ flat_map (λ claim. ended (line_of claim)) claims
-text_spelled text first below claims One text_is none below_is =
+-- a text whose lines are a heading and those of said is spelled so
+text_spelled : (text : List ℕ) (first : Line) (below : List Line) (said : List Content) (version : Version) → lines text ≡ first ∷ below
+    → heading_fault first ≡ None → below ≡ map said_line said
+    → text ≡ ended (heading version) ++ flat_map (λ content. ended (line_of content)) said
+text_spelled text first below said One text_is none below_is =
     sym (unlines-lines text) ∙ ap unlines (text_is ∙ ap (λ line. line ∷ below) (ended_heading first.bytes first.ended none)
     ∙ ap (λ more. heading_line ∷ more) below_is)
-    ∙ ap (λ rest. codes "pcert 1" ++ 10 ∷ rest) (unlines_said claims)
+    ∙ ap (λ rest. codes "pcert 1" ++ 10 ∷ rest) (unlines_said said)
 
 -- sections that are read are in order, and the text is their spelling
-pub read_exactly : (text : List ℕ) (first : Line) (below : List Line) (claims : List Claim) (sections : List Section) (version : Version)
+pub read_exactly : (text : List ℕ) (first : Line) (below : List Line) (said : List Content) (sections : List Section) (version : Version)
     → lines text ≡ first ∷ below → heading_fault first ≡ None → fault_from 2 nothing below ≡ None
-    → list_all is_claim claims ≡ true → below ≡ map said_line claims → sections ≡ built [] claims
+    → list_all is_content said ≡ true → below ≡ map said_line said → sections ≡ built [] said
     → (are_in_order sections ≡ true) × (text ≡ spelling version sections)
-read_exactly text first below claims sections version text_is heading_is none fits below_is built_is =
-    let orders = faultless-orderly 2 nothing claims fits (ap (fault_from 2 nothing) (sym below_is) ∙ none) in
-    let again = claims_again claims orders in
+read_exactly text first below said sections version text_is heading_is none fits below_is built_is =
+    let orders = faultless-orderly 2 nothing said fits (ap (fault_from 2 nothing) (sym below_is) ∙ none) in
+    let again = lines_of_sections said orders in
     let same : sections ≡ again.0 = built_is ∙ ap (built []) again.1 ∙ built_again again.0 in
-    let claims_are : claims ≡ claims_of sections = again.1 ∙ ap claims_of (sym same) in (
-      sym (in_order sections) ∙ ap (orderly nothing) (sym claims_are) ∙ orders,
-      text_spelled text first below claims version text_is heading_is below_is
-          ∙ ap (λ c. ended (heading version) ++ flat_map (λ claim. ended (line_of claim)) c) claims_are,
+    let said_are : said ≡ lines_of sections = again.1 ∙ ap lines_of (sym same) in (
+      sym (in_order sections) ∙ ap (orderly nothing) (sym said_are) ∙ orders,
+      text_spelled text first below said version text_is heading_is below_is
+          ∙ ap (λ c. ended (heading version) ++ flat_map (λ content. ended (line_of content)) c) said_are,
     )
 
 -- the lines of a spelling
 spelling_lines : (version : Version) (sections : List Section) → are_in_order sections ≡ true
-    → (orderly nothing (claims_of sections) ≡ true) × (lines (spelling version sections) ≡ heading_line ∷ map said_line (claims_of sections))
+    → (orderly nothing (lines_of sections) ≡ true) × (lines (spelling version sections) ≡ heading_line ∷ map said_line (lines_of sections))
 spelling_lines One sections right =
     let orders = in_order sections ∙ right in
-    (orders, ap (λ rest. heading_line ∷ rest) (lines_of_claims (claims_of sections) (orderly-fits nothing (claims_of sections) orders)))
+    (orders, ap (λ rest. heading_line ∷ rest) (lines_again (lines_of sections) (orderly-fits nothing (lines_of sections) orders)))
 
 spelling_faultless : (version : Version) (sections : List Section) → are_in_order sections ≡ true → first_fault (spelling version sections) ≡ None
 spelling_faultless version sections right =
     let told = spelling_lines version sections right in
-    ap fault_of_lines told.1 ∙ orderly-faultless 2 nothing (claims_of sections) told.0
+    ap fault_of_lines told.1 ∙ orderly-faultless 2 nothing (lines_of sections) told.0
 
 none_is : (error : ReadFault) → (let o : Option ReadFault = Some error in o ≡ None) → ⊥
 none_is error same = absurd cc
@@ -95,14 +95,14 @@ refused_for_memory error text version sections told right text_is =
     only_memory error (λ other. told other ∙ ap first_fault text_is ∙ spelling_faultless version sections right)
 
 -- sections that are read from the spelling of others are these
-pub read_only : (text : List ℕ) (first : Line) (below : List Line) (claims : List Claim) (sections others : List Section) (version : Version)
-    → lines text ≡ first ∷ below → list_all is_claim claims ≡ true → below ≡ map said_line claims → sections ≡ built [] claims
+pub read_only : (text : List ℕ) (first : Line) (below : List Line) (said : List Content) (sections others : List Section) (version : Version)
+    → lines text ≡ first ∷ below → list_all is_content said ≡ true → below ≡ map said_line said → sections ≡ built [] said
     → are_in_order others ≡ true → text ≡ spelling version others → sections ≡ others
-read_only text first below claims sections others version text_is fits below_is built_is right spelled =
+read_only text first below said sections others version text_is fits below_is built_is right spelled =
     let told = spelling_lines version others right in
-    let all : first ∷ below ≡ heading_line ∷ map said_line (claims_of others) = sym text_is ∙ ap lines spelled ∙ told.1 in
-    let rest : below ≡ map said_line (claims_of others) = cc in
-    let same = same_claims claims (claims_of others) fits (orderly-fits nothing (claims_of others) told.0) (sym below_is ∙ rest) in
+    let all : first ∷ below ≡ heading_line ∷ map said_line (lines_of others) = sym text_is ∙ ap lines spelled ∙ told.1 in
+    let rest : below ≡ map said_line (lines_of others) = cc in
+    let same = same_lines said (lines_of others) fits (orderly-fits nothing (lines_of others) told.0) (sym below_is ∙ rest) in
     built_is ∙ ap (built []) same ∙ built_again others
 
 -- a fault below a faultless heading is the text's first

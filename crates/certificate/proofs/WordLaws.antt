@@ -11,8 +11,8 @@ use Rattle.std.proofs.lemmas.Grind.{common_steps}
 use Rattle.std.proofs.lemmas.Int.{ints}
 use Rattle.std.proofs.lemmas.List.Quantifiers.{position-Some}
 use Rattle.std.proofs.lemmas.List.{drop_more, length-append, take-append-drop, take_at}
-use Rattle.certificate.specs.declared.claim.LineFault.{LineFault}
-use Rattle.certificate.specs.declared.claim.LineFault.TheVariants.{NotInGrammar, OutOfRange}
+use Rattle.certificate.specs.declared.words.LineFault.{LineFault}
+use Rattle.certificate.specs.declared.words.LineFault.TheVariants.{NotInGrammar, OutOfRange}
 use Rattle.certificate.specs.Contents.{is_constant, is_small}
 use Rattle.certificate.specs.Words.{behind, both, most, number_of, parted, parted_at, variable, variable_of}
 use Rattle.certificate.proofs.Numerals.{at_most-again, at_most-spelled, behind_some, constant_is, ok_is, own, when_ok}

@@ -5,8 +5,8 @@ use Rattle.std.specs.Prelude.{Err, codes}
 use Rattle.std.specs.Fmt.{signed_decimal}
 use Rattle.std.specs.List.{position_or_len}
 use Rattle.domain.specs.Facts.{Bound, Number, Plus}
-use Rattle.certificate.specs.declared.claim.LineFault.{LineFault}
-use Rattle.certificate.specs.declared.claim.LineFault.TheVariants.{NotInGrammar}
+use Rattle.certificate.specs.declared.words.LineFault.{LineFault}
+use Rattle.certificate.specs.declared.words.LineFault.TheVariants.{NotInGrammar}
 use Rattle.certificate.specs.Words.{◌>>=◌, behind, both, constant_of, lowered_of, positive_of, variable}
 use Rattle.certificate.specs.Words.{variable_of, when}
 

@@ -1,6 +1,7 @@
 -- How a reader of certificates comes from line to line: words of private functions alone. It does not say which texts
 -- are certificates.
 use Rattle.std.specs.Prelude.{◌≡◌, ◌≢◌, ℕ, Bool, true, List, [], ◌∷◌, ◌++◌, map, Option, Some, None, Result, Ok, Err}
+use Rattle.std.specs.Prelude.{if◌then◌else◌}
 use Rattle.std.specs.Global.{Vec}
 use Rattle.std.specs.List.{list_all}
 use Rattle.domain.specs.Interval.{between}
@@ -12,12 +13,15 @@ use Rattle.certificate.specs.declared.fact_words.FactWords.{FactWords}
 use Rattle.certificate.specs.declared.fact_words.FactWords.TheVariants as word
 use Rattle.certificate.specs.declared.claim.Claim.{Claim as KeptClaim}
 use Rattle.certificate.specs.declared.claim.Claim.TheVariants as kept
+use Rattle.certificate.specs.declared.claim.Content.{Content as KeptContent}
+use Rattle.certificate.specs.declared.claim.Content.TheVariants as kept_content
 use Rattle.certificate.specs.declared.order.Above.{Above as KeptAbove}
 use Rattle.certificate.specs.declared.fault.ReadFault.{ReadFault}
 use Rattle.certificate.specs.declared.fault.ReadFault.TheVariants.{Memory}
 use Rattle.certificate.specs.Paths.{cut, step_in}
-use Rattle.certificate.specs.Lines.{Claim, Block, Loop, Change, Fact, line_of, reading}
-use Rattle.certificate.specs.Contents.{LoopClaims, Section, is_fact, is_small, section_of}
+use Rattle.certificate.specs.Lines.{Claim, Alias, Change, Entry, Exit, Fact, Content, Block, Loop, Claimed, line_of}
+use Rattle.certificate.specs.Lines.{reading}
+use Rattle.certificate.specs.Contents.{LoopClaims, Section, is_claim, is_empty, is_small, section_of}
 use Rattle.certificate.specs.Text.{Above, Line, fault_from, line_fault, nothing}
 
 -- ---- what is read, as the definitions see it
@@ -40,23 +44,24 @@ word_fact (word.Defined path) = Defined (word_path path)
 word_fact (word.Stretch path first last) = Stretch (word_path path) (said_bound first) (said_bound last)
 word_fact (word.Order root other number) = Order root other number
 
-abbrev pub word_facts : Option FactWords → Option VariableFact
-word_facts None = None
-word_facts (Some fact) = Some (word_fact fact)
+abbrev pub word_claim : KeptClaim → Claim
+word_claim (kept.Alias pair) = Alias pair
+word_claim (kept.Change root) = Change root
+word_claim (kept.Entry fact) = Entry (word_fact fact)
+word_claim (kept.Exit fact) = Exit (word_fact fact)
+word_claim (kept.Fact fact) = Fact (word_fact fact)
 
-abbrev pub said_claim : KeptClaim → Claim
-said_claim (kept.Block number) = Block number
-said_claim (kept.Loop number) = Loop number
-said_claim (kept.Change root) = Change root
-said_claim (kept.Fact fact) = Fact (word_fact fact)
+abbrev pub word_claims : Option KeptClaim → Option Claim
+word_claims None = None
+word_claims (Some claim) = Some (word_claim claim)
+
+abbrev pub said_content : KeptContent → Content
+said_content (kept_content.Block number) = Block number
+said_content (kept_content.Loop number) = Loop number
+said_content (kept_content.Claimed claim) = Claimed (word_claim claim)
 
 abbrev pub said_above : KeptAbove → Above
-said_above above = record {
-  block = above.block;
-  loop_number = above.loop_number;
-  change = above.change;
-  fact = word_facts above.fact;
-}
+said_above above = record { block = above.block; loop_number = above.loop_number; claim = word_claims above.claim }
 
 -- ---- sections line by line
 
@@ -72,43 +77,62 @@ in_loop (Change root) claims = record claims { changes = claims.changes ++ root 
 in_loop (Fact fact) claims = record claims { facts = claims.facts ++ fact ∷ [] }
 in_loop claim claims = claims
 
--- a section with one more: of its last loop, or of a new one
-abbrev pub in_section : Claim → Section → Section
+-- a section with one more claim of the block itself
+abbrev pub in_block : Claim → Section → Section
+in_block (Alias pair) section = record section { aliases = section.aliases ++ pair ∷ [] }
+in_block (Change root) section = record section { changes = section.changes ++ root ∷ [] }
+in_block (Entry fact) section = record section { entry = section.entry ++ fact ∷ [] }
+in_block (Exit fact) section = record section { exit = section.exit ++ fact ∷ [] }
+in_block (Fact fact) section = section
+
+-- a section with one more claim: of its last loop, if it has one
+abbrev pub with_claim : Claim → Section → Section
+with_claim claim section =
+    if is_empty section.loops then in_block claim section
+    else record section { loops = in_last (in_loop claim) section.loops }
+
+-- a section with one more line: of a new loop, or a claim
+abbrev pub in_section : Content → Section → Section
+in_section (Block number) section = section
 in_section (Loop number) section =
     record section { loops = section.loops ++ record { number = number; changes = []; facts = [] } ∷ [] }
-in_section claim section = record section { loops = in_last (in_loop claim) section.loops }
+in_section (Claimed claim) section = with_claim claim section
 
--- sections with one more claim: of the last section, or of a new one
-abbrev pub added : Claim → List Section → List Section
-added (Block number) sections = sections ++ record { block = number; loops = [] } ∷ []
-added claim sections = in_last (in_section claim) sections
+-- a section of which nothing is said
+abbrev pub begun : ℕ → Section
+begun number = record { block = number; aliases = []; changes = []; entry = []; exit = []; loops = [] }
 
--- sections with more claims
-abbrev pub built : List Section → List Claim → List Section
+-- sections with one more line: of the last section, or of a new one
+abbrev pub added : Content → List Section → List Section
+added (Block number) sections = sections ++ begun number ∷ []
+added (Loop number) sections = in_last (in_section (Loop number)) sections
+added (Claimed claim) sections = in_last (in_section (Claimed claim)) sections
+
+-- sections with more lines
+abbrev pub built : List Section → List Content → List Section
 built sections [] = sections
-built sections (claim ∷ more) = built (added claim sections) more
+built sections (content ∷ more) = built (added content sections) more
 
 -- a line that says something, with its end
-abbrev pub said_line : Claim → Line
-said_line claim = record { bytes = line_of claim; ended = true }
+abbrev pub said_line : Content → Line
+said_line content = record { bytes = line_of content; ended = true }
 
--- the paths of a claim are right, and its numbers are in range
-abbrev pub is_claim : Claim → Bool
-is_claim (Block number) = is_small number
-is_claim (Loop number) = is_small number
-is_claim (Change root) = is_small root
-is_claim (Fact fact) = is_fact fact
+-- a line's paths are right, and its numbers are in range
+abbrev pub is_content : Content → Bool
+is_content (Block number) = is_small number
+is_content (Loop number) = is_small number
+is_content (Claimed claim) = is_claim claim
 
 -- what a line says, if it has no fault, or its fault
-abbrev pub IsClaimAt : Result KeptClaim ReadFault → ℕ → Above → Line → List Line → Type 0
-IsClaimAt (Ok claim) number above line more =
-    (line_fault number above line more ≡ None) × (reading line.bytes ≡ Ok (said_claim claim)) × (line.ended ≡ true)
-IsClaimAt (Err fault) number above line more = line_fault number above line more ≡ Some fault
+abbrev pub IsContentAt : Result KeptContent ReadFault → ℕ → Above → Line → List Line → Type 0
+IsContentAt (Ok content) number above line more =
+    (line_fault number above line more ≡ None) × (reading line.bytes ≡ Ok (said_content content)) × (line.ended ≡ true)
+IsContentAt (Err fault) number above line more = line_fault number above line more ≡ Some fault
 
 -- the sections that lines below the heading say, if none has a fault, or the first fault, or want of memory
 abbrev pub AreRead : Result (Vec KeptSection) ReadFault → List Line → Type 0
 AreRead (Ok sections) below =
     (fault_from 2 nothing below ≡ None)
-    × (claims : List Claim) × (list_all is_claim claims ≡ true) × (below ≡ map said_line claims)
-    × (map section_of sections.items ≡ built [] claims)
+    × (said : List Content) × (list_all is_content said ≡ true) × (below ≡ map said_line said)
+    × (map section_of sections.items ≡ built [] said)
 AreRead (Err fault) below = fault ≢ Memory → fault_from 2 nothing below ≡ Some fault

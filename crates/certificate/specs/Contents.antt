@@ -1,13 +1,16 @@
 -- What a certificate says of each block and its loops, in which order it says it, and how it is spelled. ISO 7185:1990
 -- knows no certificates. It does not say what its claims mean for a program.
 use Rattle.std.specs.Prelude.{◌≡◌, ℕ, ℤ, pos, neg_ℤ, Bool, true, false, not, ◌&&◌, ◌||◌, nat_le, int_le, List, [], ◌∷◌}
+use Rattle.std.specs.Prelude.{nat_lt}
 use Rattle.std.specs.Prelude.{◌++◌, map, Option, Some, None, Result, Ok, Err, codes}
 use Rattle.std.specs.List.{flat_map, list_all}
 use Rattle.std.specs.declared.cmp.Ordering.{Ordering}
-use Rattle.std.specs.Ordering.{is_lt, int_eq, nat_cmp}
+use Rattle.std.specs.Ordering.{is_lt, int_eq, nat_cmp, ordering_then}
+use Rattle.std.specs.declared.cmp.Ordering.TheVariants.{Equal}
 use Rattle.domain.specs.Facts.{Step, Path, Bound, Elements, Field, Number, Plus, Range, Defined, Stretch, Order}
 use Rattle.domain.specs.Facts.{Fact as VariableFact, said_bound, subject_order}
 use Rattle.domain.specs.Interval.{Interval}
+use Rattle.certificate.specs.declared.AliasPair.{AliasPair}
 use Rattle.certificate.specs.declared.Certificate.{Certificate}
 use Rattle.certificate.specs.declared.Section.{Section as KeptSection}
 use Rattle.certificate.specs.declared.LoopClaims.{LoopClaims as KeptLoop}
@@ -22,7 +25,7 @@ use Rattle.certificate.specs.declared.fault.ReadFault.{ReadFault}
 use Rattle.certificate.specs.declared.fault.ReadFault.TheVariants.{Memory}
 use Rattle.certificate.specs.Words.{most, maxint}
 use Rattle.certificate.specs.Paths.{is_name}
-use Rattle.certificate.specs.Lines.{Claim, Block, Loop, Change, Fact, line_of}
+use Rattle.certificate.specs.Lines.{Claim, Alias, Change, Entry, Exit, Fact, Content, Block, Loop, Claimed, line_of}
 
 -- what is claimed of a loop: what it changes, and the facts that hold whenever a turn begins
 pub record LoopClaims : Type 0 where
@@ -30,9 +33,14 @@ pub record LoopClaims : Type 0 where
   pub changes : List ℕ
   pub facts : List VariableFact
 
--- what is claimed of a block: of its loops
+-- what is claimed of a block: which pairs of variables may share a place in it, what it changes, the facts that hold
+-- where it begins and where it ends; and of its loops
 pub record Section : Type 0 where
   pub block : ℕ
+  pub aliases : List AliasPair
+  pub changes : List ℕ
+  pub entry : List VariableFact
+  pub exit : List VariableFact
   pub loops : List LoopClaims
 
 -- what a certificate says, wherever it lies in memory
@@ -54,7 +62,14 @@ loop_of claims =
     record { number = claims.number; changes = claims.changes.items; facts = map said_fact claims.facts.items }
 
 abbrev pub section_of : KeptSection → Section
-section_of section = record { block = section.block; loops = map loop_of section.loops.items }
+section_of section = record {
+  block = section.block;
+  aliases = section.aliases.items;
+  changes = section.changes.items;
+  entry = map said_fact section.entry.items;
+  exit = map said_fact section.exit.items;
+  loops = map loop_of section.loops.items;
+}
 
 abbrev pub contents : Certificate → List Section
 contents certificate = map section_of certificate.sections.items
@@ -93,7 +108,50 @@ is_fact (Defined path) = is_path false path
 is_fact (Stretch path first last) = is_path false path && (is_bound first && is_bound last)
 is_fact (Order root other number) = is_small root && (is_small other && is_constant number)
 
+-- a claim's numbers are in range, and its paths right
+abbrev pub is_claim : Claim → Bool
+is_claim (Alias pair) = is_small pair.first && is_small pair.second
+is_claim (Change root) = is_small root
+is_claim (Entry fact) = is_fact fact
+is_claim (Exit fact) = is_fact fact
+is_claim (Fact fact) = is_fact fact
+
+-- a claim is one of a loop, or of a block itself, with the smaller variable of a pair first
+abbrev pub may_stand : (in_loop : Bool) → Claim → Bool
+may_stand in_loop (Alias pair) = not in_loop && nat_lt pair.first pair.second
+may_stand in_loop (Change root) = true
+may_stand in_loop (Entry fact) = not in_loop
+may_stand in_loop (Exit fact) = not in_loop
+may_stand in_loop (Fact fact) = in_loop
+
+abbrev pub is_right : (in_loop : Bool) → Claim → Bool
+is_right in_loop claim = is_claim claim && may_stand in_loop claim
+
 -- ---- the order
+
+-- the place of a claim's word among the words
+abbrev pub word_place : Claim → ℕ
+word_place (Alias pair) = 0
+word_place (Change root) = 1
+word_place (Entry fact) = 2
+word_place (Exit fact) = 3
+word_place (Fact fact) = 4
+
+abbrev pub pair_order : AliasPair → AliasPair → Ordering
+pair_order a b = ordering_then (nat_cmp a.first b.first) (nat_cmp a.second b.second)
+
+-- claims of one word, by what they say something of
+abbrev pub order_in_word : Claim → Claim → Ordering
+order_in_word (Alias a) (Alias b) = pair_order a b
+order_in_word (Change a) (Change b) = nat_cmp a b
+order_in_word (Entry a) (Entry b) = subject_order a b
+order_in_word (Exit a) (Exit b) = subject_order a b
+order_in_word (Fact a) (Fact b) = subject_order a b
+order_in_word a b = Equal
+
+-- by words, and then by what they say something of
+abbrev pub claim_order : Claim → Claim → Ordering
+claim_order a b = ordering_then (nat_cmp (word_place a) (word_place b)) (order_in_word a b)
 
 -- something comes behind the last one
 abbrev pub comes_behind : {K : Type 0} → (K → K → Ordering) → Option K → K → Bool
@@ -110,19 +168,32 @@ abbrev pub is_empty : {A : Type 0} → List A → Bool
 is_empty [] = true
 is_empty (one ∷ more) = false
 
--- something is claimed of a loop: changes and facts, both in order, facts by what they say something of
+-- the claims of a loop: its changes, then its facts
+abbrev pub claims_of_loop : LoopClaims → List Claim
+claims_of_loop claims = map Change claims.changes ++ map Fact claims.facts
+
+-- the claims of a block itself: its pairs, then its changes, then the facts where it begins and where it ends
+abbrev pub claims_of_block : Section → List Claim
+claims_of_block section =
+    map Alias section.aliases
+    ++ (map Change section.changes ++ (map Entry section.entry ++ map Exit section.exit))
+
+-- claims of a loop, or of a block itself, are in order
+abbrev pub are_claims : (in_loop : Bool) → List Claim → Bool
+are_claims in_loop claims = are_listed claim_order (λ claim. claim) (is_right in_loop) None claims
+
+-- something is claimed of a loop, in order
 abbrev pub is_loop : LoopClaims → Bool
 is_loop claims =
-    is_small claims.number
-    && (not (is_empty claims.changes && is_empty claims.facts)
-    && (are_listed nat_cmp (λ root. root) is_small None claims.changes
-    && are_listed subject_order (λ fact. fact) is_fact None claims.facts))
+    is_small claims.number && (not (is_empty (claims_of_loop claims)) && are_claims true (claims_of_loop claims))
 
--- something is claimed of loops of a block, in their order
+-- something is claimed of a block itself or of loops of it, in order, the loops by their numbers
 abbrev pub is_section : Section → Bool
 is_section section =
     is_small section.block
-    && (not (is_empty section.loops) && are_listed nat_cmp (λ claims. claims.number) is_loop None section.loops)
+    && (not (is_empty (claims_of_block section) && is_empty section.loops)
+    && (are_claims false (claims_of_block section)
+    && are_listed nat_cmp (λ claims. claims.number) is_loop None section.loops))
 
 -- sections are in order, and so is what each says
 abbrev pub are_in_order : List Section → Bool
@@ -131,14 +202,15 @@ are_in_order sections = are_listed nat_cmp (λ section. section.block) is_sectio
 -- ---- the spelling
 
 -- a line for each claim, a block's and a loop's heading first
-abbrev pub claims_of_loop : LoopClaims → List Claim
-claims_of_loop claims = Loop claims.number ∷ (map Change claims.changes ++ map Fact claims.facts)
+abbrev pub lines_of_loop : LoopClaims → List Content
+lines_of_loop claims = Loop claims.number ∷ map Claimed (claims_of_loop claims)
 
-abbrev pub claims_of_section : Section → List Claim
-claims_of_section section = Block section.block ∷ flat_map claims_of_loop section.loops
+abbrev pub lines_of_section : Section → List Content
+lines_of_section section =
+    Block section.block ∷ (map Claimed (claims_of_block section) ++ flat_map lines_of_loop section.loops)
 
-abbrev pub claims_of : List Section → List Claim
-claims_of sections = flat_map claims_of_section sections
+abbrev pub lines_of : List Section → List Content
+lines_of sections = flat_map lines_of_section sections
 
 -- the first line of a certificate of a version
 abbrev pub heading : Version → List ℕ
@@ -150,7 +222,7 @@ ended line = line ++ 10 ∷ []
 
 -- the text of a certificate
 abbrev pub spelling : Version → List Section → List ℕ
-spelling version sections = ended (heading version) ++ flat_map (λ claim. ended (line_of claim)) (claims_of sections)
+spelling version sections = ended (heading version) ++ flat_map (λ content. ended (line_of content)) (lines_of sections)
 
 -- a certificate is in order, and a text is its spelling
 pub record Spells (text : List ℕ) (certificate : Certificate) : Type 0 where

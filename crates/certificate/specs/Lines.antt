@@ -7,19 +7,27 @@ use Rattle.std.specs.Fmt.{signed_decimal}
 use Rattle.domain.specs.Interval.{between}
 use Rattle.domain.specs.Facts.{Path, Range, Defined, Stretch, Order}
 use Rattle.domain.specs.Facts.{Fact as VariableFact}
-use Rattle.certificate.specs.declared.claim.LineFault.{LineFault}
-use Rattle.certificate.specs.declared.claim.LineFault.TheVariants.{NotInGrammar, OutOfRange}
+use Rattle.certificate.specs.declared.AliasPair.{AliasPair}
+use Rattle.certificate.specs.declared.words.LineFault.{LineFault}
+use Rattle.certificate.specs.declared.words.LineFault.TheVariants.{NotInGrammar, OutOfRange}
 use Rattle.certificate.specs.Words.{◌>>=◌, behind, both, constant_of, number_of, parted, variable, variable_of, when}
 use Rattle.certificate.specs.Paths.{path_of, path_words}
 use Rattle.certificate.specs.Bounds.{bound_of, bound_words}
 
--- what a line says: the lines below it are of a block, or of a loop; the loop changes a variable; or a fact holds
--- whenever a turn of the loop begins
+-- what is claimed of a block: two variables may share a place in it; it changes a variable; a fact holds where it
+-- begins, or where it ends; or of a loop: it changes a variable; a fact holds whenever a turn of it begins
 pub data Claim : Type 0 where
-  Block : (number : ℕ) → Claim
-  Loop : (number : ℕ) → Claim
+  Alias : AliasPair → Claim
   Change : (root : ℕ) → Claim
+  Entry : VariableFact → Claim
+  Exit : VariableFact → Claim
   Fact : VariableFact → Claim
+
+-- what a line says: the lines below it are of a block, or of a loop; or something is claimed of the last one
+pub data Content : Type 0 where
+  Block : (number : ℕ) → Content
+  Loop : (number : ℕ) → Content
+  Claimed : Claim → Content
 
 -- ---- how a line is spelled
 
@@ -33,12 +41,19 @@ fact_words (Stretch path first last) =
 fact_words (Order root other number) =
     codes "order " ++ variable root ++ 32 ∷ (variable other ++ 32 ∷ signed_decimal number)
 
+-- the words of a claim
+abbrev pub claim_words : Claim → List ℕ
+claim_words (Alias pair) = codes "alias " ++ variable pair.first ++ 32 ∷ variable pair.second
+claim_words (Change root) = codes "change " ++ variable root
+claim_words (Entry fact) = codes "entry " ++ fact_words fact
+claim_words (Exit fact) = codes "exit " ++ fact_words fact
+claim_words (Fact fact) = codes "fact " ++ fact_words fact
+
 -- the line that says something, without its line end
-abbrev pub line_of : Claim → List ℕ
+abbrev pub line_of : Content → List ℕ
 line_of (Block number) = codes "proc " ++ decimal number
 line_of (Loop number) = codes "loop " ++ decimal number
-line_of (Change root) = codes "change " ++ variable root
-line_of (Fact fact) = codes "fact " ++ fact_words fact
+line_of (Claimed claim) = claim_words claim
 
 -- ---- what a line says
 
@@ -86,10 +101,25 @@ fact_of words =
     (when (behind (codes "range ") words) range_fact
     (when (behind (codes "order ") words) order_fact (Err NotInGrammar)))
 
+-- two variables
+abbrev pub pair_of : List ℕ → Result AliasPair LineFault
+pair_of words = do
+  ends ← parted words
+  roots ← both (variable_of ends.0) (variable_of ends.1)
+  Ok (record { first = roots.0; second = roots.1 })
+
+-- a claim, by the word that the line begins with
+abbrev pub claim_of : List ℕ → Result Claim LineFault
+claim_of line =
+    when (behind (codes "alias ") line) (λ words. pair_of words >>= λ pair. Ok (Alias pair))
+    (when (behind (codes "change ") line) (λ word. variable_of word >>= λ root. Ok (Change root))
+    (when (behind (codes "entry ") line) (λ words. fact_of words >>= λ fact. Ok (Entry fact))
+    (when (behind (codes "exit ") line) (λ words. fact_of words >>= λ fact. Ok (Exit fact))
+    (when (behind (codes "fact ") line) (λ words. fact_of words >>= λ fact. Ok (Fact fact)) (Err NotInGrammar)))))
+
 -- what a line says
-abbrev pub reading : List ℕ → Result Claim LineFault
+abbrev pub reading : List ℕ → Result Content LineFault
 reading line =
     when (behind (codes "proc ") line) (λ word. number_of word >>= λ number. Ok (Block number))
     (when (behind (codes "loop ") line) (λ word. number_of word >>= λ number. Ok (Loop number))
-    (when (behind (codes "change ") line) (λ word. variable_of word >>= λ root. Ok (Change root))
-    (when (behind (codes "fact ") line) (λ words. fact_of words >>= λ fact. Ok (Fact fact)) (Err NotInGrammar))))
+    (claim_of line >>= λ claim. Ok (Claimed claim)))

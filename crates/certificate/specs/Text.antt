@@ -3,18 +3,17 @@
 use Rattle.std.specs.Prelude.{ℕ, suc, Bool, true, false, not, ◌&&◌, if◌then◌else◌, ◌==◌, List, [], ◌∷◌, Option, Some}
 use Rattle.std.specs.Prelude.{None, Result, Ok, Err, codes}
 use Rattle.std.specs.Str.{bytes_eq}
-use Rattle.std.specs.Option.{is_some, is_none}
+use Rattle.std.specs.Option.{is_some}
 use Rattle.std.specs.Ordering.{nat_cmp}
-use Rattle.domain.specs.Facts.{Fact as VariableFact, subject_order}
 use Rattle.certificate.specs.declared.Version.TheVariants.{One}
-use Rattle.certificate.specs.declared.claim.LineFault.{LineFault}
-use Rattle.certificate.specs.declared.claim.LineFault.TheVariants as line
+use Rattle.certificate.specs.declared.words.LineFault.{LineFault}
+use Rattle.certificate.specs.declared.words.LineFault.TheVariants as line
 use Rattle.certificate.specs.declared.fault.ReadFault.{ReadFault}
 use Rattle.certificate.specs.declared.fault.ReadFault.TheVariants.{FirstLine, NotInGrammar, OutOfOrder, OutOfRange}
 use Rattle.certificate.specs.declared.fault.ReadFault.TheVariants.{Unended}
 use Rattle.certificate.specs.Words.{behind, is_number}
-use Rattle.certificate.specs.Lines.{Claim, Block, Loop, Change, Fact, reading}
-use Rattle.certificate.specs.Contents.{comes_behind, heading}
+use Rattle.certificate.specs.Lines.{Claim, Content, Block, Loop, Claimed, reading}
+use Rattle.certificate.specs.Contents.{claim_order, comes_behind, heading, may_stand}
 
 -- a line of a text: its bytes, and whether byte 10 ends it
 pub record Line : Type 0 where
@@ -34,33 +33,29 @@ lines (byte ∷ more) =
 
 -- ---- where a line may stand
 
--- what a line stands below: the last block, the last loop of it, and the last change and fact of that
+-- what a line stands below: the last block, the last loop of it, and the last claim of that, or of the block itself
 pub record Above : Type 0 where
   pub block : Option ℕ
   pub loop_number : Option ℕ
-  pub change : Option ℕ
-  pub fact : Option VariableFact
+  pub claim : Option Claim
 
 -- below the heading of a text
 abbrev pub nothing : Above
-nothing = record { block = None; loop_number = None; change = None; fact = None }
+nothing = record { block = None; loop_number = None; claim = None }
 
 -- what the line stands below that follows a line
-abbrev pub below : Above → Claim → Above
-below above (Block number) = record { block = Some number; loop_number = None; change = None; fact = None }
-below above (Loop number) = record { block = above.block; loop_number = Some number; change = None; fact = None }
-below above (Change root) =
-    record { block = above.block; loop_number = above.loop_number; change = Some root; fact = above.fact }
-below above (Fact fact) =
-    record { block = above.block; loop_number = above.loop_number; change = above.change; fact = Some fact }
+abbrev pub below : Above → Content → Above
+below above (Block number) = record { block = Some number; loop_number = None; claim = None }
+below above (Loop number) = record { block = above.block; loop_number = Some number; claim = None }
+below above (Claimed claim) = record { block = above.block; loop_number = above.loop_number; claim = Some claim }
 
--- blocks ascend, the loops of a block, and changes and facts of a loop, in which changes come first
-abbrev pub admits : Above → Claim → Bool
+-- blocks ascend, the loops of a block, and the claims of a loop, and of a block itself, which stand before its loops
+abbrev pub admits : Above → Content → Bool
 admits above (Block number) = comes_behind nat_cmp above.block number
 admits above (Loop number) = is_some above.block && comes_behind nat_cmp above.loop_number number
-admits above (Change root) =
-    is_some above.loop_number && (is_none above.fact && comes_behind nat_cmp above.change root)
-admits above (Fact fact) = is_some above.loop_number && comes_behind subject_order above.fact fact
+admits above (Claimed claim) =
+    is_some above.block
+    && (may_stand (is_some above.loop_number) claim && comes_behind claim_order above.claim claim)
 
 -- a line is in the grammar as a heading of the word, whatever its number
 abbrev pub is_heading_behind : Option (List ℕ) → Bool
@@ -71,27 +66,26 @@ abbrev pub is_heading : List ℕ → Line → Bool
 is_heading word line = line.ended && is_heading_behind (behind word line.bytes)
 
 -- a block's heading has a line below it, and so has a loop's
-abbrev pub has_below : Claim → List Line → Bool
+abbrev pub has_below : Content → List Line → Bool
 has_below (Block number) [] = false
 has_below (Block number) (next ∷ more) = not (is_heading (codes "proc ") next)
 has_below (Loop number) [] = false
 has_below (Loop number) (next ∷ more) = not (is_heading (codes "proc ") next) && not (is_heading (codes "loop ") next)
-has_below (Change root) more = true
-has_below (Fact fact) more = true
+has_below (Claimed claim) more = true
 
 -- ---- the first fault
 
 -- the fault of a line below the heading that says something, or says nothing
-abbrev pub claim_fault : ℕ → Above → Result Claim LineFault → List Line → Option ReadFault
-claim_fault number above (Err line.NotInGrammar) more = Some (NotInGrammar number)
-claim_fault number above (Err line.OutOfRange) more = Some (OutOfRange number)
-claim_fault number above (Ok claim) more =
-    if admits above claim && has_below claim more then None else Some (OutOfOrder number)
+abbrev pub content_fault : ℕ → Above → Result Content LineFault → List Line → Option ReadFault
+content_fault number above (Err line.NotInGrammar) more = Some (NotInGrammar number)
+content_fault number above (Err line.OutOfRange) more = Some (OutOfRange number)
+content_fault number above (Ok content) more =
+    if admits above content && has_below content more then None else Some (OutOfOrder number)
 
 -- the fault of a line below the heading that has its end: it may be no heading of a text once more
 abbrev pub ended_fault : ℕ → Above → List ℕ → List Line → Option ReadFault
 ended_fault number above bytes more =
-    if bytes_eq bytes (heading One) then Some (OutOfOrder number) else claim_fault number above (reading bytes) more
+    if bytes_eq bytes (heading One) then Some (OutOfOrder number) else content_fault number above (reading bytes) more
 
 -- the fault of a line below the heading: first that it has no end
 abbrev pub line_fault : ℕ → Above → Line → List Line → Option ReadFault
@@ -104,8 +98,8 @@ or_else None other = other
 or_else (Some fault) other = Some fault
 
 -- what the line stands below that follows a line, if that says something
-abbrev pub below_line : Above → Result Claim LineFault → Above
-below_line above (Ok claim) = below above claim
+abbrev pub below_line : Above → Result Content LineFault → Above
+below_line above (Ok content) = below above content
 below_line above (Err fault) = above
 
 -- the fault of the first faulty line below the heading, the lines numbered from the number on

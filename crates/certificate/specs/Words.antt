@@ -6,8 +6,8 @@ use Rattle.std.specs.Prelude.{Some, None, Result, Ok, Err, codes, decimal}
 use Rattle.std.specs.Cmp.Lexicographic.{pointwise}
 use Rattle.std.specs.Char.{is_ascii_digit}
 use Rattle.std.specs.List.{list_all}
-use Rattle.certificate.specs.declared.claim.LineFault.{LineFault}
-use Rattle.certificate.specs.declared.claim.LineFault.TheVariants.{NotInGrammar, OutOfRange}
+use Rattle.certificate.specs.declared.words.LineFault.{LineFault}
+use Rattle.certificate.specs.declared.words.LineFault.TheVariants.{NotInGrammar, OutOfRange}
 
 -- ---- how a variable is spelled
 

@@ -5,7 +5,7 @@ ghost use Rattle.domain.specs.Facts.{said_bound};
 ghost use Rattle.certificate.specs.Bounds as spec;
 ghost use Rattle.certificate.specs.Bounds.{is_sign};
 
-use crate::claim::{LineFault, both, constant_of, lowered_of, positive_of, variable_of};
+use crate::words::{LineFault, both, constant_of, lowered_of, positive_of, variable_of};
 use domain::facts::Bound;
 
 /// The bound that a word tells: a number, or a variable and a number with its sign.

@@ -1,52 +1,124 @@
-ghost use Rattle.std.specs.Prelude.{◌≡◌, ◌==◌, IsTrue, position};
-ghost use Rattle.std.specs.Char.{is_ascii_digit};
-ghost use Rattle.std.specs.List.{list_all};
+ghost use Rattle.std.specs.Prelude.{◌≡◌};
 ghost use Rattle.std.specs.Result.{result_map_both};
-ghost use Rattle.certificate.specs.Building.{said_claim};
-ghost use Rattle.certificate.specs.Lines.{reading};
-ghost use Rattle.certificate.specs.Words as spec;
-ghost use Rattle.certificate.specs.Words.{is_number};
+ghost use Rattle.certificate.specs.Building.{said_content, word_claim};
+ghost use Rattle.certificate.specs.Contents.{claim_order, may_stand, order_in_word, word_place};
+ghost use Rattle.certificate.specs.Lines as spec;
 
+use crate::AliasPair;
 use crate::fact_words::{FactWords, fact_of};
+use crate::words::{LineFault, both, number_of, parted, variable_of};
+use std::cmp::Ordering;
+
+/// What is claimed of a block itself, or of a loop.
+#[derive(Clone, Copy)]
+pub(crate) enum Claim<'a> {
+    /// `alias V V`: both variables may share a place in the block.
+    Alias(AliasPair),
+    /// `change V`: the block or the loop changes the variable of that root number.
+    Change(u32),
+    /// `entry ..`: the fact holds where the block begins.
+    Entry(FactWords<'a>),
+    /// `exit ..`: the fact holds where the block ends.
+    Exit(FactWords<'a>),
+    /// `fact ..`: the fact holds whenever a turn of the loop begins.
+    Fact(FactWords<'a>),
+}
 
 /// What a line below the heading says.
 #[derive(Clone, Copy)]
-pub(crate) enum Claim<'a> {
+pub(crate) enum Content<'a> {
     /// `proc N`: the lines below it are of the block of that number.
     Block(u32),
     /// `loop N`: the lines below it are of the loop of that number.
     Loop(u32),
-    /// `change V`: the loop changes the variable of that root number.
-    Change(u32),
-    /// `fact ..`: the fact holds whenever a turn begins.
-    Fact(FactWords<'a>),
+    /// Something is claimed of the last of these.
+    Claimed(Claim<'a>),
 }
 
-/// Why a line says nothing.
-#[derive(Clone, Copy)]
-pub(crate) enum LineFault {
-    NotInGrammar,
-    OutOfRange,
+impl<'a> Claim<'a> {
+    /// How the claim stands to another in the order of claims: by their words, and then by what they say something of.
+    pub(crate) fn compare(&self, other: &Claim<'_>) -> Ordering
+        ensures { result ≡ claim_order (word_claim self.now) (word_claim other.now) }
+    {
+        self.word_place()
+            .cmp(&other.word_place())
+            .then(self.compare_in_word(other))
+    }
+
+    /// The place of the claim's word among the words.
+    fn word_place(&self) -> u8
+        ensures { result ≡ word_place (word_claim self.now) }
+    {
+        match self {
+            Claim::Alias(_) => 0,
+            Claim::Change(_) => 1,
+            Claim::Entry(_) => 2,
+            Claim::Exit(_) => 3,
+            Claim::Fact(_) => 4,
+        }
+    }
+
+    /// How claims of one word stand to each other.
+    fn compare_in_word(&self, other: &Claim<'_>) -> Ordering
+        ensures { result ≡ order_in_word (word_claim self.now) (word_claim other.now) }
+    {
+        match (self, other) {
+            (Claim::Alias(a), Claim::Alias(b)) => a
+                .first
+                .cmp(&b.first)
+                .then(a.second.cmp(&b.second)),
+            (Claim::Change(a), Claim::Change(b)) => a.cmp(b),
+            (Claim::Entry(a), Claim::Entry(b)) => a.compare_subjects(b),
+            (Claim::Exit(a), Claim::Exit(b)) => a.compare_subjects(b),
+            (Claim::Fact(a), Claim::Fact(b)) => a.compare_subjects(b),
+            _ => Ordering::Equal,
+        }
+    }
+
+    /// Whether it may stand below a loop's heading, or else below a block's before its loops.
+    pub(crate) fn may_stand(&self, in_loop: bool) -> bool
+        ensures { result ≡ may_stand in_loop (word_claim self.now) }
+    {
+        match self {
+            Claim::Alias(pair) => !in_loop && pair.first < pair.second,
+            Claim::Change(_) => true,
+            Claim::Entry(_) | Claim::Exit(_) => !in_loop,
+            Claim::Fact(_) => in_loop,
+        }
+    }
 }
-
-/// The greatest number of a block, a loop or a variable.
-const MOST: u32 = 999_999;
-
-/// The greatest magnitude of other numbers.
-const MAXINT: u32 = 2_147_483_647;
 
 /// What a line below the heading says.
-pub(crate) fn reading(line: &[u8]) -> Result<Claim<'_>, LineFault>
-    ensures { result_map_both said_claim (λ fault. fault) result ≡ reading line.now }
+pub(crate) fn reading(line: &[u8]) -> Result<Content<'_>, LineFault>
+    ensures { result_map_both said_content (λ fault. fault) result ≡ spec.reading line.now }
 {
     if let Some(number) = line.strip_prefix(b"proc ") {
-        return Ok(Claim::Block(number_of(number)?));
+        return Ok(Content::Block(number_of(number)?));
     }
     if let Some(number) = line.strip_prefix(b"loop ") {
-        return Ok(Claim::Loop(number_of(number)?));
+        return Ok(Content::Loop(number_of(number)?));
+    }
+    let claim = claim_of(line)?;
+    Ok(Content::Claimed(claim))
+}
+
+/// What a line claims, by the word that it begins with.
+fn claim_of(line: &[u8]) -> Result<Claim<'_>, LineFault>
+    ensures { result_map_both word_claim (λ fault. fault) result ≡ spec.claim_of line.now }
+{
+    if let Some(pair) = line.strip_prefix(b"alias ") {
+        return Ok(Claim::Alias(pair_of(pair)?));
     }
     if let Some(root) = line.strip_prefix(b"change ") {
         return Ok(Claim::Change(variable_of(root)?));
+    }
+    if let Some(words) = line.strip_prefix(b"entry ") {
+        let fact = fact_of(words)?;
+        return Ok(Claim::Entry(fact));
+    }
+    if let Some(words) = line.strip_prefix(b"exit ") {
+        let fact = fact_of(words)?;
+        return Ok(Claim::Exit(fact));
     }
     if let Some(words) = line.strip_prefix(b"fact ") {
         let fact = fact_of(words)?;
@@ -55,133 +127,11 @@ pub(crate) fn reading(line: &[u8]) -> Result<Claim<'_>, LineFault>
     Err(LineFault::NotInGrammar)
 }
 
-/// Two parts of a line: it is not in the grammar before a number of it is out of range.
-pub(crate) fn both<A: Copy, B: Copy>(
-    first: Result<A, LineFault>,
-    second: Result<B, LineFault>,
-) -> Result<(A, B), LineFault>
-    ensures { result ≡ spec.both first second }
+/// The pair that two variables tell.
+fn pair_of(words: &[u8]) -> Result<AliasPair, LineFault>
+    ensures { result ≡ spec.pair_of words.now }
 {
-    match (first, second) {
-        (Ok(first), Ok(second)) => Ok((first, second)),
-        (Err(LineFault::NotInGrammar), _) | (_, Err(LineFault::NotInGrammar)) => {
-            Err(LineFault::NotInGrammar)
-        }
-        (Err(LineFault::OutOfRange), _) | (_, Err(LineFault::OutOfRange)) => {
-            Err(LineFault::OutOfRange)
-        }
-    }
-}
-
-/// What stands before the first blank, and what stands behind it.
-pub(crate) fn parted(words: &[u8]) -> Result<(&[u8], &[u8]), LineFault>
-    ensures { result_map_both (λ parts. (parts.0.now, parts.1.now)) (λ fault. fault) result ≡ spec.parted words.now }
-{
-    match blank(words) {
-        None => Err(LineFault::NotInGrammar),
-        Some(end) => Ok((&words[..end], &words[end + 1..])),
-    }
-}
-
-/// Where the first blank stands.
-pub(crate) fn blank(words: &[u8]) -> Option<usize>
-    ensures { result ≡ position (λ byte. byte == 32) words.now }
-{
-    words.iter().position(|byte| *byte == b' ')
-}
-
-/// A variable: `v` and its root number.
-pub(crate) fn variable_of(word: &[u8]) -> Result<u32, LineFault>
-    ensures { result ≡ spec.variable_of word.now }
-{
-    match word.strip_prefix(b"v") {
-        Some(number) => number_of(number),
-        None => Err(LineFault::NotInGrammar),
-    }
-}
-
-/// The number of a block, a loop or a variable.
-fn number_of(word: &[u8]) -> Result<u32, LineFault>
-    ensures { result ≡ spec.number_of word.now }
-{
-    at_most(MOST, word)
-}
-
-/// A number with or without a minus, which 0 hasn't.
-pub(crate) fn constant_of(word: &[u8]) -> Result<i32, LineFault>
-    ensures { result ≡ spec.constant_of word.now }
-{
-    match word.strip_prefix(b"-") {
-        Some(digits) => negative_of(digits),
-        None => positive_of(word),
-    }
-}
-
-/// The number of a magnitude.
-pub(crate) fn positive_of(digits: &[u8]) -> Result<i32, LineFault>
-    ensures { result ≡ spec.positive_of digits.now }
-{
-    Ok(at_most(MAXINT, digits)? as i32)
-}
-
-/// The negative of a magnitude, which isn't 0.
-pub(crate) fn negative_of(digits: &[u8]) -> Result<i32, LineFault>
-    ensures { result ≡ spec.negative_of digits.now }
-{
-    match at_most(MAXINT, digits)? {
-        0 => Err(LineFault::NotInGrammar),
-        magnitude => Ok(-(magnitude as i32)),
-    }
-}
-
-/// The same of a magnitude by which a bound lies below a variable: at least 1.
-pub(crate) fn lowered_of(digits: &[u8]) -> Result<i32, LineFault>
-    ensures { result ≡ spec.lowered_of digits.now }
-{
-    match at_most(MAXINT, digits)? {
-        0 => Err(LineFault::OutOfRange),
-        magnitude => Ok(-(magnitude as i32)),
-    }
-}
-
-/// The value of a number that is at most the limit.
-fn at_most(limit: u32, word: &[u8]) -> Result<u32, LineFault>
-    ensures { result ≡ spec.at_most limit word.now }
-{
-    if !is_number(word) {
-        return Err(LineFault::NotInGrammar);
-    }
-    value_up_to(limit, word)
-}
-
-/// Whether these are decimal digits without leading zeros.
-pub(crate) fn is_number(word: &[u8]) -> bool
-    ensures { result ≡ is_number word.now }
-{
-    match word {
-        [] => false,
-        [first, more @ ..] if *first == b'0' => more.is_empty(),
-        _ => are_digits(word),
-    }
-}
-
-fn are_digits(word: &[u8]) -> bool
-    ensures { result ≡ list_all is_ascii_digit word.now }
-{
-    word.iter().all(u8::is_ascii_digit)
-}
-
-/// The value of digits, if it is at most the limit.
-fn value_up_to(limit: u32, digits: &[u8]) -> Result<u32, LineFault>
-    requires { IsTrue (is_number digits.now) }
-    ensures { result ≡ spec.value_up_to limit digits.now }
-{
-    let mut value = 0;
-    for digit in digits {
-        value = value * 10 + u64::from(*digit - b'0');
-        if value > u64::from(limit) {
-            return Err(LineFault::OutOfRange);
-        }
-    }
-    Ok(value as u32)
+    let (first, second) = parted(words)?;
+    let (first, second) = both(variable_of(first), variable_of(second))?;
+    Ok(AliasPair { first, second })
 }

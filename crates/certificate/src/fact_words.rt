@@ -6,9 +6,9 @@ ghost use Rattle.certificate.specs.Contents.{said_fact};
 ghost use Rattle.certificate.specs.Lines as spec;
 
 use crate::bounds::bound_of;
-use crate::claim::{LineFault, blank, both, constant_of, parted, variable_of};
 use crate::facts::Fact;
 use crate::paths::{PathWord, path_of};
+use crate::words::{LineFault, blank, both, constant_of, parted, variable_of};
 use domain::facts::Bound;
 use domain::interval::Interval;
 use std::alloc::{AllocError, Global};

@@ -10,6 +10,7 @@ pub mod fault;
 mod order;
 mod paths;
 pub mod reader;
+mod words;
 
 pub use facts::{Fact, Path, Step};
 pub use reader::read;
@@ -29,13 +30,30 @@ pub struct Certificate {
     pub sections: Vec<Section>,
 }
 
-/// What is claimed of a block.
+/// What is claimed of a block (ISO 7185:1990, 6.2.1), and of its loops.
 #[derive(Drop)]
 pub struct Section {
     /// The number of the block, at most 999,999.
     pub block: u32,
+    /// The pairs of variables that may share a place in it, in ascending order.
+    pub aliases: Vec<AliasPair>,
+    /// The root numbers, at most 999,999, of the variables that it changes, in ascending order.
+    pub changes: Vec<u32>,
+    /// What holds where it begins, in the order of facts: one range a path and one order a pair.
+    pub entry: Vec<Fact>,
+    /// What holds where it ends, likewise.
+    pub exit: Vec<Fact>,
     /// Its loops of which something is claimed, by their numbers.
     pub loops: Vec<LoopClaims>,
+}
+
+/// Two variables that may share a place (6.6.3.3).
+#[derive(Clone, Copy)]
+pub struct AliasPair {
+    /// The root number of one, less than that of the other.
+    pub first: u32,
+    /// The root number of the other, at most 999,999.
+    pub second: u32,
 }
 
 /// What is claimed of a loop.

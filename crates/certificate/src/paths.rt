@@ -8,8 +8,8 @@ ghost use Rattle.certificate.specs.Contents.{said_path, said_step};
 ghost use Rattle.certificate.specs.Paths.{begins_step, is_name, is_name_byte, is_piece, step_in};
 ghost use Rattle.certificate.specs.Paths as spec;
 
-use crate::claim::{LineFault, variable_of};
 use crate::facts::{Path, Step};
+use crate::words::{LineFault, variable_of};
 use std::alloc::{AllocError, Global};
 use std::cmp::Ordering;
 

@@ -1,15 +1,16 @@
 ghost use Rattle.std.specs.Prelude.{◌≡◌, ◌≢◌, ◌==◌, ◌<◌, IsTrue, List, [], ◌∷◌, IfOk, length, MatchOption, position};
 ghost use Rattle.std.specs.Result.{result_err};
-ghost use Rattle.certificate.specs.Building.{AreRead, IsClaimAt, said_above, said_claim};
+ghost use Rattle.certificate.specs.Building.{AreRead, IsContentAt, said_above, said_content};
 ghost use Rattle.certificate.specs.Contents.{IsReadAs, Section as Said, Spells, are_in_order, spelling};
 ghost use Rattle.certificate.specs.Text.{Line as TextLine, first_fault, has_below, heading_fault, is_heading, lines};
 ghost use Rattle.certificate.specs.declared.Version.{Version as TextVersion};
 ghost use Rattle.certificate.specs.declared.fault.ReadFault.TheVariants.{Memory};
 
 use crate::building::add;
-use crate::claim::{Claim, LineFault, is_number, reading};
+use crate::claim::{Content, reading};
 use crate::fault::ReadFault;
 use crate::order::Above;
+use crate::words::{LineFault, is_number};
 use crate::{Certificate, Section, Version};
 use std::alloc::Global;
 
@@ -65,15 +66,14 @@ fn sections(alloc: Global, below: &[u8]) -> Result<Vec<Section>, ReadFault>
     let mut above = Above {
         block: None,
         loop_number: None,
-        change: None,
-        fact: None,
+        claim: None,
     };
     let mut number = 2;
     let mut rest = below;
     while let Some((line, more)) = next_line(rest) {
-        let claim = claim_at(number, &above, line, more)?;
-        above = above.below(&claim);
-        add(alloc, &mut sections, &claim)?;
+        let content = content_at(number, &above, line, more)?;
+        above = above.below(&content);
+        add(alloc, &mut sections, &content)?;
         number += 1;
         rest = more;
     }
@@ -81,13 +81,13 @@ fn sections(alloc: Global, below: &[u8]) -> Result<Vec<Section>, ReadFault>
 }
 
 /// What a line below the heading says, which has more lines below it.
-fn claim_at<'a>(
+fn content_at<'a>(
     number: u64,
     above: &Above<'_>,
     line: Line<'a>,
     more: &[u8],
-) -> Result<Claim<'a>, ReadFault>
-    ensures { IsClaimAt result number (said_above above.now)
+) -> Result<Content<'a>, ReadFault>
+    ensures { IsContentAt result number (said_above above.now)
         (record { bytes = line.entry.bytes.now; ended = line.entry.ended }) (lines more.now) }
 {
     if !line.ended {
@@ -99,9 +99,9 @@ fn claim_at<'a>(
     match reading(line.bytes) {
         Err(LineFault::NotInGrammar) => Err(ReadFault::NotInGrammar { line: number }),
         Err(LineFault::OutOfRange) => Err(ReadFault::OutOfRange { line: number }),
-        Ok(claim) => {
-            if above.admits(&claim) && has_below(&claim, more) {
-                Ok(claim)
+        Ok(content) => {
+            if above.admits(&content) && has_below(&content, more) {
+                Ok(content)
             } else {
                 Err(ReadFault::OutOfOrder { line: number })
             }
@@ -110,16 +110,16 @@ fn claim_at<'a>(
 }
 
 /// Whether the text below a line has the line that this one needs there.
-fn has_below(claim: &Claim<'_>, text: &[u8]) -> bool
-    ensures { result ≡ has_below (said_claim claim.now) (lines text.now) }
+fn has_below(content: &Content<'_>, text: &[u8]) -> bool
+    ensures { result ≡ has_below (said_content content.now) (lines text.now) }
 {
-    match claim {
-        Claim::Change(_) | Claim::Fact(_) => true,
-        Claim::Block(_) => match next_line(text) {
+    match content {
+        Content::Claimed(_) => true,
+        Content::Block(_) => match next_line(text) {
             None => false,
             Some((next, _)) => !is_heading(b"proc ", next),
         },
-        Claim::Loop(_) => match next_line(text) {
+        Content::Loop(_) => match next_line(text) {
             None => false,
             Some((next, _)) => !is_heading(b"proc ", next) && !is_heading(b"loop ", next),
         },

@@ -1,6 +1,6 @@
 use Rattle.std.proofs.Common.{◌<◌, rules, vec_len}
 use Rattle.std.proofs.lemmas.Result.{on_ok_weaker}
-use Rattle.certificate.specs.Building.{in_section, said_claim}
+use Rattle.certificate.specs.Building.{in_section, said_content}
 use Rattle.certificate.specs.Contents.{section_of}
 use Rattle.certificate.proofs.LastChanged.{in_last_section, last_changed}
 use Rattle.certificate.proofs.building.add.Goals as goal
@@ -8,10 +8,10 @@ use Rattle.certificate.proofs.building.add.Goals as goal
 pub returns-in-Some : goal.returns-in-Some
 returns-in-Some c =
     let sections = c.args.sections.now in
-    let claim = said_claim c.args.claim.now in
+    let content = said_content c.args.content.now in
     let some : 0 < vec_len sections = c.last_mut.ensures.variant.0 (search rules) in
     on_ok_weaker c.add_to_section.result
-    (λ told. in_last_section c.args.claim.now _ _ c.in_default.not-Block
-    (last_changed section_of (in_section claim) sections.items (vec_len sections) c.in-Some.section.now c.add_to_section.new.section
+    (λ told. in_last_section c.args.content.now _ _ c.in_default.not-Block
+    (last_changed section_of (in_section content) sections.items (vec_len sections) c.in-Some.section.now c.add_to_section.new.section
     sections.ok.0 some c.in-Some.ensures.value told))
     c.add_to_section.ensures

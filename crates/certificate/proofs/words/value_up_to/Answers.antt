@@ -1,7 +1,7 @@
 use Rattle.std.proofs.Common.{◌+◌, ◌*◌, ◌-◌, arith}
 use Rattle.std.proofs.lemmas.List.Sums.{fold_more}
 use Rattle.certificate.proofs.Numbers.{value_above, value_of_front}
-use Rattle.certificate.proofs.claim.value_up_to.Goals as goal
+use Rattle.certificate.proofs.words.value_up_to.Goals as goal
 
 pub returns-then-value-from : goal.returns-then-value-from
 returns-then-value-from c =

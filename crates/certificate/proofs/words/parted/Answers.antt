@@ -1,7 +1,7 @@
 use Rattle.std.proofs.Common.{sym, ◌∙◌, arith}
 use Rattle.std.proofs.lemmas.Grind.{common_steps}
 use Rattle.certificate.proofs.Numbers.{parted_found, parted_missed}
-use Rattle.certificate.proofs.claim.parted.Goals as goal
+use Rattle.certificate.proofs.words.parted.Goals as goal
 
 pub returns-in-None : goal.returns-in-None
 returns-in-None c = parted_missed c.args.words.now (sym c.blank.ensures ∙ c.in-None.is)

@@ -1,6 +1,6 @@
 use Rattle.std.proofs.Common.{sym, ◌∙◌}
 use Rattle.certificate.proofs.Numbers.{number_by_digits}
-use Rattle.certificate.proofs.claim.is_number.Goals as goal
+use Rattle.certificate.proofs.words.is_number.Goals as goal
 
 pub returns-in_default : goal.returns-in_default
 returns-in_default c =

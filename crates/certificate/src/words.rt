@@ -1,0 +1,150 @@
+ghost use Rattle.std.specs.Prelude.{◌≡◌, ◌==◌, IsTrue, position};
+ghost use Rattle.std.specs.Char.{is_ascii_digit};
+ghost use Rattle.std.specs.List.{list_all};
+ghost use Rattle.std.specs.Result.{result_map_both};
+ghost use Rattle.certificate.specs.Words as spec;
+ghost use Rattle.certificate.specs.Words.{is_number};
+
+/// Why a line says nothing.
+#[derive(Clone, Copy)]
+pub(crate) enum LineFault {
+    NotInGrammar,
+    OutOfRange,
+}
+
+/// The greatest number of a block, a loop or a variable.
+const MOST: u32 = 999_999;
+
+/// The greatest magnitude of other numbers.
+const MAXINT: u32 = 2_147_483_647;
+
+/// Two parts of a line: it is not in the grammar before a number of it is out of range.
+pub(crate) fn both<A: Copy, B: Copy>(
+    first: Result<A, LineFault>,
+    second: Result<B, LineFault>,
+) -> Result<(A, B), LineFault>
+    ensures { result ≡ spec.both first second }
+{
+    match (first, second) {
+        (Ok(first), Ok(second)) => Ok((first, second)),
+        (Err(LineFault::NotInGrammar), _) | (_, Err(LineFault::NotInGrammar)) => {
+            Err(LineFault::NotInGrammar)
+        }
+        (Err(LineFault::OutOfRange), _) | (_, Err(LineFault::OutOfRange)) => {
+            Err(LineFault::OutOfRange)
+        }
+    }
+}
+
+/// What stands before the first blank, and what stands behind it.
+pub(crate) fn parted(words: &[u8]) -> Result<(&[u8], &[u8]), LineFault>
+    ensures { result_map_both (λ parts. (parts.0.now, parts.1.now)) (λ fault. fault) result ≡ spec.parted words.now }
+{
+    match blank(words) {
+        None => Err(LineFault::NotInGrammar),
+        Some(end) => Ok((&words[..end], &words[end + 1..])),
+    }
+}
+
+/// Where the first blank stands.
+pub(crate) fn blank(words: &[u8]) -> Option<usize>
+    ensures { result ≡ position (λ byte. byte == 32) words.now }
+{
+    words.iter().position(|byte| *byte == b' ')
+}
+
+/// A variable: `v` and its root number.
+pub(crate) fn variable_of(word: &[u8]) -> Result<u32, LineFault>
+    ensures { result ≡ spec.variable_of word.now }
+{
+    match word.strip_prefix(b"v") {
+        Some(number) => number_of(number),
+        None => Err(LineFault::NotInGrammar),
+    }
+}
+
+/// The number of a block, a loop or a variable.
+pub(crate) fn number_of(word: &[u8]) -> Result<u32, LineFault>
+    ensures { result ≡ spec.number_of word.now }
+{
+    at_most(MOST, word)
+}
+
+/// A number with or without a minus, which 0 hasn't.
+pub(crate) fn constant_of(word: &[u8]) -> Result<i32, LineFault>
+    ensures { result ≡ spec.constant_of word.now }
+{
+    match word.strip_prefix(b"-") {
+        Some(digits) => negative_of(digits),
+        None => positive_of(word),
+    }
+}
+
+/// The number of a magnitude.
+pub(crate) fn positive_of(digits: &[u8]) -> Result<i32, LineFault>
+    ensures { result ≡ spec.positive_of digits.now }
+{
+    Ok(at_most(MAXINT, digits)? as i32)
+}
+
+/// The negative of a magnitude, which isn't 0.
+pub(crate) fn negative_of(digits: &[u8]) -> Result<i32, LineFault>
+    ensures { result ≡ spec.negative_of digits.now }
+{
+    match at_most(MAXINT, digits)? {
+        0 => Err(LineFault::NotInGrammar),
+        magnitude => Ok(-(magnitude as i32)),
+    }
+}
+
+/// The same of a magnitude by which a bound lies below a variable: at least 1.
+pub(crate) fn lowered_of(digits: &[u8]) -> Result<i32, LineFault>
+    ensures { result ≡ spec.lowered_of digits.now }
+{
+    match at_most(MAXINT, digits)? {
+        0 => Err(LineFault::OutOfRange),
+        magnitude => Ok(-(magnitude as i32)),
+    }
+}
+
+/// The value of a number that is at most the limit.
+fn at_most(limit: u32, word: &[u8]) -> Result<u32, LineFault>
+    ensures { result ≡ spec.at_most limit word.now }
+{
+    if !is_number(word) {
+        return Err(LineFault::NotInGrammar);
+    }
+    value_up_to(limit, word)
+}
+
+/// Whether these are decimal digits without leading zeros.
+pub(crate) fn is_number(word: &[u8]) -> bool
+    ensures { result ≡ is_number word.now }
+{
+    match word {
+        [] => false,
+        [first, more @ ..] if *first == b'0' => more.is_empty(),
+        _ => are_digits(word),
+    }
+}
+
+fn are_digits(word: &[u8]) -> bool
+    ensures { result ≡ list_all is_ascii_digit word.now }
+{
+    word.iter().all(u8::is_ascii_digit)
+}
+
+/// The value of digits, if it is at most the limit.
+fn value_up_to(limit: u32, digits: &[u8]) -> Result<u32, LineFault>
+    requires { IsTrue (is_number digits.now) }
+    ensures { result ≡ spec.value_up_to limit digits.now }
+{
+    let mut value = 0;
+    for digit in digits {
+        value = value * 10 + u64::from(*digit - b'0');
+        if value > u64::from(limit) {
+            return Err(LineFault::OutOfRange);
+        }
+    }
+    Ok(value as u32)
+}
