@@ -1,0 +1,7 @@
+pub mod Sections
+pub mod Aliases
+pub mod Starts
+pub mod Actuals
+pub mod Entry
+pub mod Overlaps
+pub mod Exit
