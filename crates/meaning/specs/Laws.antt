@@ -1,7 +1,7 @@
 -- What holds of the meaning of every program (ISO 7185:1990, 6.7.2.1, 6.8): a run with more turns goes on from where
--- the shorter one was, and a chain of operators is calculated from left to right. It says nothing of what the single
--- steps are.
-use Rattle.std.specs.Prelude.{◌≡◌, ◌≢◌, ◌⊎◌, ℕ, ◌+◌, List, ◌++◌}
+-- the shorter one was, how deep activations may stand in one another never matters, a call that returns ends what it
+-- began, and a chain of operators is calculated from left to right. It says nothing of what the single steps are.
+use Rattle.std.specs.Prelude.{◌≡◌, ◌≢◌, ◌⊎◌, ℕ, ◌+◌, ◌<◌, List, ◌++◌}
 use Rattle.std.specs.declared.alloc.Global.{Global}
 use Rattle.std.specs.declared.boxed.Box.{Box}
 use Rattle.std.specs.declared.vec.Vec.{Vec}
@@ -11,8 +11,10 @@ use Rattle.typed_tree.specs.declared.tree.Link.{Link}
 use Rattle.typed_tree.specs.declared.tree.Expr.TheVariants.{Chain}
 use Rattle.meaning.specs.declared.outcome.Ending.{Ending}
 use Rattle.meaning.specs.declared.outcome.Ending.TheVariants as ending
+use Rattle.meaning.specs.declared.store.Value.{Value}
+use Rattle.meaning.specs.Store.{Environment}
 use Rattle.meaning.specs.Effect.{State, Reply, Gives, Stops}
-use Rattle.meaning.specs.Meaning.{Surroundings, meaning, run, value_of}
+use Rattle.meaning.specs.Meaning.{Argument, Surroundings, calls_of, meaning, run, value_of}
 
 -- the same state with more turns left
 abbrev pub with_turns : ℕ → State → State
@@ -56,6 +58,19 @@ abbrev pub EndingsStay : Type 0
 EndingsStay =
     (tree : Tree) (input : List ℕ) (turns more : ℕ) →
     (meaning tree input turns).ending ≢ ending.More → meaning tree input (turns + more) ≡ meaning tree input turns
+
+-- where the bound on how deep activations stand in one another is greater than the turns that are left, a greater bound
+-- changes nothing
+abbrev pub DepthsAreEnough : Type 0
+DepthsAreEnough =
+    (tree : Tree) (depth more number : ℕ) (arguments : List Argument) (caller : Environment) (s : State) →
+    s.turns < depth → calls_of tree (depth + more) number arguments caller s ≡ calls_of tree depth number arguments caller s
+
+-- behind a call that returns, the activations last that lasted before it
+abbrev pub CallsReturn : Type 0
+CallsReturn =
+    (tree : Tree) (depth number : ℕ) (arguments : List Argument) (caller : Environment) (s t : State) (v : Value) →
+    calls_of tree depth number arguments caller s ≡ Gives v t → t.living ≡ s.living
 
 -- where the beginning of a chain stops, the chain stops there, whatever stands to the right
 abbrev pub ChainsGoLeftToRight : Type 0

@@ -536,12 +536,10 @@ activated tree calls number (Some block) arguments caller = do
   _ ← end_with living
   give v
 
--- what calls do, where activations are at most so many deep in one another. Each uses a turn, so a depth of the turns
--- that are left ends no run that its turns wouldn't end
+-- what calls do, where activations are at most so many deep in one another. Each uses a turn, so a depth of more than
+-- the turns that are left ends no run that its turns wouldn't end
 abbrev pub calls_of : Tree → ℕ → Calls
-calls_of tree zero number arguments caller = do
-  _ ← begin number
-  stop ending.More
+calls_of tree zero number arguments caller = stop ending.More
 calls_of tree (suc depth) number arguments caller =
     activated tree (calls_of tree depth) number (slice_get tree.blocks.items number) arguments caller
 
@@ -576,7 +574,7 @@ run_of tree depth (Some block) = effect_of block.body (program_surroundings tree
 
 -- the run of a program, for an input and a number of turns
 abbrev pub run : Tree → List ℕ → ℕ → Reply (Unit {0})
-run tree input turns = run_of tree turns (slice_get tree.blocks.items 0) (first_state input turns)
+run tree input turns = run_of tree (suc turns) (slice_get tree.blocks.items 0) (first_state input turns)
 
 -- what a program means, for an input and a number of turns
 abbrev pub meaning : Tree → List ℕ → ℕ → Meaning

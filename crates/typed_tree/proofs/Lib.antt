@@ -1,4 +1,6 @@
+pub mod Blocks
 pub mod Insides
 pub mod LoopNumbers
 pub mod Looks
 pub mod Measured
+pub mod Quiet

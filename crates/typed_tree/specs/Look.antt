@@ -176,6 +176,10 @@ look_expr = fold-Expr Look (ℕ → ℕ → Look) Look expression_look passed_lo
 abbrev pub look_passed : Passed → ℕ → ℕ → Look
 look_passed = fold-Passed Look (ℕ → ℕ → Look) Look expression_look passed_look link_look
 
+-- how a call looks with its actual parameters
+abbrev pub look_call : Bool → Call → List Passed → Look
+look_call is_function call actuals = call_look is_function call (map look_passed actuals)
+
 -- how an operator and its right operand look
 abbrev pub look_link : Link → Look
 look_link = fold-Link Look (ℕ → ℕ → Look) Look expression_look passed_look link_look
@@ -229,7 +233,7 @@ statement_look (CopyOf number becomes target indexes type_id value value_indexes
     ++ (look_whole value value_indexes.items ++ (Copied type_id (length_of value) ∷ [])))
 statement_look (WriteOf number name parameters ends_line) =
     Write number name ends_line ∷ (flat_map look_parameter parameters.items ++ (Ends ∷ []))
-statement_look (Calling call actuals) = call_look false call (map look_passed actuals.items)
+statement_look (Calling call actuals) = look_call false call actuals.items
 statement_look (CompoundOf number statements) = Compound number ∷ (joined statements.items ++ (Ends ∷ []))
 statement_look (IfOf number condition consequence alternative) =
     If number
@@ -366,3 +370,23 @@ is_formed_mark outline block (For number loop_number place control direction) =
 is_formed_mark outline block (Case number site) = nat_lt site outline.sites
 is_formed_mark outline block (Arm constants) = list_all is_whole constants
 is_formed_mark outline block (BlockEnds number around parameters result end) = true
+
+-- the number of a block that ends
+abbrev pub mark_blocks : Mark → List ℕ
+mark_blocks (BlockEnds number around parameters result end) = number ∷ []
+mark_blocks other = []
+
+-- the numbers of the blocks that end in what looks so
+abbrev pub blocks_of_look : Look → List ℕ
+blocks_of_look = flat_map mark_blocks
+
+-- the first of these, which are the blocks that end next
+abbrev pub next_of : List ℕ → ℕ
+next_of [] = 0
+next_of (number ∷ numbers) = number
+
+-- with what a program declares, each form alone is well formed in the block that ends next
+abbrev pub are_formed : Outline → Look → Bool
+are_formed outline [] = true
+are_formed outline (mark ∷ marks) =
+    is_formed_mark outline (next_of (blocks_of_look (mark ∷ marks))) mark && are_formed outline marks
