@@ -1,3 +1,4 @@
+mod Calls
 mod Counts
 mod FoundArms
 mod Places

@@ -77,7 +77,7 @@ home_in seen root kind.Result = Some (own_place seen.number root)
 abbrev pub declared_in : List Visible → ℕ → DeclaredVariable → Option Place
 declared_in [] root variable = None
 declared_in (seen ∷ others) root variable =
-    if nat_eq seen.block variable.block then home_in seen root variable.kind else declared_in others root variable
+    if nat_eq variable.block seen.block then home_in seen root variable.kind else declared_in others root variable
 
 -- where a variable lies, if it is visible
 abbrev pub place_of : List Visible → ℕ → Option DeclaredVariable → Option Place

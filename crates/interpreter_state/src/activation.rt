@@ -182,7 +182,7 @@ fn place_in(
 {
     let mut left = visible;
     while let Some((first, rest)) = left.split_first() {
-        if first.block == variable.block {
+        if variable.block == first.block {
             return first.home(alloc, root, variable.kind);
         }
         left = rest;

@@ -6,7 +6,8 @@ use Rattle.types.proofs.Laid.{length_components}
 use Rattle.meaning.specs.declared.store.Value.TheVariants.{Number}
 use Rattle.meaning.specs.Store.{kept, part}
 use Rattle.interpreter.specs.declared.interpreter.Run.{Run}
-use Rattle.interpreter.specs.Pending.{StoreAgrees, kept_all, place_seen}
+use Rattle.interpreter_state.specs.Views.{place_seen}
+use Rattle.interpreter.specs.Pending.{StoreAgrees, kept_all}
 use Rattle.interpreter.proofs.Rows.{from-component, from-number, kept-none}
 use Rattle.interpreter.proofs.interpreter.Run.keep_row.Goals as goal
 
@@ -16,7 +17,7 @@ loop-component-preserved c =
     let new = c.keep.new.self in
     let i = now.component in
     let place = option_map place_seen c.args.place.now in
-    let types = c.args.self.now.types.now in
+    let types = c.args.self.now.tree.now.types in
     let components = components_of types c.args.type_id in
     let steps = slice_index_or components i [] in
     let number = c.in-Some.number.now in
@@ -25,7 +26,7 @@ loop-component-preserved c =
     let here_too : i < length c.args.row.now = omega (arith, c.in-Some.ensures.lookup) in
     let found : number ≡ get_or c.args.row.now i number = c.in-Some.ensures.lookup.1 in
     let here = c.in_ok-part.ensures
-    ∙ ap (λ (l : List Form). part place (slice_index_or (components_of l c.args.type_id) i [])) (ap (λ (r : Run). r.types.now) now.invariant.0) in (
+    ∙ ap (λ (l : List Form). part place (slice_index_or (components_of l c.args.type_id) i [])) (ap (λ (r : Run). r.tree.now.types) now.invariant.0) in (
       c.keep.ensures.same ∙ ap (λ (r : Run). record r { store = new.store }) now.invariant.0,
       λ s agrees.
           let before = now.invariant.1 s agrees in (
@@ -41,7 +42,7 @@ pub returns-after-loop-component-clause-agrees : goal.returns-after-loop-compone
 returns-after-loop-component-clause-agrees c = λ s agrees.
     let now = c.loop-component in
     let place = option_map place_seen c.args.place.now in
-    let types = c.args.self.now.types.now in
+    let types = c.args.self.now.tree.now.types in
     let components = components_of types c.args.type_id in
     let before = now.invariant.1 s agrees in
     let all : length components ≤ now.component =
@@ -53,7 +54,7 @@ pub returns-in_default-clause-agrees : goal.returns-in_default-clause-agrees
 returns-in_default-clause-agrees c = λ s agrees.
     let now = c.loop-component in
     let place = option_map place_seen c.args.place.now in
-    let components = components_of c.args.self.now.types.now c.args.type_id in
+    let components = components_of c.args.self.now.tree.now.types c.args.type_id in
     let before = now.invariant.1 s agrees in
     let left = drop now.component components in
     let none : length c.args.row.now ≤ now.component = omega (arith, c.in_default.ensures.lookup) in

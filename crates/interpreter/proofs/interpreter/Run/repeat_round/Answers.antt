@@ -5,8 +5,8 @@ use Rattle.interpreter.proofs.Unrolling.{does-repeat-round}
 use Rattle.interpreter.proofs.interpreter.Run.repeat_round.Goals as goal
 
 pub returns-clause-does : goal.returns-clause-does
-returns-clause-does c = λ env s agrees.
+returns-clause-does c = λ env outer s agrees.
     let old = c.args.self.now in
-    continues_as env old c.tested_turn.new.self _ _ c.tested_turn.result
+    continues_as env outer old c.tested_turn.new.self _ _ c.tested_turn.result
     (does-repeat-round env c.args.statements c.args.condition (reverse old.pending.items) (operands_of old) s)
-    (c.tested_turn.ensures.does env s agrees)
+    (c.tested_turn.ensures.does env outer s agrees)

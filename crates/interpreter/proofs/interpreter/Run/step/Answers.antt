@@ -1,7 +1,7 @@
 use Rattle.std.proofs.Common.{ℤ, rules}
 use mir.Syntax.{w32}
 use mir.Val.{SFits}
-use Rattle.interpreter.specs.declared.work.Work.TheVariants as work
+use Rattle.interpreter_state.specs.declared.work.Work.TheVariants as work
 use Rattle.interpreter.specs.Pending.{Does, resumed}
 use Rattle.interpreter.proofs.Resuming.{does_as, passed}
 use Rattle.interpreter.proofs.interpreter.Run.step.Goals as goal
