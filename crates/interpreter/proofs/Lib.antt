@@ -1,4 +1,4 @@
-mod Calls
+mod Activating
 mod Counts
 mod FoundArms
 mod Places

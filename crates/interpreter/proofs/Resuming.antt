@@ -85,8 +85,8 @@ module _ (old new : Run) where
       result ≡ Ok (Some ending) → Continues reply result new → EndsAs start new ending
   stops_from start reply result ending is some continues =
       let next : Continues reply (Ok (Some ending)) new = subst (λ (r : Result (Option Ending) AllocError). Continues reply r new) some continues in
-      let agrees = next.2.2.2.0 in
-      subst (λ (r : Reply (Unit {0})). EndsAs r new ending) (sym (is ∙ next.2.2.2.1)) (record { output = agrees.output; ending = refl })
+      let agrees = next.3 in
+      subst (λ (r : Reply (Unit {0})). EndsAs r new ending) (sym (is ∙ next.4)) (record { output = agrees.output; ending = refl })
 
   -- a run that has nothing left to do
   pub done_from : (env : Surroundings) (outer : Resumption) (start : Reply (Unit {0})) (t : State) → start ≡ rest_of env outer new t →

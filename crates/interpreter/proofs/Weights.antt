@@ -338,9 +338,14 @@ rising_callers tree [] turns more = omega arith
 rising_callers tree (caller ∷ callers) turns more =
     let here = rising_works tree caller.activation caller.pending.items turns more in
     let there = rising_callers tree callers turns more in
-    let fewer = sum_by-cons (λ (c : Caller). 1 + works_weight tree c.activation turns c.pending.items) caller callers in
-    let all = sum_by-cons (λ (c : Caller). 1 + works_weight tree c.activation (turns + more) c.pending.items) caller callers in
-    omega (arith, here, there, fewer, all)
+    omega (arith, here, there)
+
+-- one more that waits
+pub callers_push : (tree : Tree) (turns : ℕ) (callers : List Caller) (caller : Caller) →
+    callers_weight tree turns (callers ++ caller ∷ []) ≡
+    callers_weight tree turns callers + 1 + works_weight tree caller.activation turns caller.pending.items
+callers_push tree turns [] caller = omega arith
+callers_push tree turns (one ∷ callers) caller = let rest = callers_push tree turns callers caller in omega (arith, rest)
 
 module _ (tree : Tree) (activation : Activation) (works : List Work) (callers : List Caller) (turns left : ℕ) (is : turns ≡ suc left) where
   abbrev callees : Callees

@@ -1,7 +1,7 @@
 -- How many steps of the interpreter a piece of pending work needs at most, for the turns that are left: the measure by
 -- which it ends.
 -- It says nothing of what the steps do.
-use Rattle.std.specs.Prelude.{ℕ, zero, suc, ◌+◌, ◌<◌, List, Option, Some, None, Result, OnOk, length, map, slice_get, sum_by}
+use Rattle.std.specs.Prelude.{ℕ, zero, suc, ◌+◌, ◌<◌, List, [], ◌∷◌, Option, Some, None, Result, OnOk, length, map, slice_get, sum_by}
 use Rattle.std.specs.declared.alloc.AllocError.{AllocError}
 use Rattle.std.specs.declared.alloc.Global.{Global}
 use Rattle.std.specs.declared.boxed.Box.{Box}
@@ -227,8 +227,9 @@ works_weight tree activation turns works = sum_by (weight_of (callees_of tree ac
 
 -- the same of those that wait, each with a step for the end of what it waits for
 abbrev pub callers_weight : Tree → ℕ → List Caller → ℕ
-callers_weight tree turns callers =
-    sum_by (λ caller. 1 + works_weight tree caller.activation turns caller.pending.items) callers
+callers_weight tree turns [] = 0
+callers_weight tree turns (caller ∷ callers) =
+    1 + works_weight tree caller.activation turns caller.pending.items + callers_weight tree turns callers
 
 -- what calls begin in a run
 abbrev pub callees_in : Run → Callees

@@ -111,6 +111,7 @@ impl<'t> Run<'t, '_> {
     // Goes on from the topmost place to a component of it.
     fn extend(&mut self, step: Step) -> Result<(), AllocError>
         ensures same { self.new ≡ record self.old { operands = self.new.operands } }
+        ensures weight { pending_weight self.new ≡ pending_weight self.old }
         ensures top { OnOk result (operands_of self.new
             ≡ OfPlace (part (top_place (operands_of self.old)) (step ∷ [])) ∷ below_top (operands_of self.old)) }
     {

@@ -92,6 +92,7 @@ impl<'t> Run<'t, '_> {
     // So many operands, the topmost one last.
     fn arguments(&mut self, count: usize) -> Result<Vec<Operand>, AllocError>
         ensures same { self.new ≡ record self.old { operands = self.new.operands } }
+        ensures weight { pending_weight self.new ≡ pending_weight self.old }
         ensures taken { IfOk result (λ arguments. map operand_seen arguments.items
             ≡ taken_from count (operands_of self.old)) }
         ensures below { OnOk result (operands_of self.new ≡ left_below count (operands_of self.old)) }
@@ -144,6 +145,7 @@ impl<'t> Run<'t, '_> {
     // Each value parameter gets what is passed to it.
     fn assign_all(&mut self, parameters: &[u32], arguments: &[Operand]) -> Result<(), AllocError>
         ensures same { self.new ≡ record self.old { store = self.new.store } }
+        ensures weight { pending_weight self.new ≡ pending_weight self.old }
         ensures agrees { OnOk result ((visible : Environment) (s : State)
             → Sees visible self.old.tree.now self.old.activation → StoreAgrees self.old.store s.store
             → StoresIn (assign_all self.old.tree.now visible parameters.now (map operand_seen arguments.now) s)
@@ -165,6 +167,7 @@ impl<'t> Run<'t, '_> {
     // A value parameter gets what is passed to it.
     fn assign(&mut self, root: u32, argument: &Operand) -> Result<(), AllocError>
         ensures same { self.new ≡ record self.old { store = self.new.store } }
+        ensures weight { pending_weight self.new ≡ pending_weight self.old }
         ensures agrees { OnOk result ((visible : Environment) (s : State)
             → Sees visible self.old.tree.now self.old.activation → StoreAgrees self.old.store s.store
             → StoresIn (assign self.old.tree.now.types (visible.variables root)

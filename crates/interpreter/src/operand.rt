@@ -30,6 +30,7 @@ impl Run<'_, '_> {
 
     pub(crate) fn push(&mut self, operand: Operand) -> Result<(), AllocError>
         ensures same { self.new ≡ record self.old { operands = self.new.operands } }
+        ensures weight { pending_weight self.new ≡ pending_weight self.old }
         ensures top { OnOk result (operands_of self.new ≡ operand_seen operand ∷ operands_of self.old) }
     {
         self.operands.push(operand)?;
@@ -39,6 +40,7 @@ impl Run<'_, '_> {
     // The topmost value.
     pub(crate) fn popped(&mut self) -> Value
         ensures same { self.new ≡ record self.old { operands = self.new.operands } }
+        ensures weight { pending_weight self.new ≡ pending_weight self.old }
         ensures top { result ≡ top_of (operands_of self.old) }
         ensures below { operands_of self.new ≡ below_top (operands_of self.old) }
     {
@@ -51,6 +53,7 @@ impl Run<'_, '_> {
     // The topmost place.
     pub(crate) fn popped_place(&mut self) -> Option<Place>
         ensures same { self.new ≡ record self.old { operands = self.new.operands } }
+        ensures weight { pending_weight self.new ≡ pending_weight self.old }
         ensures top { option_map place_seen result ≡ top_place (operands_of self.old) }
         ensures below { operands_of self.new ≡ below_top (operands_of self.old) }
     {
@@ -60,6 +63,7 @@ impl Run<'_, '_> {
     // The topmost row.
     pub(crate) fn popped_row(&mut self) -> Vec<Ordinal>
         ensures same { self.new ≡ record self.old { operands = self.new.operands } }
+        ensures weight { pending_weight self.new ≡ pending_weight self.old }
         ensures top { result.items ≡ top_row (operands_of self.old) }
         ensures below { operands_of self.new ≡ below_top (operands_of self.old) }
     {
@@ -72,6 +76,7 @@ impl Run<'_, '_> {
     // The topmost operand.
     pub(crate) fn popped_operand(&mut self) -> Operand
         ensures same { self.new ≡ record self.old { operands = self.new.operands } }
+        ensures weight { pending_weight self.new ≡ pending_weight self.old }
         ensures top { operand_seen result ≡ top_in_hand (operands_of self.old) }
         ensures below { operands_of self.new ≡ below_top (operands_of self.old) }
     {

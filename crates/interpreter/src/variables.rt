@@ -3,6 +3,7 @@ ghost use Rattle.types.specs.Components.{components_of};
 ghost use Rattle.meaning.specs.Store.{Store, forgotten, held, kept};
 ghost use Rattle.interpreter_state.specs.Views.{place_of, place_seen, visible_in};
 ghost use Rattle.interpreter.specs.Pending.{StoreAgrees, held_all, items_of, kept_all};
+ghost use Rattle.interpreter.specs.Weight.{pending_weight};
 
 use crate::interpreter::Run;
 use interpreter_state::store::{Place, component as component_of};
@@ -35,6 +36,7 @@ impl Run<'_, '_> {
     // Keeps a value at a place, if there is one.
     pub(crate) fn keep(&mut self, place: Option<Place>, value: Value) -> Result<(), AllocError>
         ensures same { self.new ≡ record self.old { store = self.new.store } }
+        ensures weight { pending_weight self.new ≡ pending_weight self.old }
         ensures agrees { OnOk result ((s : Store) → StoreAgrees self.old.store s
             → StoreAgrees self.new.store (kept s (option_map place_seen place) value)) }
     {
@@ -47,6 +49,7 @@ impl Run<'_, '_> {
     // Makes a place undefined, if there is one.
     pub(crate) fn lose(&mut self, place: &Option<Place>)
         ensures same { self.new ≡ record self.old { store = self.new.store } }
+        ensures weight { pending_weight self.new ≡ pending_weight self.old }
         ensures agrees { (s : Store) → StoreAgrees self.old.store s
             → StoreAgrees self.new.store (forgotten s (option_map place_seen place.now)) }
     {
@@ -89,6 +92,7 @@ impl Run<'_, '_> {
         row: &[Ordinal],
     ) -> Result<(), AllocError>
         ensures same { self.new ≡ record self.old { store = self.new.store } }
+        ensures weight { pending_weight self.new ≡ pending_weight self.old }
         ensures agrees { OnOk result ((s : Store) → StoreAgrees self.old.store s → StoreAgrees self.new.store
             (kept_all s (option_map place_seen place.now) (components_of self.old.tree.now.types type_id) row.now)) }
     {

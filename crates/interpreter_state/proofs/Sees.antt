@@ -54,15 +54,15 @@ choice true false false home later left alike is = is
 choice false false true home later left alike is = is
 choice false false false home later left alike is = is
 
-nothing : (b : Bool) (none : Option Place) → none ≡ None → none ≡ (if b then none else None)
-nothing true none is = refl
-nothing false none is = is
+absent : (b : Bool) (place : Option Place) → place ≡ None → place ≡ (if b then place else None)
+absent true place is = refl
+absent false place is = is
 
 -- of those whose blocks stand round, one is found where it was before
 found_round : (around : List ℕ) (visible : List Visible) (root : ℕ) (variable : DeclaredVariable) →
     declared_in (filter (λ (seen : Visible). is_one_of around seen.block) visible) root variable ≡
     (if is_one_of around variable.block then declared_in visible root variable else None)
-found_round around [] root variable = nothing (is_one_of around variable.block) None refl
+found_round around [] root variable = absent (is_one_of around variable.block) None refl
 found_round around (seen ∷ visible) root variable =
     first_kept (is_one_of around seen.block) seen (filter (λ (one : Visible). is_one_of around one.block) visible) root variable
     ∙ choice (is_one_of around seen.block) (nat_eq variable.block seen.block) (is_one_of around variable.block) (home_in seen root variable.kind)

@@ -35,7 +35,7 @@ returns-in-Ok-Some-clause-does c = λ env outer s agrees.
     let left = bounds-leave direction c.args.first_fits (top_of (below_top operands)) c.args.last_fits (top_of operands) value final tested in
     goes_on_below old taken c.for_round.new.self env outer s (λ env. counting_on env control direction value final body) below c.for_round.result _
     same (first.below ∙ ap below_top last.below)
-    (does-bounds env control c.args.first_fits direction c.args.last_fits body (reverse old.pending.items) operands s (Ok (Some (value, final))) tested
+    (does-bounds env outer control c.args.first_fits direction c.args.last_fits body (reverse old.pending.items) operands s (Ok (Some (value, final))) tested
     ∙ ap (λ (r : Reply (Unit {0})). and_then r (λ _. forgetting (env.visible.variables control) (pending_of env outer (reverse old.pending.items)) below))
     (looped-counting env control direction value final body s left))
     agrees (passed does value final value_fits final_fits c.for_round.ensures.does)
@@ -55,7 +55,7 @@ returns-in-Ok-None-clause-does c = λ env outer s agrees.
     ∙ sym c.tested_bounds.ensures ∙ c.in-Ok-None.is ∙ ap Ok c.in-Ok-None.field-0-is in
     goes_on_below old taken c.forget.new.self env outer s (λ env. forgetting (env.visible.variables control)) (below_top (below_top operands)) c.forget.result _
     same (first.below ∙ ap below_top last.below)
-    (does-bounds env control c.args.first_fits c.args.direction c.args.last_fits c.args.body.now (reverse old.pending.items) operands s (Ok None) tested)
+    (does-bounds env outer control c.args.first_fits c.args.direction c.args.last_fits c.args.body.now (reverse old.pending.items) operands s (Ok None) tested)
     agrees c.forget.ensures.does
 
 pub returns-in-Err-clause-does : goal.returns-in-Err-clause-does
@@ -71,6 +71,6 @@ returns-in-Err-clause-does c = λ env outer s agrees.
     ap (found (top_of (below_top operands))) (sym last.top) ∙ ap (λ v. found v c.popped-last.result) (sym (first.top ∙ ap top_of last.below))
     ∙ sym c.tested_bounds.ensures ∙ c.in-Err.is in
     stops_below old taken env outer s _ _ same
-    (does-bounds env c.args.control c.args.first_fits c.args.direction c.args.last_fits c.args.body.now (reverse old.pending.items) operands s
+    (does-bounds env outer c.args.control c.args.first_fits c.args.direction c.args.last_fits c.args.body.now (reverse old.pending.items) operands s
     (Err c.in-Err.site) tested)
     agrees

@@ -7,7 +7,7 @@ use Rattle.meaning.specs.Store.{kept}
 use Rattle.meaning.specs.Effect.{State}
 use Rattle.interpreter_state.specs.Views.{place_seen}
 use Rattle.interpreter.specs.Pending.{Agrees, Does, StoreAgrees, pending_of, turning, operands_of}
-use Rattle.interpreter.proofs.Resuming.{continues_as, passed}
+use Rattle.interpreter.proofs.Resuming.{calls_extended, continues_as, passed}
 use Rattle.interpreter.proofs.Unrolling.{does-for-round}
 use Rattle.interpreter.proofs.interpreter.Run.for_round.Goals as goal
 
@@ -20,7 +20,7 @@ returns-clause-does c = λ env outer s agrees.
     let value = Number c.args.value in
     let body = c.args.body in
     let told : c.new.result ≡ c.args.value = c.new.ensures ∙ omega (arith, ints, c.ranges.value) in
-    let here = option_map place_seen c.place-place.result in
+    let here = option_map place_seen c.in_ok-place.place in
     let after : State = record s { store = kept s.store (env.visible.variables control) value } in
     let moved : Agrees env outer (record old { store = new.store }) after = record {
       visible = agrees.visible;
@@ -28,7 +28,7 @@ returns-clause-does c = λ env outer s agrees.
       waits = agrees.waits;
       deep = agrees.deep;
       few = agrees.few;
-      store = subst (λ home. StoreAgrees new.store (kept s.store home value)) (c.place-place.ensures ∙ sym (agrees.visible.variables control))
+      store = subst (λ home. StoreAgrees new.store (kept s.store home value)) (c.in_ok-place.ensures ∙ sym (agrees.visible.variables control))
           (subst (λ (n : ℤ). StoreAgrees new.store (kept s.store here (Number n))) told (c.in_ok-keep.ensures.agrees s.store agrees.store));
       input = agrees.input;
       output = agrees.output;
@@ -40,6 +40,6 @@ returns-clause-does c = λ env outer s agrees.
     Does (λ env. turning env (work.Statement body) (work.Next control c.args.direction n m body)) new c.turn.result c.turn.new.self in
     let later = work.Next control c.args.direction c.args.value c.args.last body in
     continues_as env outer old c.turn.new.self _ _ c.turn.result
-    (does-for-round env control c.args.direction c.args.value c.args.last body (pending_of env outer (reverse old.pending.items)) (operands_of old) s
+    (does-for-round env (calls_extended env outer old s agrees) control c.args.direction c.args.value c.args.last body (pending_of env outer (reverse old.pending.items)) (operands_of old) s
     ∙ ap (λ (r : Run). turning env (work.Statement body) later (pending_of env outer (reverse r.pending.items)) (operands_of r) after) (sym same))
     (passed does c.args.value c.args.last c.ranges.value c.ranges.last c.turn.ensures.does env outer after agreed)

@@ -8,6 +8,7 @@ use Rattle.meaning.specs.Store.{kept, part}
 use Rattle.interpreter.specs.declared.interpreter.Run.{Run}
 use Rattle.interpreter_state.specs.Views.{place_seen}
 use Rattle.interpreter.specs.Pending.{StoreAgrees, kept_all}
+use Rattle.interpreter.specs.Weight.{pending_weight}
 use Rattle.interpreter.proofs.Rows.{from-component, from-number, kept-none}
 use Rattle.interpreter.proofs.interpreter.Run.keep_row.Goals as goal
 
@@ -60,3 +61,15 @@ returns-in_default-clause-agrees c = λ s agrees.
     let none : length c.args.row.now ≤ now.component = omega (arith, c.in_default.ensures.lookup) in
     subst (λ t. StoreAgrees now.self.store t)
     (sym (before.2 ∙ ap (kept_all before.0 place left) (drop_all now.component c.args.row.now none) ∙ kept-none before.0 place left)) before.1
+
+pub returns-in_err-part-clause-weight : goal.returns-in_err-part-clause-weight
+returns-in_err-part-clause-weight c = ap pending_weight c.loop-component.invariant.0
+
+pub returns-in_err-keep-clause-weight : goal.returns-in_err-keep-clause-weight
+returns-in_err-keep-clause-weight c = c.keep.ensures.weight ∙ ap pending_weight c.loop-component.invariant.0
+
+pub returns-after-loop-component-clause-weight : goal.returns-after-loop-component-clause-weight
+returns-after-loop-component-clause-weight c = ap pending_weight c.loop-component.invariant.0
+
+pub returns-in_default-clause-weight : goal.returns-in_default-clause-weight
+returns-in_default-clause-weight c = ap pending_weight c.loop-component.invariant.0

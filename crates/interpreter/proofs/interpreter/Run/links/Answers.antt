@@ -1,7 +1,8 @@
 use Rattle.std.proofs.Common.{◌≡◌, ℕ, ◌+◌, ◌<◌, List, ◌∷◌, Option, Result, Ok, Err, OnOk, map, sum_by, reverse, refl, ap, sym, subst, ◌∙◌, arith}
 use Rattle.std.specs.declared.alloc.AllocError.{AllocError}
 use Rattle.meaning.specs.declared.outcome.Ending.{Ending}
-use Rattle.interpreter.specs.Weight.{Weight, weight_of, weight_of_link, weight_of_expression, expression_weight, link_weight, row_weight}
+use Rattle.interpreter.specs.Weight.{Weight, callees_in, weight_of, weight_of_link, weight_of_expression, expression_weight, link_weight, passed_weight}
+use Rattle.interpreter.specs.Weight.{row_weight}
 use Rattle.typed_tree.specs.declared.tree.Expr.TheFolds.{fold_out-Link}
 use Rattle.std.proofs.lemmas.List.Sums.{sum_by-cons, sum_by_push}
 use Rattle.interpreter_state.specs.declared.work.Work.{Work}
@@ -30,14 +31,18 @@ lighter (Err e) new sum bound is less = tt
 pub returns-in_ok-put-in-Some-clause-fewer : goal.returns-in_ok-put-in-Some-clause-fewer
 returns-in_ok-put-in-Some-clause-fewer c =
     let first = c.in-Some.first.now in
-    let old = c.args.self.now.pending.items in
-    let turns = c.args.self.now.turns in
-    let left : sum_by (weight_of turns) c.put.new.pending.items ≡ sum_by (weight_of turns) old + weight_of turns (work.Links c.in-Some.rest) =
-    ap (sum_by (weight_of turns)) c.in_ok-put-in-Some.ensures ∙ sum_by_push (weight_of turns) old (work.Links c.in-Some.rest) in
-    let after = map weight_of_link c.in-Some.rest.now in
-    let all : weight_of turns (work.Links c.args.links)
-    ≡ 1 + (weight_of_expression first.operand turns + 2 + sum_by (λ (piece : Weight). piece turns + 2) after) =
-    ap (λ ls. row_weight 2 (map weight_of_link ls) turns) c.in-Some.ensures.cases.0
-    ∙ ap (λ (piece : Weight). row_weight 2 (piece ∷ after) turns) (fold_out-Link Weight Weight expression_weight link_weight first)
-    ∙ ap (λ n. 1 + n) (sum_by-cons (λ (piece : Weight). piece turns + 2) (λ turns. weight_of_expression first.operand turns) after) in
+    let run = c.args.self.now in
+    let old = run.pending.items in
+    let turns = run.turns in
+    let callees = callees_in run in
+    let each = weight_of callees turns in
+    let left : sum_by each c.put.new.pending.items ≡ sum_by each old + each (work.Links c.in-Some.rest) =
+    ap (sum_by each) c.in_ok-put-in-Some.ensures ∙ sum_by_push each old (work.Links c.in-Some.rest) in
+    let after = map (weight_of_link callees) c.in-Some.rest.now in
+    let all : each (work.Links c.args.links)
+    ≡ 1 + (weight_of_expression callees first.operand turns + 2 + sum_by (λ (piece : Weight). piece turns + 2) after) =
+    ap (λ ls. row_weight 2 (map (weight_of_link callees) ls) turns) c.in-Some.ensures.cases.0
+    ∙ ap (λ (piece : Weight). row_weight 2 (piece ∷ after) turns)
+    (fold_out-Link Weight Weight Weight (expression_weight callees) (passed_weight callees) (link_weight callees) first)
+    ∙ ap (λ n. 1 + n) (sum_by-cons (λ (piece : Weight). piece turns + 2) (λ turns. weight_of_expression callees first.operand turns) after) in
     lighter c.plan.result _ _ _ c.plan.ensures.weight (omega (arith, left, all))

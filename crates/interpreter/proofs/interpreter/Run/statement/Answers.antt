@@ -1,10 +1,10 @@
 use Rattle.std.proofs.Common.{List, reverse, refl, sym, ap, ◌∙◌}
 use Rattle.interpreter_state.specs.declared.work.Work.{Work}
 use Rattle.meaning.specs.Meaning.{values_of, whole_of}
-use Rattle.interpreter.specs.Pending.{giving_row, operands_of, pending_of, placing}
+use Rattle.interpreter.specs.Pending.{calling, giving_row, operands_of, pending_of, placing}
 use Rattle.interpreter.proofs.Resuming.{continues_as, goes_on_to, reverse_pushed}
 use Rattle.interpreter.proofs.Unrolling.{entered, evaluated, does-Empty, does-Assign, does-Copy, does-Write, does-Compound}
-use Rattle.interpreter.proofs.Unrolling.{does-If, does-While, does-Repeat, does-For, does-Case}
+use Rattle.interpreter.proofs.Unrolling.{does-If, does-While, does-Repeat, does-For, does-Case, does-procedure}
 use Rattle.interpreter.proofs.interpreter.Run.statement.Goals as goal
 
 pub returns-in-Empty-clause-does : goal.returns-in-Empty-clause-does
@@ -102,3 +102,16 @@ returns-in-Case-clause-does c = λ env outer s agrees.
     (does-Case given.number given.site given.index given.constants given.arms c.args.statement.now given.is c.deref-in-Case.result
     c.deref-in-Case.ensures.value c.deref-in-Case-2.result c.deref-in-Case-2.ensures.value env outer (reverse old.pending.items) (operands_of old) s)
     (c.plan-in-Case.ensures.does env outer (entered given.number env s) agrees)
+
+pub returns-in_ok-put-in-Call-clause-does : goal.returns-in_ok-put-in-Call-clause-does
+returns-in_ok-put-in-Call-clause-does c = λ env outer s agrees.
+    let old = c.args.self.now in
+    let given = c.in-Call in
+    let all = c.deref-in-Call.result.now in
+    let there = entered given.call.number env s in
+    continues_as env outer old c.call.new.self _ _ c.call.result
+    (does-procedure given.call given.actuals c.args.statement.now given.is given.call refl all c.deref-in-Call.ensures.value env outer
+    (reverse old.pending.items) (operands_of old) s
+    ∙ ap (λ (works : List Work). calling env given.call all (pending_of env outer works) (operands_of old) there)
+    (sym (reverse_pushed _ _ _ _ c.in_ok-put-in-Call.ensures refl)))
+    (c.call.ensures.does env outer there agrees)

@@ -11,8 +11,8 @@ pub returns-clause-weight : goal.returns-clause-weight
 returns-clause-weight c =
     let old = c.args.self.now in
     let some : old.turns ≡ suc (old.turns - 1) = omega (arith, c.if-self-eq0.false) in
-    tested_turn_weighs old.pending.items c.put.new.pending.items c.args.next c.args.condition.now c.args.later old.turns (old.turns - 1) _ c.plan.result some
-    c.in_ok-put.ensures c.plan.ensures.weight
+    tested_turn_weighs old.tree.now old.activation old.pending.items old.callers.items old.turns (old.turns - 1) some c.put.new.pending.items c.args.next
+    c.args.condition.now c.args.later _ c.plan.result c.in_ok-put.ensures c.plan.ensures.weight
 
 pub returns-clause-does : goal.returns-clause-does
 returns-clause-does c = λ env outer s agrees.
@@ -24,8 +24,8 @@ returns-clause-does c = λ env outer s agrees.
       visible = agrees.visible;
       calls = agrees.calls;
       waits = agrees.waits;
-      deep = agrees.deep;
-      few = agrees.few;
+      deep = let deep = agrees.deep in omega (arith, deep, some);
+      few = let few = agrees.few in omega (arith, few, some);
       store = agrees.store;
       input = agrees.input;
       output = agrees.output;

@@ -14,5 +14,5 @@ returns-else-truth_of-clause-does c = λ env outer s agrees.
     let so : is_so (top_of operands) ≡ false = ap is_so (sym c.popped.ensures.top) ∙ sym c.truth_of.ensures ∙ c.if-truth_of.false in
     goes_on_below old c.popped.new.self c.repeat_round.new.self env outer s (λ env. repeating env statements.now condition.now) (below_top operands)
     c.repeat_round.result _ c.popped.ensures.same c.popped.ensures.below
-    (does-unless env statements condition (reverse old.pending.items) operands s so)
+    (does-unless env outer statements condition (reverse old.pending.items) operands s so)
     agrees c.repeat_round.ensures.does

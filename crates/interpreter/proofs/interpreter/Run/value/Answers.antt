@@ -1,7 +1,7 @@
-use Rattle.std.proofs.Common.{reverse}
+use Rattle.std.proofs.Common.{reverse, refl}
 use Rattle.interpreter.specs.Pending.{operands_of}
 use Rattle.interpreter.proofs.Resuming.{continues_as}
-use Rattle.interpreter.proofs.Unrolling.{entered, does-Variable, does-Monadic, does-Chain, does-Compare}
+use Rattle.interpreter.proofs.Unrolling.{entered, does-Variable, does-Monadic, does-Chain, does-Compare, does-Call}
 use Rattle.interpreter.proofs.interpreter.Run.value.Goals as goal
 
 pub returns-in-Variable-clause-does : goal.returns-in-Variable-clause-does
@@ -39,3 +39,12 @@ returns-in-Compare-clause-does c = λ env outer s agrees.
     c.deref-in-Compare.result.now c.deref-in-Compare-2.result.now c.deref-in-Compare.ensures.value c.deref-in-Compare-2.ensures.value env
     (reverse old.pending.items) (operands_of old) s)
     (c.plan-in-Compare.ensures.does env outer s agrees)
+
+pub returns-in-Call-clause-does : goal.returns-in-Call-clause-does
+returns-in-Call-clause-does c = λ env outer s agrees.
+    let old = c.args.self.now in
+    let given = c.in-Call in
+    continues_as env outer old c.call.new.self _ _ c.call.result
+    (does-Call given.call given.actuals c.args.expression.now given.is given.call refl c.deref-in-Call.result.now c.deref-in-Call.ensures.value env outer
+    (reverse old.pending.items) (operands_of old) s)
+    (c.call.ensures.does env outer (entered given.call.number env s) agrees)

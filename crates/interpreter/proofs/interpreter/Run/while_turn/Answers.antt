@@ -2,7 +2,7 @@ use Rattle.std.proofs.Common.{◌≡◌, true, reverse, sym, ◌∙◌, ap}
 use Rattle.interpreter_state.specs.declared.work.Work.TheVariants as work
 use Rattle.meaning.specs.Meaning.{is_so}
 use Rattle.interpreter.specs.Pending.{top_of, below_top, turning_tested, operands_of}
-use Rattle.interpreter.proofs.Resuming.{goes_on_below}
+use Rattle.interpreter.proofs.Resuming.{calls_extended, goes_on_below}
 use Rattle.interpreter.proofs.Unrolling.{does-while-turn}
 use Rattle.interpreter.proofs.interpreter.Run.while_turn.Goals as goal
 
@@ -16,5 +16,5 @@ returns-then-truth_of-clause-does c = λ env outer s agrees.
     goes_on_below old c.popped.new.self c.tested_turn.new.self env outer s
     (λ env. turning_tested env (work.Statement body) condition.now (work.WhileTurn condition body)) (below_top operands)
     c.tested_turn.result _ c.popped.ensures.same c.popped.ensures.below
-    (does-while-turn env condition body (reverse old.pending.items) operands s so)
+    (does-while-turn env outer (calls_extended env outer old s agrees) condition body (reverse old.pending.items) operands s so)
     agrees c.tested_turn.ensures.does

@@ -169,15 +169,14 @@ goes_back old back caller left env outer s v agrees popped gives same rest =
     subst (λ (l : List Caller). Waits tree env old.activation outer l) (ap reverse popped ∙ reverse_push left caller) agrees.waits in
     let there = waits.0 in
     let next = waits.1 in
-    let living = waits.2.0 in
-    let told = waits.2.2 in
+    let living = waits.2 in
     let t : State = record s { living = living } in
-    let deeper = told.2.2.0 in
+    let deeper = waits.5 in
     let deep_left = agrees.deep in
     let fields : Agrees there next (record old { callers = back.callers; activation = caller.activation; pending = caller.pending }) t = record {
-      visible = told.0;
-      calls = told.2.0;
-      waits = subst (λ (l : List Caller). Waits tree there caller.activation next (reverse l)) (sym rest) told.2.2.2.0;
+      visible = waits.3;
+      calls = waits.4;
+      waits = subst (λ (l : List Caller). Waits tree there caller.activation next (reverse l)) (sym rest) waits.6;
       deep = omega (arith, deeper, deep_left);
       few = agrees.few;
       store = agrees.store;
@@ -190,7 +189,7 @@ goes_back old back caller left env outer s v agrees popped gives same rest =
       next,
       t,
       subst (λ (r : Run). Agrees there next r t) (sym same) fields,
-      told.2.2.2.2 (operands_of old) s
+      waits.7 (operands_of old) s
           ∙ ap (λ (r : Reply Value). and_then r (λ w. end_with living >>= λ _.
           pending_of there next (reverse caller.pending.items) (OfValue w ∷ operands_of old))) gives,
     )
@@ -203,7 +202,6 @@ stops_without old caller left env outer s site agrees popped gives =
     let tree = old.tree.now in
     let waits : Waits tree env old.activation outer (caller ∷ reverse left) =
     subst (λ (l : List Caller). Waits tree env old.activation outer l) (ap reverse popped ∙ reverse_push left caller) agrees.waits in
-    let told = waits.2.2 in
-    told.2.2.2.2 (operands_of old) s
-    ∙ ap (λ (r : Reply Value). and_then r (λ w. end_with waits.2.0 >>= λ _.
+    waits.7 (operands_of old) s
+    ∙ ap (λ (r : Reply Value). and_then r (λ w. end_with waits.2 >>= λ _.
     pending_of waits.0 waits.1 (reverse caller.pending.items) (OfValue w ∷ operands_of old))) gives
