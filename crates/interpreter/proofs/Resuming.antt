@@ -28,7 +28,7 @@ use Rattle.interpreter_state.specs.declared.work.Caller.{Caller}
 use Rattle.operations.specs.Answers.{answered, checked, number_tested}
 use Rattle.meaning.specs.Meaning.{Argument, OfValue}
 use Rattle.interpreter.specs.Pending.{Resumption, Waits, Agrees, Continues, Does, EndsAs, pending_of, resumed, rest_of, operands_of}
-use Rattle.interpreter.specs.Pending.{giving, with_top, chosen, top_of, top_place, below_top, indexed}
+use Rattle.interpreter.specs.Pending.{tested, giving, with_top, chosen, top_of, top_place, below_top, indexed}
 
 -- one more at the end of a stack is one more at its top
 pub reverse_push : {A : Type 0} (xs : List A) (x : A) → reverse (xs ++ x ∷ []) ≡ x ∷ reverse xs
@@ -186,3 +186,12 @@ passed P a b fits too holds =
     let one : to_z w32 (of_z w32 a) ≡ a = omega (arith, ints, fits) in
     let other : to_z w32 (of_z w32 b) ≡ b = omega (arith, ints, too) in
     subst (λ n. P n b) one (subst (λ n. P (to_z w32 (of_z w32 a)) n) other holds)
+
+-- a value that was tested
+tested_answer : (b : Bool) (site : ℕ) (v : Value) (s : State) →
+    (require b site >>= λ _. give v) s ≡ answered (ok_or (if b then Some v else None) site) s
+tested_answer true site v s = refl
+tested_answer false site v s = refl
+
+pub tested_as : (fits : RangeTest) (v : Value) (s : State) → tested fits v s ≡ answered (ok_or (checked fits.range v) fits.site) s
+tested_as fits v s = tested_answer (is_in fits.range v) fits.site v s

@@ -1,5 +1,5 @@
 -- With fewer turns left there is no more to do: so a step that uses a turn leaves the rest no heavier than it was.
-use Rattle.std.proofs.Common.{◌≡◌, ℕ, zero, suc, ◌+◌, ◌≤◌, List, [], ◌∷◌, ◌++◌, Option, Some, None, Result, Ok, Err, OnOk, Box, Global, map, sum_by}
+use Rattle.std.proofs.Common.{◌≡◌, ℕ, zero, suc, ◌+◌, ◌≤◌, List, [], ◌∷◌, ◌++◌, Option, Some, None, Result, Ok, Err, OnOk, Box, Global, Vec, Bor, ℤ, map, sum_by, ◌<◌}
 use Rattle.std.proofs.Common.{arith, sym, ◌∙◌, ap, subst, slice_get}
 use Rattle.typed_tree.specs.declared.tree.Width.{Width}
 use Rattle.typed_tree.specs.declared.tree.WriteParameter.{WriteParameter}
@@ -16,6 +16,10 @@ use Rattle.typed_tree.specs.declared.tree.Expr.TheOpen.Expr-F.{Constant, Variabl
 use Rattle.typed_tree.specs.declared.tree.Expr.TheOpen.Passed-F.{Value as PassedValue, Whole as PassedWhole, Reference}
 use Rattle.typed_tree.specs.declared.tree.Call.{Call}
 use Rattle.typed_tree.specs.declared.tree.Passed.{Passed}
+use Rattle.typed_tree.specs.declared.tree.Passed.TheVariants as passed
+use Rattle.typed_tree.specs.declared.tree.Access.{Access}
+use Rattle.types.specs.declared.form.TypeId.{TypeId}
+use Rattle.typed_tree.specs.declared.tree.Direction.{Direction}
 use Rattle.typed_tree.specs.declared.tree.Tree.{Tree}
 use Rattle.typed_tree.specs.declared.tree.Block.{Block}
 use Rattle.typed_tree.specs.declared.tree.Expr.TheFolds.{map-Expr, map-Passed, map-Link, fold-roll-Expr, fold-roll-Passed, fold-roll-Link, fold_out-Link}
@@ -388,3 +392,56 @@ module _ (tree : Tree) (activation : Activation) (works : List Work) (callers : 
       ap (works_weight tree activation left) push ∙ sum_by_push (weight_of callees left) works later in
       omega (arith, weighs, fewer_works, fewer_callers, behind, all)
   tested_turn_weighs pushed next condition later new (Err refused) push weighs = tt
+
+-- what weighs as much as a sum below the bound weighs less than the bound
+pub lighter : (result : Result (Option Ending) AllocError) (new sum bound : ℕ) → OnOk result (new ≡ sum) → sum < bound → OnOk result (new < bound)
+lighter (Ok ending) new sum bound is less = subst (λ n. n < bound) (sym is) less
+lighter (Err e) new sum bound is less = tt
+
+-- actual parameters, the first one and then the others
+pub passed_weighs : (callees : Callees) (first : Passed) (rest all : List Passed) (turns : ℕ) → all ≡ first ∷ rest →
+    row_weight 1 (map (weight_of_passed callees) all) turns ≡
+    weight_of_passed callees first turns + 1 + row_weight 1 (map (weight_of_passed callees) rest) turns
+passed_weighs callees first rest all turns is =
+    let rows = map (weight_of_passed callees) rest in
+    let both = sum_by-cons (λ (piece : Weight). piece turns + 1) (weight_of_passed callees first) rows in
+    ap (λ l. row_weight 1 (map (weight_of_passed callees) l) turns) is ∙ omega (arith, both)
+
+pub whole_weighs : (callees : Callees) (type_id : TypeId) (value : Whole) (indexes : Vec Expr Global) (given : Passed) →
+    given ≡ passed.Whole type_id value indexes → (all : List Expr) → all ≡ indexes.items → (turns : ℕ) →
+    weight_of_passed callees given turns ≡ weight_of_whole callees value all turns
+whole_weighs callees type_id value indexes given is all same turns =
+    ap (λ p. weight_of_passed callees p turns) (is ∙ sym (passed.rolls-Whole type_id value indexes))
+    ∙ ap (λ (f : Weight). f turns)
+    (fold-roll-Passed Weight Weight Weight (expression_weight callees) (passed_weight callees) (link_weight callees) (PassedWhole type_id value indexes))
+    ∙ ap (λ l. weight_of_whole callees value l turns) (sym same)
+
+pub reference_weighs : (callees : Callees) (type_id : TypeId) (access : Access) (indexes : Vec Expr Global) (given : Passed) →
+    given ≡ passed.Reference type_id access indexes → (all : List Expr) → all ≡ indexes.items → (turns : ℕ) →
+    weight_of_passed callees given turns ≡ weight_of_selectors callees access.selectors.items all turns
+reference_weighs callees type_id access indexes given is all same turns =
+    ap (λ p. weight_of_passed callees p turns) (is ∙ sym (passed.rolls-Reference type_id access indexes))
+    ∙ ap (λ (f : Weight). f turns)
+    (fold-roll-Passed Weight Weight Weight (expression_weight callees) (passed_weight callees) (link_weight callees) (Reference type_id access indexes))
+    ∙ ap (λ l. weight_of_selectors callees access.selectors.items l turns) (sym same)
+
+pub lighter_than : (result : Result (Option Ending) AllocError) (new sum bound : ℕ) → OnOk result (new ≤ sum) → sum < bound → OnOk result (new < bound)
+lighter_than (Ok ending) new sum bound is less = omega (arith, is, less)
+lighter_than (Err e) new sum bound is less = tt
+
+pub heavier : (result : Result (Option Ending) AllocError) (new sum bound : ℕ) → OnOk result (new < sum) → sum ≤ bound → OnOk result (new < bound)
+heavier (Ok ending) new sum bound is less = omega (arith, is, less)
+heavier (Err e) new sum bound is less = tt
+
+-- a turn of a while, and of a for
+pub while_turn_weighs : (callees : Callees) (turns : ℕ) (condition : Bor Expr) (body : Bor Stmt) →
+    tested_turn_weight callees turns (work.Statement body) condition.now (work.WhileTurn condition body) ≤
+    rounds_weight (round_weight (weight_of_statement callees body.now) (weight_of_expression callees condition.now)) turns
+while_turn_weighs callees zero condition body = omega arith
+while_turn_weighs callees (suc left) condition body = omega arith
+
+pub for_turn_weighs : (callees : Callees) (turns control : ℕ) (direction : Direction) (value last : ℤ) (body : Bor Stmt) →
+    turn_weight callees turns (work.Statement body) (work.Next control direction value last body) ≤
+    rounds_weight (λ left. 3 + weight_of_statement callees body.now left) turns
+for_turn_weighs callees zero control direction value last body = omega arith
+for_turn_weighs callees (suc left) control direction value last body = omega arith

@@ -480,6 +480,7 @@ IsFresh run s = record {
   callers : run.callers.items ≡ [];
   pending : run.pending.items ≡ [];
   called : run.called ≡ 0;
+  few : run.turns < 2 ^ 64;
   store : StoreAgrees run.store s.store;
   input : drop run.taken (completed run.input.now) ≡ s.input;
   output : run.output.items ≡ s.output;

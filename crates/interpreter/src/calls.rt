@@ -28,7 +28,7 @@ impl<'t> Run<'t, '_> {
     ) -> Result<Option<Ending>, AllocError>
         ensures weight { OnOk result (pending_weight self.new ≡ pending_weight self.old
             + weight_of (callees_in self.old) self.old.turns (Work.Activate call.now.block (length actuals.now))
-            + weight_of (callees_in self.old) self.old.turns (Work.Pass actuals)) }
+            + weight_of (callees_in self.old) self.old.turns (Work.Pass actuals.entry)) }
         ensures does { Does (λ env. calling env call.now actuals.now) self.old result self.new }
     {
         self.plan(
@@ -191,13 +191,14 @@ impl<'t> Run<'t, '_> {
         ensures does { Leaves self.old result self.new }
     {
         match self.result()? {
-            Ok(value) => {
-                if let Some(caller) = self.callers.pop() {
+            Ok(value) => match self.callers.pop() {
+                Some(caller) => {
                     self.activation = caller.activation;
                     self.pending = caller.pending;
+                    self.go_on(Ok(value))
                 }
-                self.go_on(Ok(value))
-            }
+                None => Ok(Some(Ending::Finished)),
+            },
             Err(site) => Ok(Some(Ending::Error(site))),
         }
     }

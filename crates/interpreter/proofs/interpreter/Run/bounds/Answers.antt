@@ -1,3 +1,6 @@
+use Rattle.std.proofs.Common.{◌+◌, ◌<◌, OnOk, arith, subst}
+use Rattle.interpreter.specs.Weight.{callees_in, for_weight, pending_weight, weight_of_statement}
+use Rattle.interpreter.proofs.Weights.{heavier}
 use mir.Syntax.{w32}
 use mir.Val.{SFits}
 use Rattle.std.proofs.Common.{◌≡◌, ℕ, ℤ, rules, Option, Some, None, Result, Ok, Err, reverse, sym, ◌∙◌, ap}
@@ -74,3 +77,11 @@ returns-in-Err-clause-does c = λ env outer s agrees.
     (does-bounds env outer c.args.control c.args.first_fits c.args.direction c.args.last_fits c.args.body.now (reverse old.pending.items) operands s
     (Err c.in-Err.site) tested)
     agrees
+
+pub returns-in-Ok-Some-clause-fewer : goal.returns-in-Ok-Some-clause-fewer
+returns-in-Ok-Some-clause-fewer c =
+    let taken = c.popped-first.new.self in
+    let same = c.popped-first.ensures.same ∙ ap (λ (r : Run). record r { operands = taken.operands }) c.popped-last.ensures.same in
+    let weighs : Run → Type 0 = λ r. OnOk c.for_round.result (pending_weight c.for_round.new.self <
+    pending_weight r + for_weight (weight_of_statement (callees_in r) c.args.body.now) r.turns) in
+    heavier c.for_round.result _ _ _ (subst weighs same c.for_round.ensures.fewer) (omega arith)

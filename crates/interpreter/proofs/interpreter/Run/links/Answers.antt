@@ -9,6 +9,7 @@ use Rattle.interpreter_state.specs.declared.work.Work.{Work}
 use Rattle.interpreter_state.specs.declared.work.Work.TheVariants as work
 use Rattle.interpreter.specs.Pending.{operands_of}
 use Rattle.interpreter.proofs.Resuming.{continues_as, reverse_pushed}
+use Rattle.interpreter.proofs.Weights.{lighter}
 use Rattle.interpreter.proofs.Unrolling.{entered, evaluated, does-Links}
 use Rattle.interpreter.proofs.interpreter.Run.links.Goals as goal
 
@@ -22,11 +23,6 @@ returns-in_ok-put-in-Some-clause-does c = λ env outer s agrees.
     ∙ ap (λ (works : List Work). evaluated env outer first.operand (work.Combine first.operation ∷ works) (operands_of old) (entered first.number env s))
     (sym (reverse_pushed _ _ _ _ c.in_ok-put-in-Some.ensures refl)))
     (c.plan.ensures.does env outer (entered first.number env s) agrees)
-
--- what weighs as much as a sum below the bound weighs less than the bound
-lighter : (result : Result (Option Ending) AllocError) (new sum bound : ℕ) → OnOk result (new ≡ sum) → sum < bound → OnOk result (new < bound)
-lighter (Ok ending) new sum bound is less = subst (λ n. n < bound) (sym is) less
-lighter (Err e) new sum bound is less = tt
 
 pub returns-in_ok-put-in-Some-clause-fewer : goal.returns-in_ok-put-in-Some-clause-fewer
 returns-in_ok-put-in-Some-clause-fewer c =
