@@ -1,6 +1,8 @@
 -- How an activation begins and ends, as the work that is pending then.
-use Rattle.std.proofs.Common.{◌≡◌, ◌+◌, ◌-◌, ◌^◌, ◌<◌, ◌≤◌, ℕ, zero, suc, List, [], ◌∷◌, ◌++◌, Option, Some, None, pos, reverse, map, filter, slice_get}
+use Rattle.std.proofs.Common.{◌≡◌, ◌+◌, ◌-◌, ◌^◌, ◌<◌, ◌≤◌, ℕ, zero, suc, List, [], ◌∷◌, ◌++◌, Option, Some, None, Result, Ok, Err, OnOk, pos, length, reverse, map, filter, slice_get}
 use Rattle.std.proofs.Common.{arith, sym, ◌∙◌, ap, subst, refl}
+use Rattle.std.proofs.lemmas.List.{length-reverse}
+use Rattle.std.specs.declared.alloc.AllocError.{AllocError}
 use Rattle.typed_tree.specs.declared.tree.Tree.{Tree}
 use Rattle.typed_tree.specs.declared.tree.Block.{Block}
 use Rattle.typed_tree.specs.declared.tree.FunctionResult.{FunctionResult}
@@ -195,13 +197,27 @@ goes_back old back caller left env outer s v agrees popped gives same rest =
     )
 
 -- a run that stops for want of the result of its activation
-pub stops_without : (old : Run) (caller : Caller) (left : List Caller) (env : Surroundings) (outer : Resumption) (s : State) (site : ℕ) →
-    Agrees env outer old s → old.callers.items ≡ left ++ caller ∷ [] → result_of old.activation.result env.visible s ≡ Stops (ending.Error site) s →
-    outer (operands_of old) s ≡ Stops (ending.Error site) s
-stops_without old caller left env outer s site agrees popped gives =
-    let tree = old.tree.now in
-    let waits : Waits tree env old.activation outer (caller ∷ reverse left) =
-    subst (λ (l : List Caller). Waits tree env old.activation outer l) (ap reverse popped ∙ reverse_push left caller) agrees.waits in
-    waits.7 (operands_of old) s
+waiting_stops : (tree : Tree) (env : Surroundings) (activation : KeptActivation) (outer : Resumption) (callers : List Caller)
+    (operands : List Argument) (s : State) (site : ℕ) → Waits tree env activation outer callers → 0 < length callers →
+    result_of activation.result env.visible s ≡ Stops (ending.Error site) s → outer operands s ≡ Stops (ending.Error site) s
+waiting_stops tree env activation outer [] operands s site waits some gives = let no : ⊥ = omega (arith, some) in absurd no
+waiting_stops tree env activation outer (caller ∷ callers) operands s site waits some gives =
+    waits.7 operands s
     ∙ ap (λ (r : Reply Value). and_then r (λ w. end_with waits.2 >>= λ _.
-    pending_of waits.0 waits.1 (reverse caller.pending.items) (OfValue w ∷ operands_of old))) gives
+    pending_of waits.0 waits.1 (reverse caller.pending.items) (OfValue w ∷ operands))) gives
+
+pub stops_without : (old : Run) (env : Surroundings) (outer : Resumption) (s : State) (site : ℕ) → Agrees env outer old s →
+    0 < length old.callers.items → result_of old.activation.result env.visible s ≡ Stops (ending.Error site) s →
+    outer (operands_of old) s ≡ Stops (ending.Error site) s
+stops_without old env outer s site agrees some gives =
+    let all = length-reverse old.callers.items in
+    waiting_stops old.tree.now env old.activation outer (reverse old.callers.items) (operands_of old) s site agrees.waits (omega (arith, all, some)) gives
+
+-- what is said of a result that isn't an error follows from what is
+pub then_ok : {A B C : Type 0} (result : Result C AllocError) → OnOk result A → (A → B) → OnOk result B
+then_ok (Ok c) a next = next a
+then_ok (Err e) a next = tt
+
+pub always_ok : {B C : Type 0} (result : Result C AllocError) → B → OnOk result B
+always_ok (Ok c) b = b
+always_ok (Err e) b = tt

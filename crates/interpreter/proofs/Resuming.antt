@@ -1,5 +1,5 @@
 -- What pending work means, step by step.
-use Rattle.std.proofs.Common.{◌≡◌, ℕ, List, [], ◌∷◌, ◌++◌, Option, Some, None, Result, Ok, Err, reverse, sym, ◌∙◌, ap, subst, refl, length, arith, Bool}
+use Rattle.std.proofs.Common.{◌≡◌, ℕ, List, [], ◌∷◌, ◌++◌, Option, Some, None, Result, Ok, Err, reverse, sym, ◌∙◌, ap, subst, refl, length, map, arith, Bool}
 use Rattle.std.proofs.Common.{true, false, if◌then◌else◌, Box, Global, ℤ}
 use Rattle.std.proofs.lemmas.Int.{ints}
 use mir.Syntax.{w32}
@@ -30,12 +30,22 @@ use Rattle.meaning.specs.Meaning.{Argument, OfValue}
 use Rattle.interpreter.specs.Pending.{Resumption, Waits, Agrees, Continues, Does, EndsAs, pending_of, resumed, rest_of, operands_of}
 use Rattle.interpreter.specs.Pending.{tested, giving, with_top, chosen, top_of, top_place, below_top, indexed}
 
+map_append : {A B : Type 0} (f : A → B) (xs ys : List A) → map f (xs ++ ys) ≡ map f xs ++ map f ys
+map_append f [] ys = refl
+map_append f (x ∷ xs) ys = ap (λ l. f x ∷ l) (map_append f xs ys)
+
 -- one more at the end of a stack is one more at its top
 pub reverse_push : {A : Type 0} (xs : List A) (x : A) → reverse (xs ++ x ∷ []) ≡ x ∷ reverse xs
 reverse_push xs x = reverse-append xs (x ∷ [])
 
 pub reverse_pushed : {A : Type 0} (ys xs : List A) (x : A) (zs : List A) → ys ≡ xs ++ x ∷ [] → reverse xs ≡ zs → reverse ys ≡ x ∷ zs
 reverse_pushed ys xs x zs pushed below = ap reverse pushed ∙ reverse_push xs x ∙ ap (λ l. x ∷ l) below
+
+pub map_reverse : {A B : Type 0} (f : A → B) (xs : List A) → map f (reverse xs) ≡ reverse (map f xs)
+map_reverse f [] = refl
+map_reverse f (x ∷ xs) =
+    ap (map f) (reverse-append (x ∷ []) xs) ∙ map_append f (reverse xs) (x ∷ []) ∙ ap (λ l. l ++ f x ∷ []) (map_reverse f xs)
+    ∙ sym (reverse-append (f x ∷ []) (map f xs))
 
 pub none_left : {A : Type 0} (xs : List A) → length xs ≡ 0 → xs ≡ []
 none_left [] h = refl

@@ -1,4 +1,4 @@
-ghost use Rattle.std.specs.Prelude.{◌≡◌, ◌<◌, ◌+◌, ◌-◌, ◌≤◌, OnOk, IfOk, Some, map, length, slice_get};
+ghost use Rattle.std.specs.Prelude.{◌≡◌, ◌<◌, ◌+◌, ◌-◌, ◌≤◌, OnOk, IfOk, Ok, None, Some, map, length, slice_get};
 ghost use Rattle.meaning.specs.Effect.{State};
 ghost use Rattle.meaning.specs.Store.{Environment};
 ghost use Rattle.meaning.specs.Meaning.{assign, assign_all, result_of};
@@ -186,8 +186,8 @@ impl<'t> Run<'t, '_> {
 
     // The activation ends, and the one that called it goes on with its result.
     pub(crate) fn leave(&mut self) -> Result<Option<Ending>, AllocError>
-        ensures fewer { OnOk result (0 < length self.old.callers.items
-            → pending_weight self.new < pending_weight self.old) }
+        ensures fewer { result ≡ Ok None → 0 < length self.old.callers.items
+            → pending_weight self.new < pending_weight self.old }
         ensures does { Leaves self.old result self.new }
     {
         match self.result()? {
