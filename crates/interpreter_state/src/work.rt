@@ -1,9 +1,10 @@
 ghost use Rattle.std.specs.Prelude.{◌≡◌, [], ◌∷◌, ◌++◌, OnOk};
 
+use crate::activation::Activation;
 use std::alloc::AllocError;
 use typed_tree::tree::{
-    Direction, Dyadic, Expr, Link, Monadic, RangeTest, Relation, Representation, Selector, Stmt,
-    Whole, Width, WriteParameter,
+    Direction, Dyadic, Expr, Link, Monadic, Passed, RangeTest, Relation, Representation, Selector,
+    Stmt, Whole, Width, WriteParameter,
 };
 use types::TypeId;
 
@@ -55,7 +56,6 @@ pub enum Work<'t> {
         parameters: &'t [WriteParameter],
         ends_line: bool,
     },
-    Parameter(&'t WriteParameter),
     /// The width of an ordinal that is written, whose value is topmost.
     Width {
         width: &'t Option<Width>,
@@ -113,6 +113,24 @@ pub enum Work<'t> {
     },
     /// A relation of the two topmost rows.
     Compare(Relation),
+    /// The actual parameters of a call, one after another.
+    Pass(&'t [Passed]),
+    /// Tests the topmost value.
+    Test(RangeTest),
+    /// An activation of the block with this number, to which so many operands are passed, the last one topmost.
+    Activate {
+        block: u32,
+        count: usize,
+    },
+    /// Drops the topmost value.
+    Discard,
+}
+
+/// An activation that waits for one inside it, with the work that is left in it, the next on top.
+#[derive(Drop)]
+pub struct Caller<'t> {
+    pub activation: Activation,
+    pub pending: Vec<Work<'t>>,
 }
 
 /// Puts a piece of work on top of what is left.
