@@ -87,8 +87,10 @@ pub too_deep : (tree : Tree) (env : Surroundings) (number count : ℕ) (next : R
     env.calls ≡ calls_of tree 0 → s.turns ≡ 0 →
     activating env number count next operands s ≡ Stops ending.More (record s { starved = number ∷ s.living })
 too_deep tree env number count next operands s calls none =
+    let then_rest : Value → Action (Unit {0}) = λ v. next (OfValue v ∷ left_below count operands) in
+    let stopping : ℕ → Action Value = λ activation. stop ending.More in
     called env number count next operands s (calls_of tree 0) calls
-    ∙ ap (λ n. and_then (and_then (begin_with n number s) (λ _. stop ending.More)) (λ v. next (OfValue v ∷ left_below count operands))) none
+    ∙ ap (λ n. and_then (and_then (begin_with n number s) stopping) then_rest) none
 
 -- a call of a routine, and of none
 pub calls_block : (tree : Tree) (env : Surroundings) (number count depth : ℕ) (block : Block) (next : Resumption) (operands : List Argument) (s : State) →
@@ -148,7 +150,7 @@ agrees_begun old begun caller env outer s left number block arguments after agre
       };
       calls = ap (calls_of tree) (sym depth);
       waits = subst (λ (l : List Caller). Waits tree there begun.activation outer_there l) (sym (ap reverse pushed ∙ reverse_push old.callers.items caller))
-          (env, outer, s.living, moved);
+          (env, outer, s.living, moved.0, moved.1, moved.2, moved.3, moved.4);
       deep = omega (arith, deep_left, some, depth, deep);
       few = omega (arith, few_left, some);
       store = store;

@@ -1,5 +1,5 @@
 -- With fewer turns left there is no more to do: so a step that uses a turn leaves the rest no heavier than it was.
-use Rattle.std.proofs.Common.{◌≡◌, ℕ, zero, suc, ◌+◌, ◌≤◌, List, [], ◌∷◌, ◌++◌, Option, Some, None, Result, Ok, Err, OnOk, Box, Global, Vec, Bor, ℤ, map, sum_by, ◌<◌}
+use Rattle.std.proofs.Common.{◌≡◌, ℕ, zero, suc, ◌+◌, ◌-◌, ◌≤◌, List, [], ◌∷◌, ◌++◌, Option, Some, None, Result, Ok, Err, OnOk, Box, Global, Vec, Bor, ℤ, map, sum_by, ◌<◌}
 use Rattle.std.proofs.Common.{arith, sym, ◌∙◌, ap, subst, slice_get}
 use Rattle.typed_tree.specs.declared.tree.Width.{Width}
 use Rattle.typed_tree.specs.declared.tree.WriteParameter.{WriteParameter}
@@ -433,6 +433,10 @@ pub heavier : (result : Result (Option Ending) AllocError) (new sum bound : ℕ)
 heavier (Ok ending) new sum bound is less = omega (arith, is, less)
 heavier (Err e) new sum bound is less = tt
 
+pub no_heavier : (result : Result (Option Ending) AllocError) (new sum bound : ℕ) → OnOk result (new ≡ sum) → sum ≤ bound → OnOk result (new ≤ bound)
+no_heavier (Ok ending) new sum bound is less = subst (λ n. n ≤ bound) (sym is) less
+no_heavier (Err e) new sum bound is less = tt
+
 -- a turn of a while, and of a for
 pub while_turn_weighs : (callees : Callees) (turns : ℕ) (condition : Bor Expr) (body : Bor Stmt) →
     tested_turn_weight callees turns (work.Statement body) condition.now (work.WhileTurn condition body) ≤
@@ -445,3 +449,24 @@ pub for_turn_weighs : (callees : Callees) (turns control : ℕ) (direction : Dir
     rounds_weight (λ left. 3 + weight_of_statement callees body.now left) turns
 for_turn_weighs callees zero control direction value last body = omega arith
 for_turn_weighs callees (suc left) control direction value last body = omega arith
+
+-- an activation that begins, and the one that called it and waits
+pub begin_weighs : (tree : Tree) (old begun : Activation) (works pending : List Work) (callers pushed : List Caller) (caller : Caller) (block : Block)
+    (turns left : ℕ) → turns ≡ suc left → begun.depth ≡ old.depth - 1 → pending ≡ [] → pushed ≡ callers ++ caller ∷ [] →
+    caller.activation ≡ old → caller.pending.items ≡ works →
+    works_weight tree begun left pending + callers_weight tree left pushed + weight_of_statement (callees_of tree begun.depth) block.body left ≤
+    works_weight tree old turns works + callers_weight tree turns callers + 1 + begun_weight (callees_of tree (old.depth - 1)) (Some block) turns
+begin_weighs tree old begun works pending callers pushed caller block turns left is depth none push same alike =
+    let nothing : works_weight tree begun left pending ≡ 0 = ap (works_weight tree begun left) none in
+    let all : callers_weight tree left pushed ≡
+    callers_weight tree left callers + 1 + works_weight tree caller.activation left caller.pending.items =
+    ap (callers_weight tree left) push ∙ callers_push tree left callers caller in
+    let waiting : works_weight tree caller.activation left caller.pending.items ≡ works_weight tree old left works =
+    ap (λ a. works_weight tree a left caller.pending.items) same ∙ ap (works_weight tree old left) alike in
+    let body : weight_of_statement (callees_of tree begun.depth) block.body left ≡ weight_of_statement (callees_of tree (old.depth - 1)) block.body left =
+    ap (λ d. weight_of_statement (callees_of tree d) block.body left) depth in
+    let begins : begun_weight (callees_of tree (old.depth - 1)) (Some block) turns ≡ weight_of_statement (callees_of tree (old.depth - 1)) block.body left =
+    ap (begun_weight (callees_of tree (old.depth - 1)) (Some block)) is in
+    let fewer = fewer_works tree old works callers turns left is in
+    let less = fewer_callers tree old works callers turns left is in
+    omega (arith, nothing, all, waiting, body, begins, fewer, less)

@@ -1,7 +1,8 @@
 -- How many steps of the interpreter a piece of pending work needs at most, for the turns that are left: the measure by
 -- which it ends.
 -- It says nothing of what the steps do.
-use Rattle.std.specs.Prelude.{ℕ, zero, suc, ◌+◌, ◌<◌, List, [], ◌∷◌, Option, Some, None, Result, OnOk, length, map, slice_get, sum_by}
+use Rattle.std.specs.Prelude.{ℕ, zero, suc, ◌+◌, ◌<◌, List, [], ◌∷◌, Option, Some, None, Result, OnOk, length, map}
+use Rattle.std.specs.Prelude.{slice_get, sum_by}
 use Rattle.std.specs.declared.alloc.AllocError.{AllocError}
 use Rattle.std.specs.declared.alloc.Global.{Global}
 use Rattle.std.specs.declared.boxed.Box.{Box}

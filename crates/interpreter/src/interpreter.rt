@@ -200,7 +200,8 @@ impl<'t> Run<'t, '_> {
         later: Work<'t>,
     ) -> Result<Option<Ending>, AllocError>
         ensures weight { OnOk result (pending_weight self.new
-            ≡ pending_weight self.old + weight_of (callees_in self.old) self.old.turns later.entry + weight_of (callees_in self.old) self.old.turns next.entry) }
+            ≡ pending_weight self.old + weight_of (callees_in self.old) self.old.turns later.entry
+            + weight_of (callees_in self.old) self.old.turns next.entry) }
         ensures does { Does (λ env rest. resumed env next.entry (resumed env later.entry rest))
             self.old result self.new }
     {
@@ -217,7 +218,8 @@ impl<'t> Run<'t, '_> {
         later: Work<'t>,
     ) -> Result<Option<Ending>, AllocError>
         ensures weight { OnOk result (pending_weight self.new ≡ pending_weight self.old
-            + weight_of (callees_in self.old) self.old.turns later.entry + weight_of_expression (callees_in self.old) second.now self.old.turns
+            + weight_of (callees_in self.old) self.old.turns later.entry
+            + weight_of_expression (callees_in self.old) second.now self.old.turns
             + weight_of_expression (callees_in self.old) first.now self.old.turns) }
         ensures does { Does (λ env. evaluating env first.now second.now later.entry) self.old result self.new }
     {
@@ -250,7 +252,8 @@ impl<'t> Run<'t, '_> {
         later: Work<'t>,
     ) -> Result<Option<Ending>, AllocError>
         ensures weight { OnOk result (pending_weight self.new
-            ≤ pending_weight self.old + tested_turn_weight (callees_in self.old) self.old.turns next.entry condition.now later.entry) }
+            ≤ pending_weight self.old
+            + tested_turn_weight (callees_in self.old) self.old.turns next.entry condition.now later.entry) }
         ensures does { Does (λ env. turning_tested env next.entry condition.now later.entry)
             self.old result self.new }
     {

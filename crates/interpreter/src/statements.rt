@@ -2,7 +2,8 @@ ghost use Rattle.std.specs.Prelude.{◌≡◌, ◌+◌, ◌<◌, ◌≤◌, OnOk
 ghost use Rattle.typed_tree.specs.WellFormed.{length_of};
 ghost use Rattle.interpreter.specs.Pending.{Does, counting_on, forgetting, line_ending, repeating, resumed, whiling};
 ghost use Rattle.interpreter.specs.Pending.{writing, writing_one, writing_row};
-ghost use Rattle.interpreter.specs.Weight.{Lightens, callees_in, for_weight, pending_weight, weight_of_expression, weight_of_parameter};
+ghost use Rattle.interpreter.specs.Weight.{Lightens, callees_in, for_weight, pending_weight, weight_of_expression};
+ghost use Rattle.interpreter.specs.Weight.{weight_of_parameter};
 ghost use Rattle.interpreter.specs.Weight.{weight_of_statement, weight_of_whole, weight_of_width, while_weight};
 
 use crate::interpreter::Run;
@@ -162,7 +163,8 @@ impl<'t> Run<'t, '_> {
         body: &'t Stmt,
     ) -> Result<Option<Ending>, AllocError>
         ensures fewer { OnOk result (pending_weight self.new < pending_weight self.old
-            + while_weight (weight_of_expression (callees_in self.old) condition.now) (weight_of_statement (callees_in self.old) body.now) self.old.turns) }
+            + while_weight (weight_of_expression (callees_in self.old) condition.now)
+            (weight_of_statement (callees_in self.old) body.now) self.old.turns) }
         ensures does { Does (λ env. whiling env condition.now body.now) self.old result self.new }
     {
         self.plan(Work::Value(condition), Work::WhileTurn { condition, body })
@@ -255,7 +257,8 @@ impl<'t> Run<'t, '_> {
         body: &'t Stmt,
     ) -> Result<Option<Ending>, AllocError>
         ensures fewer { OnOk result (pending_weight self.new
-            < pending_weight self.old + for_weight (weight_of_statement (callees_in self.old) body.now) self.old.turns) }
+            < pending_weight self.old
+            + for_weight (weight_of_statement (callees_in self.old) body.now) self.old.turns) }
         ensures does { Does (λ env. counting_on env control direction value last body.now) self.old result self.new }
     {
         let place = self.place(control)?;
@@ -365,7 +368,8 @@ impl<'t> Run<'t, '_> {
         width: &'t Option<Width>,
     ) -> Result<Option<Ending>, AllocError>
         ensures weight { OnOk result (pending_weight self.new ≡ pending_weight self.old + 1
-            + weight_of_width (callees_in self.old) width.now self.old.turns + weight_of_expression (callees_in self.old) value.now self.old.turns) }
+            + weight_of_width (callees_in self.old) width.now self.old.turns
+            + weight_of_expression (callees_in self.old) value.now self.old.turns) }
         ensures does { Does (λ env. writing env value.now representation width.now) self.old result self.new }
     {
         put(&mut self.pending, Work::Write(representation))?;
@@ -386,7 +390,8 @@ impl<'t> Run<'t, '_> {
         width: &'t Option<Width>,
     ) -> Result<Option<Ending>, AllocError>
         ensures weight { OnOk result (pending_weight self.new ≤ pending_weight self.old + 1
-            + weight_of_whole (callees_in self.old) value.now indexes.now self.old.turns + weight_of_width (callees_in self.old) width.now self.old.turns) }
+            + weight_of_whole (callees_in self.old) value.now indexes.now self.old.turns
+            + weight_of_width (callees_in self.old) width.now self.old.turns) }
         ensures does { Does (λ env. writing_row env value.now indexes.now width.now) self.old result self.new }
     {
         match width {
