@@ -160,22 +160,34 @@ unfoldable pub waiting_for : Bool → Name → Passing (Option ℕ)
 waiting_for is_function name = λ s.
     Ok (after (waits is_function s.enclosing.waiting (said (innermost s.regions) (folded name.text.now))) [] s)
 
-abbrev pub or_mismatched : Name → Option ℕ → Passing ℕ
-or_mismatched name (Some block) = pure block
+-- the number of the block behind a heading, and whether that is the block's first
+pub record Begun : Type 0 where
+  pub number : ℕ
+  pub is_first : Bool
+
+abbrev pub resumed : ℕ → Passing Begun
+resumed number = pure (record { number = number; is_first = false })
+
+abbrev pub begun : Name → List FormalGroup → Option Name → Passing Begun
+begun name groups of_result =
+    new_heading name groups of_result >>= (λ number. pure (record { number = number; is_first = true }))
+
+abbrev pub or_mismatched : Name → Option ℕ → Passing Begun
+or_mismatched name (Some number) = resumed number
 or_mismatched name None = fail (fault.Mismatch name.place)
 
-abbrev pub or_new : Name → Option ℕ → Passing ℕ
-or_new name (Some block) = pure block
-or_new name None = new_heading name [] None
+abbrev pub or_new : Name → Option ℕ → Passing Begun
+or_new name (Some number) = resumed number
+or_new name None = begun name [] None
 
-abbrev pub procedure_headed : Name → List FormalGroup → Passing ℕ
+abbrev pub procedure_headed : Name → List FormalGroup → Passing Begun
 procedure_headed name [] = waiting_for false name >>= or_new name
-procedure_headed name (g ∷ groups) = new_heading name (g ∷ groups) None
+procedure_headed name (g ∷ groups) = begun name (g ∷ groups) None
 
 -- the block of a heading: a procedure without parameters may be one that waits, and so is a function without a type
-abbrev pub headed : Heading → Passing ℕ
+abbrev pub headed : Heading → Passing Begun
 headed (Procedure name formals) = procedure_headed name formals.items
-headed (Function name formals of_result) = new_heading name formals.items (Some of_result)
+headed (Function name formals of_result) = begun name formals.items (Some of_result)
 headed (Resumed name) = waiting_for true name >>= or_mismatched name
 
 -- ---- blocks
@@ -240,15 +252,20 @@ heading_name (Procedure name formals) = name
 heading_name (Function name formals result) = name
 heading_name (Resumed name) = name
 
+-- the directive forward stands behind the first heading alone; else the name is declared twice
+abbrev pub forward : Bool → ℕ → Place → Passing (Unit {0})
+forward true number place = wait number place
+forward false number place = fail (fault.DeclaredTwice place)
+
 -- what stands behind a heading: a block, or the directive forward
-abbrev pub routine_body : ℕ → Name → Option TypedBlock → Passing (Unit {0})
-routine_body number name None = wait number name.place
-routine_body number name (Some block) = waited number >> routine_block number name block
+abbrev pub routine_body : Begun → Name → Option TypedBlock → Passing (Unit {0})
+routine_body heading name None = forward heading.is_first heading.number name.place
+routine_body heading name (Some block) = waited heading.number >> routine_block heading.number name block
 
 abbrev pub routine_step : Routine-F TypedBlock TypedRoutine → TypedRoutine
 routine_step r = record {
   names = heading_names r.heading;
-  typing = headed r.heading >>= (λ number. routine_body number (heading_name r.heading) r.block);
+  typing = headed r.heading >>= (λ begins. routine_body begins (heading_name r.heading) r.block);
 }
 
 -- the declarations of a block in the order of the text, and its statements
