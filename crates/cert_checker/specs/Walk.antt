@@ -2,7 +2,7 @@
 -- rules that are broken, and the state at each entry into a statement or expression (ISO 7185:1990, 6.7, 6.8).
 -- It does not say that a program does what the walk says of it.
 use Rattle.std.specs.Prelude.{ℕ, suc, ℤ, drop, slice_get, Bool, true, false, ◌&&◌, List, [], ◌∷◌, ◌++◌, Option, Some, None}
-use Rattle.std.specs.Prelude.{◌||◌, if◌then◌else◌, map, length, nat_eq}
+use Rattle.std.specs.Prelude.{◌||◌, if◌then◌else◌, map, length, nat_eq, not}
 use Rattle.std.specs.List.{list_all}
 use Rattle.std.specs.declared.alloc.Global.{Global}
 use Rattle.std.specs.declared.boxed.Box.{Box}
@@ -28,6 +28,7 @@ use Rattle.typed_tree.specs.declared.tree.Stmt.TheOpen.Stmt-F.{Empty, Assign, Wr
 use Rattle.typed_tree.specs.declared.tree.Stmt.TheOpen.Stmt-F.{Case, Copy, Call}
 use Rattle.typed_tree.specs.declared.tree.Stmt.TheFolds.{fold-Stmt}
 use Rattle.typed_tree.specs.Calls.{holds_call, whole_holds_call}
+use Rattle.typed_tree.specs.WellFormed.{is_visible, outline_of}
 use Rattle.domain.specs.Interval.{Interval, is_included, common}
 use Rattle.domain.specs.Numbers.{hull, is_covered}
 use Rattle.domain.specs.Facts.{Bound, Fact}
@@ -280,17 +281,18 @@ loop_walk number place control walking context =
 
 -- ---- for statements
 
-abbrev pub is_none : List ℕ → Bool
-is_none [] = true
-is_none (root ∷ roots) = false
+-- none of some variables is visible in the block
+abbrev pub are_hidden : Context → List ℕ → Bool
+are_hidden context roots =
+    list_all (λ root. not (is_visible (outline_of context.tree) context.block root)) roots
 
 -- a variable may control a for statement whose bounds are tested for two ranges: these are those of its type, in each
--- loop round it is a for statement that this variable controls, and no other variable is its alias
+-- loop round it is a for statement that this variable controls, and none of its aliases is visible here
 abbrev pub may_control : Context → ℕ → (first last : OrdinalRange) → Bool
 may_control context root first last =
     let limits = limits_at context.limits root in
     all_control root context.rounds
-    && (is_none (aliases_of context.pairs root)
+    && (are_hidden context (aliases_of context.pairs root)
     && (is_included (limits_of first) limits && is_included (limits_of last) limits))
 
 -- a for statement at a place changes its control variable
