@@ -1,9 +1,10 @@
-# The checker's rules, literally: paths, stretches of paths, orders; and the meaning, to run programs.
-import sys
-sys.setrecursionlimit(100000)
+# The checker's rules, literally: paths, stretches of paths, orders, alias pairs, calls.
+import sys,threading
+sys.setrecursionlimit(1000000)
 from front import *
-NAMES={1:'index',2:'subrange',3:'undefined variable',5:'division by zero',6:'mod by zero or less',7:'case',8:'chr',9:'succ',10:'pred',11:'overflow',12:'width'}
-class Refused(Exception): pass
+import cert as certs
+from run import *
+NAMES={1:'index',2:'subrange',3:'undefined variable',4:'undefined result',5:'division by zero',6:'mod by zero or less',7:'case',8:'chr',9:'succ',10:'pred',11:'overflow',12:'width'}
 # ranges: (lo,hi) or None
 def meet(a,b):
     if a is None or b is None: return None
@@ -13,22 +14,36 @@ def join(a,b):
     if b is None: return a
     return (min(a[0],b[0]),max(a[1],b[1]))
 def inside(a,b): return a is None or (b is not None and b[0]<=a[0] and a[1]<=b[1])
-def leaves(t,pre=()):
-    if is_ord(t): return [(pre,(t.lo,t.hi))]
-    if isinstance(t,Arr): return leaves(t.elem,pre+('[]',))
-    return [x for n,f in t.fields for x in leaves(f,pre+(n,))]
+LEAVES={}
+def leaves(t):
+    """leaf paths of a type: steps, range, type"""
+    k=id(t)
+    if k not in LEAVES: LEAVES[k]=(t,_leaves(t,()))
+    return LEAVES[k][1]
+def _leaves(t,pre):
+    if is_ord(t): return [(pre,(t.lo,t.hi),t)]
+    if isinstance(t,Arr): return _leaves(t.elem,pre+('[]',))
+    return [x for n,f in t.fields for x in _leaves(f,pre+(n,))]
 class State:
     def __init__(s): s.dead=False;s.rng={};s.dfn=set();s.st=set();s.ord=set()
     def copy(s):
         n=State();n.dead=s.dead;n.rng=dict(s.rng);n.dfn=set(s.dfn);n.st=set(s.st);n.ord=set(s.ord);return n
 def num_ok(n): return -MAXINT<=n<=MAXINT
+NOTHING=certs.Section()
 class Checker:
     def __init__(s,prog,cert,opts=()):
-        s.p=prog;s.open=[];s.cert=cert;s.opts=set(opts)
-        s.types=[t for _,t in prog.vars]
+        s.p=prog;s.open=[];s.cert=cert;s.opts=set(opts);s.states={};s.ends={};s.visits=0
+        s.types=[r.t for r in prog.roots]
         s.leafs=[leaves(t) for t in s.types]
-        s.controls={}  # loop number -> control vars inside (own included)
-        s.collect(prog.body,[])
+        s.controls={}
+        for b in prog.blocks: s.collect(b.body,[])
+        s.pcache={}
+    def section(s,b): return s.cert.get(b.number,NOTHING)
+    def changes(s,b): return s.section(b).change
+    def pairs(s,b):
+        if b.number not in s.pcache: s.pcache[b.number]={p for x in b.chain() for p in s.section(x).alias}
+        return s.pcache[b.number]
+    def aliases(s,r): return {y for x,y in s.pairs(s.b) if x==r}|{x for x,y in s.pairs(s.b) if y==r}
     def collect(s,st,rounds):
         k=st.k
         if k in('while','repeat','for'):
@@ -49,13 +64,20 @@ class Checker:
         for x in path[1]: t=t.elem if x=='[]' else t.field(x)
         return t
     # ---- state
-    def least(s,S,b): 
+    # a bound: ('c',n), ('v',r,n); at calls ('t',bound or None,(lo,hi) or None) for a value formal, ('r',lo,hi)
+    def ways(s,b):
+        if b[0]!='t': return [b]
+        return ([b[1]] if b[1] else [])+([('r',)+b[2]] if b[2] else [])
+    def least(s,S,b):
         if b[0]=='c': return b[1]
+        if b[0]=='r': return b[1]
         r=S.rng[(b[1],())]; return None if r is None else r[0]+b[2]
     def greatest(s,S,b):
         if b[0]=='c': return b[1]
+        if b[0]=='r': return b[2]
         r=S.rng[(b[1],())]; return None if r is None else r[1]+b[2]
-    def le(s,S,a,b):
+    def le(s,S,a,b): return any(s.le1(S,x,y) for x in s.ways(a) for y in s.ways(b))
+    def le1(s,S,a,b):
         if a[0]==b[0]=='c': return a[1]<=b[1]
         if a[0]==b[0]=='v' and a[1]==b[1] and a[2]<=b[2]: return True
         g,l=s.greatest(S,a),s.least(S,b)
@@ -64,37 +86,24 @@ class Checker:
             return any(x==a[1] and y==b[1] and c+a[2]<=b[2] for x,y,c in S.ord)
         return False
     def eq(s,S,a,b): return s.le(S,a,b) and s.le(S,b,a)
-    def plus(s,b,k): return ('c',b[1]+k) if b[0]=='c' else ('v',b[1],b[2]+k)
-    def heads(s,path):
-        """the parts without indexes under a path: scalars, and arrays"""
-        t=s.type_at(path)
-        if isinstance(t,Rec): return [h for n,_ in t.fields for h in s.heads((path[0],path[1]+(n,)))]
-        return [path]
-    def define(s,S,path,claim=False):
-        if 'd23' not in s.opts: S.dfn.add(path);return
-        for h in s.heads(path):
-            t=s.type_at(h)
-            if claim and isinstance(t,Arr): S.st.add((h,('c',t.index.lo),('c',t.index.hi)))
-            else: S.dfn.add(h)
+    def plus(s,b,k):
+        if b[0]=='c': return ('c',b[1]+k)
+        if b[0]=='v': return ('v',b[1],b[2]+k)
+        if b[0]=='r': return ('r',b[1]+k,b[2]+k)
+        return ('t',b[1] and s.plus(b[1],k),b[2] and (b[2][0]+k,b[2][1]+k))
     def g_defined(s,S,path):
         if S.dead: return True
-        if 'd23' in s.opts:
-            for h in s.heads(path):
-                if h in S.dfn: continue
-                t=s.type_at(h)
-                if not isinstance(t,Arr) or not any(p==h and s.le(S,l,('c',t.index.lo)) and s.le(S,('c',t.index.hi),u) for p,l,u in S.st): return False
-            return True
         r,steps=path
         if any((r,steps[:i]) in S.dfn for i in range(len(steps)+1)): return True
         t=s.type_at(path)
         if isinstance(t,Rec): return all(s.g_defined(S,(r,steps+(n,))) for n,_ in t.fields)
         if isinstance(t,Arr): return any(p==path and s.le(S,l,('c',t.index.lo)) and s.le(S,('c',t.index.hi),h) for p,l,h in S.st)
         return False
-    def b_defined(s,S,b): return b[0]=='c' or s.g_defined(S,(b[1],()))
+    def b_defined(s,S,b): return b[0]!='v' or s.g_defined(S,(b[1],()))
     def g_stretch(s,S,path,l,h):
         if S.dead: return True
         if not (s.b_defined(S,l) and s.b_defined(S,h)): return False
-        return s.le(S,s.plus(h,1),l) or (path in S.dfn if 'd23' in s.opts else s.g_defined(S,path)) or any(p==path and s.le(S,l2,l) and s.le(S,h,h2) for p,l2,h2 in S.st)
+        return s.le(S,s.plus(h,1),l) or s.g_defined(S,path) or any(p==path and s.le(S,l2,l) and s.le(S,h,h2) for p,l2,h2 in S.st)
     def given(s,S,f):
         if S.dead: return True
         if f[0]=='range': return inside(S.rng[f[1]],f[2])
@@ -108,7 +117,6 @@ class Checker:
         n=State()
         n.rng={p:join(A.rng[p],B.rng[p]) for p in A.rng}
         n.dfn={d for d in A.dfn if s.g_defined(B,d)}|{d for d in B.dfn if s.g_defined(A,d)}
-        if 'd23' in s.opts: n.dfn=A.dfn&B.dfn
         n.st={d for d in A.st if s.g_stretch(B,*d)}|{d for d in B.st if s.g_stretch(A,*d)}
         n.ord={d for d in A.ord if s.given(B,('order',)+d)}|{d for d in B.ord if s.given(A,('order',)+d)}
         return n
@@ -145,13 +153,14 @@ class Checker:
         return None
     # ---- expressions
     def indexes(s,a):
-        """walks the indexes; gives path, index of the first index among steps, (form,range) of the first index, count"""
+        """walks the indexes; gives path, (position, form, range) of the first index, count of indexes"""
         path=();first=None;n=0
         for x in a.sels:
             if x[0]=='f': path+=(x[1],)
             else:
                 r=s.ordinal(x[1]); r=s.within(r,(x[2].lo,x[2].hi),x[1].p,1)
                 if first is None: first=(len(path),s.form(x[1]),r)
+                elif has_call(x[1]) and first[1] is not None and first[1][0]=='v': first=(first[0],None,first[2])
                 path+=('[]',);n+=1
         return (a.r,path),first,n
     def covered(s,path,first):
@@ -167,7 +176,7 @@ class Checker:
     def use(s,a):
         path,first,n=s.indexes(a)
         s.site(a.p,3,s.covered(path,first))
-        if first is None and not s.S.dead: s.define(s.S,path)
+        if first is None and not s.S.dead: s.S.dfn.add(path)
         return path
     def whole(s,e):
         """ranges of the leaves under a whole value, by the rest of the path"""
@@ -175,10 +184,11 @@ class Checker:
         if e.k=='text':
             v=[ord(c) for c in e.v]; return {('[]',):(min(v),max(v))}
         path=s.use(e.a)
-        return {p[1][len(path[1]):]:s.S.rng[p] for p in s.S.rng if p[0]==path[0] and p[1][:len(path[1])]==path[1]} if not s.S.dead else {x:None for x,_ in leaves(e.a.t)}
+        return {q:s.S.rng[(path[0],path[1]+q)] if not s.S.dead else None for q,_,_ in leaves(e.a.t)}
     def ordinal(s,e):
         k=e.k
         if k=='paren': return s.ordinal(e.e)
+        if k=='rcall': return s.call(e)
         if k=='const': return (e.v,e.v)
         if k=='use':
             path=s.use(e.a)
@@ -246,9 +256,8 @@ class Checker:
         if k is None: return None
         n=b[2]-k
         return ('v',r,n) if num_ok(n) else None
-    def change(s,S,r,form):
-        """drops or shifts what names r"""
-        k=form[2] if form is not None and form[0]=='v' and form[1]==r else None
+    def change(s,S,r,k):
+        """drops what names r in bounds and orders, or shifts it by k"""
         st=set()
         for p,l,h in S.st:
             l2,h2=s.shift_bound(l,r,k),s.shift_bound(h,r,k)
@@ -263,25 +272,23 @@ class Checker:
                 if not num_ok(c): continue
             o.add((x,y,c))
         S.ord=o
-    def assign_var(s,S,r,rng,form):
-        s.change(S,r,form)
-        S.rng[(r,())]=rng
-        S.dfn.add((r,()))
-        if form is not None and form[0]=='v' and form[1]!=r and num_ok(form[2]):
-            S.ord.add((r,form[1],form[2]));S.ord.add((form[1],r,-form[2]))
-        if rng is None: S.dead=True
-    def store(s,path,first,n,ranges):
-        S=s.S
+    def assign(s,S,path,first,n,ranges,form,vcall):
+        """the values of these ranges go to an access; form is the value's bound form"""
         if S.dead: return
-        r,steps=path
+        r,steps=path;al=s.aliases(r)
+        entire=steps==() and is_ord(s.types[r])
+        s.change(S,r,form[2] if entire and form is not None and form[0]=='v' and form[1]==r else None)
+        for z in al: s.change(S,z,None)
         for rest,v in ranges.items():
-            p=(r,steps+rest)
+            p=(r,steps+rest);t=s.type_at(p)
             S.rng[p]=v if n==0 else join(S.rng[p],v)
-        if n==0: s.define(S,path); return
-        fields='fields' in s.opts   # rows: a store behind an index and fields counts for its row alone
-        if n==1 and first[0]==len(steps)-1 and first[1] is not None:
+            for z in al:
+                for q,_,t2 in s.leafs[z]:
+                    if t2 is t: S.rng[(z,q)]=join(S.rng[(z,q)],v)
+            if is_ord(t) and len(ranges)==1 and rest==() and v is None: S.dead=True;return
+        if n==0: S.dfn.add(path)
+        elif n==1 and first[0]==len(steps)-1 and first[1] is not None and not vcall and not(first[1][0]=='v' and first[1][1] in al):
             q=(r,steps[:-1]);b=first[1];new=set();hit=False
-            if 'd9' in s.opts and s.g_stretch(S,q,b,b): return
             for p,l,h in S.st:
                 if p!=q: new.add((p,l,h));continue
                 if s.eq(S,b,s.plus(h,1)): new.add((p,l,b));hit=True
@@ -289,6 +296,140 @@ class Checker:
                 else: new.add((p,l,h))
             if not hit: new.add((q,b,b))
             S.st=new
+        if entire and form is not None and form[0]=='v' and form[1]!=r and form[1] not in al:
+            if num_ok(form[2]): S.ord.add((r,form[1],form[2]))
+            if num_ok(-form[2]): S.ord.add((form[1],r,-form[2]))
+    # ---- calls
+    def call(s,e):
+        b=e.b;roots=s.p.roots;acc={};val={};sec=s.section(b)
+        for f,a in zip(b.formals,e.acts):
+            t=roots[f].t
+            if roots[f].kind=='ref':
+                path,first,n=s.indexes(a)
+                if e.inner and first is not None: first=(first[0],None,None)
+                acc[f]=(path,first,n)
+            elif is_ord(t):
+                v=s.within(s.ordinal(a),(t.lo,t.hi),a.p,2)
+                val[f]=({():v},None if e.inner else s.form(a))
+            else: val[f]=(s.whole(a),None)
+        S=s.S;place=e.p
+        def no(c): raise Refused(f'{place[0]}:{place[1]}: certificate refused {c}')
+        # C6
+        mine,theirs=s.pairs(s.b),s.pairs(b)
+        pair=lambda P,x,y:(min(x,y),max(x,y)) in P
+        fs=list(acc)
+        for i,x in enumerate(fs):
+            for y in fs[i+1:]:
+                (rx,px),(ry,py)=acc[x][0],acc[y][0]
+                meets=pair(mine,rx,ry) if rx!=ry else not parts_at_field(px,py)
+                if meets and not pair(theirs,x,y): no('C6')
+            for w in b.round():
+                rx=acc[x][0][0]
+                if (rx==w or pair(mine,rx,w)) and not pair(theirs,x,w): no('C6')
+        # C5
+        def term(bd):
+            """a bound of the callee in the caller's words; None if there is none"""
+            if bd[0]=='c': return bd
+            r,k=bd[1],bd[2]
+            if r in acc:
+                (ra,p),first,n=acc[r]
+                return ('v',ra,k) if p==() and is_ord(s.types[ra]) else None
+            if r in val:
+                rs,form=val[r];return s.plus(('t',form,rs[()]),k)
+            return bd
+        def given(f):
+            if S.dead: return True
+            if f[0]=='range':
+                r,st=f[1]
+                if r in acc: return inside(S.rng[(acc[r][0][0],acc[r][0][1]+st)],f[2])
+                if r in val: return inside(val[r][0][st],f[2])
+                return s.given(S,f)
+            if f[0]=='defined':
+                r,st=f[1]
+                if r in val: return True
+                if r in acc:
+                    (ra,p),first,n=acc[r]
+                    return s.g_defined(S,(ra,p+st)) if first is None else s.covered((ra,p+st),first)
+                return s.given(S,f)
+            if f[0]=='stretch':
+                r,st=f[1];l,h=term(f[2]),term(f[3])
+                if l is None or h is None or not s.b_defined(S,l) or not s.b_defined(S,h): return False
+                if r in val or s.le(S,s.plus(h,1),l): return True
+                if r in acc:
+                    (ra,p),first,n=acc[r]
+                    if first is not None: return s.covered((ra,p+st),first)
+                    return s.g_stretch(S,(ra,p+st),l,h)
+                return s.g_stretch(S,f[1],l,h)
+            x,y=term(('v',f[1],0)),term(('v',f[2],f[3]))
+            return x is not None and y is not None and s.b_defined(S,x) and s.b_defined(S,y) and s.le(S,x,y)
+        for f in sec.entry:
+            if not given(f): no('C5')
+        # C7
+        A=[r for r in sec.change if roots[r].block is not b]
+        B=[r for r in sec.change if r in acc]
+        changed=set(A)|{acc[r][0][0] for r in B}
+        for r in sorted(changed): s.c7(r,s.rounds,place)
+        # the state after
+        exits={f[1]:f[2] for f in sec.exit if f[0]=='range'}
+        value=None
+        if b.result is not None:
+            t=b.rtype;value=meet((t.lo,t.hi),exits.get((b.result,()),(t.lo,t.hi)))
+        if S.dead: return value
+        touched=set(changed)
+        for r in changed: touched|=s.aliases(r)
+        exact={};left=[]
+        for r in A+B:
+            for q,lim,t in s.leafs[r]:
+                x=meet(lim,exits.get((r,q),lim));left.append((t,x))
+                if r in acc:
+                    (ra,p),first,n=acc[r]
+                    if first is not None: continue
+                    k=(ra,p+q)
+                else: k=(r,q)
+                exact[k]=meet(exact[k],x) if k in exact else x
+        for r in touched:
+            for q,lim,t in s.leafs[r]:
+                k=(r,q)
+                if k in exact: S.rng[k]=exact[k]
+                else:
+                    for t2,x in left:
+                        if t2 is t: S.rng[k]=join(S.rng[k],x)
+        named=lambda bd:bd[0]=='v' and bd[1] in touched
+        S.ord={o for o in S.ord if o[0] not in touched and o[1] not in touched}
+        S.st={x for x in S.st if not named(x[1]) and not named(x[2])}
+        def after(bd):
+            if bd[0]=='c': return bd
+            r,k=bd[1],bd[2]
+            if r in val:
+                form=val[r][1]
+                if form is None or named(form): return None
+                n=s.plus(form,k);return n if num_ok(n[-1]) else None
+            if r in acc:
+                (ra,p),first,n=acc[r]
+                if p!=() or not is_ord(s.types[ra]): return None
+                r=ra
+            if r in touched and (r,()) not in exact: return None
+            return ('v',r,k)
+        for f in sec.exit:
+            if f[0] in('defined','stretch'):
+                r,st=f[1]
+                if r in val or r==b.result: continue
+                if r in acc:
+                    (ra,p),first,n=acc[r]
+                    if first is not None: continue
+                    path=(ra,p+st)
+                else: path=(r,st)
+                if f[0]=='defined': S.dfn.add(path)
+                else:
+                    l,h=after(f[2]),after(f[3])
+                    if l is not None and h is not None: S.st.add((path,l,h))
+            elif f[0]=='order':
+                x,y=after(('v',f[1],0)),after(('v',f[2],0))
+                if x is None or y is None or x[0]!='v' or y[0]!='v': continue
+                c=f[3]-x[2]+y[2]
+                if num_ok(c): S.ord.add((x[1],y[1],c))
+        if b.result is not None and value is None: S.dead=True
+        return value
     # ---- conditions
     def refine(s,S,e,truth):
         e=s.strip(e)
@@ -338,22 +479,41 @@ class Checker:
     def branch(s,S,e,truth,rng):
         n=S.copy()
         if rng is None or not rng[0]<=truth<=rng[1]: n.dead=True
-        s.refine(n,e,bool(truth));return n
+        if not has_call(e): s.refine(n,e,bool(truth))
+        return n
     # ---- statements
     def run(s):
-        s.S=State()
-        for r,l in enumerate(s.leafs):
-            for p,_ in l: s.S.rng[(r,p)]=None
-        s.stmt(s.p.body,[])
+        for b in s.p.blocks: s.check_block(b)
         return sorted(set(s.open))
-    def claims(s,n): return s.cert.get(n,([],[]))
+    def check_block(s,b):
+        s.b=b;s.rounds=[];S=s.S=State();sec=s.section(b)
+        for r in b.visible():
+            for q,lim,_ in s.leafs[r]: S.rng[(r,q)]=None if s.p.roots[r].block is b and s.p.roots[r].kind in('var','result') else lim
+            if s.p.roots[r].block is b and s.p.roots[r].kind=='value': S.dfn.add((r,()))
+        s.hold(S,sec.entry)
+        s.stmt(b.body,[])
+        if b.result is not None:
+            s.site(b.end,4,s.S.dead or s.g_defined(s.S,(b.result,())))
+            if not s.S.dead and s.S.rng[(b.result,())] is None: s.S.dead=True
+        s.ends[b.number]=s.S
+        for f in sec.exit:
+            if not s.given(s.S,f): raise Refused(f'{b.end[0]}:{b.end[1]}: certificate refused C4')
+    def hold(s,S,facts):
+        for f in facts:
+            if f[0]=='range': S.rng[f[1]]=meet(S.rng[f[1]],f[2])
+            elif f[0]=='defined': S.dfn.add(f[1])
+            elif f[0]=='stretch': S.st.add(f[1:])
+            else: S.ord.add(f[1:])
+    def claims(s,n): return s.section(s.b).loops.get(n,([],[]))
     def c7(s,r,rounds,place):
-        for n in rounds:
-            if r not in s.claims(n)[0]: raise Refused(f'{place[0]}:{place[1]}: certificate refused C7')
+        x=s.p.roots[r];own=x.block is s.b and x.kind in('var','result')
+        if any(r not in s.claims(n)[0] for n in rounds) or not own and r not in s.section(s.b).change:
+            raise Refused(f'{place[0]}:{place[1]}: certificate refused C7')
     def stmt(s,st,rounds):
-        k=st.k
+        k=st.k;s.rounds=rounds;s.states[id(st)]=s.S.copy()
         if k=='empty': return
-        if k=='seq':
+        if k=='rcall': s.call(st)
+        elif k=='seq':
             for b in st.b: s.stmt(b,rounds)
         elif k=='write':
             for e,w in st.ps:
@@ -363,15 +523,10 @@ class Checker:
         elif k=='assign':
             path,first,n=s.indexes(st.a)
             if is_ord(st.a.t):
-                v=s.ordinal(st.e); v=s.within(v,(st.a.t.lo,st.a.t.hi),st.bp,2)
-                s.c7(st.a.r,rounds,st.bp)
-                if s.S.dead: return
-                if not st.a.sels: s.assign_var(s.S,st.a.r,v,s.form(st.e))
-                else: s.store(path,first,n,{():v})
-            else:
-                v=s.whole(st.e)
-                s.c7(st.a.r,rounds,st.bp)
-                s.store(path,first,n,v)
+                v=s.ordinal(st.e); v={():s.within(v,(st.a.t.lo,st.a.t.hi),st.bp,2)};form=s.form(st.e)
+            else: v=s.whole(st.e);form=None
+            s.c7(st.a.r,rounds,st.bp)
+            s.assign(s.S,path,first,n,v,form,has_call(st.e))
         elif k=='if':
             r=s.ordinal(st.e);A=s.branch(s.S,st.e,1,r);B=s.branch(s.S,st.e,0,r)
             s.S=A;s.stmt(st.a,rounds);A=s.S
@@ -396,11 +551,11 @@ class Checker:
         elif k in('while','repeat'):
             s.entry(st,None)
             if k=='while':
-                r=s.ordinal(st.e);A=s.branch(s.S,st.e,1,r);B=s.branch(s.S,st.e,0,r)
+                s.rounds=rounds+[st.n];r=s.ordinal(st.e);A=s.branch(s.S,st.e,1,r);B=s.branch(s.S,st.e,0,r)
                 s.S=A;s.stmt(st.b,rounds+[st.n]);s.turn(st);s.S=B
             else:
                 for b in st.b: s.stmt(b,rounds+[st.n])
-                r=s.ordinal(st.e);A=s.branch(s.S,st.e,0,r);B=s.branch(s.S,st.e,1,r)
+                s.rounds=rounds+[st.n];r=s.ordinal(st.e);A=s.branch(s.S,st.e,0,r);B=s.branch(s.S,st.e,1,r)
                 s.S=A;s.turn(st);s.S=B
         elif k=='for': s.for_(st,rounds)
     def facts(s,S,n,rule,place):
@@ -409,7 +564,9 @@ class Checker:
     def entry(s,st,own):
         s.facts(s.S,st.n,'C2',st.p); s.head(st)
     def turn(s,st): s.facts(s.S,st.n,'C3',st.p)
-    def touched(s,n): return set(s.claims(n)[0])|set(s.controls[n])
+    def touched(s,n):
+        t=set(s.claims(n)[0])|set(s.controls[n])
+        return t|{z for r in t for z in s.aliases(r)}
     def head(s,st):
         S=s.S
         if S.dead: return
@@ -419,14 +576,11 @@ class Checker:
         S.st={x for x in S.st if not bt(x[1]) and not bt(x[2])}
         S.dfn={d for d in S.dfn if d[0] not in ctl}
         for r in t:
-            for p,lim in s.leafs[r]: S.rng[(r,p)]=lim
-        for f in s.claims(st.n)[1]:
-            if f[0]=='range': S.rng[f[1]]=meet(S.rng[f[1]],f[2])
-            elif f[0]=='defined': s.define(S,f[1],True)
-            elif f[0]=='stretch': S.st.add(f[1:])
-            else: S.ord.add(f[1:])
+            for p,lim,_ in s.leafs[r]: S.rng[(r,p)]=lim
+        s.hold(S,s.claims(st.n)[1])
     def for_(s,st,rounds):
         r1=s.ordinal(st.e1);r2=s.ordinal(st.e2);f1,f2=s.form(st.e1),s.form(st.e2);up=st.dir=='to'
+        if f1 is not None and f1[0]=='v' and has_call(st.e2): f1=None
         base=s.S
         A=base.copy();B=base.copy()
         if f1 and f2:
@@ -441,9 +595,7 @@ class Checker:
         v1=s.within(v1,lim,st.e1.p,2)
         v2=s.within(v2,lim,st.e2.p,2)
         v=st.v
-        for n in rounds:
-            pass
-        if not s.S.dead: s.assign_var(s.S,v,v1,f1)
+        s.assign(s.S,(v,()),None,0,{():v1},f1,False)
         s.facts(s.S,st.n,'C2',st.p)
         s.head(st)
         S=s.S;t=s.touched(st.n)
@@ -459,7 +611,7 @@ class Checker:
                         # first: f <= v going up
                         if first==up: s.add_order(S,f,('v',v,0))
                         else: s.add_order(S,('v',v,0),f)
-        s.stmt(st.b,[n for n in rounds]+[('for',st.n,v)] if False else rounds+[st.n])
+        s.stmt(st.b,rounds+[st.n])
         end=s.S.copy()
         S=s.S
         if not S.dead:
@@ -468,7 +620,7 @@ class Checker:
             else: r=meet(r,(v2[0]+1,10**20)); r=r and (r[0]-1,r[1]-1)
             if r is None: S.dead=True
             else:
-                s.assign_var(S,v,r,('v',v,1 if up else -1))
+                s.assign(S,(v,()),None,0,{():r},('v',v,1 if up else -1),False)
                 if ok(f2) and f2[0]=='v':
                     if up: s.add_order(S,('v',v,0),f2)
                     else: s.add_order(S,f2,('v',v,0))
@@ -498,164 +650,31 @@ class Checker:
                     # x = f.var + f.n
                     c2=c-(f[2] if x==v else 0)+(f[2] if y==v else 0)
                     if num_ok(c2): S.ord.add((x2,y2,c2))
-# ---- certificates
-import re as _re
-def read_cert(text):
-    """loops: number -> (changes, facts); only well formed texts"""
-    out={};cur=None
-    def bound(w):
-        m=_re.fullmatch(r'v(\d+)([+-])(\d+)',w)
-        return ('v',int(m[1]),int(m[3])*(1 if m[2]=='+' else -1)) if m else ('c',int(w))
-    def path(w):
-        parts=_re.findall(r'v\d+|\.[a-z0-9]+|\[\]',w)
-        return (int(parts[0][1:]),tuple('[]' if x=='[]' else x[1:] for x in parts[1:]))
-    for line in text.split('\n'):
-        w=line.split(' ')
-        if w[0]=='loop': cur=out.setdefault(int(w[1]),([],[]))
-        elif w[0]=='change': cur[0].append(int(w[1][1:]))
-        elif w[0]=='fact':
-            if w[1]=='range': cur[1].append(('range',path(w[2]),(int(w[3]),int(w[4])) if int(w[3])<=int(w[4]) else None))
-            elif w[1]=='defined' and len(w)==3: cur[1].append(('defined',path(w[2])))
-            elif w[1]=='defined': cur[1].append(('stretch',path(w[2]),bound(w[3]),bound(w[4])))
-            elif w[1]=='order': cur[1].append(('order',int(w[2][1:]),int(w[3][1:]),int(w[4])))
-    return out
-# ---- meaning
-class Err(Exception): pass
-class Stop(Exception): pass
-class Run:
-    def __init__(s,prog): s.p=prog;s.m={};s.out=[];s.turns=200000;s.types=[t for _,t in prog.vars]
-    def err(s,place,k): raise Err((place,k))
-    def place(s,a):
-        path=(a.r,)
-        for x in a.sels:
-            if x[0]=='f': path+=(x[1],)
-            else:
-                i=s.ord(x[1])
-                if not x[2].lo<=i<=x[2].hi: s.err(x[1].p,1)
-                path+=(i,)
-        return path
-    def parts(s,t):
-        if is_ord(t): return [()]
-        if isinstance(t,Arr): return [(i,)+r for i in range(t.index.lo,t.index.hi+1) for r in s.parts(t.elem)]
-        return [(n,)+r for n,f in t.fields for r in s.parts(f)]
-    def whole(s,e):
-        while e.k=='paren': e=e.e
-        if e.k=='text': return [ord(c) for c in e.v]
-        pl=s.place(e.a);out=[]
-        for r in s.parts(e.a.t):
-            if pl+r not in s.m: s.err(e.a.p,3)
-            out.append(s.m[pl+r])
-        return out
-    def ord(s,e):
-        k=e.k
-        if k=='paren': return s.ord(e.e)
-        if k=='const': return e.v
-        if k=='use':
-            pl=s.place(e.a)
-            if pl not in s.m: s.err(e.a.p,3)
-            return s.m[pl]
-        if k=='sign': v=s.ord(e.e);return -v if e.op=='-' else v
-        if k=='not': return 1-s.ord(e.e)
-        if k=='call':
-            v=s.ord(e.e);f=e.f
-            if f=='abs': return abs(v)
-            if f=='ord': return v
-            if f=='odd': return v&1
-            if f=='sqr':
-                if v*v>MAXINT: s.err(e.p,11)
-                return v*v
-            if f=='chr':
-                if not 0<=v<=127: s.err(e.p,8)
-                return v
-            if f=='succ':
-                if v>=e.t.hi: s.err(e.p,9)
-                return v+1
-            if v<=e.t.lo: s.err(e.p,10)
-            return v-1
-        if k=='rel':
-            a,b=(s.ord(e.l),s.ord(e.r)) if is_ord(e.l.t) else (s.whole(e.l),s.whole(e.r))
-            return int({'=':a==b,'<>':a!=b,'<':a<b,'>':a>b,'<=':a<=b,'>=':a>=b}[e.op])
-        a,b=s.ord(e.l),s.ord(e.r);o=e.op
-        if o=='and': return a&b
-        if o=='or': return a|b
-        if o=='div':
-            if b==0: s.err(e.op_p,5)
-            return (abs(a)//abs(b))*(1 if (a<0)==(b<0) else -1)
-        if o=='mod':
-            if b<=0: s.err(e.op_p,6)
-            return a%b
-        v={'+':a+b,'-':a-b,'*':a*b}[o]
-        if abs(v)>MAXINT: s.err(e.op_p,11)
-        return v
-    def turn(s):
-        if s.turns==0: raise Stop()
-        s.turns-=1
-    def stmt(s,st):
-        k=st.k
-        if k=='seq':
-            for b in st.b: s.stmt(b)
-        elif k=='assign':
-            pl=s.place(st.a)
-            if is_ord(st.a.t):
-                v=s.ord(st.e)
-                if not st.a.t.lo<=v<=st.a.t.hi: s.err(st.bp,2)
-                s.m[pl]=v
-            else:
-                for r,v in zip(s.parts(st.a.t),s.whole(st.e)): s.m[pl+r]=v
-        elif k=='write':
-            for e,w in st.ps:
-                v=s.ord(e) if is_ord(e.t) else s.whole(e)
-                d={'int':10,'bool':5,'char':1}.get(getattr(e.t,'kind',None)) if is_ord(e.t) else len(v)
-                if w is not None:
-                    d=s.ord(w)
-                    if d<1: s.err(w.p,12)
-                if not is_ord(e.t): x=''.join(map(chr,v));x=x[:d].rjust(d)
-                elif e.t.kind=='int': x=str(v).rjust(d)
-                elif e.t.kind=='bool': x=('true' if v else 'false')[:d].rjust(d)
-                else: x=chr(v).rjust(d)
-                s.out.append(x)
-            if st.ln: s.out.append('\n')
-        elif k=='if':
-            if s.ord(st.e): s.stmt(st.a)
-            elif st.b: s.stmt(st.b)
-        elif k=='while':
-            while s.ord(st.e): s.turn();s.stmt(st.b)
-        elif k=='repeat':
-            while True:
-                s.turn()
-                for b in st.b: s.stmt(b)
-                if s.ord(st.e): break
-        elif k=='for':
-            a=s.ord(st.e1);b=s.ord(st.e2);d=1 if st.dir=='to' else -1
-            if (a<=b if d>0 else a>=b):
-                for v,e in((a,st.e1),(b,st.e2)):
-                    if not st.t.lo<=v<=st.t.hi: s.err(e.p,2)
-                while True:
-                    s.m[(st.v,)]=a;s.turn();s.stmt(st.b)
-                    if a==b: break
-                    a+=d
-            s.m.pop((st.v,),None)
-        elif k=='case':
-            v=s.ord(st.e)
-            for cs,b in st.arms:
-                if v in cs: s.stmt(b);break
-            else: s.err(st.p,7)
-    def run(s):
-        try: s.stmt(s.p.body);return ''.join(s.out),None
-        except Err as e: return ''.join(s.out),e.args[0]
-        except Stop: return ''.join(s.out),'more'
-OPTS=()
-def model(src,cert):
-    """the lines told and the output with --go, status"""
-    prog=Parser(src).program()
-    c=Checker(prog,read_cert(cert) if cert else {},OPTS)
-    try: op=c.run()
-    except Refused as e: return [str(e)],'',2
-    lines=[f'{p[0]}:{p[1]}: possible error: {NAMES[k]}' for p,k in op]
-    out,end=Run(prog).run()
+def parts_at_field(p,q):
+    for x,y in zip(p,q):
+        if x!=y: return x!='[]' and y!='[]'
+    return False
+def model(src,cert,turns=3000,test=True):
+    """the lines told, the output with --go, the status, what is broken of the promises"""
+    try: prog=Parser(src).program()
+    except Refused as e: return [str(e)],'',2,None
+    try: c=certs.read(cert if cert else 'pcert 1\n')
+    except certs.Fault as e: return [str(e)],'',2,None
+    if certs.c1(prog,c): return ['certificate refused C1'],'',2,None
+    k=Checker(prog,c)
+    try: op=k.run()
+    except Refused as e: return [str(e)],'',2,None
+    lines=[f'{p[0]}:{p[1]}: possible error: {NAMES[x]}' for p,x in op]
+    r=Run(prog,turns,k if test else None);broken=None
+    try: out,end=r.run()
+    except Broken as e: return lines,''.join(r.out),1,e.args[0]
     st=1 if lines else 0
-    if end=='more': return lines,out,'more'
+    if end=='more': return lines,out,'more',broken
     if end:
-        if end not in op: lines.append('UNSOUND')
+        if end not in op: broken=('closed site errs',end)
         lines.append(f'{end[0][0]}:{end[0][1]}: error: {NAMES[end[1]]}');st=4
-    return lines,out,st
+    return lines,out,st,broken
+def deep(f):
+    """runs f with a large stack"""
+    threading.stack_size(512*1024*1024);box=[]
+    t=threading.Thread(target=lambda:box.append(f()));t.start();t.join();return box[0] if box else None
