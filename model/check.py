@@ -313,7 +313,8 @@ class Checker:
                 val[f]=({():v},None if e.inner else s.form(a))
             else: val[f]=(s.whole(a),None)
         S=s.S;place=e.p
-        def no(c): raise Refused(f'{place[0]}:{place[1]}: certificate refused {c}')
+        def no(c,*info):
+            x=Refused(f'{place[0]}:{place[1]}: certificate refused {c}');x.info=(c,)+info;raise x
         # C6
         mine,theirs=s.pairs(s.b),s.pairs(b)
         pair=lambda P,x,y:(min(x,y),max(x,y)) in P
@@ -322,10 +323,10 @@ class Checker:
             for y in fs[i+1:]:
                 (rx,px),(ry,py)=acc[x][0],acc[y][0]
                 meets=pair(mine,rx,ry) if rx!=ry else not parts_at_field(px,py)
-                if meets and not pair(theirs,x,y): no('C6')
+                if meets and not pair(theirs,x,y): no('C6',b,min(x,y),max(x,y))
             for w in b.round():
                 rx=acc[x][0][0]
-                if (rx==w or pair(mine,rx,w)) and not pair(theirs,x,w): no('C6')
+                if (rx==w or pair(mine,rx,w)) and not pair(theirs,x,w): no('C6',b,min(x,w),max(x,w))
         # C5
         def term(bd):
             """a bound of the callee in the caller's words; None if there is none"""
@@ -362,8 +363,8 @@ class Checker:
                 return s.g_stretch(S,f[1],l,h)
             x,y=term(('v',f[1],0)),term(('v',f[2],f[3]))
             return x is not None and y is not None and s.b_defined(S,x) and s.b_defined(S,y) and s.le(S,x,y)
-        for f in sec.entry:
-            if not given(f): no('C5')
+        bad=[f for f in sec.entry if not given(f)]
+        if bad: no('C5',b,bad)
         # C7
         A=[r for r in sec.change if roots[r].block is not b]
         B=[r for r in sec.change if r in acc]
@@ -496,8 +497,8 @@ class Checker:
             s.site(b.end,4,s.S.dead or s.g_defined(s.S,(b.result,())))
             if not s.S.dead and s.S.rng[(b.result,())] is None: s.S.dead=True
         s.ends[b.number]=s.S
-        for f in sec.exit:
-            if not s.given(s.S,f): raise Refused(f'{b.end[0]}:{b.end[1]}: certificate refused C4')
+        bad=[f for f in sec.exit if not s.given(s.S,f)]
+        if bad: x=Refused(f'{b.end[0]}:{b.end[1]}: certificate refused C4');x.info=('C4',b,bad);raise x
     def hold(s,S,facts):
         for f in facts:
             if f[0]=='range': S.rng[f[1]]=meet(S.rng[f[1]],f[2])
@@ -508,7 +509,7 @@ class Checker:
     def c7(s,r,rounds,place):
         x=s.p.roots[r];own=x.block is s.b and x.kind in('var','result')
         if any(r not in s.claims(n)[0] for n in rounds) or not own and r not in s.section(s.b).change:
-            raise Refused(f'{place[0]}:{place[1]}: certificate refused C7')
+            x=Refused(f'{place[0]}:{place[1]}: certificate refused C7');x.info=('C7',s.b,[n for n in rounds if r not in s.claims(n)[0]],None if own or r in s.section(s.b).change else r,r);raise x
     def stmt(s,st,rounds):
         k=st.k;s.rounds=rounds;s.states[id(st)]=s.S.copy()
         if k=='empty': return
@@ -559,8 +560,8 @@ class Checker:
                 s.S=A;s.turn(st);s.S=B
         elif k=='for': s.for_(st,rounds)
     def facts(s,S,n,rule,place):
-        for f in s.claims(n)[1]:
-            if not s.given(S,f): raise Refused(f'{place[0]}:{place[1]}: certificate refused {rule}')
+        bad=[f for f in s.claims(n)[1] if not s.given(S,f)]
+        if bad: x=Refused(f'{place[0]}:{place[1]}: certificate refused {rule}');x.info=(rule,s.b,bad,n);raise x
     def entry(s,st,own):
         s.facts(s.S,st.n,'C2',st.p); s.head(st)
     def turn(s,st): s.facts(s.S,st.n,'C3',st.p)
