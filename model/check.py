@@ -160,7 +160,7 @@ class Checker:
             else:
                 r=s.ordinal(x[1]); r=s.within(r,(x[2].lo,x[2].hi),x[1].p,1)
                 if first is None: first=(len(path),s.form(x[1]),r)
-                elif has_call(x[1]) and first[1] is not None and first[1][0]=='v': first=(first[0],None,first[2])
+                elif 'w13' not in s.opts and has_call(x[1]) and first[1] is not None and first[1][0]=='v': first=(first[0],None,first[2])
                 path+=('[]',);n+=1
         return (a.r,path),first,n
     def covered(s,path,first):
@@ -275,7 +275,7 @@ class Checker:
     def assign(s,S,path,first,n,ranges,form,vcall):
         """the values of these ranges go to an access; form is the value's bound form"""
         if S.dead: return
-        r,steps=path;al=s.aliases(r)
+        r,steps=path;al=s.aliases(r) if 'w1' not in s.opts else set()
         entire=steps==() and is_ord(s.types[r])
         s.change(S,r,form[2] if entire and form is not None and form[0]=='v' and form[1]==r else None)
         for z in al: s.change(S,z,None)
@@ -287,7 +287,7 @@ class Checker:
                     if t2 is t: S.rng[(z,q)]=join(S.rng[(z,q)],v)
             if is_ord(t) and len(ranges)==1 and rest==() and v is None: S.dead=True;return
         if n==0: S.dfn.add(path)
-        elif n==1 and first[0]==len(steps)-1 and first[1] is not None and not vcall and not(first[1][0]=='v' and first[1][1] in al):
+        elif n==1 and first[0]==len(steps)-1 and first[1] is not None and (not vcall or 'v7' in s.opts) and not(first[1][0]=='v' and first[1][1] in al):
             q=(r,steps[:-1]);b=first[1];new=set();hit=False
             for p,l,h in S.st:
                 if p!=q: new.add((p,l,h));continue
@@ -306,11 +306,11 @@ class Checker:
             t=roots[f].t
             if roots[f].kind=='ref':
                 path,first,n=s.indexes(a)
-                if e.inner and first is not None: first=(first[0],None,None)
+                if e.inner and first is not None and 'v1' not in s.opts: first=(first[0],None,None)
                 acc[f]=(path,first,n)
             elif is_ord(t):
                 v=s.within(s.ordinal(a),(t.lo,t.hi),a.p,2)
-                val[f]=({():v},None if e.inner else s.form(a))
+                val[f]=({():v},None if e.inner and 'v1' not in s.opts else s.form(a))
             else: val[f]=(s.whole(a),None)
         S=s.S;place=e.p
         def no(c,*info):
@@ -318,7 +318,7 @@ class Checker:
         # C6
         mine,theirs=s.pairs(s.b),s.pairs(b)
         pair=lambda P,x,y:(min(x,y),max(x,y)) in P
-        fs=list(acc)
+        fs=list(acc) if 'w2' not in s.opts else []
         for i,x in enumerate(fs):
             for y in fs[i+1:]:
                 (rx,px),(ry,py)=acc[x][0],acc[y][0]
@@ -363,7 +363,7 @@ class Checker:
                 return s.g_stretch(S,f[1],l,h)
             x,y=term(('v',f[1],0)),term(('v',f[2],f[3]))
             return x is not None and y is not None and s.b_defined(S,x) and s.b_defined(S,y) and s.le(S,x,y)
-        bad=[f for f in sec.entry if not given(f)]
+        bad=[f for f in sec.entry if not (given(f) if 'entry' not in s.opts else f[0]!='range' and f[0]!='order' and (f[1][0],()) in S.dfn or given(f))]
         if bad: no('C5',b,bad)
         # C7
         A=[r for r in sec.change if roots[r].block is not b]
@@ -377,14 +377,14 @@ class Checker:
             t=b.rtype;value=meet((t.lo,t.hi),exits.get((b.result,()),(t.lo,t.hi)))
         if S.dead: return value
         touched=set(changed)
-        for r in changed: touched|=s.aliases(r)
+        for r in changed: touched|=s.aliases(r) if 'v3' not in s.opts else set()
         exact={};left=[]
         for r in A+B:
             for q,lim,t in s.leafs[r]:
                 x=meet(lim,exits.get((r,q),lim));left.append((t,x))
                 if r in acc:
                     (ra,p),first,n=acc[r]
-                    if first is not None: continue
+                    if first is not None and 'v5' not in s.opts: continue
                     k=(ra,p+q)
                 else: k=(r,q)
                 exact[k]=meet(exact[k],x) if k in exact else x
@@ -397,13 +397,13 @@ class Checker:
                         if t2 is t: S.rng[k]=join(S.rng[k],x)
         named=lambda bd:bd[0]=='v' and bd[1] in touched
         S.ord={o for o in S.ord if o[0] not in touched and o[1] not in touched}
-        S.st={x for x in S.st if not named(x[1]) and not named(x[2])}
+        S.st={x for x in S.st if not named(x[1]) and not named(x[2]) or 'w3' in s.opts}
         def after(bd):
             if bd[0]=='c': return bd
             r,k=bd[1],bd[2]
             if r in val:
                 form=val[r][1]
-                if form is None or named(form): return None
+                if form is None or named(form) and 'v2' not in s.opts: return None
                 n=s.plus(form,k);return n if num_ok(n[-1]) else None
             if r in acc:
                 (ra,p),first,n=acc[r]
@@ -414,10 +414,10 @@ class Checker:
         for f in sec.exit:
             if f[0] in('defined','stretch'):
                 r,st=f[1]
-                if r in val or r==b.result: continue
+                if r in val or r==b.result and 'h1' not in s.opts: continue
                 if r in acc:
                     (ra,p),first,n=acc[r]
-                    if first is not None: continue
+                    if first is not None and 'v6' not in s.opts: continue
                     path=(ra,p+st)
                 else: path=(r,st)
                 if f[0]=='defined': S.dfn.add(path)
@@ -480,7 +480,7 @@ class Checker:
     def branch(s,S,e,truth,rng):
         n=S.copy()
         if rng is None or not rng[0]<=truth<=rng[1]: n.dead=True
-        if not has_call(e): s.refine(n,e,bool(truth))
+        if not has_call(e) or 'h3' in s.opts: s.refine(n,e,bool(truth))
         return n
     # ---- statements
     def run(s):
@@ -552,11 +552,11 @@ class Checker:
         elif k in('while','repeat'):
             s.entry(st,None)
             if k=='while':
-                s.rounds=rounds+[st.n];r=s.ordinal(st.e);A=s.branch(s.S,st.e,1,r);B=s.branch(s.S,st.e,0,r)
+                s.rounds=rounds+([st.n] if 'h2' not in s.opts else []);r=s.ordinal(st.e);A=s.branch(s.S,st.e,1,r);B=s.branch(s.S,st.e,0,r)
                 s.S=A;s.stmt(st.b,rounds+[st.n]);s.turn(st);s.S=B
             else:
                 for b in st.b: s.stmt(b,rounds+[st.n])
-                s.rounds=rounds+[st.n];r=s.ordinal(st.e);A=s.branch(s.S,st.e,0,r);B=s.branch(s.S,st.e,1,r)
+                s.rounds=rounds+([st.n] if 'h2' not in s.opts else []);r=s.ordinal(st.e);A=s.branch(s.S,st.e,0,r);B=s.branch(s.S,st.e,1,r)
                 s.S=A;s.turn(st);s.S=B
         elif k=='for': s.for_(st,rounds)
     def facts(s,S,n,rule,place):
@@ -567,7 +567,7 @@ class Checker:
     def turn(s,st): s.facts(s.S,st.n,'C3',st.p)
     def touched(s,n):
         t=set(s.claims(n)[0])|set(s.controls[n])
-        return t|{z for r in t for z in s.aliases(r)}
+        return t|{z for r in t for z in s.aliases(r)} if 'v4' not in s.opts else t
     def head(s,st):
         S=s.S
         if S.dead: return
@@ -581,7 +581,7 @@ class Checker:
         s.hold(S,s.claims(st.n)[1])
     def for_(s,st,rounds):
         r1=s.ordinal(st.e1);r2=s.ordinal(st.e2);f1,f2=s.form(st.e1),s.form(st.e2);up=st.dir=='to'
-        if f1 is not None and f1[0]=='v' and has_call(st.e2): f1=None
+        if f1 is not None and f1[0]=='v' and has_call(st.e2) and 'h4' not in s.opts: f1=None
         base=s.S
         A=base.copy();B=base.copy()
         if f1 and f2:

@@ -3,7 +3,7 @@ import random
 from check import *
 class Gen:
     def __init__(s,seed):
-        s.r=random.Random(seed);s.budget=s.r.choice([14,20,30]);s.n=0;s.hiding=s.r.random()<.3;s.matrix=s.r.random()<.4
+        s.r=random.Random(seed);s.budget=s.r.choice([14,20,30]);s.n=0;s.hiding=s.r.random()<.3;s.matrix=s.r.random()<.4;s.done=set();s.uid=0;s.wild=s.r.random()<.06
     def fresh(s,base):
         if s.hiding and s.r.random()<.4: return base+s.r.choice('12')
         s.n+=1;return f'{base}{s.n+2}'
@@ -11,7 +11,8 @@ class Gen:
         """names of visible variables of these types"""
         out=[]
         for n,(t,kind,level) in env['v'].items():
-            if t in types and not(write and (kind=='c' and (level!=env['level'] or n in env['busy']))): out.append(n)
+            if kind=='c' and n not in env['busy'] and s.r.random()<.96: continue
+            if t in types and not(write and (kind in 'cf' and (kind=='f' or level!=env['level'] or n in env['busy']))): out.append(n)
         return sorted(out)
     # indexes stay mostly inside 1..3
     def idx(s,env):
@@ -35,9 +36,10 @@ class Gen:
             for n in s.pick(env,'M'): o.append(lambda n=n:f'{n}[{s.idx(env)}]')
         return r.choice(o)() if o else None
     def func(s,env,t,d=0):
-        fs=[(n,f) for n,f in env['f'].items() if f[1]==t]
+        fs=s.callable(env,t)
         if not fs or s.budget<-20: return None
         return s.callof(env,*s.r.choice(sorted(fs)),d=d)
+    def callable(s,env,t): return [(n,f) for n,f in env['f'].items() if f[1]==t and (f[2] in s.done or env.get('guard') or s.wild)]
     def callof(s,env,n,f,d=0):
         s.budget-=1;out=[]
         for kind,t in f[0]:
@@ -90,10 +92,13 @@ class Gen:
         if s.budget<0 or d>3: z*=.5
         if z<.30: return s.assign(env)
         if z<.46:
-            ps=[(n,f) for n,f in env['f'].items() if f[1] is None]
+            ps=s.callable(env,None)
             if ps: return s.callof(env,*r.choice(sorted(ps))) or ''
             return s.assign(env)
         if z<.50: return f'write({s.exprI(env)}:1)'
+        if z<.58 and not env.get('guard') and env['level']>0:
+            env['guard']=True;x=s.st(env,d+1);env['guard']=False
+            return f'if fuel > 0 then begin fuel := fuel - 1; {x} end'
         many=lambda:'; '.join(s.st(env,d+1) for _ in range(r.randint(1,3)))
         if z<.66: return f'if {s.cond(env)} then begin {many()} end'+(f' else begin {many()} end' if r.random()<.5 else '')
         if z<.70:
@@ -120,6 +125,7 @@ class Gen:
         for _ in range(r.randint(1,2)):
             n=s.fresh('c');t=r.choice('IIX')
             if n not in env['own']: env['own'].add(n);env['v'][n]=(t,'c',level);vs.append((n,t))
+        if depth==0: vs.insert(0,('fuel','I'));env['v']['fuel']=('I','f',0)
         out+=' var '+' '.join(f'{n}: {s.TY[t]};' for n,t in vs)
         waiting=[]
         for _ in range(r.choice([1,2,2,3]) if depth==0 else r.choice([0,0,1,1,2]) if depth<3 else 0):
@@ -134,15 +140,16 @@ class Gen:
                 p=s.fresh({'I':'i','X':'k','A':'a','R':'r'}[t])
                 while p in names: s.n+=1;p=f'{p}x{s.n}'
                 names.append(p);groups.append(f'{"var " if k=="ref" else ""}{p}: {s.TY[t]}')
-            env['v'].pop(n,None);env['f'][n]=(fs,res)
+            s.uid+=1;uid=s.uid;env['v'].pop(n,None);env['result']=[x for x in env['result'] if x[0]!=n];env['f'][n]=(fs,res,uid)
             head=('function ' if res else 'procedure ')+n+(f'({"; ".join(groups)})' if groups else '')+(f': {s.TY[res]}' if res else '')
-            if r.random()<.2: out+=f' {head}; forward;';waiting.append((n,fs,res,names,('function ' if res else 'procedure ')+n));continue
-            out+=f' {head};'+s.sub(env,n,fs,res,names,depth)+';'
-        for n,fs,res,names,head in waiting: out+=f' {head};'+s.sub(env,n,fs,res,names,depth)+';'
+            if r.random()<.2: out+=f' {head}; forward;';waiting.append((n,fs,res,names,('function ' if res else 'procedure ')+n,uid));continue
+            out+=f' {head};'+s.sub(env,n,fs,res,names,depth)+';';s.done.add(uid)
+        for n,fs,res,names,head,uid in waiting: out+=f' {head};'+s.sub(env,n,fs,res,names,depth)+';';s.done.add(uid)
         pre=[]
         for n,t in vs:
-            if env['v'][n][1]=='c' or r.random()<.12: continue
-            if t in 'IX': pre.append(f'{n} := {r.choice("123")}')
+            if env['v'][n][1]=='c' or r.random()<.03: continue
+            if n=='fuel': pre.append(f'fuel := {r.choice([3,6,9])}')
+            elif t in 'IX': pre.append(f'{n} := {r.choice("123")}')
             elif t=='A':
                 c=[x for x,(q,k,l) in env['v'].items() if k=='c' and l==level]
                 if c and r.random()<.5: pre.append(f'for {(w:=r.choice(c))} := 1 to 3 do {n}[{w}] := {r.choice([w,"4",w+" + 1"])}')
@@ -150,6 +157,7 @@ class Gen:
             elif t=='R': pre+=[f'{n}.x := 1',f'{n}.y := 2']+[f'{n}.z[{x}] := {r.choice("058")}' for x in '123']
             else: pre+=[f'{n}[{x}, {y}] := {r.choice("058")}' for x in '123' for y in '123']
         env['busy']=[]
+        if env.get('me') and not any(x[0]==env['me'][0] for x in env['result']): env.pop('me')
         body=[s.st(env,0 if depth==0 else 1) for _ in range(r.randint(3,6) if depth==0 else r.randint(2,4))]
         if depth==0: body+= [s.callof(env,n,f) if f[1] is None else f'write({s.callof(env,n,f)}:1)' for n,f in sorted(env['f'].items())]
         body=[b for b in body if b and 'None' not in b]
@@ -167,8 +175,9 @@ class Gen:
         e=dict(v=dict(env['v']),f=dict(env['f']),own=set(),level=env['level']+1,busy=[],result=[x for x in env['result']])
         if res: e['result']=e['result']+[(n,res)]*2;e['me']=(n,res,fs)
         for (k,t),p in zip(fs,names):
-            e['own'].add(p);e['v'][p]=(t,k,e['level']);e['f'].pop(p,None);e['result']=[x for x in e['result'] if x[0]!=p]
+            e['own'].add(p);e['v'][p]=(t,'p',e['level']);e['f'].pop(p,None);e['result']=[x for x in e['result'] if x[0]!=p]
         if not any(x[0]==n for x in e['result']): e.pop('me',None)
+        e['guard']=False
         return s.block(e,depth+1)
     def program(s):
         e=dict(v={},f={},own=set(),level=0,busy=[],result=[])
@@ -283,7 +292,7 @@ def main():
         if x:
             found+=1;stat['broken']=found
             if found<=int(__import__('os').environ.get('SHOW','5')): print('----',seed,x[2]);print(x[0]);print(x[1]);sys.stdout.flush()
-            if found>=50: break
+            if found>=int(__import__('os').environ.get('MAX','50')): break
     cs=stat.pop('codes',{})
     print(stat)
     for k,v in cs.items(): print(k,v[0],v[1])
