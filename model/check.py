@@ -32,12 +32,15 @@ def num_ok(n): return -MAXINT<=n<=MAXINT
 NOTHING=certs.Section()
 class Checker:
     def __init__(s,prog,cert,opts=()):
-        s.p=prog;s.open=[];s.cert=cert;s.opts=set(opts);s.states={};s.ends={};s.visits=0
+        s.p=prog;s.open=[];s.cert=cert;s.opts=set(opts);s.states={};s.ends={};s.lenient=None
         s.types=[r.t for r in prog.roots]
         s.leafs=[leaves(t) for t in s.types]
         s.controls={}
         for b in prog.blocks: s.collect(b.body,[])
         s.pcache={}
+    def breach(s,x):
+        if s.lenient is None: raise x
+        s.lenient.append(x.info)
     def section(s,b): return s.cert.get(b.number,NOTHING)
     def changes(s,b): return s.section(b).change
     def pairs(s,b):
@@ -314,7 +317,7 @@ class Checker:
             else: val[f]=(s.whole(a),None)
         S=s.S;place=e.p
         def no(c,*info):
-            x=Refused(f'{place[0]}:{place[1]}: certificate refused {c}');x.info=(c,)+info;raise x
+            x=Refused(f'{place[0]}:{place[1]}: certificate refused {c}');x.info=(c,)+info;s.breach(x)
         # C6
         mine,theirs=s.pairs(s.b),s.pairs(b)
         pair=lambda P,x,y:(min(x,y),max(x,y)) in P
@@ -498,7 +501,7 @@ class Checker:
             if not s.S.dead and s.S.rng[(b.result,())] is None: s.S.dead=True
         s.ends[b.number]=s.S
         bad=[f for f in sec.exit if not s.given(s.S,f)]
-        if bad: x=Refused(f'{b.end[0]}:{b.end[1]}: certificate refused C4');x.info=('C4',b,bad);raise x
+        if bad: x=Refused(f'{b.end[0]}:{b.end[1]}: certificate refused C4');x.info=('C4',b,bad);s.breach(x)
     def hold(s,S,facts):
         for f in facts:
             if f[0]=='range': S.rng[f[1]]=meet(S.rng[f[1]],f[2])
@@ -509,7 +512,7 @@ class Checker:
     def c7(s,r,rounds,place):
         x=s.p.roots[r];own=x.block is s.b and x.kind in('var','result')
         if any(r not in s.claims(n)[0] for n in rounds) or not own and r not in s.section(s.b).change:
-            x=Refused(f'{place[0]}:{place[1]}: certificate refused C7');x.info=('C7',s.b,[n for n in rounds if r not in s.claims(n)[0]],None if own or r in s.section(s.b).change else r,r);raise x
+            x=Refused(f'{place[0]}:{place[1]}: certificate refused C7');x.info=('C7',s.b,[n for n in rounds if r not in s.claims(n)[0]],None if own or r in s.section(s.b).change else r,r);s.breach(x)
     def stmt(s,st,rounds):
         k=st.k;s.rounds=rounds;s.states[id(st)]=s.S.copy()
         if k=='empty': return
@@ -561,7 +564,7 @@ class Checker:
         elif k=='for': s.for_(st,rounds)
     def facts(s,S,n,rule,place):
         bad=[f for f in s.claims(n)[1] if not s.given(S,f)]
-        if bad: x=Refused(f'{place[0]}:{place[1]}: certificate refused {rule}');x.info=(rule,s.b,bad,n);raise x
+        if bad: x=Refused(f'{place[0]}:{place[1]}: certificate refused {rule}');x.info=(rule,s.b,bad,n);s.breach(x)
     def entry(s,st,own):
         s.facts(s.S,st.n,'C2',st.p); s.head(st)
     def turn(s,st): s.facts(s.S,st.n,'C3',st.p)

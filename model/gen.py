@@ -11,7 +11,7 @@ class Gen:
         """names of visible variables of these types"""
         out=[]
         for n,(t,kind,level) in env['v'].items():
-            if kind=='c' and n not in env['busy'] and s.r.random()<.96: continue
+            if kind=='c' and n not in env['busy'] and s.r.random()<.995: continue
             if t in types and not(write and (kind in 'cf' and (kind=='f' or level!=env['level'] or n in env['busy']))): out.append(n)
         return sorted(out)
     # indexes stay mostly inside 1..3
@@ -19,9 +19,9 @@ class Gen:
         r=s.r;x=s.pick(env,'X');c=[n for n in env['busy']]
         o=[lambda:r.choice('123')]*3+([lambda:r.choice(x)]*3 if x else [])+([lambda:r.choice(c)]*3 if c else [])
         z=r.random()
-        if z<.06: return s.exprI(env,1)
-        if z<.12 and s.pick(env,'I'): return r.choice(s.pick(env,'I'))
-        if z<.16: return s.func(env,'X') or '1'
+        if z<.03: return s.exprI(env,1)
+        if z<.06 and s.pick(env,'I'): return r.choice(s.pick(env,'I'))
+        if z<.10: return s.func(env,'X') or '1'
         return r.choice(o)()
     def acc(s,env,t,write=False):
         """an access of this type, or None"""
@@ -46,6 +46,8 @@ class Gen:
             if kind=='ref':
                 a=s.acc(env,t,True)
                 if a is None: return None
+                same=[x for (k2,t2),x in zip(f[0],out) if k2=='ref' and t2==t]
+                if same and s.r.random()<.35: a=s.r.choice(same)
                 out.append(a)
             elif t=='A':
                 a=s.acc(env,t)
@@ -107,7 +109,7 @@ class Gen:
             c=[n for n,(t,k,l) in env['v'].items() if k=='c' and l==env['level'] and n not in env['busy']]
             if c:
                 v=r.choice(c);up=r.random()<.75
-                a,b=r.choice([('1','3'),('1','3'),('1','2'),('2','3'),('1',s.exprX(env)),(s.exprX(env),'3'),(s.exprI(env,1),s.exprI(env,1))])
+                a,b=r.choice([('1','3'),('1','3'),('1','2'),('2','3'),('1',s.exprX(env)),(s.exprX(env),'3'),(s.exprI(env,1),s.exprI(env,1)) if r.random()<.4 else ('1','3')])
                 env['busy'].append(v);x=many();env['busy'].remove(v)
                 return f'for {v} := {a if up else b} {"to" if up else "downto"} {b if up else a} do begin {x} end'
         v=s.pick(env,'I',True)
@@ -147,7 +149,7 @@ class Gen:
         for n,fs,res,names,head,uid in waiting: out+=f' {head};'+s.sub(env,n,fs,res,names,depth)+';';s.done.add(uid)
         pre=[]
         for n,t in vs:
-            if env['v'][n][1]=='c' or r.random()<.03: continue
+            if env['v'][n][1]=='c' or r.random()<.012: continue
             if n=='fuel': pre.append(f'fuel := {r.choice([3,6,9])}')
             elif t in 'IX': pre.append(f'{n} := {r.choice("123")}')
             elif t=='A':
@@ -236,14 +238,16 @@ def shrink(prog,c,opts=(),make=Checker):
     """adds changes and alias pairs that are asked for, takes out facts that aren't given; the checker that accepts"""
     for _ in range(400):
         tidy(prog,c)
-        k=make(prog,c,opts)
-        try: k.run();return k
-        except Refused as e:
-            x=e.info
+        k=make(prog,c,opts);k.lenient=[];k.run()
+        if not k.lenient: return k
+        for x in k.lenient:
             if x[0]=='C7':
-                for n in x[2]: c[x[1].number].loops[n][0].append(x[4])
-                if x[3] is not None: c[x[1].number].change.append(x[3])
-            elif x[0]=='C6': c[x[1].number].alias.append((x[2],x[3]))
+                for n in x[2]:
+                    l=c[x[1].number].loops[n][0]
+                    if x[4] not in l: l.append(x[4])
+                if x[3] is not None and x[3] not in c[x[1].number].change: c[x[1].number].change.append(x[3])
+            elif x[0]=='C6':
+                if (x[2],x[3]) not in c[x[1].number].alias: c[x[1].number].alias.append((x[2],x[3]))
             elif x[0]=='C4': s=c[x[1].number];s.exit=[f for f in s.exit if f not in x[2]]
             elif x[0]=='C5': s=c[x[1].number];s.entry=[f for f in s.entry if f not in x[2]]
             else:
