@@ -84,7 +84,7 @@ def compatible(a,b):
     return is_string(a) and is_string(b) and length(a)==length(b)
 class Parser:
     def __init__(s,src):
-        s.t=tokens(src);s.i=0;s.roots=[];s.blocks=[];s.loops=0;s.out=False;s.loop_block=[];s.events=[]
+        s.t=tokens(src);s.i=0;s.used=set();s.roots=[];s.blocks=[];s.loops=0;s.out=False;s.loop_block=[];s.events=[]
         q=Scope(None);s.scopes=[q]
         for n,t in (('integer',INT),('boolean',BOOL),('char',CHAR)): q.d[n]=('type',t)
         for n,v,t in (('maxint',MAXINT,INT),('false',0,BOOL),('true',1,BOOL)): q.d[n]=('const',v,t)
@@ -391,6 +391,7 @@ class Parser:
                     if not isinstance(t,Arr): refuse('K1',q[2])
                     e=s.expr()
                     if not(is_ord(e.t) and compatible(e.t,t.index)): refuse('K1',e.p)
+                    if e.k=='use' and not e.a.sels: s.used.add((d[1],e.a.r))
                     sels.append(('i',e,t.index,t.elem));t=t.elem
                     if s.at(','): s.take()
                     else: break

@@ -3,7 +3,7 @@ import random
 from check import *
 class Gen:
     def __init__(s,seed):
-        s.r=random.Random(seed);s.budget=s.r.choice([14,20,30]);s.n=0;s.hiding=s.r.random()<.3;s.matrix=s.r.random()<.4;s.done=set();s.uid=0;s.wild=s.r.random()<.06
+        s.r=random.Random(seed);s.budget=s.r.choice([14,20,30]);s.n=0;s.hiding=s.r.random()<.3;s.matrix=s.r.random()<.4;s.sparse=s.r.random()<.45;s.done=set();s.uid=0;s.wild=s.r.random()<.06
     def fresh(s,base):
         if s.hiding and s.r.random()<.4: return base+s.r.choice('12')
         s.n+=1;return f'{base}{s.n+2}'
@@ -27,7 +27,7 @@ class Gen:
         """an access of this type, or None"""
         r=s.r;o=[]
         for n in s.pick(env,t,write): o.append(lambda n=n:n)
-        if t=='I':
+        if t=='I' and (write or not s.sparse or r.random()<.12):
             for n in s.pick(env,'A'): o.append(lambda n=n:f'{n}[{s.idx(env)}]')
             for n in s.pick(env,'R'): o+=[lambda n=n:f'{n}.{r.choice("xy")}',lambda n=n:f'{n}.z[{s.idx(env)}]']
             for n in s.pick(env,'M'): o.append(lambda n=n:f'{n}[{s.idx(env)}, {s.idx(env)}]')
@@ -79,16 +79,35 @@ class Gen:
         if z<.92: return '('+q()+') or ('+q()+')'
         return 'not ('+q()+')'
     def assign(s,env):
-        r=s.r;t=r.choice('IIIIIXXARM')
+        r=s.r;t=r.choice('IIIIIXXARM' if not s.sparse else 'IIIXXAAAR')
         if env['result'] and r.random()<.2:
             n,t=r.choice(env['result']);return f'{n} := {s.exprX(env) if t=="X" else s.exprI(env)}'
         a=s.acc(env,t,True)
         if a is None: return ''
         if t=='I':
-            if r.random()<.25: return f'{a} := {a}{r.choice([" + "," - "])}{r.choice("12")}'
+            if r.random()<.25 and not(s.sparse and '[' in a): return f'{a} := {a}{r.choice([" + "," - "])}{r.choice("12")}'
             return f'{a} := {s.exprI(env)}'
         if t=='X': return f'{a} := {s.exprX(env)}'
+        if s.sparse and r.random()<.9: return s.fill(env)
         return f'{a} := {s.acc(env,t)}'
+    def fill(s,env):
+        r=s.r;a=s.acc(env,'A',True);v=s.pick(env,'X',True)+s.pick(env,'I',True)
+        if a is None or not v: return ''
+        w=r.choice(v);z=r.random()
+        if z<.3: return f'{w} := 1; while {w} < 3 do begin {a}[{w}] := {r.choice("05")}; {s.assign2(env)}{w} := {w} + 1 end'
+        if z<.6: return f'{a}[{w}] := {r.choice("147")}'
+        if z<.8: return f'{w} := 1; {a}[{w}] := 2; {w} := {w} + 1; {a}[{w}] := 3'
+        c=[n for n,(t,k,l) in env['v'].items() if k=='c' and l==env['level'] and n not in env['busy']]
+        if not c: return f'{a}[1] := 4'
+        c=r.choice(c);env['busy'].append(c);x=s.assign2(env);env['busy'].remove(c)
+        return f'for {c} := 1 to {r.choice(["3","2",w])} do begin {x}{a}[{c}] := {c} end'
+    def assign2(s,env):
+        if s.r.random()<.4:
+            ps=s.callable(env,None)
+            if ps:
+                x=s.callof(env,*s.r.choice(sorted(ps)))
+                if x: return x+'; '
+        return ''
     def st(s,env,d):
         r=s.r;s.budget-=1;z=r.random()
         if s.budget<0 or d>3: z*=.5
@@ -136,6 +155,7 @@ class Gen:
             env['own'].add(n)
             fs=[(r.choice(['ref','ref','val']),r.choice('IIIXAAR')) for _ in range(r.choice([0,1,1,2,2,3]))]
             fs=[(k,'A' if k=='val' and t=='R' else t) for k,t in fs]
+            if s.sparse: fs=[('ref' if t=='A' else k,t) for k,t in fs]
             res=r.choice([None,None,'I','X'])
             names=[];groups=[]
             for k,t in fs:
@@ -152,6 +172,8 @@ class Gen:
             if env['v'][n][1]=='c' or r.random()<.012: continue
             if n=='fuel': pre.append(f'fuel := {r.choice([3,6,9])}')
             elif t in 'IX': pre.append(f'{n} := {r.choice("123")}')
+            elif t=='R' and s.sparse and r.random()<.8: pre+=[f'{n}.x := 1',f'{n}.y := 2']
+            elif t in 'AM' and s.sparse and r.random()<.7: pass
             elif t=='A':
                 c=[x for x,(q,k,l) in env['v'].items() if k=='c' and l==level]
                 if c and r.random()<.5: pre.append(f'for {(w:=r.choice(c))} := 1 to 3 do {n}[{w}] := {r.choice([w,"4",w+" + 1"])}')
@@ -189,8 +211,12 @@ def subpaths(prog,r):
     if isinstance(t,Rec): return [(r,())]+[(r,(n,)) for n,_ in t.fields]
     return [(r,())]
 def candidates(rnd,prog,b,roots,many):
-    ords=[r for r in roots if is_ord(prog.roots[r].t)];out=[]
-    def bd():
+    ords=[r for r in roots if is_ord(prog.roots[r].t)];out=[];own={}
+    for r,v in prog.used: own.setdefault(r,[]).append(v)
+    vis=set(roots)
+    def bd(root=None):
+        near=[v for v in own.get(root,()) if v in vis]
+        if near and rnd.random()<.5: return ('v',rnd.choice(near),rnd.choice([0,-1,-1,1]))
         z=rnd.random()
         if z<.45 or not ords: return ('c',rnd.choice([1,1,2,3,3]))
         return ('v',rnd.choice(ords),rnd.choice([0,0,-1,-1,1]))
@@ -202,7 +228,7 @@ def candidates(rnd,prog,b,roots,many):
         for p in subpaths(prog,r):
             t=type_of(prog,p)
             if isinstance(t,Arr):
-                for _ in range(rnd.choice([0,1,2,3])): out.append(('stretch',p,bd(),bd()))
+                for _ in range(rnd.choice([0,1,2,3])): out.append(('stretch',p,bd(r) if rnd.random()<.4 else ('c',1),bd(r)))
     for _ in range(many):
         if ords: out.append(('order',rnd.choice(ords),rnd.choice(ords),rnd.choice([0,0,1,-1,2,-2])))
     seen=set();res=[]
