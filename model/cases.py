@@ -13,7 +13,7 @@ def go():
         if len(sys.argv)>2 and not any(x in c.place for x in sys.argv[2:]): continue
         if len(c.source)>6000 or '65' in c.name or b'000]' in c.source: skip+=1;continue
         want=c.tells.decode('latin1').split('\n')[:-1]
-        try: r=model(c.source.decode('latin1'),c.certificate and c.certificate.decode('latin1'),3000 if b'store full' not in c.tells else 300,False)
+        try: r=model(c.source.decode('latin1'),None if c.certificate is None else c.certificate.decode('latin1'),3000 if b'store full' not in c.tells else 300,False)
         except (Unsupported,RecursionError,ValueError,KeyError,AttributeError) as e:
             skip+=1
             if not(want and ': refused' in want[0]): print('skip',c.name,c.place,type(e).__name__,e)

@@ -8,7 +8,7 @@ NUM=r'(0|[1-9]\d*)'
 C=r'(-?[1-9]\d*|0)'
 PATH=r'v(?:0|[1-9]\d*)(?:\.[a-z][a-z0-9]*|\[\])*'
 NOINDEX=r'v(?:0|[1-9]\d*)(?:\.[a-z][a-z0-9]*)*'
-BOUND=r'(?:-?[1-9]\d*|0|v(?:0|[1-9]\d*)\+(?:0|[1-9]\d*)|v(?:0|[1-9]\d*)-[1-9]\d*)'
+BOUND=r'(?:-?[1-9]\d*|0|v(?:0|[1-9]\d*)\+(?:0|[1-9]\d*)|v(?:0|[1-9]\d*)-(?:0|[1-9]\d*))'
 def num(w,bad,top=999999):
     n=int(w)
     if n>top: bad.append(4)
@@ -24,7 +24,7 @@ def bound(w,bad):
     m=re.fullmatch(r'v(\d+)([+-])(\d+)',w)
     if m:
         r=num(m[1],bad);n=int(m[3])
-        if n>MAXINT: bad.append(4)
+        if n>MAXINT or n==0 and m[2]=='-': bad.append(4)
         return ('v',r,n*(1 if m[2]=='+' else -1))
     return ('c',const(w,bad))
 def fact(text,bad):

@@ -662,7 +662,7 @@ def model(src,cert,turns=3000,test=True):
     """the lines told, the output with --go, the status, what is broken of the promises"""
     try: prog=Parser(src).program()
     except Refused as e: return [str(e)],'',2,None
-    try: c=certs.read(cert if cert else 'pcert 1\n')
+    try: c=certs.read('pcert 1\n' if cert is None else cert)
     except certs.Fault as e: return [str(e)],'',2,None
     if certs.c1(prog,c): return ['certificate refused C1'],'',2,None
     k=Checker(prog,c)

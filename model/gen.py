@@ -21,7 +21,7 @@ class Gen:
         z=r.random()
         if z<.03: return s.exprI(env,1)
         if z<.06 and s.pick(env,'I'): return r.choice(s.pick(env,'I'))
-        if z<.10: return s.func(env,'X') or '1'
+        if z<.12: return s.func(env,'X') or '1'
         return r.choice(o)()
     def acc(s,env,t,write=False):
         """an access of this type, or None"""
@@ -71,7 +71,7 @@ class Gen:
         return s.exprI(env,d+1)+r.choice([' div ',' mod '])+r.choice(['2','3',s.acc(env,'X') or '1'])
     def cond(s,env):
         r=s.r
-        x=lambda:r.choice([lambda:s.acc(env,'I') or '1',lambda:r.choice(s.pick(env,'IX') or ['1']),lambda:r.choice('01234'),lambda:r.choice(s.pick(env,'I') or ['1'])+r.choice([' + 1',' - 1']),lambda:s.func(env,'I',1) or '2'])()
+        x=lambda:r.choice([lambda:s.acc(env,'I') or '1',lambda:r.choice(s.pick(env,'IX') or ['1']),lambda:r.choice('01234'),lambda:r.choice(s.pick(env,'I') or ['1'])+r.choice([' + 1',' - 1']),lambda:s.func(env,'I',1) or '2',lambda:s.func(env,'X',1) or '2'])()
         q=lambda:x()+' '+r.choice(['<','<=','=','<>','>','>='])+' '+x()
         z=r.random()
         if z<.75: return q()
@@ -128,7 +128,7 @@ class Gen:
             c=[n for n,(t,k,l) in env['v'].items() if k=='c' and l==env['level'] and n not in env['busy']]
             if c:
                 v=r.choice(c);up=r.random()<.75
-                a,b=r.choice([('1','3'),('1','3'),('1','2'),('2','3'),('1',s.exprX(env)),(s.exprX(env),'3'),(s.exprI(env,1),s.exprI(env,1)) if r.random()<.4 else ('1','3')])
+                a,b=r.choice([('1','3'),('1','3'),('1','2'),('2','3'),('1',s.exprX(env)),(s.exprX(env),'3'),(s.exprX(env),s.func(env,'X') or '3'),(s.exprI(env,1),s.exprI(env,1)) if r.random()<.4 else ('1','3')])
                 env['busy'].append(v);x=many();env['busy'].remove(v)
                 return f'for {v} := {a if up else b} {"to" if up else "downto"} {b if up else a} do begin {x} end'
         v=s.pick(env,'I',True)
@@ -186,13 +186,21 @@ class Gen:
         if depth==0: body+= [s.callof(env,n,f) if f[1] is None else f'write({s.callof(env,n,f)}:1)' for n,f in sorted(env['f'].items())]
         body=[b for b in body if b and 'None' not in b]
         r.shuffle(body)
+        if env.get('me') and r.random()<.5:
+            o=[n for n,(t,k,l) in env['v'].items() if t in 'IX' and l<level and k in 'vp' ]
+            if o: v=r.choice(o);body.insert(0,r.choice([f'{v} := {r.choice("123")}',f'{v} := {v} {r.choice("+-")} 1' if env['v'][v][0]=='I' else f'{v} := 2']))
         if env.get('me'):
             n,res,fs=env['me']
             if res:
                 x=f'{n} := {s.exprX(env) if res=="X" else s.exprI(env)}'
                 z=r.random()
                 if z<.6: body.append(x)
-                elif z<.8: body.insert(0,x)
+                elif z<.7: body.insert(0,x)
+                elif z<.85:
+                    env['guard']=True;y=s.func(env,'I') or s.func(env,'X') or '1';env['guard']=False
+                    v=s.pick(env,'I',True)
+                    if v: body.append(f'if fuel > 0 then begin fuel := fuel - 1; {r.choice(v)} := {y} end else {x}')
+                    else: body.append(x)
                 else: body.append(f'if {s.cond(env)} then {x}')
         return out+' begin '+'; '.join(pre+body)+' end'
     def sub(s,env,n,fs,res,names,depth):

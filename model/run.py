@@ -6,7 +6,7 @@ class Broken(Exception): pass
 class Act:
     def __init__(s,n,block,link,up): s.n=n;s.block=block;s.link=link;s.up=up;s.ref={};s.writes=set()
 class Run:
-    def __init__(s,prog,turns=3000,check=None): s.p=prog;s.m={};s.out=[];s.turns=turns;s.acts=0;s.check=check;s.pcache={};s.steps=0
+    def __init__(s,prog,turns=3000,check=None): s.p=prog;s.m={};s.out=[];s.turns=turns;s.acts=0;s.check=check;s.pcache={};s.seen={}
     def err(s,place,k): raise Err((place,k))
     def owner(s,r):
         b=s.p.roots[r].block;a=s.act
@@ -201,8 +201,9 @@ class Run:
         if b[0]=='c': return b[1]
         v=s.m.get(s.base(b[1]));return None if v is None else v+b[2]
     def holds(s,S,where):
-        s.steps+=1
-        if s.steps>4000: return
+        n=s.seen.get(where,0)
+        if n>=8: return
+        s.seen[where]=n+1
         if S.dead: raise Broken(('dead reached',where))
         for (r,steps),rng in S.rng.items():
             for pl in s.elements(s.base(r),s.p.roots[r].t,steps):
