@@ -417,7 +417,7 @@ class Checker:
         for f in sec.exit:
             if f[0] in('defined','stretch'):
                 r,st=f[1]
-                if r in val or r==b.result and 'h1' not in s.opts: continue
+                if r in val or r==b.result and not('h1' in s.opts and b in list(s.b.chain())): continue
                 if r in acc:
                     (ra,p),first,n=acc[r]
                     if first is not None and 'v6' not in s.opts: continue
