@@ -3,7 +3,7 @@ import random
 from check import *
 class Gen:
     def __init__(s,seed):
-        s.r=random.Random(seed);s.budget=s.r.choice([14,20,30]);s.n=0;s.hiding=s.r.random()<.3;s.matrix=s.r.random()<.4;s.sparse=s.r.random()<.45;s.done=set();s.uid=0;s.wild=s.r.random()<.06
+        s.r=random.Random(seed);s.budget=s.r.choice([14,20,30]);s.n=0;s.hiding=s.r.random()<.3;s.matrix=s.r.random()<.4;s.sparse=s.r.random()<.45;s.done=set();s.side={};s.uid_of={};s.uid=0;s.wild=s.r.random()<.06
     def fresh(s,base):
         if s.hiding and s.r.random()<.4: return base+s.r.choice('12')
         s.n+=1;return f'{base}{s.n+2}'
@@ -30,11 +30,14 @@ class Gen:
         if t=='I' and (write or not s.sparse or r.random()<.12):
             for n in s.pick(env,'A'): o.append(lambda n=n:f'{n}[{s.idx(env)}]')
             for n in s.pick(env,'R'): o+=[lambda n=n:f'{n}.{r.choice("xy")}',lambda n=n:f'{n}.z[{s.idx(env)}]']
-            for n in s.pick(env,'M'): o.append(lambda n=n:f'{n}[{s.idx(env)}, {s.idx(env)}]')
+            for n in s.pick(env,'M'): o.append(lambda n=n:f'{n}[{s.idx(env)}, {s.idx(env)}]' if r.random()<.7 else s.pair(env,n))
         if t=='A':
             for n in s.pick(env,'R'): o.append(lambda n=n:n+'.z')
             for n in s.pick(env,'M'): o.append(lambda n=n:f'{n}[{s.idx(env)}]')
         return r.choice(o)() if o else None
+    def pair(s,env,n):
+        t=s.themed(env,'X')
+        return f'{n}[{t[0]}, {t[1]}]' if t else f'{n}[{s.idx(env)}, {s.idx(env)}]'
     def func(s,env,t,d=0):
         fs=s.callable(env,t)
         if not fs or s.budget<-20: return None
@@ -54,7 +57,18 @@ class Gen:
                 if a is None: return None
                 out.append(a)
             else: out.append(s.exprX(env) if t=='X' else s.exprI(env,d+1))
+        vals=[i for i,(k,t) in enumerate(f[0]) if k=='val' and t in 'IX']
+        if len(vals)>1 and s.r.random()<.3:
+            t=s.themed(env)
+            if t:
+                i,j=sorted(s.r.sample(vals,2));out[i],out[j]=t
         return n+('('+', '.join(out)+')' if out else '')
+    def themed(s,env,types='IX'):
+        """a variable and a call of a function that changes it"""
+        o=[(n,f) for n,f in env['f'].items() if f[1] in types and f[2] in s.side and (f[2] in s.done or env.get('guard')) and s.side[f[2]] in env['v']]
+        if not o: return None
+        n,f=s.r.choice(sorted(o));c=s.callof(env,n,f,1)
+        return (s.side[f[2]],c) if c else None
     def exprX(s,env):
         r=s.r;z=r.random()
         if z<.1: return s.func(env,'X') or '2'
@@ -74,6 +88,9 @@ class Gen:
         x=lambda:r.choice([lambda:s.acc(env,'I') or '1',lambda:r.choice(s.pick(env,'IX') or ['1']),lambda:r.choice('01234'),lambda:r.choice(s.pick(env,'I') or ['1'])+r.choice([' + 1',' - 1']),lambda:s.func(env,'I',1) or '2',lambda:s.func(env,'X',1) or '2'])()
         q=lambda:x()+' '+r.choice(['<','<=','=','<>','>','>='])+' '+x()
         z=r.random()
+        if z<.12:
+            t=s.themed(env)
+            if t: return r.choice(['({0} {2} {3}) and ({1} > 0)','({0} {2} {3}) and ({1} < 9)','not (({0} {2} {3}) or ({1} = 7))','{0} {2} {1}','{1} {2} {0}']).format(t[0],t[1],r.choice(['<','=','>','<=','>=','<>']),r.choice('123'))
         if z<.75: return q()
         if z<.85: return '('+q()+') and ('+q()+')'
         if z<.92: return '('+q()+') or ('+q()+')'
@@ -129,6 +146,8 @@ class Gen:
             if c:
                 v=r.choice(c);up=r.random()<.75
                 a,b=r.choice([('1','3'),('1','3'),('1','2'),('2','3'),('1',s.exprX(env)),(s.exprX(env),'3'),(s.exprX(env),s.func(env,'X') or '3'),(s.exprI(env,1),s.exprI(env,1)) if r.random()<.4 else ('1','3')])
+                t=s.themed(env) if r.random()<.25 else None
+                if t: a,b=t;a=r.choice([a,a,a+' - 1'] if env['v'][a][0]=='I' else [a])
                 env['busy'].append(v);x=many();env['busy'].remove(v)
                 return f'for {v} := {a if up else b} {"to" if up else "downto"} {b if up else a} do begin {x} end'
         v=s.pick(env,'I',True)
@@ -162,7 +181,7 @@ class Gen:
                 p=s.fresh({'I':'i','X':'k','A':'a','R':'r'}[t])
                 while p in names: s.n+=1;p=f'{p}x{s.n}'
                 names.append(p);groups.append(f'{"var " if k=="ref" else ""}{p}: {s.TY[t]}')
-            s.uid+=1;uid=s.uid;env['v'].pop(n,None);env['result']=[x for x in env['result'] if x[0]!=n];env['f'][n]=(fs,res,uid)
+            s.uid+=1;uid=s.uid;s.uid_of[n]=uid;env['v'].pop(n,None);env['result']=[x for x in env['result'] if x[0]!=n];env['f'][n]=(fs,res,uid)
             head=('function ' if res else 'procedure ')+n+(f'({"; ".join(groups)})' if groups else '')+(f': {s.TY[res]}' if res else '')
             if r.random()<.2: out+=f' {head}; forward;';waiting.append((n,fs,res,names,('function ' if res else 'procedure ')+n,uid));continue
             out+=f' {head};'+s.sub(env,n,fs,res,names,depth)+';';s.done.add(uid)
@@ -188,7 +207,7 @@ class Gen:
         r.shuffle(body)
         if env.get('me') and r.random()<.5:
             o=[n for n,(t,k,l) in env['v'].items() if t in 'IX' and l<level and k in 'vp' ]
-            if o: v=r.choice(o);body.insert(0,r.choice([f'{v} := {r.choice("123")}',f'{v} := {v} {r.choice("+-")} 1' if env['v'][v][0]=='I' else f'{v} := 2']))
+            if o: v=r.choice(o);s.side[env['uid']]=v;body.insert(0,r.choice([f'{v} := {r.choice("123")}',f'{v} := {v} {r.choice("+-")} 1' if env['v'][v][0]=='I' else f'{v} := 2']))
         if env.get('me'):
             n,res,fs=env['me']
             if res:
@@ -205,7 +224,7 @@ class Gen:
         return out+' begin '+'; '.join(pre+body)+' end'
     def sub(s,env,n,fs,res,names,depth):
         e=dict(v=dict(env['v']),f=dict(env['f']),own=set(),level=env['level']+1,busy=[],result=[x for x in env['result']])
-        if res: e['result']=e['result']+[(n,res)]*2;e['me']=(n,res,fs)
+        if res: e['result']=e['result']+[(n,res)]*2;e['me']=(n,res,fs);e['uid']=s.uid_of[n]
         for (k,t),p in zip(fs,names):
             e['own'].add(p);e['v'][p]=(t,'p',e['level']);e['f'].pop(p,None);e['result']=[x for x in e['result'] if x[0]!=p]
         if not any(x[0]==n for x in e['result']): e.pop('me',None)
