@@ -65,7 +65,7 @@ class Gen:
         return n+('('+', '.join(out)+')' if out else '')
     def themed(s,env,types='IX'):
         """a variable and a call of a function that changes it"""
-        o=[(n,f) for n,f in env['f'].items() if f[1] in types and f[2] in s.side and (f[2] in s.done or env.get('guard')) and s.side[f[2]] in env['v']]
+        o=[(n,f) for n,f in env['f'].items() if f[1] and f[1] in types and f[2] in s.side and (f[2] in s.done or env.get('guard')) and s.side[f[2]] in env['v']]
         if not o: return None
         n,f=s.r.choice(sorted(o));c=s.callof(env,n,f,1)
         return (s.side[f[2]],c) if c else None
