@@ -35,7 +35,7 @@ class Checker:
         s.p=prog;s.open=[];s.cert=cert;s.opts=set(opts);s.states={};s.ends={};s.lenient=None
         s.types=[r.t for r in prog.roots]
         s.leafs=[leaves(t) for t in s.types]
-        s.controls={}
+        s.controls={};s.owned={}
         for b in prog.blocks: s.collect(b.body,[])
         s.pcache={}
     def breach(s,x):
@@ -50,7 +50,7 @@ class Checker:
     def collect(s,st,rounds):
         k=st.k
         if k in('while','repeat','for'):
-            s.controls[st.n]=[]
+            s.controls[st.n]=[];s.owned[st.n]=st.v if k=='for' else None
             rounds=rounds+[st.n]
             if k=='for':
                 for r in rounds: s.controls[r].append(st.v)
@@ -511,7 +511,7 @@ class Checker:
     def claims(s,n): return s.section(s.b).loops.get(n,([],[]))
     def c7(s,r,rounds,place):
         x=s.p.roots[r];own=x.block is s.b and x.kind in('var','result')
-        if any(r not in s.claims(n)[0] for n in rounds) or not own and r not in s.section(s.b).change:
+        if any(r not in s.claims(n)[0] or 'own' in s.opts and s.owned[n]==r for n in rounds) or not own and r not in s.section(s.b).change:
             x=Refused(f'{place[0]}:{place[1]}: certificate refused C7');x.info=('C7',s.b,[n for n in rounds if r not in s.claims(n)[0]],None if own or r in s.section(s.b).change else r,r);s.breach(x)
     def stmt(s,st,rounds):
         k=st.k;s.rounds=rounds;s.states[id(st)]=s.S.copy()
@@ -599,6 +599,7 @@ class Checker:
         v1=s.within(v1,lim,st.e1.p,2)
         v2=s.within(v2,lim,st.e2.p,2)
         v=st.v
+        if 'pairs' in s.opts and any(v in p for x in s.cert.values() for p in x.alias): raise Refused(f'{st.p[0]}:{st.p[1]}: certificate refused C7')
         s.assign(s.S,(v,()),None,0,{():v1},f1,False)
         s.facts(s.S,st.n,'C2',st.p)
         s.head(st)
@@ -658,14 +659,14 @@ def parts_at_field(p,q):
     for x,y in zip(p,q):
         if x!=y: return x!='[]' and y!='[]'
     return False
-def model(src,cert,turns=3000,test=True):
+def model(src,cert,turns=3000,test=True,opts=()):
     """the lines told, the output with --go, the status, what is broken of the promises"""
     try: prog=Parser(src).program()
     except Refused as e: return [str(e)],'',2,None
     try: c=certs.read('pcert 1\n' if cert is None else cert)
     except certs.Fault as e: return [str(e)],'',2,None
     if certs.c1(prog,c): return ['certificate refused C1'],'',2,None
-    k=Checker(prog,c)
+    k=Checker(prog,c,opts)
     try: op=k.run()
     except Refused as e: return [str(e)],'',2,None
     lines=[f'{p[0]}:{p[1]}: possible error: {NAMES[x]}' for p,x in op]

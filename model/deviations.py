@@ -10,5 +10,5 @@ D=[
 ('entry order, plain','program p(output); procedure q(x, y: integer); begin write(1:1) end; procedure r(u, w: integer); begin if (u <= w) and (w <= 0) then q(u + 2147483647, w + 2147483647) end; begin r(-3, -2) end.','pcert 1\nproc 1\nentry order v0 v1 0\n'),
 ]
 def go():
-    for n,s,c in D: print(n,model(s,c))
+    for n,s,c in D: print(n,model(s,c),'| definitions',model(s,c,opts=('pairs','own'))[0])
 deep(go)

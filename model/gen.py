@@ -1,6 +1,7 @@
 # Random programs with routines, and random certificates for them, made smaller until the rules accept them.
 import random
 from check import *
+CONTROLS=__import__('os').environ.get('CONTROLS')
 class Gen:
     def __init__(s,seed):
         s.r=random.Random(seed);s.budget=s.r.choice([14,20,30]);s.n=0;s.hiding=s.r.random()<.3;s.matrix=s.r.random()<.4;s.sparse=s.r.random()<.45;s.done=set();s.side={};s.uid_of={};s.uid=0;s.wild=s.r.random()<.06
@@ -11,7 +12,7 @@ class Gen:
         """names of visible variables of these types"""
         out=[]
         for n,(t,kind,level) in env['v'].items():
-            if kind=='c' and n not in env['busy'] and s.r.random()<.995: continue
+            if kind=='c' and n not in env['busy'] and s.r.random()<.995 and not(CONTROLS and write and level==env['level'] and s.r.random()<.3): continue
             if t in types and not(write and (kind in 'cf' and (kind=='f' or level!=env['level'] or n in env['busy']))): out.append(n)
         return sorted(out)
     # indexes stay mostly inside 1..3
