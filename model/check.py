@@ -190,6 +190,7 @@ class Checker:
         return {q:s.S.rng[(path[0],path[1]+q)] if not s.S.dead else None for q,_,_ in leaves(e.a.t)}
     def ordinal(s,e):
         k=e.k
+        if k in('use','rcall','dy'): s.states[id(e)]=s.S.copy()
         if k=='paren': return s.ordinal(e.e)
         if k=='rcall': return s.call(e)
         if k=='const': return (e.v,e.v)

@@ -82,6 +82,7 @@ class Run:
         k=e.k
         if k=='paren': return s.ord(e.e)
         if k=='const': return e.v
+        if s.check is not None and id(e) in s.check.states: s.holds(s.check.states[id(e)],(k,e.p))
         if k=='use':
             pl=s.place(e.a)
             if pl not in s.m: s.err(e.a.p,3)
