@@ -345,6 +345,7 @@ def main():
     a,b=int(sys.argv[1]),int(sys.argv[2]);opts=sys.argv[3].split(',') if len(sys.argv)>3 else ()
     stat={};found=0
     for seed in range(a,b):
+        if seed%200==0 and seed>a: print(seed,{k:v for k,v in stat.items() if k!='codes'});sys.stdout.flush()
         try: x=trial(seed,opts,stat)
         except RecursionError: stat['deep']=stat.get('deep',0)+1;continue
         if x:
