@@ -1,0 +1,2 @@
+//! What the checker knows where routines are called, and inside them.
+#![tactic(auto)]
