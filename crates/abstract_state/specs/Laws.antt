@@ -9,7 +9,7 @@ use Rattle.domain.specs.Facts.{Bound, Fact}
 use Rattle.meaning.specs.declared.store.Value.{Value}
 use Rattle.meaning.specs.Effect as effect
 use Rattle.meaning.specs.Effect.{Gives}
-use Rattle.meaning.specs.Meaning.{is_so, value_of}
+use Rattle.meaning.specs.Meaning.{Surroundings, is_so, value_of}
 use Rattle.meaning.specs.Store.{Environment, Place, Store, written}
 use Rattle.abstract_state.specs.State.{State, gives_fact, joined_states}
 use Rattle.abstract_state.specs.Changes.{assigned}
@@ -34,8 +34,8 @@ GivenHolds =
 -- the value of an expression of a bound form is its bound
 abbrev pub FormsTell : Type 0
 FormsTell =
-    (expression : Expr) (env : Environment) (s t : effect.State) (v : Value) → value_of expression env s ≡ Gives v t
-    → IsOfForm (moment env t.store) (bound_form expression) v
+    (expression : Expr) (env : Surroundings) (s t : effect.State) (v : Value) → value_of expression env s ≡ Gives v t
+    → IsOfForm (moment env.visible t.store) (bound_form expression) v
 
 -- after a value was written to a variable, what is known after its assignment holds
 abbrev pub AssignmentsHold : Type 0
@@ -49,9 +49,9 @@ AssignmentsHold =
 -- where a condition had a truth value, what is known of that branch holds
 abbrev pub ConditionsTell : Type 0
 ConditionsTell =
-    (variables : ℕ) (env : Environment) (condition : Expr) (s t : effect.State) (v : Value) (range : Interval)
-    (state : State) → value_of condition env s ≡ Gives v t → IsIn range v → Knows variables env state t.store
-    → Knows variables env (branched (is_so v) condition range state) t.store
+    (variables : ℕ) (env : Surroundings) (condition : Expr) (s t : effect.State) (v : Value) (range : Interval)
+    (state : State) → value_of condition env s ≡ Gives v t → IsIn range v → Knows variables env.visible state t.store
+    → Knows variables env.visible (branched (is_so v) condition range state) t.store
 
 -- what is known at the head of a loop holds after any turns, if the claims do
 abbrev pub HeadsHold : Type 0
