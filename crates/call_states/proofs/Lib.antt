@@ -1,3 +1,4 @@
 pub mod Claimed
 pub mod Passed
 pub mod Aliased
+pub mod PlaceTypes
