@@ -2,3 +2,4 @@ pub mod Claimed
 pub mod Passed
 pub mod Aliased
 pub mod PlaceTypes
+pub mod AliasedStores
