@@ -3,3 +3,4 @@ pub mod Passed
 pub mod Aliased
 pub mod PlaceTypes
 pub mod AliasedStores
+pub mod AliasedTypes
