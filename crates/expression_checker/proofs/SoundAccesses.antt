@@ -371,7 +371,7 @@ module _ (world : World) (block : ℕ) (env : Surroundings) where
       → (hold_call pieces ≡ true → IsFormless reach)
       → SoundFrom world block visible store (LeadsTo root (before ++ selectors)) (selected selectors evaluations env place)
       (indexes_walk selectors pieces reach)
-  selected-sound root [] [] [] all count tests store before way reach place place_is matches reached formless context state s same unbroken part here =
+  selected-sound root [] [] [] all count tests store before way reach place place_is matches reached formless = λ context state s same unbroken walked here.
       let R = LeadsTo root (before ++ []) in
       let leads : R reach place s.store =
       subst (λ (list : List Selector). LeadsTo root list reach place s.store) (sym (append-nil before))
@@ -711,13 +711,13 @@ module _ (world : World) (block : ℕ) (env : Surroundings) where
       → is_seen world block root ≡ true → site < sites_in world → (store : Store) (reach : Reach) (place : Option Place)
       → Leads visible root selectors store reach place
       → SoundFrom world block visible store IsValue (fetch place site) (value_use root selectors reach site)
-  used-sound root [] site typed seen below store reach place leads =
+  used-sound root [] site typed shown below store reach place leads =
       let entire : place ≡ visible.variables root = leads.place_is ∙ ap (part (visible.variables root)) (no-way leads.way leads.matches)
       ∙ part-none (visible.variables root) in
       subst (λ (p : Option Place). SoundFrom world block visible store IsValue (fetch p site) (walk.use_of root site)) (sym entire)
       (sound-here world block visible store IsValue (fetch (visible.variables root) site) (walk.use_of root site)
-      (sound-use world block visible root site seen below))
-  used-sound root (selector ∷ selectors) site typed seen below store reach place leads =
+      (sound-use world block visible root site shown below))
+  used-sound root (selector ∷ selectors) site typed shown below store reach place leads =
       let id = type-of (is_ordinal (types_in world)) (access_type root (selector ∷ selectors)) typed in
       component-sound root (selector ∷ selectors) id.0 id.1 id.2 (some-selector selector selectors) site below store reach place leads
 
