@@ -4,3 +4,4 @@ pub mod Aliased
 pub mod PlaceTypes
 pub mod AliasedStores
 pub mod AliasedTypes
+pub mod ComponentTypes
