@@ -1,2 +1,5 @@
 pub mod Claimed
 pub mod Passed
+pub mod FormalRows
+pub mod Places
+pub mod Headings
