@@ -3,3 +3,4 @@ pub mod Passed
 pub mod FormalRows
 pub mod Places
 pub mod Headings
+pub mod Callee

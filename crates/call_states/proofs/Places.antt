@@ -229,7 +229,7 @@ pair-listed pairs a b is =
 
 -- ---- what is accessed
 
-part-there : (found : Option Place) (way : List Step) (p : Place) → part found way ≡ Some p
+pub part-there : (found : Option Place) (way : List Step) (p : Place) → part found way ≡ Some p
     → (home : Place) × (found ≡ Some home) × (record home { steps = home.steps ++ way } ≡ p)
 part-there None way p is = absurd (none-some p is)
 part-there (Some home) way p is = (home, refl, same_Some (record home { steps = home.steps ++ way }) p is)
