@@ -35,7 +35,7 @@ use Rattle.call_states.proofs.Places.{IsPair, Overlaps, listed-pair, may-overlap
 
 -- ---- formal parameters
 
-either-cond : {A : Type 0} (b : Bool) (x y z : A) → cond b x y ≡ z → ((b ≡ true) × (x ≡ z)) ⊎ ((b ≡ false) × (y ≡ z))
+pub either-cond : {A : Type 0} (b : Bool) (x y z : A) → cond b x y ≡ z → ((b ≡ true) × (x ≡ z)) ⊎ ((b ≡ false) × (y ≡ z))
 either-cond true x y z is = inl (refl, is)
 either-cond false x y z is = inr (refl, is)
 

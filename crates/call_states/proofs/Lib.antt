@@ -4,3 +4,4 @@ pub mod FormalRows
 pub mod Places
 pub mod Headings
 pub mod Callee
+pub mod Separated
