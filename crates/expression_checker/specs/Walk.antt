@@ -46,15 +46,15 @@ use Rattle.abstract_state.specs.declared.known.Known.TheVariants.{Ordinal}
 use Rattle.abstract_state.specs.State.{integer, is_defined, limits_of, range_of, unless_empty}
 use Rattle.abstract_state.specs.State as variables
 use Rattle.abstract_state.specs.Forms.{Form, Literal, Other, Operand, access_form, bound_of, chain_form, sign_form}
-use Rattle.leaf_rows.specs.Rows.{index_at, is_structured, rows_accessed, rows_of, rows_under}
+use Rattle.leaf_rows.specs.Rows.{index_at, is_structured, rows_accessed, rows_of}
 use Rattle.component_states.specs.Components.{Index, Reach, Entire, At, Inside, row_at, with_defined}
 use Rattle.component_states.specs.States.{State, gives_reached, is_dead, over_components, over_variables}
 use Rattle.abstract_state.specs.Loops.{is_among}
-use Rattle.structured_states.specs.Loops.{Claims, Round, all_list, limits_at, row_limits}
+use Rattle.structured_states.specs.Loops.{Claims, Round, all_list}
 use Rattle.structured_states.specs.Ways.{single}
 use Rattle.call_states.specs.Sections.{BlockClaims, block_claims_at}
 use Rattle.call_states.specs.Starts.{is_own}
-use Rattle.call_states.specs.Actuals.{Actual, OfValue, OfRows, OfVariable, Binding, bound_to, settled}
+use Rattle.call_states.specs.Actuals.{Actual, OfValue, OfRows, OfVariable, Binding, are_of_types, bound_to, settled}
 use Rattle.call_states.specs.Entry.{are_given}
 use Rattle.call_states.specs.Overlaps.{are_separate}
 use Rattle.call_states.specs.Exit.{behind_call, result_range, roots_changed}
@@ -497,27 +497,12 @@ result_of (Some block) = block.heading.result
 abbrev pub called_block : Context → Call → Option Block
 called_block context call = slice_get context.tree.blocks.items call.block
 
--- the ranges of a copy lie in those of the types of a variable's rows
-abbrev pub are_of_rows : Context → List ℕ → List Interval → Bool
-are_of_rows context [] [] = true
-are_of_rows context (row ∷ rows) (range ∷ ranges) =
-    is_included range (row_limits (rows_of context.tree) row) && are_of_rows context rows ranges
-are_of_rows context rows ranges = false
-
--- what is passed as a value lies in the type of the formal parameter
-abbrev pub is_of_type : Context → ℕ → Actual → Bool
-is_of_type context root (OfValue range form) = is_included range (limits_at context.limits root)
-is_of_type context root (OfRows ranges) = are_of_rows context (rows_under (rows_of context.tree) root []) ranges
-is_of_type context root (OfVariable other selectors reach) = true
-
-abbrev pub are_of_types : Context → List Binding → Bool
-are_of_types context bindings = list_all (λ binding. is_of_type context binding.root binding.actual) bindings
-
 -- a call changes what it may: by the claims on the callee, at the place of its name
 abbrev pub call_change : Place → List Binding → BlockClaims → Walking (Unit {0})
 call_change place bindings claims context =
     asked
-    (list_all (may_change context) (roots_changed bindings claims.changes) && are_of_types context bindings)
+    (list_all (may_change context) (roots_changed bindings claims.changes)
+    && are_of_types context.tree context.limits bindings)
     Changes place context
 
 -- what is passed makes listed aliases alone
