@@ -5,3 +5,4 @@ pub mod Places
 pub mod Headings
 pub mod Callee
 pub mod Separated
+pub mod Aliased
