@@ -6,3 +6,4 @@ pub mod Headings
 pub mod Callee
 pub mod Separated
 pub mod Aliased
+pub mod Assigned
