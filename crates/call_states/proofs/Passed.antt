@@ -28,7 +28,7 @@ use Rattle.abstract_state.specs.Holds.{IsBound, IsIn}
 use Rattle.abstract_state.specs.Knows.{IsOfForm, moment}
 use Rattle.abstract_state.specs.State.{integer}
 use Rattle.leaf_rows.specs.Leaves.{Leaf, is_named, leaves_of}
-use Rattle.leaf_rows.specs.Rows.{first_index, is_structured}
+use Rattle.leaf_rows.specs.Rows.{first_index}
 use Rattle.leaf_rows.proofs.Selected.{Matches}
 use Rattle.component_states.specs.Components.{At, Entire, Index, Inside, Reach}
 use Rattle.call_states.specs.Actuals.{Actual, OfRows, OfValue, OfVariable, after_call, settled, unknown_reach}
@@ -95,8 +95,7 @@ abbrev pub IsArgument : Tree → Environment → Store → Variable → Actual �
 IsArgument tree env store formal (OfValue range form) (meaning.OfValue v) = IsIn range v × IsOfForm (moment env store) form v
 IsArgument tree env store formal (OfRows ranges) (meaning.OfRow numbers) =
     (length numbers ≡ length (components_of tree.types formal.type_id))
-    × (is_structured tree.types formal.type_id ≡ true → length ranges ≡ length (leaves_of tree.types formal.type_id))
-    × LieIn tree.types formal.type_id ranges numbers
+    × (length ranges ≡ length (leaves_of tree.types formal.type_id) → LieIn tree.types formal.type_id ranges numbers)
 IsArgument tree env store formal (OfVariable root selectors reach) (meaning.OfPlace place) =
     Leads env root selectors store reach place × (accessed tree.variables.items tree.types root selectors ≡ Some formal.type_id)
     × ((way : List Step) (n : ℤ) → Matches selectors way → first_index way ≡ Some n → HasMember integer n)
