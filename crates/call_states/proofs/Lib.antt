@@ -1,7 +1,10 @@
-pub mod Claimed
-pub mod Passed
-pub mod FormalRows
-pub mod Places
-pub mod Headings
+pub mod Aliased
+pub mod AliasedStores
 pub mod Callee
+pub mod Claimed
+pub mod FormalRows
+pub mod Headings
+pub mod Passed
+pub mod PlaceTypes
+pub mod Places
 pub mod Separated

@@ -58,11 +58,11 @@ all_changed-rows : (roots : List ℕ) (known : Components) → (all_changed root
 all_changed-rows [] known = refl
 all_changed-rows (root ∷ roots) known = all_changed-rows roots (changed root None known)
 
-unchanged : (root : ℕ) (bound moved : Bound) → changed_bound root None bound ≡ Some moved → (bound_rests_on root bound ≡ false) × (bound ≡ moved)
+pub unchanged : (root : ℕ) (bound moved : Bound) → changed_bound root None bound ≡ Some moved → (bound_rests_on root bound ≡ false) × (bound ≡ moved)
 unchanged root (Number m) moved is = (refl, cc)
 unchanged root (Plus a m) moved is = unless-if (nat_eq root a) (Plus a m) moved is
 
-between-some : (row : ℕ) (first last : Option Bound) (stretch : Stretch) → between row first last ≡ Some stretch
+pub between-some : (row : ℕ) (first last : Option Bound) (stretch : Stretch) → between row first last ≡ Some stretch
     → (first ≡ Some stretch.first) × (last ≡ Some stretch.last)
 between-some row None last stretch is = absurd (cc)
 between-some row (Some first) None stretch is = absurd (cc)

@@ -65,86 +65,163 @@ entered-sound world env shows R number action walking one =
 
 -- ---- forms
 
--- an expression has the form by which its conditions go
-abbrev FormIsSame : Expr → Type 0
-FormIsSame e = (piece_of e).form ≡ (condition_of e).form
+-- an expression has the form by which its conditions go, and the walk knows whether it holds a call
+pub record IsFormed (e : Expr) : Type 0 where
+  pub form : (piece_of e).form ≡ (condition_of e).form
+  pub holds : (piece_of e).holds_call ≡ holds_call e
 
-abbrev OperandIsSame : Link → Type 0
-OperandIsSame l = (joint_of l).operand ≡ operand_of (conjunct_of l)
+abbrev IsPassedSo : Passed → Type 0
+IsPassedSo p = (passed_piece_of p).holds_call ≡ passed_holds_call p
+
+record IsJoined (l : Link) : Type 0 where
+  pub operand : (joint_of l).operand ≡ operand_of (conjunct_of l)
+  pub holds : (joint_of l).holds_call ≡ link_holds_call_of l
 
 abbrev FormedExpr : Type 0
-FormedExpr = (e : Expr) × FormIsSame e
+FormedExpr = (e : Expr) × IsFormed e
+
+abbrev FormedPassed : Type 0
+FormedPassed = (p : Passed) × IsPassedSo p
 
 abbrev FormedLink : Type 0
-FormedLink = (l : Link) × OperandIsSame l
+FormedLink = (l : Link) × IsJoined l
 
-abbrev bare_expr : Expr-F FormedExpr FormedLink → Expr-F Expr Link
-bare_expr = map-Expr FormedExpr FormedLink Expr Link (λ e. e.0) (λ l. l.0)
+abbrev bare_expr : Expr-F FormedExpr FormedPassed FormedLink → Expr-F Expr Passed Link
+bare_expr = map-Expr FormedExpr FormedPassed FormedLink Expr Passed Link (λ e. e.0) (λ p. p.0) (λ l. l.0)
 
-abbrev bare_link : Link-F FormedExpr FormedLink → Link-F Expr Link
-bare_link = map-Link FormedExpr FormedLink Expr Link (λ e. e.0) (λ l. l.0)
+abbrev bare_passed : Passed-F FormedExpr FormedPassed FormedLink → Passed-F Expr Passed Link
+bare_passed = map-Passed FormedExpr FormedPassed FormedLink Expr Passed Link (λ e. e.0) (λ p. p.0) (λ l. l.0)
+
+abbrev bare_link : Link-F FormedExpr FormedPassed FormedLink → Link-F Expr Passed Link
+bare_link = map-Link FormedExpr FormedPassed FormedLink Expr Passed Link (λ e. e.0) (λ p. p.0) (λ l. l.0)
 
 same-operands : (links : List FormedLink)
     → map (λ joint. joint.operand) (map joint_of (map (λ l. l.0) links)) ≡ map operand_of (map conjunct_of (map (λ l. l.0) links))
 same-operands [] = refl
 same-operands (link ∷ links) =
-    ap₂ (λ (one : Operand) (more : List Operand). one ∷ more) link.1 (same-operands links)
+    ap₂ (λ (one : Operand) (more : List Operand). one ∷ more) link.1.operand (same-operands links)
 
-form-layer : (y : Expr-F FormedExpr FormedLink)
-    → (piece_step (map-Expr Expr Link Piece Joint piece_of joint_of (bare_expr y))).form
-    ≡ (condition_step (map-Expr Expr Link Condition Conjunct condition_of conjunct_of (bare_expr y))).form
+either : {a b c d : Bool} → a ≡ b → c ≡ d → (a || c) ≡ (b || d)
+either one two = ap₂ (λ (x y : Bool). x || y) one two
+
+same-holds : (parts : List FormedExpr) → walk.hold_call (map piece_of (map (λ e. e.0) parts)) ≡ any_holds (map holds_call (map (λ e. e.0) parts))
+same-holds [] = refl
+same-holds (one ∷ parts) = either one.1.holds (same-holds parts)
+
+same-joined : (links : List FormedLink)
+    → list_any (λ joint. joint.holds_call) (map joint_of (map (λ l. l.0) links)) ≡ any_holds (map link_holds_call_of (map (λ l. l.0) links))
+same-joined [] = refl
+same-joined (link ∷ links) = either link.1.holds (same-joined links)
+
+same-whole : (value : Whole) (parts : List FormedExpr)
+    → walk.hold_call (whole_indexes value (map piece_of (map (λ e. e.0) parts))) ≡ any_holds (whole_indexes value (map holds_call (map (λ e. e.0) parts)))
+same-whole (Text number text) parts = refl
+same-whole (VariableOf access type_id cells defined) parts = same-holds parts
+
+form-layer : (y : Expr-F FormedExpr FormedPassed FormedLink)
+    → (piece_step (map-Expr Expr Passed Link Piece PassedPiece Joint piece_of passed_piece_of joint_of (bare_expr y))).form
+    ≡ (condition_step (map-Expr Expr Passed Link Condition (Unit {0}) Conjunct condition_of (λ p. tt) conjunct_of (bare_expr y))).form
 form-layer (Constant number value) = refl
 form-layer (Variable access indexes defined) = refl
-form-layer (MonadicOf number operation operand) = ap (λ (form : Form). sign_form form operation) operand.value.1
-form-layer (Chain first rest) = ap₂ chain_form first.value.1 (same-operands rest.items)
+form-layer (MonadicOf number operation operand) = ap (λ (form : Form). sign_form form operation) operand.value.1.form
+form-layer (Chain first rest) = ap₂ chain_form first.value.1.form (same-operands rest.items)
 form-layer (Compare number relation left left_indexes right right_indexes) = refl
+form-layer (CallOf call actuals) = refl
 
-operand-layer : (y : Link-F FormedExpr FormedLink)
-    → (link_step (map-Link Expr Link Piece Joint piece_of joint_of (bare_link y))).operand
-    ≡ operand_of (link_condition (map-Link Expr Link Condition Conjunct condition_of conjunct_of (bare_link y)))
-operand-layer y = ap (λ (form : Form). record { operation = y.operation; form = form }) y.operand.1
+holds-layer : (y : Expr-F FormedExpr FormedPassed FormedLink)
+    → (piece_step (map-Expr Expr Passed Link Piece PassedPiece Joint piece_of passed_piece_of joint_of (bare_expr y))).holds_call
+    ≡ expression_holds_call (map-Expr Expr Passed Link Bool Bool Bool holds_call passed_holds_call link_holds_call_of (bare_expr y))
+holds-layer (Constant number value) = refl
+holds-layer (Variable access indexes defined) = same-holds indexes.items
+holds-layer (MonadicOf number operation operand) = operand.value.1.holds
+holds-layer (Chain first rest) = either first.value.1.holds (same-joined rest.items)
+holds-layer (Compare number relation left left_indexes right right_indexes) =
+    either (same-whole left left_indexes.items) (same-whole right right_indexes.items)
+holds-layer (CallOf call actuals) = refl
 
-rolled-form : (x : Expr-F Expr Link)
-    → (piece_step (map-Expr Expr Link Piece Joint piece_of joint_of x)).form
-    ≡ (condition_step (map-Expr Expr Link Condition Conjunct condition_of conjunct_of x)).form
-    → FormIsSame (roll-Expr x)
-rolled-form x same =
-    ap (λ (piece : Piece). piece.form) (fold-roll-Expr Piece Joint piece_step link_step x) ∙ same
-    ∙ sym (ap (λ (condition : Condition). condition.form) (fold-roll-Expr Condition Conjunct condition_step link_condition x))
+passed-layer : (y : Passed-F FormedExpr FormedPassed FormedLink)
+    → (passed_step (map-Passed Expr Passed Link Piece PassedPiece Joint piece_of passed_piece_of joint_of (bare_passed y))).holds_call
+    ≡ passed_step_holds_call (map-Passed Expr Passed Link Bool Bool Bool holds_call passed_holds_call link_holds_call_of (bare_passed y))
+passed-layer (PassedValue value fits) = value.1.holds
+passed-layer (PassedWhole type_id value indexes) = same-whole value indexes.items
+passed-layer (Reference type_id access indexes) = same-holds indexes.items
 
-rolled-operand : (x : Link-F Expr Link)
-    → (link_step (map-Link Expr Link Piece Joint piece_of joint_of x)).operand
-    ≡ operand_of (link_condition (map-Link Expr Link Condition Conjunct condition_of conjunct_of x))
-    → OperandIsSame (roll-Link x)
-rolled-operand x same =
-    ap (λ (joint : Joint). joint.operand) (fold-roll-Link Piece Joint piece_step link_step x) ∙ same
-    ∙ sym (ap operand_of (fold-roll-Link Condition Conjunct condition_step link_condition x))
+operand-layer : (y : Link-F FormedExpr FormedPassed FormedLink)
+    → (link_step (map-Link Expr Passed Link Piece PassedPiece Joint piece_of passed_piece_of joint_of (bare_link y))).operand
+    ≡ operand_of (link_condition (map-Link Expr Passed Link Condition (Unit {0}) Conjunct condition_of (λ p. tt) conjunct_of (bare_link y)))
+operand-layer y = ap (λ (form : Form). record { operation = y.operation; form = form }) y.operand.1.form
 
-pub form-same : (e : Expr) → FormIsSame e
+rolled-form : (x : Expr-F Expr Passed Link)
+    → (piece_step (map-Expr Expr Passed Link Piece PassedPiece Joint piece_of passed_piece_of joint_of x)).form
+    ≡ (condition_step (map-Expr Expr Passed Link Condition (Unit {0}) Conjunct condition_of (λ p. tt) conjunct_of x)).form
+    → (piece_step (map-Expr Expr Passed Link Piece PassedPiece Joint piece_of passed_piece_of joint_of x)).holds_call
+    ≡ expression_holds_call (map-Expr Expr Passed Link Bool Bool Bool holds_call passed_holds_call link_holds_call_of x)
+    → IsFormed (roll-Expr x)
+rolled-form x same holds = record {
+  form = ap (λ (piece : Piece). piece.form) (fold-roll-Expr Piece PassedPiece Joint piece_step passed_step link_step x) ∙ same
+      ∙ sym (ap (λ (condition : Condition). condition.form)
+      (fold-roll-Expr Condition (Unit {0}) Conjunct condition_step passed_condition link_condition x));
+  holds = ap (λ (piece : Piece). piece.holds_call) (fold-roll-Expr Piece PassedPiece Joint piece_step passed_step link_step x) ∙ holds
+      ∙ sym (fold-roll-Expr Bool Bool Bool expression_holds_call passed_step_holds_call link_holds_call x);
+}
+
+rolled-passed_form : (x : Passed-F Expr Passed Link)
+    → (passed_step (map-Passed Expr Passed Link Piece PassedPiece Joint piece_of passed_piece_of joint_of x)).holds_call
+    ≡ passed_step_holds_call (map-Passed Expr Passed Link Bool Bool Bool holds_call passed_holds_call link_holds_call_of x)
+    → IsPassedSo (roll-Passed x)
+rolled-passed_form x holds =
+    ap (λ (piece : PassedPiece). piece.holds_call) (fold-roll-Passed Piece PassedPiece Joint piece_step passed_step link_step x) ∙ holds
+    ∙ sym (fold-roll-Passed Bool Bool Bool expression_holds_call passed_step_holds_call link_holds_call x)
+
+rolled-operand : (x : Link-F Expr Passed Link)
+    → (link_step (map-Link Expr Passed Link Piece PassedPiece Joint piece_of passed_piece_of joint_of x)).operand
+    ≡ operand_of (link_condition (map-Link Expr Passed Link Condition (Unit {0}) Conjunct condition_of (λ p. tt) conjunct_of x))
+    → (piece_of x.operand).holds_call ≡ holds_call x.operand
+    → IsJoined (roll-Link x)
+rolled-operand x same holds = record {
+  operand = ap (λ (joint : Joint). joint.operand) (fold-roll-Link Piece PassedPiece Joint piece_step passed_step link_step x) ∙ same
+      ∙ sym (ap operand_of (fold-roll-Link Condition (Unit {0}) Conjunct condition_step passed_condition link_condition x));
+  holds = ap (λ (joint : Joint). joint.holds_call) (fold-roll-Link Piece PassedPiece Joint piece_step passed_step link_step x) ∙ holds
+      ∙ sym (fold-roll-Link Bool Bool Bool expression_holds_call passed_step_holds_call link_holds_call x);
+}
+
+pub form-same : (e : Expr) → IsFormed e
 form-same =
-    ind-Expr FormIsSame OperandIsSame
-    (λ x y is. subst (λ (z : Expr-F Expr Link). FormIsSame (roll-Expr z)) is (rolled-form (bare_expr y) (form-layer y)))
-    (λ x y is. subst (λ (z : Link-F Expr Link). OperandIsSame (roll-Link z)) is (rolled-operand (bare_link y) (operand-layer y)))
+    ind-Expr IsFormed IsPassedSo IsJoined
+    (λ x y is. subst (λ (z : Expr-F Expr Passed Link). IsFormed (roll-Expr z)) is (rolled-form (bare_expr y) (form-layer y) (holds-layer y)))
+    (λ x y is. subst (λ (z : Passed-F Expr Passed Link). IsPassedSo (roll-Passed z)) is (rolled-passed_form (bare_passed y) (passed-layer y)))
+    (λ x y is. subst (λ (z : Link-F Expr Passed Link). IsJoined (roll-Link z)) is (rolled-operand (bare_link y) (operand-layer y) y.operand.1.holds))
 
 -- the bound of the form of an expression
 pub bound-same : (e : Expr) → bound_of (piece_of e).form ≡ bound_form e
-bound-same e = ap bound_of (form-same e)
+bound-same e = ap bound_of (form-same e).form
 
-module _ (world : World) (env : Environment) (shows : Shows (variables_in world) env) where
+-- index expressions hold a call where the walk knows it
+pub indexes-hold : (indexes : List Expr) → walk.hold_call (walk.index_pieces indexes) ≡ hold_call indexes
+indexes-hold [] = refl
+indexes-hold (index ∷ indexes) = either (form-same index).holds (indexes-hold indexes)
+
+module _ (world : World) (block : ℕ) (env : Surroundings) (laws : CallLaws world) (calls : SoundCalls world env.calls) where
+  abbrev visible : Environment
+  visible = env.visible
+
+  abbrev outline : Outline
+  outline = outline_of world.tree
+
   abbrev well_expr : Expr → Bool
-  well_expr = is_well_formed_expr (declared_in world) (types_in world) world.sites
+  well_expr = is_well_formed_expr outline block
 
   abbrev well_link : Link → Bool
-  well_link = is_well_formed_link (declared_in world) (types_in world) world.sites
+  well_link = is_well_formed_link outline block
 
   -- ---- expressions
 
   -- the walk of an expression tells of its value
   abbrev SoundValue : Bool → Evaluation → Walking Known → Type 0
-  SoundValue well evaluation walking = well ≡ true → Sound world env IsKnown (evaluation env) walking
+  SoundValue well evaluation walking = well ≡ true → Sound world block visible IsValue (evaluation env) walking
 
   abbrev SoundLink : Bool → meaning.Combination → walk.Combination → Type 0
-  SoundLink well combination walking = well ≡ true → (known : Known) (v : Value) → IsKnown known v → Sound world env IsKnown (combination env v) (walking known)
+  SoundLink well combination walking = well ≡ true → (known : Known) (v : Value) → IsKnown known v → Sound world block visible IsValue (combination env v) (walking known)
 
   abbrev ValueIsSound : Expr → Type 0
   ValueIsSound e = SoundValue (well_expr e) (value_of e) (value_walk e)
@@ -162,38 +239,38 @@ module _ (world : World) (env : Environment) (shows : Shows (variables_in world)
   turns-sound : (links : List ProvedLink)
       → SoundLink (all_hold (map well_link (map (λ l. l.0) links))) (meaning.in_turn (map link_of (map (λ l. l.0) links)))
       (walk.in_turn (map (λ joint. joint.combination) (map joint_of (map (λ l. l.0) links))))
-  turns-sound [] well known v inside = sound-give world env IsKnown v known inside
+  turns-sound [] well known v inside = sound-give world block visible IsValue v known (λ store. inside)
   turns-sound (link ∷ links) well known v inside =
       let later = map (λ (l : ProvedLink). l.0) links in
       let parts = and_parts (well_link link.0) (all_hold (map well_link later)) well in
-      sound-then world env IsKnown IsKnown (link_of link.0 env v) (meaning.in_turn (map link_of later) env) (link_walk link.0 known)
+      sound-then world block visible IsValue IsValue (link_of link.0 env v) (meaning.in_turn (map link_of later) env) (link_walk link.0 known)
       (walk.in_turn (map (λ joint. joint.combination) (map joint_of later)))
-      (link.1 parts.0 known v inside) (λ k w within. turns-sound links parts.1 k w within)
+      (link.1 parts.0 known v inside) (λ k w store within. turns-sound links parts.1 k w within)
 
   -- a layer of an expression, of which the parts are sound
   abbrev ExprLayer : Expr-F Expr Link → Type 0
   ExprLayer x =
-      SoundValue (expr_is_well_formed (declared_in world) (types_in world) world.sites (map-Expr Expr Link Bool Bool well_expr well_link x))
+      SoundValue (expr_is_well_formed outline block (map-Expr Expr Link Bool Bool well_expr well_link x))
       (meaning.value_step (map-Expr Expr Link Evaluation meaning.Combination value_of link_of x))
       (piece_step (map-Expr Expr Link Piece Joint piece_of joint_of x)).walk
 
   abbrev LinkLayer : Link-F Expr Link → Type 0
   LinkLayer x =
-      SoundLink (link_is_well_formed (declared_in world) (types_in world) world.sites (map-Link Expr Link Bool Bool well_expr well_link x))
+      SoundLink (link_is_well_formed outline block (map-Link Expr Link Bool Bool well_expr well_link x))
       (meaning.link_step (map-Link Expr Link Evaluation meaning.Combination value_of link_of x))
       (link_step (map-Link Expr Link Piece Joint piece_of joint_of x)).combination
 
   -- the index expressions of an access
-  index-sound : (e : Expr) → Sound world env IsKnown (value_of e env) (value_walk e) → IndexIsSound world env (value_of e) (piece_of e)
+  index-sound : (e : Expr) → Sound world block visible IsValue (value_of e env) (value_walk e) → IndexIsSound world block visible (value_of e) (piece_of e)
   index-sound e sound = record {
     sound = sound;
     leaves = λ s t v is. expression-kept e env s t v is;
     form = λ s t v is.
-        subst (λ (bound : Option Bound). IsOfForm (moment env t.store) bound v) (sym (bound-same e)) (form-known e env s t v is);
+        subst (λ (bound : Option Bound). IsOfForm (moment visible t.store) bound v) (sym (bound-same e)) (form-known e env s t v is);
   }
 
   proved-indexes : (parts : List ProvedExpr) → all_hold (map well_expr (map (λ e. e.0) parts)) ≡ true
-      → AllSound world env (map value_of (map (λ e. e.0) parts)) (map piece_of (map (λ e. e.0) parts))
+      → AllSound world block visible (map value_of (map (λ e. e.0) parts)) (map piece_of (map (λ e. e.0) parts))
   proved-indexes [] well = tt
   proved-indexes (one ∷ parts) well =
       let both = and_parts (well_expr one.0) (all_hold (map well_expr (map (λ (e : ProvedExpr). e.0) parts))) well in
@@ -203,69 +280,69 @@ module _ (world : World) (env : Environment) (shows : Shows (variables_in world)
   many-mapped f parts = length-map (map (λ (e : ProvedExpr). e.0) parts) f
 
   variable-sound : (access : Access) (expressions : List Expr) (pieces : List Piece) (site : ℕ)
-      → AllSound world env (map value_of expressions) pieces
-      → leads_to_ordinal (declared_in world) (types_in world) world.sites access.root access.selectors.items (length (map value_of expressions)) ≡ true
-      → site < world.sites
-      → Sound world env IsKnown (effect.◌>>=◌ (accessed access (map value_of expressions) env) (λ place. fetch place site))
+      → AllSound world block visible (map value_of expressions) pieces
+      → leads_to_ordinal outline block access.root access.selectors.items (length (map value_of expressions)) ≡ true
+      → site < (sites_in world)
+      → Sound world block visible IsValue (effect.◌>>=◌ (accessed access (map value_of expressions) env) (λ place. fetch place site))
       (walk.variable_walk access pieces site)
   variable-sound access expressions pieces site all well below =
       let evaluations = map value_of expressions in
       let selectors = access.selectors.items in
       let wanted = is_ordinal (types_in world) in
       let n = length evaluations in
-      let count = leads-count (declared_in world) (types_in world) world.sites wanted access.root selectors n well in
-      let tests = leads-tests (declared_in world) (types_in world) world.sites wanted access.root selectors n well in
-      let typed = leads-type (declared_in world) (types_in world) world.sites wanted access.root selectors n well in
-      let within = leads-within (declared_in world) (types_in world) world.sites wanted access.root selectors n well in
+      let count = leads-count outline block wanted access.root selectors n well in
+      let tests = leads-tests outline block wanted access.root selectors n well in
+      let typed = leads-type outline block wanted access.root selectors n well in
+      let within = leads-within outline block wanted access.root selectors n well in
       let action = accessed access evaluations env in
       let walking = walk.access_walk access pieces in
       let walk_next = λ (reach : Reach). walk.value_use access.root selectors reach site in
-      sound-anywhere world env IsKnown (effect.◌>>=◌ action (λ place. fetch place site)) (walk.◌>>=◌ walking walk_next)
+      sound-anywhere world block visible IsKnown (effect.◌>>=◌ action (λ place. fetch place site)) (walk.◌>>=◌ walking walk_next)
       (λ store.
-      sound-still world env store (Leads env access.root selectors store) IsKnown action (λ place. fetch place site) walking walk_next
-      (reached-sound world env shows access evaluations pieces all count tests store) (λ s t place is. access-kept access expressions env s t place is)
-      (λ reach place s t is from leads. used-sound world env shows access.root selectors site typed within below store reach place leads))
+      sound-still world env store (Leads env access.root selectors store) IsValue action (λ place. fetch place site) walking walk_next
+      (reached-sound world block env access evaluations pieces all count tests store) (λ s t place is. access-kept access expressions env s t place is)
+      (λ reach place s t is from leads. used-sound world block env access.root selectors site typed within below store reach place leads))
 
   -- the index expressions that count, and the whole value
   whole-sound : (value : Whole) (indexes : List ProvedExpr)
       → all_hold (whole_indexes value (map well_expr (map (λ e. e.0) indexes))) ≡ true
-      → is_well_formed_whole (declared_in world) (types_in world) world.sites value (length (map (λ e. e.0) indexes)) ≡ true
-      → Sound world env (IsWhole (types_in world) value) (meaning.whole_of value (map value_of (map (λ e. e.0) indexes)) env)
+      → is_well_formed_whole outline block value (length (map (λ e. e.0) indexes)) ≡ true
+      → Sound world block visible (IsWholeIn world block env value) (meaning.whole_of value (map value_of (map (λ e. e.0) indexes)) env)
       (walk.whole_walk value (map piece_of (map (λ e. e.0) indexes)))
-  whole-sound (Text number text) indexes counted well = string-sound world env shows number text well
+  whole-sound (Text number text) indexes counted well = string-sound world block env number text well
   whole-sound (VariableOf access type_id cells defined) indexes counted well =
       let expressions = map (λ (e : ProvedExpr). e.0) indexes in
-      stored-sound world env shows access type_id cells defined (map value_of expressions) (map piece_of expressions) (proved-indexes indexes counted)
+      stored-sound world block env access type_id cells defined (map value_of expressions) (map piece_of expressions) (proved-indexes indexes counted)
       (λ s t place is. access-kept access expressions env s t place is)
-      (subst (λ (n : ℕ). is_well_formed_whole (declared_in world) (types_in world) world.sites (VariableOf access type_id cells defined) n ≡ true)
+      (subst (λ (n : ℕ). is_well_formed_whole outline block (VariableOf access type_id cells defined) n ≡ true)
       (sym (many-mapped value_of indexes)) well)
 
   value-layer : (y : Expr-F ProvedExpr ProvedLink) → ExprLayer (map-Expr ProvedExpr ProvedLink Expr Link (λ e. e.0) (λ l. l.0) y)
   value-layer (Constant number value) well =
-      entered-sound world env shows IsKnown number (effect.give (Number value)) (walk.ordinal (record { first = value; last = value }))
-      (given-sound world env (record { first = value; last = value }) value (constant-in value))
+      entered-sound world block visible IsValue number (effect.give (Number value)) (walk.ordinal (record { first = value; last = value }))
+      (given-sound world block visible (record { first = value; last = value }) value (constant-in value))
   value-layer (Variable access indexes defined) well =
       let expressions = map (λ (e : ProvedExpr). e.0) indexes.items in
-      let leads = leads_to_ordinal (declared_in world) (types_in world) world.sites access.root access.selectors.items in
+      let leads = leads_to_ordinal outline block access.root access.selectors.items in
       let counted = all_hold (map well_expr expressions) in
       let many = length (map well_expr expressions) in
-      let parts = and_parts counted (leads many && nat_lt defined world.sites) well in
-      let both = and_parts (leads many) (nat_lt defined world.sites) parts.1 in
+      let parts = and_parts counted (leads many && nat_lt defined (sites_in world)) well in
+      let both = and_parts (leads many) (nat_lt defined (sites_in world)) parts.1 in
       variable-sound access expressions (map piece_of expressions) defined (proved-indexes indexes.items parts.0)
       (subst (λ (n : ℕ). leads n ≡ true) (many-mapped well_expr indexes.items ∙ sym (many-mapped value_of indexes.items)) both.0)
-      (ltb-true defined world.sites both.1)
+      (ltb-true defined (sites_in world) both.1)
   value-layer (MonadicOf number operation operand) well =
-      let parts = and_parts (monadic_is_well_formed (declared_in world) (types_in world) world.sites operation) (well_expr operand.value.0) well in
-      entered-sound world env shows IsKnown number (effect.◌>>=◌ (value_of operand.value.0 env) (meaning.operated operation))
+      let parts = and_parts (monadic_is_well_formed outline block operation) (well_expr operand.value.0) well in
+      entered-sound world block visible IsValue number (effect.◌>>=◌ (value_of operand.value.0 env) (meaning.operated operation))
       (walk.◌>>=◌ (value_walk operand.value.0) (walk.operated operation))
-      (sound-then world env IsKnown IsKnown (value_of operand.value.0 env) (meaning.operated operation) (value_walk operand.value.0) (walk.operated operation)
-      (operand.value.1 parts.1) (λ known v inside. operated-sound world env operation known v parts.0 inside))
+      (sound-then world block visible IsValue IsValue (value_of operand.value.0 env) (meaning.operated operation) (value_walk operand.value.0) (walk.operated operation)
+      (operand.value.1 parts.1) (λ known v store inside. operated-sound world block visible operation known v parts.0 inside))
   value-layer (Chain first rest) well =
       let links = map (λ (l : ProvedLink). l.0) rest.items in
       let parts = and_parts (well_expr first.value.0) (all_hold (map well_link links)) well in
-      sound-then world env IsKnown IsKnown (value_of first.value.0 env) (meaning.in_turn (map link_of links) env) (value_walk first.value.0)
+      sound-then world block visible IsValue IsValue (value_of first.value.0 env) (meaning.in_turn (map link_of links) env) (value_walk first.value.0)
       (walk.in_turn (map (λ joint. joint.combination) (map joint_of links)))
-      (first.value.1 parts.0) (λ known v inside. turns-sound rest.items parts.1 known v inside)
+      (first.value.1 parts.0) (λ known v store inside. turns-sound rest.items parts.1 known v inside)
   value-layer (Compare number relation left left_indexes right right_indexes) well =
       let left_expressions = map (λ (e : ProvedExpr). e.0) left_indexes.items in
       let right_expressions = map (λ (e : ProvedExpr). e.0) right_indexes.items in
@@ -273,7 +350,7 @@ module _ (world : World) (env : Environment) (shows : Shows (variables_in world)
       let right_values = map value_of right_expressions in
       let left_pieces = map piece_of left_expressions in
       let right_pieces = map piece_of right_expressions in
-      let is_well = is_well_formed_whole (declared_in world) (types_in world) world.sites in
+      let is_well = is_well_formed_whole outline block in
       let left_counted = all_hold (whole_indexes left (map well_expr left_expressions)) in
       let right_counted = all_hold (whole_indexes right (map well_expr right_expressions)) in
       let left_well = is_well left (length (map well_expr left_expressions)) in
@@ -288,15 +365,15 @@ module _ (world : World) (env : Environment) (shows : Shows (variables_in world)
       let right_sized : is_well right (length right_expressions) ≡ true =
       subst (λ (n : ℕ). is_well right n ≡ true) (many-mapped well_expr right_indexes.items) four.0 in
       let compares = λ (a : List ℤ). effect.◌>>=◌ (meaning.whole_of right right_values env) (λ b. effect.give (meaning.compared relation a b)) in
-      let behind = λ (a : List ℤ). effect.◌>>=◌ (effect.enter number env) (λ done. compares a) in
+      let behind = λ (a : List ℤ). effect.◌>>=◌ (effect.enter number visible) (λ done. compares a) in
       let walked = walk.◌>>=◌ (walk.whole_walk right right_pieces) (λ done. walk.ordinal truth_values) in
-      sound-then world env (IsWhole (types_in world) left) IsKnown (meaning.whole_of left left_values env) behind
+      sound-then world block visible (IsWholeIn world block env left) IsValue (meaning.whole_of left left_values env) behind
       (walk.whole_walk left left_pieces) (λ done. walk.◌>>=◌ (walk.enter number) (λ done. walked)) (whole-sound left left_indexes.items one.0 left_sized)
-      (λ b a tie. entered-sound world env shows IsKnown number (compares a) walked
-      (sound-then world env (IsWhole (types_in world) right) IsKnown (meaning.whole_of right right_values env)
+      (λ b a store tie. entered-sound world block visible IsValue number (compares a) walked
+      (sound-then world block visible (IsWholeIn world block env right) IsValue (meaning.whole_of right right_values env)
       (λ b. effect.give (meaning.compared relation a b))
       (walk.whole_walk right right_pieces) (λ done. walk.ordinal truth_values) (whole-sound right right_indexes.items three.0 right_sized)
-      (λ c b tie. given-sound world env truth_values (truth (meaning.relates relation (meaning.order_of a b) (pos 0)))
+      (λ c b store tie. given-sound world block visible truth_values (truth (meaning.relates relation (meaning.order_of a b) (pos 0)))
       (truth_values-has (meaning.relates relation (meaning.order_of a b) (pos 0))))))
 
   link-layer : (y : Link-F ProvedExpr ProvedLink) → LinkLayer (map-Link ProvedExpr ProvedLink Expr Link (λ e. e.0) (λ l. l.0) y)
@@ -304,10 +381,10 @@ module _ (world : World) (env : Environment) (shows : Shows (variables_in world)
       let right = y.operand.0 in
       let meant = meaning.combined y.operation v in
       let walked = walk.combined y.operation known in
-      let parts = and_parts (dyadic_is_well_formed (declared_in world) (types_in world) world.sites y.operation) (well_expr right) well in
-      entered-sound world env shows IsKnown y.number (effect.◌>>=◌ (value_of right env) meant) (walk.◌>>=◌ (value_walk right) walked)
-      (sound-then world env IsKnown IsKnown (value_of right env) meant (value_walk right) walked
-      (y.operand.1 parts.1) (λ k w is. combined-sound world env y.operation known k v w parts.0 inside is))
+      let parts = and_parts (dyadic_is_well_formed outline block y.operation) (well_expr right) well in
+      entered-sound world block visible IsValue y.number (effect.◌>>=◌ (value_of right env) meant) (walk.◌>>=◌ (value_walk right) walked)
+      (sound-then world block visible IsValue IsValue (value_of right env) meant (value_walk right) walked
+      (y.operand.1 parts.1) (λ k w store is. combined-sound world block visible y.operation known k v w parts.0 inside is))
 
   -- by what the three folds are at a form
   along-value : {a b : Bool} {evaluation evaluated : Evaluation} {walking walked : Walking Known} → a ≡ b → evaluation ≡ evaluated → walking ≡ walked
@@ -325,16 +402,16 @@ module _ (world : World) (env : Environment) (shows : Shows (variables_in world)
   rolled-expr : (x : Expr-F Expr Link) → ExprLayer x → ValueIsSound (roll-Expr x)
   rolled-expr x =
       along-value
-      (fold-roll-Expr Bool Bool (expr_is_well_formed (declared_in world) (types_in world) world.sites)
-      (link_is_well_formed (declared_in world) (types_in world) world.sites) x)
+      (fold-roll-Expr Bool Bool (expr_is_well_formed outline block)
+      (link_is_well_formed outline block) x)
       (fold-roll-Expr Evaluation meaning.Combination meaning.value_step meaning.link_step x)
       (ap (λ (piece : Piece). piece.walk) (fold-roll-Expr Piece Joint piece_step link_step x))
 
   rolled-link : (x : Link-F Expr Link) → LinkLayer x → LinkIsSound (roll-Link x)
   rolled-link x =
       along-link
-      (fold-roll-Link Bool Bool (expr_is_well_formed (declared_in world) (types_in world) world.sites)
-      (link_is_well_formed (declared_in world) (types_in world) world.sites) x)
+      (fold-roll-Link Bool Bool (expr_is_well_formed outline block)
+      (link_is_well_formed outline block) x)
       (fold-roll-Link Evaluation meaning.Combination meaning.value_step meaning.link_step x)
       (ap (λ (joint : Joint). joint.combination) (fold-roll-Link Piece Joint piece_step link_step x))
 
@@ -352,85 +429,85 @@ module _ (world : World) (env : Environment) (shows : Shows (variables_in world)
 
   -- ---- accesses and whole values
 
-  all-indexes : (indexes : List Expr) → are_well_formed (declared_in world) (types_in world) world.sites indexes ≡ true
-      → AllSound world env (values_of indexes) (walk.index_pieces indexes)
+  all-indexes : (indexes : List Expr) → are_well_formed outline block indexes ≡ true
+      → AllSound world block visible (values_of indexes) (walk.index_pieces indexes)
   all-indexes [] well = tt
   all-indexes (index ∷ indexes) well =
-      let both = and_parts (well_expr index) (are_well_formed (declared_in world) (types_in world) world.sites indexes) well in
+      let both = and_parts (well_expr index) (are_well_formed outline block indexes) well in
       (index-sound index (value-sound index both.0), all-indexes indexes both.1)
 
   -- an access, which leads to what is wanted: what is reached there, in the store that it leaves as it is
   pub access-sound : (access : Access) (indexes : List Expr) (wanted : TypeId → Bool)
-      → are_well_formed (declared_in world) (types_in world) world.sites indexes ≡ true
-      → leads_to (declared_in world) (types_in world) world.sites wanted access.root access.selectors.items (length indexes) ≡ true
+      → are_well_formed outline block indexes ≡ true
+      → leads_to outline block wanted access.root access.selectors.items (length indexes) ≡ true
       → (store : Store)
-      → SoundFrom world env store (Leads env access.root access.selectors.items store) (accessed access (values_of indexes) env)
+      → SoundFrom world block visible store (Leads env access.root access.selectors.items store) (accessed access (values_of indexes) env)
       (walk.access_walk access (walk.index_pieces indexes))
   access-sound access indexes wanted well leads store =
       let selectors = access.selectors.items in
-      reached-sound world env shows access (values_of indexes) (walk.index_pieces indexes) (all-indexes indexes well)
-      (length-map indexes value_of ∙ leads-count (declared_in world) (types_in world) world.sites wanted access.root selectors (length indexes) leads)
-      (leads-tests (declared_in world) (types_in world) world.sites wanted access.root selectors (length indexes) leads) store
+      reached-sound world block env access (values_of indexes) (walk.index_pieces indexes) (all-indexes indexes well)
+      (length-map indexes value_of ∙ leads-count outline block wanted access.root selectors (length indexes) leads)
+      (leads-tests outline block wanted access.root selectors (length indexes) leads) store
 
   -- the numbers of a whole value lie in the ranges that the walk tells
-  pub whole_value-sound : (value : Whole) (indexes : List Expr) → is_well_formed_value (declared_in world) (types_in world) world.sites value indexes ≡ true
-      → Sound world env (IsWhole (types_in world) value) (meaning.whole_of value (values_of indexes) env) (walk.whole_walk value (walk.index_pieces indexes))
+  pub whole_value-sound : (value : Whole) (indexes : List Expr) → is_well_formed_value outline block value indexes ≡ true
+      → Sound world block visible (IsWholeIn world block env value) (meaning.whole_of value (values_of indexes) env) (walk.whole_walk value (walk.index_pieces indexes))
   whole_value-sound (Text number text) indexes well =
-      string-sound world env shows number text
-      (and_parts true (is_well_formed_whole (declared_in world) (types_in world) world.sites (Text number text) (length indexes)) well).1
+      string-sound world block env number text
+      (and_parts true (is_well_formed_whole outline block (Text number text) (length indexes)) well).1
   whole_value-sound (VariableOf access type_id cells defined) indexes well =
-      let is_well = is_well_formed_whole (declared_in world) (types_in world) world.sites (VariableOf access type_id cells defined) in
-      let both = and_parts (are_well_formed (declared_in world) (types_in world) world.sites indexes) (is_well (length indexes)) well in
-      stored-sound world env shows access type_id cells defined (values_of indexes) (walk.index_pieces indexes) (all-indexes indexes both.0)
+      let is_well = is_well_formed_whole outline block (VariableOf access type_id cells defined) in
+      let both = and_parts (are_well_formed outline block indexes) (is_well (length indexes)) well in
+      stored-sound world block env access type_id cells defined (values_of indexes) (walk.index_pieces indexes) (all-indexes indexes both.0)
       (λ s t place is. access-kept access indexes env s t place is)
       (subst (λ (n : ℕ). is_well n ≡ true) (sym (length-map indexes value_of)) both.1)
 
   -- ---- values that are written
 
   -- a width that has to be at least 1
-  width-tested : (site : ℕ) (known : Known) (w : Value) → nat_lt site world.sites ≡ true → IsKnown known w
-      → Sound {B = Unit {0}} world env Any_value (effect.◌>>=◌ (effect.require (is_positive w) site) (λ tested. effect.give w)) (walk.width_test site known)
+  width-tested : (site : ℕ) (known : Known) (w : Value) → nat_lt site (sites_in world) ≡ true → IsKnown known w
+      → Sound {B = Unit {0}} world block visible Any_value (effect.◌>>=◌ (effect.require (is_positive w) site) (λ tested. effect.give w)) (walk.width_test site known)
   width-tested site (Ordinal range) w below inside =
-      sound-then {D = Unit {0}} world env (Passes (is_positive w) w) Any_value (effect.require (is_positive w) site) (λ tested. effect.give w)
+      sound-then {D = Unit {0}} world block visible (Passes (is_positive w) w) Any_value (effect.require (is_positive w) site) (λ tested. effect.give w)
       (walk.positive site range) (λ passed. walk.give tt)
-      (positive-sound world env site range w (ltb-true site world.sites below) inside)
-      (λ passed tested passes. sound-give {B = Unit {0}} world env Any_value w tt tt)
+      (positive-sound world block visible site range w (ltb-true site (sites_in world) below) inside)
+      (λ passed tested passes. sound-give {B = Unit {0}} world block visible Any_value w tt tt)
 
-  width-sound : (width : Option Width) (default : ℤ) → is_well_formed_width (declared_in world) (types_in world) world.sites width ≡ true
-      → Sound {B = Unit {0}} world env Any_value (width_of width default env) (width_walk width)
-  width-sound None default well = sound-give {B = Unit {0}} world env Any_value (Number default) tt tt
+  width-sound : (width : Option Width) (default : ℤ) → is_well_formed_width outline block width ≡ true
+      → Sound {B = Unit {0}} world block visible Any_value (width_of width default env) (width_walk width)
+  width-sound None default well = sound-give {B = Unit {0}} world block visible Any_value (Number default) tt tt
   width-sound (Some width) default well =
-      let parts = and_parts (nat_lt width.site world.sites) (well_expr width.value) well in
+      let parts = and_parts (nat_lt width.site (sites_in world)) (well_expr width.value) well in
       let tests = λ (w : Value). effect.◌>>=◌ (effect.require (is_positive w) width.site) (λ tested. effect.give w) in
-      sound-then {D = Unit {0}} world env IsKnown Any_value (value_of width.value env) tests (value_walk width.value) (walk.width_test width.site)
+      sound-then {D = Unit {0}} world block visible IsKnown Any_value (value_of width.value env) tests (value_walk width.value) (walk.width_test width.site)
       (value-sound width.value parts.1) (λ known w inside. width-tested width.site known w parts.0 inside)
 
   -- a value that is written, and its width
-  written-sound : (value : Written) (width : Option Width) → is_well_formed_written (declared_in world) (types_in world) world.sites value ≡ true
-      → is_well_formed_width (declared_in world) (types_in world) world.sites width ≡ true
-      → SoundAction world env (written_of value width env) (walk.◌>>=◌ (walk.written_walk value) (λ done. width_walk width))
+  written-sound : (value : Written) (width : Option Width) → is_well_formed_written outline block value ≡ true
+      → is_well_formed_width outline block width ≡ true
+      → SoundAction world block visible (written_of value width env) (walk.◌>>=◌ (walk.written_walk value) (λ done. width_walk width))
   written-sound (written.Ordinal value representation) width well wide =
       let default = meaning.default_width representation in
-      sound-then world env Any_value Any_value (value_of value env)
+      sound-then world block visible Any_value Any_value (value_of value env)
       (λ v. effect.◌>>=◌ (width_of width default env) (λ w. effect.write (text_of representation v w)))
       (walk.written_walk (written.Ordinal value representation)) (λ done. width_walk width)
-      (sound-named world env IsKnown Any_value (λ known. tt) (λ known v inside. tt) (value_of value env) (value_walk value) (value-sound value well))
-      (λ done v tie. sound-written world env Any_value (text_of representation v) (width_of width default env) (width_walk width)
+      (sound-named world block visible IsKnown Any_value (λ known. tt) (λ known v inside. tt) (value_of value env) (value_walk value) (value-sound value well))
+      (λ done v tie. sound-written world block visible Any_value (text_of representation v) (width_of width default env) (width_walk width)
       (width-sound width default wide))
   written-sound (written.String value indexes) width well wide =
       let default = pos (length_of value) in
       let expressions = indexes.items in
-      sound-then world env Any_value Any_value (meaning.whole_of value (values_of expressions) env)
+      sound-then world block visible Any_value Any_value (meaning.whole_of value (values_of expressions) env)
       (λ row. effect.◌>>=◌ (width_of width default env) (λ w. effect.write (row_text row w)))
       (walk.written_walk (written.String value indexes)) (λ done. width_walk width)
-      (sound-named world env (IsWhole (types_in world) value) Any_value (λ ranges. tt) (λ ranges row tie. tt)
+      (sound-named world block visible (IsWholeIn world block env value) Any_value (λ ranges. tt) (λ ranges row tie. tt)
       (meaning.whole_of value (values_of expressions) env) (walk.whole_walk value (walk.index_pieces expressions)) (whole_value-sound value expressions well))
-      (λ done row tie. sound-written world env Any_value (row_text row) (width_of width default env) (width_walk width)
+      (λ done row tie. sound-written world block visible Any_value (row_text row) (width_of width default env) (width_walk width)
       (width-sound width default wide))
 
-  pub parameter-sound : (parameter : WriteParameter) → is_well_formed_parameter (declared_in world) (types_in world) world.sites parameter ≡ true
-      → SoundAction world env (parameter_of parameter env) (parameter_walk parameter)
+  pub parameter-sound : (parameter : WriteParameter) → is_well_formed_parameter outline block parameter ≡ true
+      → SoundAction world block visible (parameter_of parameter env) (parameter_walk parameter)
   parameter-sound parameter well =
-      let parts = and_parts (is_well_formed_written (declared_in world) (types_in world) world.sites parameter.value)
-      (is_well_formed_width (declared_in world) (types_in world) world.sites parameter.width) well in
+      let parts = and_parts (is_well_formed_written outline block parameter.value)
+      (is_well_formed_width outline block parameter.width) well in
       written-sound parameter.value parameter.width parts.0 parts.1
