@@ -1,4 +1,5 @@
 pub mod Entered
+pub mod Fitting
 pub mod Forms
 pub mod Held
 pub mod RowUses
