@@ -9,3 +9,5 @@ pub mod SoundExpressions
 pub mod SoundOperations
 pub mod SoundRows
 pub mod Steps
+pub mod EffectsKept
+pub mod EffectsCalls
