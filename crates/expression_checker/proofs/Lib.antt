@@ -11,3 +11,4 @@ pub mod SoundRows
 pub mod Steps
 pub mod EffectsKept
 pub mod EffectsCalls
+pub mod Effects
