@@ -19,3 +19,4 @@ pub mod StepsStores
 pub mod Stored
 pub mod Targets
 pub mod Written
+pub mod EffectsStatements
