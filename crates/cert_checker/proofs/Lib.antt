@@ -20,3 +20,5 @@ pub mod Stored
 pub mod Targets
 pub mod Written
 pub mod EffectsStatements
+pub mod EffectsParameters
+pub mod EffectsRoutines
