@@ -2,7 +2,7 @@
 -- values are passed to them, no place is written but those of the activation.
 use Rattle.std.specs.Prelude.{if◌then◌else◌, slice_get}
 use Rattle.std.specs.Cmp.Lexicographic.{pointwise}
-use Rattle.std.proofs.Common.{arith, ◌≡◌, ◌⊎◌, inl, inr, ⊎_elim, ℕ, zero, suc, ◌+◌, ◌<◌, ◌≤◌, zero-add, List, [], ◌∷◌, Bool, true, false, ◌&&◌, ◌||◌}
+use Rattle.std.proofs.Common.{arith, ◌≡◌, ◌⊎◌, inl, inr, ⊎_elim, ℕ, suc, ◌+◌, zero-add, List, [], ◌∷◌, Bool, true, false, ◌&&◌, ◌||◌}
 use Rattle.std.proofs.Common.{Option, Some, None, nat_eq, refl, sym, ap, ◌∙◌, subst}
 use Rattle.std.proofs.lemmas.Bool.{and_parts, cases_Bool, eq-eqb, eqb-true, false≢true, or_cases}
 use Rattle.types.specs.Components.{components_of}
@@ -18,13 +18,12 @@ use Rattle.typed_tree.proofs.Blocks.{is_well_formed_at}
 use Rattle.meaning.specs.Store.{Environment, Place}
 use Rattle.meaning.specs.Effect.{Action, give, store}
 use Rattle.meaning.specs.Effect as effect
-use Rattle.meaning.specs.Meaning.{Activation, Argument, OfPlace, OfRow, OfValue, assign, assign_all, environment_of, home_of, own_place, place_for}
+use Rattle.meaning.specs.Meaning.{Activation, Argument, OfPlace, OfRow, OfValue, assign, assign_all, home_of, own_place, place_for}
 use Rattle.meaning.specs.Meaning.{place_passed, seen_from}
 use Rattle.abstract_state.specs.Loops.{is_among}
-use Rattle.call_states.specs.Sections.{BlockClaims, block_claims_at}
-use Rattle.call_states.specs.Starts.{is_own}
+use Rattle.call_states.specs.Sections.{BlockClaims}
 use Rattle.expression_checker.proofs.EffectsKept.{IsOwn, Keeps, MayWriteTo, Standing, keeps-give, keeps-store, keeps-store_all, keeps-then, own-write}
-use Rattle.expression_checker.proofs.EffectsCalls.{DeclareTheirs, Grounds, activation_from, standing_from}
+use Rattle.expression_checker.proofs.EffectsCalls.{DeclareTheirs, Grounds, activation_from, not-among, standing_from}
 
 -- ---- blocks of a well formed tree
 
@@ -99,9 +98,6 @@ found-where test start (first ∷ variables) root among =
 abbrev AreApart : List ℕ → Type 0
 AreApart [] = Unit {0}
 AreApart (root ∷ roots) = (is_among root roots ≡ false) × AreApart roots
-
-not-among : (root : ℕ) (roots : List ℕ) → (is_among root roots ≡ true → ⊥) → is_among root roots ≡ false
-not-among root roots other = ⊎_elim (λ is. absurd (other is)) (λ is. is) (cases_Bool (is_among root roots))
 
 apart-by : (passes : Bool) (start : ℕ) (roots : List ℕ) → (is_among start roots ≡ true → ⊥) → AreApart roots
     → AreApart (if passes then start ∷ roots else roots)

@@ -1,9 +1,9 @@
 -- Calls change what their blocks list alone, and what lies in activations that begin in them, where the walk over the program
 -- breaks no rule: by the depth of activations in one another.
 use Rattle.std.specs.Prelude.{slice_get}
-use Rattle.std.specs.List.{range_with_len}
-use Rattle.std.proofs.Common.{arith, ◌≡◌, ◌≢◌, ◌⊎◌, inl, inr, ⊎_elim, ℕ, zero, suc, ◌+◌, ◌<◌, ◌≤◌, zero-add, List, [], ◌∷◌, Bool, Option, Some, None, map, length}
-use Rattle.std.proofs.Common.{refl, sym, ap, ◌∙◌, subst}
+use Rattle.std.proofs.Common.{arith, ◌≡◌, inl, inr, ⊎_elim, ℕ, zero, suc, ◌+◌, ◌<◌, ◌≤◌, zero-add, List, [], ◌∷◌}
+use Rattle.std.proofs.Common.{Option, Some, None, length}
+use Rattle.std.proofs.Common.{refl, sym, ap, subst}
 use Rattle.std.proofs.lemmas.Bool.{cases_lt}
 use Rattle.std.proofs.lemmas.List.FromFn.{get_or-map-range_with_len}
 use Rattle.std.proofs.lemmas.Option.{slice_get_within}
@@ -13,21 +13,19 @@ use Rattle.typed_tree.specs.declared.tree.Tree.{Tree}
 use Rattle.typed_tree.specs.declared.tree.Block.{Block}
 use Rattle.typed_tree.specs.declared.tree.FunctionResult.{FunctionResult}
 use Rattle.typed_tree.specs.WellFormed.{IsWellFormed}
-use Rattle.meaning.specs.declared.outcome.Ending.TheVariants as ending
 use Rattle.meaning.specs.declared.store.Value.{Value}
 use Rattle.meaning.specs.declared.store.Value.TheVariants.{Number}
-use Rattle.meaning.specs.Store.{Environment, Place, stored}
+use Rattle.meaning.specs.Store.{Environment}
 use Rattle.meaning.specs.Effect.{Action, State, and_then, begin_with, end_with, give}
 use Rattle.meaning.specs.Effect as effect
 use Rattle.meaning.specs.Meaning.{Argument, Calls, activated, calls_of, environment_of, executed, result_of}
 use Rattle.meaning.specs.Laws.{state_after}
-use Rattle.call_states.specs.Environments.{IsListed, Leaves}
+use Rattle.call_states.specs.Environments.{Leaves}
 use Rattle.call_states.specs.Sections.{BlockClaims, all_block_claims, block_claims_at, block_claims_in, no_block_claims}
 use Rattle.expression_checker.specs.Walk.{Context, Walking}
 use Rattle.expression_checker.specs.Walk as flow
 use Rattle.cert_checker.specs.Promise.{CallsChangeWhatTheyList}
 use Rattle.cert_checker.specs.Walk.{begin, block_walk, blocks_walk, facts_given, first_context, program_walk, result_use, statement_walk}
-use Rattle.abstract_state.specs.State as variables
 use Rattle.component_states.specs.States.{dead}
 use Rattle.expression_checker.specs.declared.fault.Rule.TheVariants.{Exit}
 use Rattle.expression_checker.proofs.EffectsKept.{Keeps, Leaving, Standing, keeps-fetch, keeps-give, keeps-then, leaves-itself, leaves-same, leaves-then}

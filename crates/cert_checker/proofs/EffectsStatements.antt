@@ -2,7 +2,8 @@
 -- undefined, is one of the block's own.
 use Rattle.std.specs.Prelude.{if◌then◌else◌, nat_lt, slice_get}
 use Rattle.std.specs.List.{list_all}
-use Rattle.std.proofs.Common.{arith, ◌≡◌, ℕ, ℤ, ◌≤◌, List, [], ◌∷◌, ◌++◌, Bool, true, false, ◌&&◌, ◌||◌, Option, Some, None, Vec, Global, drop, map, nat_eq, length}
+use Rattle.std.proofs.Common.{arith, ◌≡◌, ℕ, ℤ, List, [], ◌∷◌, ◌++◌, Bool, true, false, ◌&&◌, ◌||◌, Option, Some, None}
+use Rattle.std.proofs.Common.{Vec, Global, drop, map, nat_eq, length}
 use Rattle.std.proofs.Common.{refl, sym, ap, ◌∙◌, subst}
 use Rattle.std.proofs.lemmas.Bool.{and_from, and_parts}
 use Rattle.place.specs.declared.Place.{Place as SourcePlace}
@@ -45,7 +46,7 @@ use Rattle.domain.specs.Interval.{Interval, is_included}
 use Rattle.component_states.specs.Components.{Reach}
 use Rattle.component_states.specs.States.{State, over_bound, over_change, over_variables}
 use Rattle.structured_states.specs.Cases.{arm_start, constants_before}
-use Rattle.structured_states.specs.Loops.{Round, claims_at, limits_at, round_of, with_own, without_own}
+use Rattle.structured_states.specs.Loops.{claims_at, limits_at, round_of, with_own, without_own}
 use Rattle.structured_states.specs.Ways.{Way, next, turn_begun, turn_ended, way_of, way_out, where_counts}
 use Rattle.call_states.specs.Sections.{BlockClaims}
 use Rattle.call_states.specs.Starts.{is_own}
@@ -266,11 +267,11 @@ module _ (tree : Tree) (blocks : List BlockClaims) (declares : DeclareTheirs tre
 
   -- ---- for statements
 
-  declared-local : (root : ℕ) (found : Option DeclaredVariable)
+  declared-local : (found : Option DeclaredVariable)
       → of_one (λ variable. nat_eq variable.block block && is_local_kind variable.kind) found ≡ true
       → (variable : DeclaredVariable) × (found ≡ Some variable) × (is_own block variable ≡ true)
-  declared-local root None is = absurd (cc)
-  declared-local root (Some variable) is =
+  declared-local None is = absurd (cc)
+  declared-local (Some variable) is =
       let parts = and_parts (nat_eq variable.block block) (is_local_kind variable.kind) is in
       (variable, refl, and_from (nat_eq variable.block block) (is_local_kind variable.kind || is_result_kind variable.kind) parts.0
       (ap (λ (local : Bool). local || is_result_kind variable.kind) parts.1))
@@ -281,7 +282,7 @@ module _ (tree : Tree) (blocks : List BlockClaims) (declares : DeclareTheirs tre
       let declared = of_one (λ (variable : DeclaredVariable). nat_eq variable.block block && is_local_kind variable.kind)
           (slice_get tree.variables.items control) in
       let local = (and_parts declared (leads_to_ordinal (outline_of tree) block control [] 0) is).0 in
-      let (variable, found, own) = declared-local control (slice_get tree.variables.items control) local in
+      let (variable, found, own) = declared-local (slice_get tree.variables.items control) local in
       let number_is = grounds.own control variable place found own seen in
       omega (arith, number_is)
 

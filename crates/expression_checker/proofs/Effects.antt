@@ -1,12 +1,11 @@
 -- Expressions, actual parameters and values that are written leave what their block doesn't list as it was, where their walk
 -- breaks no rule.
-use Rattle.std.proofs.Common.{◌≡◌, ℕ, ℤ, pos, List, [], ◌∷◌, Bool, Option, Some, None, Vec, Global, map, refl, sym, ap, ◌∙◌, subst}
+use Rattle.std.proofs.Common.{◌≡◌, ℕ, ℤ, pos, List, [], ◌∷◌, Option, Some, None, map, refl, sym, ap, subst}
 use Rattle.types.specs.Components.{components_of}
 use Rattle.types.specs.declared.form.Step.TheVariants as step
 use Rattle.typed_tree.specs.declared.tree.Tree.{Tree}
 use Rattle.typed_tree.specs.declared.tree.Access.{Access}
 use Rattle.typed_tree.specs.declared.tree.Call.{Call}
-use Rattle.typed_tree.specs.declared.tree.RangeTest.{RangeTest}
 use Rattle.typed_tree.specs.declared.tree.Selector.{Selector}
 use Rattle.typed_tree.specs.declared.tree.Selector.TheVariants.{Element, Field}
 use Rattle.typed_tree.specs.declared.tree.Whole.{Whole}

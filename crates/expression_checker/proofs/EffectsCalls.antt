@@ -1,9 +1,9 @@
 -- What a call leaves as it was for the block that calls, where the walk over it breaks no rule: what its callee lists is
 -- listed by the caller, or lies in an activation that isn't earlier.
-use Rattle.std.specs.Prelude.{flat_map, slice_get, if◌then◌else◌}
-use Rattle.std.specs.List.{Contains, list_all, list_any}
+use Rattle.std.specs.Prelude.{slice_get, if◌then◌else◌}
+use Rattle.std.specs.List.{Contains, list_all}
 use Rattle.std.proofs.Common.{arith, ◌≡◌, ◌⊎◌, inl, inr, ⊎_elim, ℕ, zero, suc, ◌<◌, ◌≤◌, List, [], ◌∷◌, ◌++◌, Bool, true, false, ◌&&◌, ◌||◌, Option}
-use Rattle.std.proofs.Common.{Some, None, map, nat_eq, length, refl, sym, ap, ◌∙◌, subst}
+use Rattle.std.proofs.Common.{Some, None, map, nat_eq, refl, sym, ap, ◌∙◌, subst}
 use Rattle.std.proofs.lemmas.Bool.{and_parts, cases_Bool, eqb-true, eq-eqb, false≢true, or_cases}
 use Rattle.std.proofs.lemmas.List.Folds.{list_all-append}
 use Rattle.place.specs.declared.Place.{Place as SourcePlace}
@@ -33,7 +33,7 @@ use Rattle.expression_checker.specs.declared.fault.Rule.{Rule}
 use Rattle.expression_checker.specs.declared.fault.Rule.TheVariants.{Changes}
 use Rattle.expression_checker.specs.Walk.{Breach, Context, Walking, ◌>>=◌, asked, block_lists, breach_unless, called, call_aliases, call_behind}
 use Rattle.expression_checker.specs.Walk.{are_of_types, call_change, call_entry, call_with, called_block, may_change, parameters_of}
-use Rattle.expression_checker.proofs.EffectsKept.{Keeps, Leaving, MayChange, Standing, leaves-itself, lies-itself, listed-under, under-write, variable-under}
+use Rattle.expression_checker.proofs.EffectsKept.{Keeps, Leaving, MayChange, Standing, leaves-itself, lies-itself, listed-under, under-write}
 
 -- ---- walks that break no rule
 
@@ -92,10 +92,10 @@ among-contains root (other ∷ roots) is =
     ⊎_elim (λ first. (zero, omega arith, eqb-true other root first)) (λ more. tail-contains other root roots (among-contains root roots more))
     (or_cases (nat_eq other root) (is_among root roots) is)
 
-owned : (block root : ℕ) (found : Option DeclaredVariable) → of_one (is_own block) found ≡ true
+owned : (block : ℕ) (found : Option DeclaredVariable) → of_one (is_own block) found ≡ true
     → (variable : DeclaredVariable) × (found ≡ Some variable) × (is_own block variable ≡ true)
-owned block root None is = absurd (cc)
-owned block root (Some variable) is = (variable, refl, is)
+owned block None is = absurd (cc)
+owned block (Some variable) is = (variable, refl, is)
 
 module _ (tree : Tree) (blocks : List BlockClaims) (block : ℕ) (at : Standing) (grounds : Grounds tree blocks block at) where
   listed-here : (context : Context) → StandsIn tree blocks block context → (root : ℕ) → block_lists context root ≡ true
@@ -114,7 +114,7 @@ module _ (tree : Tree) (blocks : List BlockClaims) (block : ℕ) (at : Standing)
       let here : of_one (is_own block) (slice_get tree.variables.items root) ≡ true =
           subst (λ (t : Tree). of_one (is_own block) (slice_get t.variables.items root) ≡ true) stands.tree_is
           (subst (λ (number : ℕ). of_one (is_own number) (slice_get context.tree.variables.items root) ≡ true) stands.block_is is) in
-      let (variable, found, owns) = owned block root (slice_get tree.variables.items root) here in
+      let (variable, found, owns) = owned block (slice_get tree.variables.items root) here in
       grounds.own root variable home found owns seen
 
   -- what the rules let a block change may be changed
@@ -216,7 +216,7 @@ unbound root (parameter ∷ parameters) (actual ∷ actuals) other =
     let parts = neither (nat_eq parameter root) (is_among root parameters) other in
     unbound-here (nat_eq parameter root) actual (actual_of (bound_to parameters actuals) root) parts.0 (unbound root parameters actuals parts.1)
 
-not-among : (root : ℕ) (roots : List ℕ) → (is_among root roots ≡ true → ⊥) → is_among root roots ≡ false
+pub not-among : (root : ℕ) (roots : List ℕ) → (is_among root roots ≡ true → ⊥) → is_among root roots ≡ false
 not-among root roots other = ⊎_elim (λ is. absurd (other is)) (λ is. is) (cases_Bool (is_among root roots))
 
 -- what holds of all that a call may change holds of what each listed variable stands for
