@@ -1,0 +1,13 @@
+pub mod Claimed
+pub mod Passed
+pub mod FormalRows
+pub mod Places
+pub mod Headings
+pub mod Callee
+pub mod Separated
+pub mod Aliased
+pub mod PlaceTypes
+pub mod AliasedStores
+pub mod AliasedTypes
+pub mod ComponentTypes
+pub mod Assigned
