@@ -5,6 +5,7 @@ pub mod RowUses
 pub mod Keeping
 pub mod Sound
 pub mod SoundAccesses
+pub mod SoundCalls
 pub mod SoundExpressions
 pub mod SoundOperations
 pub mod SoundRows
