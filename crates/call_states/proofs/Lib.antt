@@ -7,3 +7,5 @@ pub mod Callee
 pub mod Separated
 pub mod Aliased
 pub mod Assigned
+pub mod PlaceTypes
+pub mod AliasedStores

@@ -191,7 +191,7 @@ module _ (types : List Form) (Q : List Steps → List Leaf → Type 0) (of_scala
 abbrev pub AreNamed : List Steps → List Leaf → Type 0
 AreNamed rows leaves = (steps : Steps) → Has rows steps → (leaf : Leaf) × Has leaves leaf × (is_named leaf.steps steps ≡ true)
 
-only : {A : Type 0} (x item : A) → Has (x ∷ []) item → x ≡ item
+pub only : {A : Type 0} (x item : A) → Has (x ∷ []) item → x ≡ item
 only x item (zero, is) = same_Some x item is
 only x item (suc k, is) = absurd (none-some item is)
 
