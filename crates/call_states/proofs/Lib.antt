@@ -9,3 +9,4 @@ pub mod Aliased
 pub mod Assigned
 pub mod PlaceTypes
 pub mod AliasedStores
+pub mod Entered
