@@ -10,3 +10,4 @@ pub mod Assigned
 pub mod PlaceTypes
 pub mod AliasedStores
 pub mod Entered
+pub mod AliasedTypes
