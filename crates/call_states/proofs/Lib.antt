@@ -11,3 +11,4 @@ pub mod PlaceTypes
 pub mod AliasedStores
 pub mod Entered
 pub mod AliasedTypes
+pub mod Started
