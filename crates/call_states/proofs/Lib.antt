@@ -12,3 +12,5 @@ pub mod AliasedStores
 pub mod Entered
 pub mod AliasedTypes
 pub mod Started
+pub mod Reached
+pub mod Bearers
