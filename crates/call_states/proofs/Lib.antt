@@ -14,3 +14,4 @@ pub mod AliasedTypes
 pub mod Started
 pub mod Reached
 pub mod Bearers
+pub mod Parameters
