@@ -40,8 +40,19 @@ contains-among (first ∷ items) item (zero, within, at) = or_left (nat_eq first
 contains-among (first ∷ items) item (suc k, within, at) =
     or_right (nat_eq first item) (is_among item items) (contains-among items item (k, omega (arith, within), at))
 
-contains-more : {A : Type 0} (first : A) (items : List A) (item : A) → Contains items item → Contains (first ∷ items) item
+pub contains-more : {A : Type 0} (first : A) (items : List A) (item : A) → Contains items item → Contains (first ∷ items) item
 contains-more first items item (k, within, at) = (suc k, omega (arith, within), at)
+
+pub in-map : {A B : Type 0} (f : A → B) (items : List A) (item : A) → Contains items item → Contains (map f items) (f item)
+in-map f [] item inside = absurd (omega (arith, inside.1))
+in-map f (first ∷ items) item (zero, within, at) = (0, omega arith, ap f at)
+in-map f (first ∷ items) item (suc k, within, at) = contains-more (f first) (map f items) (f item) (in-map f items item (k, omega (arith, within), at))
+
+pub of-map : {A B : Type 0} (f : A → B) (items : List A) (y : B) → Contains (map f items) y → (x : A) × Contains items x × (f x ≡ y)
+of-map f [] y inside = absurd (omega (arith, inside.1))
+of-map f (first ∷ items) y (zero, within, at) = (first, (0, omega arith, refl), at)
+of-map f (first ∷ items) y (suc k, within, at) =
+    let found = of-map f items y (k, omega (arith, within), at) in (found.0, contains-more first items found.0 found.1, found.2)
 
 -- the bearer at the place of a row that is wanted
 pub bearer-at : (wanted rows : List ℕ) (bearers : List Bearer) (j row : ℕ) (bearer : Bearer) → is_among row wanted ≡ true → slice_get rows j ≡ Some row

@@ -15,3 +15,4 @@ pub mod Started
 pub mod Reached
 pub mod Bearers
 pub mod Parameters
+pub mod Borne
