@@ -9,6 +9,7 @@ use Rattle.std.proofs.lemmas.Bool.{and_parts, eqb-true, ltb-true}
 use Rattle.std.proofs.lemmas.Int.{ints}
 use Rattle.std.proofs.lemmas.List.{length-map}
 use Rattle.std.proofs.lemmas.Option.{none-some, same_Some, slice_get-map}
+use Rattle.types.specs.Components.{components_of}
 use Rattle.types.specs.Forms.{Form as TypeForm}
 use Rattle.types.specs.Types.{cells_of, is_ordinal, is_same, range_of}
 use Rattle.types.specs.declared.form.OrdinalRange.{OrdinalRange}
@@ -502,9 +503,11 @@ module _ (world : World) (block : ℕ) (env : Surroundings) (laws : CallLaws wor
       (same-type type_id formal.type_id same.0)
       (kept-lie types type_id ranges numbers (fits_whole types type_id value)
       (λ fits count. fits-lie types type_id value ranges numbers whole fits many count))) in
+      let counted_numbers : length numbers ≡ length (components_of types formal.type_id) =
+      sym many ∙ ap (λ (id : TypeId). length (components_of types id)) (same-type type_id formal.type_id same.0) in
       good-give world (IsForetold world visible R context (walk.copied type_id value ranges context state) s.store) (meaning.OfRow numbers) s here.fine
       (record {
-        tie = record { known = lies; kind = kind.0 };
+        tie = record { known = (counted_numbers, lies); kind = kind.0 };
         stands = here.stands;
         kept = keeps-itself visible context.rounds s.store;
       })) in
