@@ -4,6 +4,7 @@ pub mod AliasedTypes
 pub mod Assigned
 pub mod Callee
 pub mod Claimed
+pub mod ComponentTypes
 pub mod FormalRows
 pub mod Headings
 pub mod Passed
