@@ -19,3 +19,6 @@ pub mod StepsStores
 pub mod Stored
 pub mod Targets
 pub mod Written
+pub mod EffectsStatements
+pub mod EffectsParameters
+pub mod EffectsRoutines

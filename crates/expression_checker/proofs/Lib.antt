@@ -10,3 +10,6 @@ pub mod SoundExpressions
 pub mod SoundOperations
 pub mod SoundRows
 pub mod Steps
+pub mod EffectsKept
+pub mod EffectsCalls
+pub mod Effects
