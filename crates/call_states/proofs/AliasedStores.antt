@@ -40,7 +40,7 @@ all-pass test xs x inside all =
     (λ (fails : test x ≡ false). absurd (both_ways (list_all test xs) (list_all_at test xs inside.0 x inside.1 (ap test inside.2 ∙ fails)) all))
     (cases_Bool (test x))
 
-or-true : (b : Bool) → (b || true) ≡ true
+pub or-true : (b : Bool) → (b || true) ≡ true
 or-true true = refl
 or-true false = refl
 

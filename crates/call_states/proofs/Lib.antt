@@ -1,5 +1,6 @@
 pub mod Aliased
 pub mod AliasedStores
+pub mod AliasedTypes
 pub mod Callee
 pub mod Claimed
 pub mod FormalRows
