@@ -68,7 +68,7 @@ place-for_fits tree activations (first ∷ roots) (argument ∷ arguments) root 
     (λ there. place-for_fits tree activations roots arguments root variable place others is there.1)
     (either-cond (nat_eq first root) (place_passed argument) (place_for root roots arguments) (Some place) found)
 
-not-both_kinds : (one : VariableKind) → is_value_kind one ≡ true → is_variable_kind one ≡ true → ⊥
+pub not-both_kinds : (one : VariableKind) → is_value_kind one ≡ true → is_variable_kind one ≡ true → ⊥
 not-both_kinds kind.ValueParameter value variable = false≢true variable
 not-both_kinds kind.VariableParameter value variable = false≢true value
 not-both_kinds kind.Local value variable = false≢true value

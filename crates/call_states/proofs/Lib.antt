@@ -1,6 +1,7 @@
 pub mod Aliased
 pub mod AliasedStores
 pub mod AliasedTypes
+pub mod Assigned
 pub mod Callee
 pub mod Claimed
 pub mod FormalRows

@@ -94,7 +94,8 @@ AllFit tree activations (root ∷ roots) (argument ∷ arguments) =
 abbrev pub IsArgument : Tree → Environment → Store → Variable → Actual → Argument → Type 0
 IsArgument tree env store formal (OfValue range form) (meaning.OfValue v) = IsIn range v × IsOfForm (moment env store) form v
 IsArgument tree env store formal (OfRows ranges) (meaning.OfRow numbers) =
-    length ranges ≡ length (leaves_of tree.types formal.type_id) → LieIn tree.types formal.type_id ranges numbers
+    (length numbers ≡ length (components_of tree.types formal.type_id))
+    × (length ranges ≡ length (leaves_of tree.types formal.type_id) → LieIn tree.types formal.type_id ranges numbers)
 IsArgument tree env store formal (OfVariable root selectors reach) (meaning.OfPlace place) =
     Leads env root selectors store reach place × (accessed tree.variables.items tree.types root selectors ≡ Some formal.type_id)
     × ((way : List Step) (n : ℤ) → Matches selectors way → first_index way ≡ Some n → HasMember integer n)

@@ -3,16 +3,17 @@
 use Rattle.std.specs.Prelude.{ℕ, ◌&&◌, Bool, true, false, List, [], ◌∷◌, Option, Some, None, if◌then◌else◌, map, nat_eq}
 use Rattle.std.specs.Prelude.{slice_get}
 use Rattle.std.specs.List.{list_all}
+use Rattle.types.specs.declared.form.OrdinalRange.{OrdinalRange}
 use Rattle.typed_tree.specs.declared.tree.Tree.{Tree}
 use Rattle.typed_tree.specs.declared.tree.Selector.{Selector}
 use Rattle.typed_tree.specs.declared.tree.Variable.{Variable as DeclaredVariable}
 use Rattle.domain.specs.Interval.{Interval, is_included}
 use Rattle.domain.specs.Facts.{Bound, Path}
 use Rattle.abstract_state.specs.Loops.{is_among}
-use Rattle.abstract_state.specs.State.{integer}
-use Rattle.leaf_rows.specs.Rows.{is_structured, rows_accessed, rows_of, rows_under}
+use Rattle.abstract_state.specs.State.{integer, limits_of}
+use Rattle.leaf_rows.specs.Rows.{is_structured, rows_accessed, rows_of, rows_under, values_at}
 use Rattle.component_states.specs.Components.{At, Entire, Index, Inside, Reach}
-use Rattle.structured_states.specs.Loops.{is_ordinal_variable, limits_at, names_entire, row_limits, rows_named}
+use Rattle.structured_states.specs.Loops.{is_ordinal_variable, limits_at, names_entire, rows_named}
 
 -- an actual parameter: an ordinal, where it lies and its bound form, if it has one; a copy, where its components lie,
 -- leaf by leaf; or a variable, by its root, its selectors and what they reach
@@ -84,11 +85,16 @@ bearers_named tree bindings path = bearers_for tree path (actual_of bindings pat
 
 -- ---- the types of formal parameters
 
+-- a range lies among the values of an ordinal type
+abbrev pub lies_among : Option OrdinalRange → Interval → Bool
+lies_among None range = false
+lies_among (Some values) range = is_included range (limits_of values)
+
 -- the ranges of a copy lie in those of the types of some rows
 abbrev pub are_of_rows : Tree → List ℕ → List Interval → Bool
 are_of_rows tree [] [] = true
 are_of_rows tree (row ∷ rows) (range ∷ ranges) =
-    is_included range (row_limits (rows_of tree) row) && are_of_rows tree rows ranges
+    lies_among (values_at (rows_of tree) row) range && are_of_rows tree rows ranges
 are_of_rows tree rows ranges = false
 
 -- a copy of ranges lies in the type of a structured variable

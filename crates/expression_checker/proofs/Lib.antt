@@ -2,6 +2,7 @@ pub mod Effects
 pub mod EffectsCalls
 pub mod EffectsKept
 pub mod Entered
+pub mod Fitting
 pub mod Forms
 pub mod Held
 pub mod Keeping
