@@ -397,17 +397,17 @@ module _ (g : Setting) where
     pub ends : led g.tree.types (behind_fields selectors) its ≡ Some last
     pub counts : index_count (behind_fields selectors) ≡ index_count selectors
     pub well : are_selectors (behind_fields selectors) ≡ true
-    pub meant : (evaluations : List Evaluation) (s : effect.State)
-        → selected selectors evaluations (around g) (Some p) s ≡ selected (behind_fields selectors) evaluations (around g) (Some there) s
+    pub meant : (evaluations : List Evaluation)
+        → selected selectors evaluations (around g) (Some p) ≡ selected (behind_fields selectors) evaluations (around g) (Some there)
 
   ahead : (end : ℕ) (selectors : List Selector) (p : Place) (t : TypeId) (d : ℕ) (last : TypeId) → are_selectors selectors ≡ true
       → led g.tree.types selectors t ≡ Some last → IsPart g.tree.types g.world end p t d → Ahead end selectors p d last
   ahead end [] p t d last well ends whole =
       let same : d ≡ d + 0 = omega arith in
-      record { there = p; its = t; part = subst (IsPart g.tree.types g.world end p t) same whole; ends = ends; counts = refl; well = well; meant = λ evaluations s. refl }
+      record { there = p; its = t; part = subst (IsPart g.tree.types g.world end p t) same whole; ends = ends; counts = refl; well = well; meant = λ evaluations. refl }
   ahead end (Element fits cells ∷ selectors) p t d last well ends whole =
       let same : d ≡ d + 0 = omega arith in
-      record { there = p; its = t; part = subst (IsPart g.tree.types g.world end p t) same whole; ends = ends; counts = refl; well = well; meant = λ evaluations s. refl }
+      record { there = p; its = t; part = subst (IsPart g.tree.types g.world end p t) same whole; ends = ends; counts = refl; well = well; meant = λ evaluations. refl }
   ahead end (Field position before ∷ selectors) p t d last well ends whole =
       let on_led = led_on g.tree.types (Field position before) selectors t last ends in
       let rest = ahead end selectors (inner p (step.Field position ∷ [])) on_led.0 (d + before) last well on_led.2
@@ -451,8 +451,8 @@ module _ (g : Setting) where
     pub ends : led g.tree.types rest its ≡ Some last
     pub counts : index_count rest ≡ index_count access.selectors.items
     pub well : are_selectors rest ≡ true
-    pub meant : (evaluations : List Evaluation) (s : effect.State) → meaning.accessed access evaluations (around g) s
-        ≡ selected rest evaluations (around g) (Some there) (entered access.number s)
+    pub meant : (evaluations : List Evaluation) → meaning.accessed access evaluations (around g)
+        ≡ (λ s. selected rest evaluations (around g) (Some there) (entered access.number s))
     pub first : Instr
     pub pushes : PushesAddress first cell
     pub way : Reached
@@ -508,9 +508,9 @@ module _ (g : Setting) where
     abbrev shown : Shown g.tree g.world g.fixed g.below g.frame g.scope g.environment access.root l.variable
     shown = g.shows access.root l.variable l.declared l.visible
 
-    entry_meant : (evaluations : List Evaluation) (s : effect.State) → meaning.accessed access evaluations (around g) s
-        ≡ selected selectors evaluations (around g) (Some shown.place) (entered access.number s)
-    entry_meant evaluations s = ap (λ o. selected selectors evaluations (around g) o (entered access.number s)) shown.place_is
+    entry_meant : (evaluations : List Evaluation) → meaning.accessed access evaluations (around g)
+        ≡ (λ s. selected selectors evaluations (around g) (Some shown.place) (entered access.number s))
+    entry_meant evaluations = ap {B = Action (Option Place)} (λ (o : Option Place) (s : effect.State). selected selectors evaluations (around g) o (entered access.number s)) shown.place_is
 
     begins_by : (way : Way) → Reaches g.tree g.world g.fixed g.below shown.place l.variable (shown.owner + home.start) home.refers way
         → Begins access l.last indexes
@@ -534,7 +534,8 @@ module _ (g : Setting) where
           ends = all.ends;
           counts = all.counts;
           well = all.well;
-          meant = λ evaluations s. entry_meant evaluations s ∙ all.meant evaluations (entered access.number s);
+          meant = λ evaluations. entry_meant evaluations
+              ∙ ap {B = Action (Option Place)} (λ (action : Action (Option Place)) (s : effect.State). action (entered access.number s)) (all.meant evaluations);
           first = instr.LoadAddress level (access_offset g.scope access);
           pushes = address_pushed level (access_offset g.scope access) shown.owner shown.leads (omega arith);
           way = reached_from level (access_offset g.scope access) (behind_fields selectors) indexes;

@@ -1,4 +1,4 @@
-use Rattle.code_generator.proofs.Accesses.{fetch_runs}
+use Rattle.code_generator.proofs.Passing.{function_evaluates}
 use Rattle.code_generator.proofs.laws.frames_fit.Goals as goal
 
 pub returns : goal.returns

@@ -1,0 +1,471 @@
+-- The code of a whole value leaves the row of its numbers on top, or stops as the value does; and a row of cells that is
+-- stored from an address on is what the program writes to the components there.
+use Rattle.std.proofs.Common.{◌≡◌, ℕ, zero, suc, ◌+◌, ◌-◌, ◌<◌, ◌≤◌, ◌⊎◌, inl, inr, List, [], ◌∷◌, ◌++◌, length, map, take, drop, Option, Some}
+use Rattle.std.proofs.Common.{None, Ok}
+use Rattle.std.proofs.Common.{refl, sym, ap, ◌∙◌, subst, arith, length-append, append_assoc, append-nil, Bool, true, false}
+use Rattle.std.specs.Prelude.{slice_get, slice_set, ℤ, pos, nat_eq, nat_le, nat_lt, not, ◌&&◌}
+use Rattle.std.specs.List.{list_all}
+use Rattle.std.proofs.lemmas.Bool.{and_parts, eqb-true, leb-true, ltb-true}
+use Rattle.std.proofs.lemmas.List.{length-map, length-set}
+use Rattle.std.proofs.lemmas.Option.{none-some, same_Some}
+use Rattle.typed_tree.specs.declared.tree.Whole.{Whole}
+use Rattle.typed_tree.specs.declared.tree.Whole.TheVariants.{Text, Variable as VariableOf}
+use Rattle.typed_tree.specs.WellFormed.{all_hold, is_character, is_value_of, is_well_formed_whole, leads_to_whole}
+use Rattle.typed_tree.specs.WellFormed.{length_of}
+use Rattle.typed_tree.specs.WellFormed.{whole_indexes}
+use Rattle.pcode_assembler.specs.declared.instr.Instr.TheVariants as instr
+use Rattle.types.specs.declared.form.TypeId.{TypeId}
+use Rattle.types.specs.Components.{Steps, components_of}
+use Rattle.types.specs.Forms.{Form}
+use Rattle.types.specs.Types.{cells_of, is_ordinal, is_same}
+use Rattle.types.proofs.Laid.{length_components}
+use Rattle.meaning.specs.declared.outcome.Ending.TheVariants as ending
+use Rattle.meaning.specs.declared.store.Value.{Value}
+use Rattle.meaning.specs.declared.store.Value.TheVariants as value
+use Rattle.meaning.specs.Store as meant
+use Rattle.meaning.specs.Store.{Place, stored, written}
+use Rattle.meaning.specs.Effect as effect
+use Rattle.meaning.specs.Laws.{UsesTurnsExactly}
+use Rattle.meaning.specs.Effect.{Reply, Gives, Action, ◌>>=◌, fetched, fetch_all, store_all}
+use Rattle.meaning.specs.Meaning.{value_of, whole_of}
+use Rattle.stack_machine.specs.declared.cell.Cell.{Cell}
+use Rattle.stack_machine.specs.declared.cell.Cell.TheVariants.{Number}
+use Rattle.stack_machine.specs.Frames.{is_defined}
+use Rattle.stack_machine.specs.Machine.{State}
+use Rattle.stack_machine.specs.Texts as texts
+use Rattle.meaning.specs.Integers as integers
+use Rattle.code_scheme.specs.Code.{address_code, whole_code}
+use Rattle.code_scheme.specs.Depth.{whole_depth}
+use Rattle.code_scheme.specs.Scopes.{row_length}
+use Rattle.code_scheme.proofs.Pieces.{start_within}
+use Rattle.code_generator.proofs.Accesses.{Indexes, expressions, wells, codes, depths, PartAt, Addressed, Addresses, leads, begins, entered, found as place_found, exact_found}
+use Rattle.code_generator.proofs.Accesses.{address_runs}
+use Rattle.code_generator.proofs.Acts.{framed, length_one, pushes}
+use Rattle.code_generator.proofs.Addressing.{loads_many, all_defined, row_place_is, stores_at}
+use Rattle.stack_machine.specs.Addresses.{store_many}
+use Rattle.code_generator.proofs.Evaluating.{sites}
+use Rattle.code_generator.proofs.Held.{set_front, scalar_kept}
+use Rattle.code_generator.proofs.Reach.{Stands, StandsAt, stands_front, stands_back, Comes, comes_less, comes_on, stays_here}
+use Rattle.code_generator.proofs.Setting.{Setting, outline, around, exact_around, on, Based, linked, acts, passes, fails, Ends, ends_on, Starves, starves_on}
+use Rattle.code_generator.proofs.Setting.{starves_first, starves_behind, Valued, Evaluates, evaluates_behind, Executed, Executes, executes_behind}
+use Rattle.code_generator.proofs.Alike.{LiesIn, cell_of, HasFit, alike_above}
+use Rattle.code_generator.proofs.Numbers.{Fits, fits_by_abs}
+use Rattle.code_generator.proofs.Parts.{inner}
+use Rattle.code_generator.proofs.Rows.{cells_of as number_cells, length-cells_of, same_byte}
+
+-- numbers of type integer
+abbrev pub AllFit : List ℤ → Type 0
+AllFit [] = Unit {0}
+AllFit (n ∷ ns) = Fits n × AllFit ns
+
+-- their bytes
+pub fitting_bytes : (ns : List ℤ) → AllFit ns → map texts.byte_of ns ≡ map integers.byte_of ns
+fitting_bytes [] fit = refl
+fitting_bytes (n ∷ ns) fit = ap (λ b. b ∷ map texts.byte_of ns) (same_byte n fit.0) ∙ ap (λ bs. integers.byte_of n ∷ bs) (fitting_bytes ns fit.1)
+
+-- ---- rows in a list of cells
+
+drop_at : {A : Type 0} (xs : List A) (d : ℕ) (x : A) → slice_get xs d ≡ Some x → drop d xs ≡ x ∷ drop (suc d) xs
+drop_at [] d x e = absurd (none-some x e)
+drop_at (y ∷ xs) zero x e = ap (λ z. z ∷ xs) (same_Some y x e)
+drop_at (y ∷ xs) (suc d) x e = drop_at xs d x e
+
+-- the elements from a place on, each of which is known
+pub row_at : {A B : Type 0} (f : A → B) (xs : List A) (cells : List B) (d : ℕ)
+    → ((k : ℕ) (x : A) → slice_get xs k ≡ Some x → slice_get cells (d + k) ≡ Some (f x)) → take (length xs) (drop d cells) ≡ map f xs
+row_at f [] cells d each = refl
+row_at f (x ∷ xs) cells d each =
+    let here : d + 0 ≡ d = omega arith in
+    let rest = row_at f xs cells (suc d)
+    (λ k y at. let e : d + suc k ≡ suc d + k = omega arith in ap (slice_get cells) (sym e) ∙ each (suc k) y at) in
+    ap (take (suc (length xs))) (drop_at cells d (f x) (ap (slice_get cells) (sym here) ∙ each 0 x refl)) ∙ ap (λ l. f x ∷ l) rest
+
+-- what a row of scalars gives, all of which are components of one place
+module _ (store : meant.Store) (p : Place) where
+  abbrev pub cell_at : Steps → Cell
+  cell_at steps = cell_of (stored store (inner p steps))
+
+  -- all are defined
+  pub record AreDefined (components : List Steps) (site : ℕ) : Type 0 where
+    pub numbers : List ℤ
+    pub gives : (s : effect.State) → s.store ≡ store → fetch_all (Some p) components site s ≡ Gives numbers s
+    pub cells : map cell_at components ≡ number_cells numbers
+    pub fit : AllFit numbers
+
+  -- one is undefined
+  pub record OneUndefined (components : List Steps) (site : ℕ) : Type 0 where
+    pub stops : (s : effect.State) → s.store ≡ store → fetch_all (Some p) components site s ≡ effect.Stops (ending.Error site) s
+    pub cells : list_all is_defined (map cell_at components) ≡ false
+
+  abbrev pub Fetched : List Steps → ℕ → Type 0
+  Fetched components site = AreDefined components site ⊎ OneUndefined components site
+
+  module _ (steps : Steps) (components : List Steps) (site : ℕ) where
+    -- the first component, by what it holds
+    abbrev next : Value → Action (List ℤ)
+    next v s = effect.and_then (fetch_all (Some p) components site s) (λ numbers. effect.give (effect.number_of v ∷ numbers))
+
+    meant_by : (found : Option Value) → stored store (inner p steps) ≡ found → (s : effect.State) → s.store ≡ store
+        → fetch_all (Some p) (steps ∷ components) site s ≡ effect.and_then (fetched found site s) next
+    meant_by found is s same =
+        ap (λ (t : meant.Store). effect.and_then (fetched (stored t (inner p steps)) site s) next) same
+        ∙ ap (λ o. effect.and_then (fetched o site s) next) is
+
+    first_fetched : (found : Option Value) → stored store (inner p steps) ≡ found → HasFit found → Fetched components site → Fetched (steps ∷ components) site
+    first_fetched None is fit rest = inr (record {
+      stops = λ s same. meant_by None is s same;
+      cells = ap (λ o. list_all is_defined (cell_of o ∷ map cell_at components)) is;
+    })
+    first_fetched (Some (value.Number n)) is fit (inl rest) = inl (record {
+      numbers = n ∷ rest.numbers;
+      gives = λ s same. meant_by (Some (value.Number n)) is s same
+          ∙ ap (λ r. effect.and_then r (λ numbers. effect.give (n ∷ numbers))) (rest.gives s same);
+      cells = ap (λ o. cell_of o ∷ map cell_at components) is ∙ ap (λ l. Number n ∷ l) rest.cells;
+      fit = (fit, rest.fit);
+    })
+    first_fetched (Some (value.Number n)) is fit (inr rest) = inr (record {
+      stops = λ s same. meant_by (Some (value.Number n)) is s same
+          ∙ ap (λ r. effect.and_then r (λ numbers. effect.give (n ∷ numbers))) (rest.stops s same);
+      cells = ap (λ o. list_all is_defined (cell_of o ∷ map cell_at components)) is ∙ rest.cells;
+    })
+
+  pub row_fetched : (components : List Steps) (site : ℕ)
+      → ((k : ℕ) (steps : Steps) → slice_get components k ≡ Some steps → HasFit (stored store (inner p steps))) → Fetched components site
+  row_fetched [] site fits = inl (record { numbers = []; gives = λ s same. refl; cells = refl; fit = tt })
+  row_fetched (steps ∷ components) site fits =
+      first_fetched steps components site (stored store (inner p steps)) refl (fits 0 steps refl)
+      (row_fetched components site (λ k more at. fits (suc k) more at))
+
+pub all_are_defined : (ns : List ℤ) → list_all is_defined (number_cells ns) ≡ true
+all_are_defined [] = refl
+all_are_defined (n ∷ ns) = all_are_defined ns
+
+-- ---- rows that are written
+
+-- cells with a row from a place on
+abbrev pub set_row : List Cell → ℕ → List Cell → List Cell
+set_row cells d [] = cells
+set_row cells d (c ∷ row) = set_row (slice_set cells d c) (d + 1) row
+
+pub length-set_row : (cells : List Cell) (d : ℕ) (row : List Cell) → length (set_row cells d row) ≡ length cells
+length-set_row cells d [] = refl
+length-set_row cells d (c ∷ row) = length-set_row (slice_set cells d c) (d + 1) row ∙ length-set cells d c
+
+take_drop : {A : Type 0} (xs : List A) (d : ℕ) → xs ≡ take d xs ++ drop d xs
+take_drop xs zero = refl
+take_drop [] (suc d) = refl
+take_drop (x ∷ xs) (suc d) = ap (λ l. x ∷ l) (take_drop xs d)
+
+take_set : {A : Type 0} (xs : List A) (d : ℕ) (a : A) → d < length xs → take (suc d) (slice_set xs d a) ≡ take d xs ++ a ∷ []
+take_set [] d a h = absurd (omega arith)
+take_set (x ∷ xs) zero a h = refl
+take_set (x ∷ xs) (suc d) a h = ap (λ l. x ∷ l) (take_set xs d a (omega arith))
+
+drop_set : {A : Type 0} (xs : List A) (d more : ℕ) (a : A) → drop (suc (d + more)) (slice_set xs d a) ≡ drop (suc (d + more)) xs
+drop_set [] d more a = refl
+drop_set (x ∷ xs) zero more a = refl
+drop_set (x ∷ xs) (suc d) more a =
+    let e : suc d + more ≡ suc (d + more) = omega arith in
+    ap (λ n. drop n (slice_set xs d a)) e ∙ drop_set xs d more a ∙ ap (λ n. drop n xs) (sym e)
+
+-- a row in one piece
+pub set_row_is : (cells : List Cell) (d : ℕ) (row : List Cell) → d + length row ≤ length cells
+    → set_row cells d row ≡ (take d cells ++ row) ++ drop (d + length row) cells
+set_row_is cells d [] h =
+    let e : d ≡ d + 0 = omega arith in
+    take_drop cells d ∙ ap (λ l. l ++ drop d cells) (sym (append-nil (take d cells))) ∙ ap (λ n. (take d cells ++ []) ++ drop n cells) e
+set_row_is cells d (c ∷ row) h =
+    let one : d + 1 ≡ suc d = omega arith in
+    let set = slice_set cells d c in
+    let long = length-set cells d c in
+    let end : d + 1 + length row ≡ suc (d + length row) = omega arith in
+    let end' : suc (d + length row) ≡ d + length (c ∷ row) = omega arith in
+    set_row_is set (d + 1) row (omega arith)
+    ∙ ap (λ n. (take n set ++ row) ++ drop (d + 1 + length row) set) one
+    ∙ ap (λ n. (take (suc d) set ++ row) ++ drop n set) end
+    ∙ ap (λ l. (l ++ row) ++ drop (suc (d + length row)) set) (take_set cells d c (omega arith))
+    ∙ ap (λ l. ((take d cells ++ c ∷ []) ++ row) ++ l) (drop_set cells d (length row) c)
+    ∙ ap (λ l. l ++ drop (suc (d + length row)) cells) (append_assoc (take d cells) (c ∷ []) row)
+    ∙ ap (λ n. (take d cells ++ (c ∷ row)) ++ drop n cells) end'
+
+-- a row that is set below others
+pub set_row_front : (xs ys : List Cell) (d : ℕ) (row : List Cell) → d + length row ≤ length xs → set_row (xs ++ ys) d row ≡ set_row xs d row ++ ys
+set_row_front xs ys d [] h = refl
+set_row_front xs ys d (c ∷ row) h =
+    let long = length-set xs d c in
+    ap (λ cells. set_row cells (d + 1) row) (set_front xs ys d c (omega arith)) ∙ set_row_front (slice_set xs d c) ys (d + 1) row (omega arith)
+
+-- a row and the address below it give way to the cells with that row
+pub stores_many : (frame limit size : ℕ) (below : List Cell) (linked : frame + 4 ≤ length below) (new : List Cell) (n d : ℕ) → length new ≡ n
+    → d + n ≤ length below
+    → store_many n (framed frame limit size ((below ++ Number (pos d) ∷ []) ++ new)) ≡ Ok (framed frame limit size (set_row below d new))
+stores_many frame limit size below linked [] zero d long h = stores_at frame limit size below linked [] zero d long 0 refl
+stores_many frame limit size below linked (c ∷ new) zero d long h = absurd (omega arith)
+stores_many frame limit size below linked new (suc more) d long h =
+    stores_at frame limit size below linked new (suc more) d long d (row_place_is frame limit size below linked d more h)
+    ∙ ap (λ cs. Ok (framed frame limit size cs)) (sym (set_row_is below d new (omega arith)))
+
+-- the store after numbers were written to the components of a place
+abbrev pub stored_all : meant.Store → Place → List Steps → List ℤ → meant.Store
+stored_all store p [] ns = store
+stored_all store p (steps ∷ components) [] = store
+stored_all store p (steps ∷ components) (n ∷ ns) = stored_all (written store (inner p steps) (value.Number n)) p components ns
+
+pub store_all_is : (p : Place) (components : List Steps) (ns : List ℤ) (s : effect.State)
+    → store_all (Some p) components ns s ≡ Gives tt (record s { store = stored_all s.store p components ns })
+store_all_is p [] ns s = refl
+store_all_is p (steps ∷ components) [] s = refl
+store_all_is p (steps ∷ components) (n ∷ ns) s =
+    store_all_is p components ns (record s { store = written s.store (inner p steps) (value.Number n) })
+
+module _ (g : Setting) where
+  -- the components of a place get a row of numbers
+  pub row_kept : (p : Place) (components : List Steps) (d : ℕ) (ns : List ℤ) (s : effect.State) (base : List Cell)
+      → ((k : ℕ) (steps : Steps) → slice_get components k ≡ Some steps → LiesIn g.world (inner p steps) (d + k)) → length components ≡ length ns → AllFit ns
+      → Based g s base → Based g (record s { store = stored_all s.store p components ns }) (set_row base d (number_cells ns))
+  row_kept p [] d [] s base each long fit based = based
+  row_kept p [] d (n ∷ ns) s base each long fit based = absurd (omega arith)
+  row_kept p (steps ∷ components) d [] s base each long fit based = absurd (omega arith)
+  row_kept p (steps ∷ components) d (n ∷ ns) s base each long fit based =
+      let here : d + 0 ≡ d = omega arith in
+      let lies = subst (LiesIn g.world (inner p steps)) here (each 0 steps refl) in
+      row_kept p components (d + 1) ns (record s { store = written s.store (inner p steps) (value.Number n) }) (slice_set base d (Number n))
+      (λ k more at. let e : d + suc k ≡ d + 1 + k = omega arith in subst (LiesIn g.world (inner p more)) e (each (suc k) more at)) (omega arith) fit.1
+      (scalar_kept g (inner p steps) d s base n lies based fit.0)
+
+  -- ---- the code of a whole value
+
+  -- what the code of a whole value does, with so many turns left here: the row of its numbers comes on top of what is held,
+  -- over cells alike to the store; or the value ends the run
+  abbrev pub Pushed : ℕ → State → List Cell → ℕ → ℕ → Reply (List ℤ) → Type 0
+  Pushed turns m held place count (Gives ns s) =
+      (base : List Cell) × Based g s base × Comes g.target (turns - s.turns) m (on g ((base ++ held) ++ number_cells ns) place s.output)
+      × (length ns ≡ count) × AllFit ns × (s.turns ≤ turns)
+  Pushed turns m held place count (effect.Stops end s) = Ends g turns m end s.output
+
+  -- or the store is full
+  abbrev pub Pushes : State → List Cell → ℕ → ℕ → Action (List ℤ) → effect.State → Type 0
+  Pushes m held place count action s = Starves g m action s ⊎ Pushed s.turns m held place count (action s)
+
+  -- a row that is there after some instructions
+  pub pushes_row : (least : ℕ) (m : State) (base held : List Cell) (place count : ℕ) (ns : List ℤ) (s : effect.State) → Based g s base
+      → Comes g.target least m (on g ((base ++ held) ++ number_cells ns) place s.output) → length ns ≡ count → AllFit ns
+      → Pushed s.turns m held place count (Gives ns s)
+  pushes_row least m base held place count ns s based l long fit =
+      (base, based, comes_less g.target (s.turns - s.turns) least m _ (omega arith) l, long, fit, omega arith)
+
+  pushed_on : (turns left : ℕ) (a b : State) (held : List Cell) (place count : ℕ) (r : Reply (List ℤ)) → left ≤ turns → Comes g.target (turns - left) a b
+      → Pushed left b held place count r → Pushed turns a held place count r
+  pushed_on turns left a b held place count (Gives ns s) le l e = (
+    e.0,
+    e.1,
+    comes_less g.target (turns - s.turns) (turns - left + (left - s.turns)) a _ (omega arith)
+        (comes_on g.target (turns - left) (left - s.turns) a b _ l e.2),
+    e.3,
+    e.4,
+    omega (arith, e.5),
+  )
+  pushed_on turns left a b held place count (effect.Stops end s) le l e = ends_on g turns left a b end s.output l e
+
+  -- where no turn is used
+  pub pushes_from : (least : ℕ) (a b : State) (held : List Cell) (place count : ℕ) (action : Action (List ℤ)) (s : effect.State) → Comes g.target least a b
+      → Pushes b held place count action s → Pushes a held place count action s
+  pushes_from least a b held place count action s l (inl x) = inl (starves_on g least a b action s l x)
+  pushes_from least a b held place count action s l (inr e) =
+      inr (pushed_on s.turns s.turns a b held place count (action s) (omega arith) (comes_less g.target (s.turns - s.turns) least a b (omega arith) l) e)
+
+  -- a row behind an address
+  address_pushes : (m : State) (held held' : List Cell) (place place' : ℕ) (t : TypeId) (count : ℕ) (first : Action (Option Place))
+      (next : Option Place → Action (List ℤ)) (s : effect.State) → UsesTurnsExactly first → Addresses g m held place t first s
+      → ((base : List Cell) (d : ℕ) (p : Place) (u : effect.State) → Based g u base → PartAt g p t d → g.below + length held < g.limit
+      → Pushes (on g ((base ++ held) ++ Number (pos d) ∷ []) place u.output) held' place' count (next (Some p)) u)
+      → Pushes m held' place' count (first >>= next) s
+  address_pushes m held held' place place' t count first next s exact (inl x) h = inl (starves_first g m first next s x)
+  address_pushes m held held' place place' t count first next s exact (inr e) h = by (first s) refl e
+    where
+      behind : (u : effect.State) (p : Place) (there : State) → first s ≡ Gives (Some p) u → u.turns ≤ s.turns → Comes g.target (s.turns - u.turns) m there
+          → Pushes there held' place' count (next (Some p)) u
+          → Starves g m (first >>= next) s ⊎ Pushed s.turns m held' place' count (next (Some p) u)
+      behind u p there is le l (inl x) = inl (starves_behind g (s.turns - u.turns) m there first next s u (Some p) exact is l x)
+      behind u p there is le l (inr d) = inr (pushed_on s.turns u.turns m there held' place' count (next (Some p) u) le l d)
+
+      by : (r : Reply (Option Place)) → first s ≡ r → Addressed g s.turns m held place t r
+          → Starves g m (first >>= next) s ⊎ Pushed s.turns m held' place' count (effect.and_then r next)
+      by (Gives None u) is e = absurd e
+      by (Gives (Some p) u) is e = behind u p _ is e.6 e.4 (h e.0 e.2 p u e.1 e.3 e.5)
+      by (effect.Stops end u) is e = inr e
+
+  -- a value, or a statement, behind a row
+  pub row_evaluates : (m : State) (held held' : List Cell) (place place' count : ℕ) (first : Action (List ℤ)) (next : List ℤ → Action Value)
+      (s : effect.State) → UsesTurnsExactly first → Pushes m held place count first s
+      → ((base : List Cell) (ns : List ℤ) (u : effect.State) → Based g u base → length ns ≡ count → AllFit ns
+      → Evaluates g (on g ((base ++ held) ++ number_cells ns) place u.output) held' place' (next ns) u)
+      → Evaluates g m held' place' (first >>= next) s
+  row_evaluates m held held' place place' count first next s exact (inl x) h = inl (starves_first g m first next s x)
+  row_evaluates m held held' place place' count first next s exact (inr e) h = by (first s) refl e
+    where
+      by : (r : Reply (List ℤ)) → first s ≡ r → Pushed s.turns m held place count r
+          → Starves g m (first >>= next) s ⊎ Valued g s.turns m held' place' (effect.and_then r next)
+      by (Gives ns u) is e = evaluates_behind g m _ held' place' first next s u ns exact is e.5 e.2 (h e.0 ns u e.1 e.3 e.4)
+      by (effect.Stops end u) is e = inr e
+
+  pub row_executes : (m : State) (held held' : List Cell) (place place' count : ℕ) (first : Action (List ℤ)) (next : List ℤ → Action (Unit {0}))
+      (s : effect.State) → UsesTurnsExactly first → Pushes m held place count first s
+      → ((base : List Cell) (ns : List ℤ) (u : effect.State) → Based g u base → length ns ≡ count → AllFit ns
+      → Executes g (on g ((base ++ held) ++ number_cells ns) place u.output) held' place' (next ns) u)
+      → Executes g m held' place' (first >>= next) s
+  row_executes m held held' place place' count first next s exact (inl x) h = inl (starves_first g m first next s x)
+  row_executes m held held' place place' count first next s exact (inr e) h = by (first s) refl e
+    where
+      by : (r : Reply (List ℤ)) → first s ≡ r → Pushed s.turns m held place count r
+          → Starves g m (first >>= next) s ⊎ Executed g s.turns m held' place' (effect.and_then r next)
+      by (Gives ns u) is e = executes_behind g m _ held' place' first next s u ns exact is e.5 e.2 (h e.0 ns u e.1 e.3 e.4)
+      by (effect.Stops end u) is e = inr e
+
+  -- characters are pushed, the first one first
+  pub characters_come : (characters : List ℕ) (place : ℕ) (cells : List Cell) (output : List ℕ)
+      → Stands g.target place (map (λ c. instr.LoadConstant (pos c)) characters) → length cells + length characters ≤ g.limit
+      → Comes g.target 0 (on g cells place output) (on g (cells ++ number_cells (map pos characters)) (place + length characters) output)
+  characters_come [] place cells output stands room =
+      let e : place ≡ place + 0 = omega arith in
+      subst (λ p. Comes g.target 0 (on g cells place output) (on g (cells ++ []) p output)) e
+      (subst (λ cs. Comes g.target 0 (on g cells place output) (on g cs place output)) (sym (append-nil cells)) (stays_here g.target _))
+  characters_come (c ∷ characters) place cells output stands room =
+      let one = cells ++ Number (pos c) ∷ [] in
+      let long = length_one cells (Number (pos c)) in
+      let rest = number_cells (map pos characters) in
+      let e : place + 1 + length characters ≡ place + length (c ∷ characters) = omega arith in
+      let first = acts g (instr.LoadConstant (pos c)) cells one place output _ stands.0 refl
+      (pushes g.frame g.limit g.size cells (pos c) (omega arith)) in
+      let others = characters_come characters (place + 1) one output stands.1 (omega arith) in
+      let all = comes_less g.target 0 (1 + 0) _ _ (omega arith) (comes_on g.target 1 0 _ _ _ first others) in
+      subst (λ cs. Comes g.target 0 (on g cells place output) (on g cs (place + length (c ∷ characters)) output))
+      (append_assoc cells (Number (pos c) ∷ []) rest)
+      (subst (λ p. Comes g.target 0 (on g cells place output) (on g (one ++ rest) p output)) e all)
+
+  characters_fit : (characters : List ℕ) → list_all is_character characters ≡ true → AllFit (map pos characters)
+  characters_fit [] well = tt
+  characters_fit (c ∷ characters) well =
+      let parts = and_parts (is_character c) (list_all is_character characters) well in
+      let low = ltb-true c 128 parts.0 in
+      (fits_by_abs (pos c) (omega arith), characters_fit characters parts.1)
+
+  -- what is known of the type of a whole value
+  pub same_type : (t type_id : TypeId) → is_same t type_id ≡ true → t ≡ type_id
+  same_type t type_id e = ap (λ n. record { index = n }) (eqb-true t.index type_id.index e)
+
+  -- the cells from the address of a part on, and their check
+  checked_row : (p : Place) (type_id : TypeId) (count d defined place : ℕ) (base held : List Cell) (s : effect.State)
+      → Fetched s.store p (components_of g.tree.types type_id) defined
+      → StandsAt g.target place (instr.CheckDefined defined count) (g.target.is_open defined) → defined < sites g
+      → length (components_of g.tree.types type_id) ≡ count → Based g s base
+      → Pushes (on g ((base ++ held) ++ map (cell_at s.store p) (components_of g.tree.types type_id)) place s.output) held (place + 1) count (fetch_all (Some p) (components_of g.tree.types type_id) defined) s
+  checked_row p type_id count d defined place base held s (inl all) stands within long based =
+      let components = components_of g.tree.types type_id in
+      let cells = base ++ held in
+      let row = map (cell_at s.store p) components in
+      let as_long : length row ≡ count = length-map components (cell_at s.store p) ∙ long in
+      let many : length all.numbers ≡ count = sym (length-cells_of all.numbers) ∙ ap length (sym all.cells) ∙ as_long in
+      let defined_all : list_all is_defined row ≡ true = ap (list_all is_defined) all.cells ∙ all_are_defined all.numbers in
+      let passed = passes g (instr.CheckDefined defined count) (cells ++ row) place defined s.output _ refl refl stands
+      (all_defined g.frame g.limit g.size cells (linked g s base held based) row count as_long ∙ ap Ok defined_all) in
+      inr (subst (λ r. Pushed s.turns (on g (cells ++ row) place s.output) held (place + 1) count r) (sym (all.gives s refl))
+      (pushes_row 0 _ base held (place + 1) count all.numbers s based
+      (subst (λ cs. Comes g.target 0 (on g (cells ++ row) place s.output) (on g (cells ++ cs) (place + 1) s.output)) all.cells passed) many all.fit))
+  checked_row p type_id count d defined place base held s (inr one) stands within long based =
+      let components = components_of g.tree.types type_id in
+      let cells = base ++ held in
+      let row = map (cell_at s.store p) components in
+      let as_long : length row ≡ count = length-map components (cell_at s.store p) ∙ long in
+      inr (subst (λ r. Pushed s.turns (on g (cells ++ row) place s.output) held (place + 1) count r) (sym (one.stops s refl))
+      (fails g (instr.CheckDefined defined count) (cells ++ row) place defined s.output _ refl refl s.turns stands within
+      (all_defined g.frame g.limit g.size cells (linked g s base held based) row count as_long ∙ ap Ok one.cells)))
+
+  -- an address gives way to the row there, which is checked
+  loaded_row : (p : Place) (type_id : TypeId) (count d defined place : ℕ) (base held : List Cell) (s : effect.State) → PartAt g p type_id d
+      → Stands g.target place (instr.LoadMany count ∷ instr.CheckDefined defined count ∷ []) → defined < sites g → cells_of g.tree.types type_id ≡ count
+      → Based g s base → g.below + length held + count ≤ g.limit
+      → Pushes (on g ((base ++ held) ++ Number (pos d) ∷ []) place s.output) held (place + 1 + 1) count (fetch_all (Some p) (components_of g.tree.types type_id) defined) s
+  loaded_row p type_id count d defined place base held s part stands within many based deep =
+      let components = components_of g.tree.types type_id in
+      let cells = base ++ held in
+      let above = alike_above g.world s.store base held based.alike in
+      let fits : (k : ℕ) (steps : Steps) → slice_get components k ≡ Some steps → HasFit (stored s.store (inner p steps)) =
+      λ k steps at. above.fits (inner p steps) (d + k) (part.from.each k steps at) in
+      let all : length components ≡ count = length_components g.tree.types type_id ∙ many in
+      let row : take count (drop d cells) ≡ map (cell_at s.store p) components =
+      ap (λ n. take n (drop d cells)) (sym all) ∙ row_at (cell_at s.store p) components cells d
+      (λ k steps at. above.scalars (inner p steps) (d + k) (part.from.each k steps at)) in
+      let full = based.full in
+      let long = length-append base held in
+      let inside = part.within in
+      let loaded = acts g (instr.LoadMany count) (cells ++ Number (pos d) ∷ []) (cells ++ take count (drop d cells)) place s.output _ stands.0 refl
+      (loads_many g.frame g.limit g.size cells (linked g s base held based) count d (omega arith) (omega arith)) in
+      let there = subst (λ cs. Comes g.target 1 (on g (cells ++ Number (pos d) ∷ []) place s.output) (on g (cells ++ cs) (place + 1) s.output)) row loaded in
+      pushes_from 1 _ _ held (place + 1 + 1) count (fetch_all (Some p) components defined) s there
+      (checked_row p type_id count d defined (place + 1) base held s (row_fetched s.store p components defined fits) stands.1.0 within all based)
+
+  -- a row is no longer than the longest
+  pub few_components : (v : Whole) (indexes : ℕ) → is_well_formed_whole (outline g) g.number v indexes ≡ true
+      → length_of v ≡ row_length (length_of v)
+  few_components (Text number characters) indexes well =
+      let few = leb-true (length characters.items) 65536
+      (and_parts (nat_le (length characters.items) 65536) (list_all is_character characters.items) well).0 in
+      omega arith
+  few_components (VariableOf access type_id cells defined) indexes well =
+      let parts = and_parts (leads_to_whole (outline g) g.number type_id access.root access.selectors.items indexes)
+      (is_value_of (outline g) g.number type_id cells && nat_lt defined (sites g)) well in
+      let parts' = and_parts (is_value_of (outline g) g.number type_id cells) (nat_lt defined (sites g)) parts.1 in
+      let few = leb-true cells 65536 (and_parts (nat_eq cells (cells_of g.tree.types type_id)) (nat_le cells 65536) parts'.0).1 in
+      omega arith
+
+  -- the code of a whole value pushes its numbers
+  pub whole_runs : (v : Whole) (indexes : Indexes g) (place : ℕ) (base held : List Cell) (s : effect.State)
+      → Stands g.target place (whole_code g.scope v (codes g indexes))
+      → all_hold (whole_indexes v (wells g indexes)) ≡ true
+      → is_well_formed_whole (outline g) g.number v (length (expressions g indexes)) ≡ true → Based g s base
+      → g.below + length held + whole_depth v (depths g indexes) ≤ g.limit
+      → Pushes (on g (base ++ held) place s.output) held (place + length (whole_code g.scope v (codes g indexes))) (length_of v) (whole_of v (map value_of (expressions g indexes)) (around g)) s
+  whole_runs (Text number characters) indexes place base held s stands good well based deep =
+      let codes_long = length-map characters.items (λ x. instr.LoadConstant (pos x)) in
+      let e : place + length characters.items ≡ place + length (map (λ x. instr.LoadConstant (pos x)) characters.items) = omega arith in
+      let full = based.full in
+      let pushed = characters_come characters.items place (base ++ held) s.output stands (omega (arith, length-append base held)) in
+      let ns = map pos characters.items in
+      subst (λ q. Pushes (on g (base ++ held) place s.output) held q (length characters.items) (effect.give ns) (entered g number s)) e
+      (inr (pushes_row 0 _ base held (place + length characters.items) (length characters.items) ns (entered g number s)
+      based pushed (length-map characters.items pos)
+      (characters_fit characters.items (and_parts (nat_le (length characters.items) 65536) (list_all is_character characters.items) well).1)))
+  whole_runs (VariableOf access type_id cells defined) indexes place base held s stands good well based deep =
+      let wanted : TypeId → Bool = λ id. is_same id type_id && not (is_ordinal g.tree.types id) in
+      let parts = and_parts (leads_to_whole (outline g) g.number type_id access.root access.selectors.items
+      (length (expressions g indexes))) (is_value_of (outline g) g.number type_id cells && nat_lt defined (sites g)) well in
+      let parts' = and_parts (is_value_of (outline g) g.number type_id cells) (nat_lt defined (sites g)) parts.1 in
+      let sizes = and_parts (nat_eq cells (cells_of g.tree.types type_id)) (nat_le cells 65536) parts'.0 in
+      let many : cells ≡ cells_of g.tree.types type_id = eqb-true cells (cells_of g.tree.types type_id) sizes.0 in
+      let few = leb-true cells 65536 sizes.1 in
+      let same : row_length cells ≡ cells = omega arith in
+      let more = start_within 1 (map (λ i. i + 1) (depths g indexes)) in
+      let led_to = leads g wanted access.root access.selectors.items (length (expressions g indexes)) parts.0 in
+      let its = same_type led_to.last type_id (and_parts (is_same led_to.last type_id) (not (is_ordinal g.tree.types led_to.last)) led_to.is_wanted).0 in
+      let start = begins g access wanted (length (expressions g indexes)) (codes g indexes) led_to in
+      let counts = led_to.counts in
+      let c = address_code g.scope access (codes g indexes) in
+      let load = instr.LoadMany (row_length cells) ∷ instr.CheckDefined defined (row_length cells) ∷ [] in
+      let loading = subst (λ n. Stands g.target (place + length c) (instr.LoadMany n ∷ instr.CheckDefined defined n ∷ [])) same
+      (stands_back g.target place c load stands) in
+      let e : place + length c + 1 + 1 ≡ place + length (c ++ load) = omega (arith, length-append c load) in
+      let next : List Form → Option Place → Action (List ℤ) = λ types q. fetch_all q (components_of types type_id) defined in
+      let addressed = address_runs g access indexes led_to.last start good counts place base held (entered g access.number s)
+      (stands_front g.target place c load stands) based (omega arith) in
+      let from = place_found g access indexes led_to.last start good counts in
+      subst (λ action. Pushes (on g (base ++ held) place s.output) held (place + length (c ++ load)) cells (action >>= next g.environment.types) s)
+      (sym (start.meant (map value_of (expressions g indexes))))
+      (subst (λ types. Pushes (on g (base ++ held) place s.output) held (place + length (c ++ load)) cells (from >>= next types) (entered g access.number s))
+      (sym g.types_are)
+      (subst (λ q. Pushes (on g (base ++ held) place s.output) held q cells (from >>= next g.tree.types) (entered g access.number s)) e
+      (address_pushes _ held held (place + length c) (place + length c + 1 + 1) led_to.last cells from (next g.tree.types) (entered g access.number s)
+      (exact_found g access indexes led_to.last start good counts) addressed
+      (λ base2 d p s2 based2 part2 room2.
+      loaded_row p type_id cells d defined (place + length c) base2 held s2 (subst (λ t. PartAt g p t d) its part2) loading
+      (ltb-true defined (sites g) parts'.1) (sym many) based2 (omega arith)))))
