@@ -5,6 +5,7 @@ use Rattle.std.proofs.Common.{arith, Bool, true, false, length-append}
 use Rattle.std.specs.Prelude.{slice_get, ℤ, pos}
 use Rattle.pcode_assembler.specs.declared.instr.Instr.{Instr}
 use Rattle.pcode_assembler.specs.declared.instr.Instr.TheVariants as instr
+use Rattle.types.specs.declared.form.TypeId.{TypeId}
 use Rattle.types.specs.Types.{cells_of, is_ordinal}
 use Rattle.typed_tree.specs.declared.tree.Block.{Block}
 use Rattle.typed_tree.specs.declared.tree.Passed.{Passed}
@@ -23,14 +24,14 @@ use Rattle.stack_machine.specs.Machine.{State}
 use Rattle.code_scheme.specs.Code.{passed_code}
 use Rattle.code_scheme.specs.Depth.{PassedDepth, passed_depth}
 use Rattle.code_scheme.specs.Scopes.{called_routine, links_to, row_length}
-use Rattle.code_generator.proofs.Accesses.{PartAt}
+use Rattle.code_generator.proofs.Accesses.{Addressed, Addresses, PartAt}
 use Rattle.code_generator.proofs.Alike.{Leads}
 use Rattle.code_generator.proofs.Numbers.{Fits}
 use Rattle.code_generator.proofs.Reach.{Stands, StandsAt, Comes, comes_on, comes_less}
 use Rattle.code_generator.proofs.Rows.{cells_of as number_cells}
 use Rattle.code_generator.proofs.Setting.{Setting, outline, around, on, Based, Ends, ends_on, Starves, starves_on, starves_first, starves_behind, Evaluates, Valued}
 use Rattle.code_generator.proofs.Setting.{Executes, Executed, executes_behind}
-use Rattle.code_generator.proofs.Wholes.{AllFit}
+use Rattle.code_generator.proofs.Wholes.{AllFit, Pushed, Pushes}
 
 module _ (g : Setting) where
   -- ---- what is passed
@@ -105,70 +106,116 @@ module _ (g : Setting) where
   abbrev pub PassedRuns : Passed → Type 0
   PassedRuns p = PassesAs (passed_code g.scope p) (passed_depth p) (is_well_formed_passed (outline g) g.number p) (passing_of p)
 
+  -- behind a value, a row or an address
+  pub value_passes : (m : State) (held held' : List Cell) (place place' count callee position : ℕ) (first : Action Value) (next : Value → Action Argument)
+      (s : effect.State) → UsesTurnsExactly first → Evaluates g m held place first s
+      → ((base : List Cell) (n : ℤ) (t : effect.State) → Based g t base → Fits n
+      → Passes (on g ((base ++ held) ++ Number n ∷ []) place t.output) held' place' count callee position (next (value.Number n)) t)
+      → Passes m held' place' count callee position (first >>= next) s
+  value_passes m held held' place place' count callee position first next s exact (inl x) h = inl (starves_first g m first next s x)
+  value_passes m held held' place place' count callee position first next s exact (inr e) h = by (first s) refl e
+    where
+      by : (r : Reply Value) → first s ≡ r → Valued g s.turns m held place r
+          → Starves g m (first >>= next) s ⊎ PassedOn s.turns m held' place' count callee position (effect.and_then r next)
+      by (Gives (value.Number n) t) is e =
+          passes_behind m _ held' place' count callee position first next s t (value.Number n) exact is e.5 e.2 (h e.0 n t e.1 e.3)
+      by (effect.Stops end t) is e = inr e
+
+  pub row_passes : (m : State) (held held' : List Cell) (place place' long count callee position : ℕ) (first : Action (List ℤ))
+      (next : List ℤ → Action Argument) (s : effect.State) → UsesTurnsExactly first → Pushes g m held place long first s
+      → ((base : List Cell) (ns : List ℤ) (t : effect.State) → Based g t base → length ns ≡ long → AllFit ns
+      → Passes (on g ((base ++ held) ++ number_cells ns) place t.output) held' place' count callee position (next ns) t)
+      → Passes m held' place' count callee position (first >>= next) s
+  row_passes m held held' place place' long count callee position first next s exact (inl x) h = inl (starves_first g m first next s x)
+  row_passes m held held' place place' long count callee position first next s exact (inr e) h = by (first s) refl e
+    where
+      by : (r : Reply (List ℤ)) → first s ≡ r → Pushed g s.turns m held place long r
+          → Starves g m (first >>= next) s ⊎ PassedOn s.turns m held' place' count callee position (effect.and_then r next)
+      by (Gives ns t) is e = passes_behind m _ held' place' count callee position first next s t ns exact is e.5 e.2 (h e.0 ns t e.1 e.3 e.4)
+      by (effect.Stops end t) is e = inr e
+
+  pub address_passes : (m : State) (held held' : List Cell) (place place' : ℕ) (type_id : TypeId) (count callee position : ℕ)
+      (first : Action (Option Place)) (next : Option Place → Action Argument) (s : effect.State) → UsesTurnsExactly first
+      → Addresses g m held place type_id first s
+      → ((base : List Cell) (d : ℕ) (p : Place) (t : effect.State) → Based g t base → PartAt g p type_id d
+      → Passes (on g ((base ++ held) ++ Number (pos d) ∷ []) place t.output) held' place' count callee position (next (Some p)) t)
+      → Passes m held' place' count callee position (first >>= next) s
+  address_passes m held held' place place' type_id count callee position first next s exact (inl x) h = inl (starves_first g m first next s x)
+  address_passes m held held' place place' type_id count callee position first next s exact (inr e) h = by (first s) refl e
+    where
+      by : (r : Reply (Option Place)) → first s ≡ r → Addressed g s.turns m held place type_id r
+          → Starves g m (first >>= next) s ⊎ PassedOn s.turns m held' place' count callee position (effect.and_then r next)
+      by (Gives None t) is e = absurd e
+      by (Gives (Some p) t) is e =
+          passes_behind m _ held' place' count callee position first next s t (Some p) exact is e.6 e.4 (h e.0 e.2 p t e.1 e.3)
+      by (effect.Stops end t) is e = inr e
+
   -- ---- actual parameters, one after another
 
-  abbrev pub AllPassedOn : ℕ → State → List Cell → ℕ → ℕ → ℕ → Reply (List Argument) → Type 0
-  AllPassedOn turns m held place callee position (Gives arguments s) =
+  abbrev pub AllPassedOn : ℕ → State → List Cell → ℕ → ℕ → ℕ → ℕ → Reply (List Argument) → Type 0
+  AllPassedOn turns m held place callee position total (Gives arguments s) =
       (base : List Cell) × Based g s base × (cells : List Cell) × AllFitted callee position arguments cells × (g.below + length held + length cells ≤ g.limit)
+      × (length arguments ≡ total)
       × Comes g.target (turns - s.turns) m (on g ((base ++ held) ++ cells) place s.output) × (s.turns ≤ turns)
-  AllPassedOn turns m held place callee position (effect.Stops end s) = Ends g turns m end s.output
+  AllPassedOn turns m held place callee position total (effect.Stops end s) = Ends g turns m end s.output
 
-  abbrev pub AllPass : State → List Cell → ℕ → ℕ → ℕ → Action (List Argument) → effect.State → Type 0
-  AllPass m held place callee position action s = Starves g m action s ⊎ AllPassedOn s.turns m held place callee position (action s)
+  abbrev pub AllPass : State → List Cell → ℕ → ℕ → ℕ → ℕ → Action (List Argument) → effect.State → Type 0
+  AllPass m held place callee position total action s = Starves g m action s ⊎ AllPassedOn s.turns m held place callee position total (action s)
 
-  all_passed_from : (turns left : ℕ) (a b : State) (held : List Cell) (place callee position : ℕ) (r : Reply (List Argument)) → left ≤ turns
-      → Comes g.target (turns - left) a b → AllPassedOn left b held place callee position r → AllPassedOn turns a held place callee position r
-  all_passed_from turns left a b held place callee position (Gives arguments s) le l e = (
+  all_passed_from : (turns left : ℕ) (a b : State) (held : List Cell) (place callee position total : ℕ) (r : Reply (List Argument)) → left ≤ turns
+      → Comes g.target (turns - left) a b → AllPassedOn left b held place callee position total r → AllPassedOn turns a held place callee position total r
+  all_passed_from turns left a b held place callee position total (Gives arguments s) le l e = (
     e.0,
     e.1,
     e.2,
     e.3,
     e.4,
+    e.5,
     comes_less g.target (turns - s.turns) (turns - left + (left - s.turns)) a _ (omega arith)
-        (comes_on g.target (turns - left) (left - s.turns) a b _ l e.5),
-    omega (arith, e.6),
+        (comes_on g.target (turns - left) (left - s.turns) a b _ l e.6),
+    omega (arith, e.7),
   )
-  all_passed_from turns left a b held place callee position (effect.Stops end s) le l e = ends_on g turns left a b end s.output l e
+  all_passed_from turns left a b held place callee position total (effect.Stops end s) le l e = ends_on g turns left a b end s.output l e
 
-  all_pass_behind : {A : Type 0} (m there : State) (held : List Cell) (place callee position : ℕ) (first : Action A) (next : A → Action (List Argument))
+  all_pass_behind : {A : Type 0} (m there : State) (held : List Cell) (place callee position total : ℕ) (first : Action A) (next : A → Action (List Argument))
       (s t : effect.State) (v : A) → UsesTurnsExactly first → first s ≡ Gives v t → t.turns ≤ s.turns → Comes g.target (s.turns - t.turns) m there
-      → AllPass there held place callee position (next v) t
-      → Starves g m (first >>= next) s ⊎ AllPassedOn s.turns m held place callee position (next v t)
-  all_pass_behind m there held place callee position first next s t v exact is le l (inl x) =
+      → AllPass there held place callee position total (next v) t
+      → Starves g m (first >>= next) s ⊎ AllPassedOn s.turns m held place callee position total (next v t)
+  all_pass_behind m there held place callee position total first next s t v exact is le l (inl x) =
       inl (starves_behind g (s.turns - t.turns) m there first next s t v exact is l x)
-  all_pass_behind m there held place callee position first next s t v exact is le l (inr e) =
-      inr (all_passed_from s.turns t.turns m there held place callee position (next v t) le l e)
+  all_pass_behind m there held place callee position total first next s t v exact is le l (inr e) =
+      inr (all_passed_from s.turns t.turns m there held place callee position total (next v t) le l e)
 
   -- behind one actual parameter
-  pub then_pass : (m : State) (held held' : List Cell) (place place' count callee position position' : ℕ) (first : Action Argument)
+  pub then_pass : (m : State) (held held' : List Cell) (place place' count callee position position' total' : ℕ) (first : Action Argument)
       (next : Argument → Action (List Argument)) (s : effect.State) → UsesTurnsExactly first → Passes m held place count callee position first s
       → ((base : List Cell) (argument : Argument) (cells : List Cell) (formal : Variable) (t : effect.State) → Based g t base
       → formal_of (outline g) callee position ≡ Some formal → Fitted formal argument cells → length cells ≡ count
-      → AllPass (on g ((base ++ held) ++ cells) place t.output) held' place' callee position' (next argument) t)
-      → AllPass m held' place' callee position' (first >>= next) s
-  then_pass m held held' place place' count callee position position' first next s exact (inl x) h = inl (starves_first g m first next s x)
-  then_pass m held held' place place' count callee position position' first next s exact (inr e) h = by (first s) refl e
+      → AllPass (on g ((base ++ held) ++ cells) place t.output) held' place' callee position' total' (next argument) t)
+      → AllPass m held' place' callee position' total' (first >>= next) s
+  then_pass m held held' place place' count callee position position' total' first next s exact (inl x) h = inl (starves_first g m first next s x)
+  then_pass m held held' place place' count callee position position' total' first next s exact (inr e) h = by (first s) refl e
     where
       by : (r : Reply Argument) → first s ≡ r → PassedOn s.turns m held place count callee position r
-          → Starves g m (first >>= next) s ⊎ AllPassedOn s.turns m held' place' callee position' (effect.and_then r next)
+          → Starves g m (first >>= next) s ⊎ AllPassedOn s.turns m held' place' callee position' total' (effect.and_then r next)
       by (Gives argument t) is e =
-          all_pass_behind m _ held' place' callee position' first next s t argument exact is e.8 e.7 (h e.0 argument e.2 e.3 t e.1 e.4 e.5 e.6)
+          all_pass_behind m _ held' place' callee position' total' first next s t argument exact is e.8 e.7 (h e.0 argument e.2 e.3 t e.1 e.4 e.5 e.6)
       by (effect.Stops end t) is e = inr e
 
   -- behind those that follow
-  pub passed_then : (m : State) (held held' : List Cell) (place callee position position' : ℕ) (first : Action (List Argument))
-      (next : List Argument → Action (List Argument)) (s : effect.State) → UsesTurnsExactly first → AllPass m held place callee position first s
+  pub passed_then : (m : State) (held held' : List Cell) (place callee position position' total total' : ℕ) (first : Action (List Argument))
+      (next : List Argument → Action (List Argument)) (s : effect.State) → UsesTurnsExactly first → AllPass m held place callee position total first s
       → ((base : List Cell) (arguments : List Argument) (cells : List Cell) (t : effect.State) → Based g t base → AllFitted callee position arguments cells
-      → g.below + length held + length cells ≤ g.limit
-      → AllPass (on g ((base ++ held) ++ cells) place t.output) held' place callee position' (next arguments) t)
-      → AllPass m held' place callee position' (first >>= next) s
-  passed_then m held held' place callee position position' first next s exact (inl x) h = inl (starves_first g m first next s x)
-  passed_then m held held' place callee position position' first next s exact (inr e) h = by (first s) refl e
+      → g.below + length held + length cells ≤ g.limit → length arguments ≡ total
+      → AllPass (on g ((base ++ held) ++ cells) place t.output) held' place callee position' total' (next arguments) t)
+      → AllPass m held' place callee position' total' (first >>= next) s
+  passed_then m held held' place callee position position' total total' first next s exact (inl x) h = inl (starves_first g m first next s x)
+  passed_then m held held' place callee position position' total total' first next s exact (inr e) h = by (first s) refl e
     where
-      by : (r : Reply (List Argument)) → first s ≡ r → AllPassedOn s.turns m held place callee position r
-          → Starves g m (first >>= next) s ⊎ AllPassedOn s.turns m held' place callee position' (effect.and_then r next)
+      by : (r : Reply (List Argument)) → first s ≡ r → AllPassedOn s.turns m held place callee position total r
+          → Starves g m (first >>= next) s ⊎ AllPassedOn s.turns m held' place callee position' total' (effect.and_then r next)
       by (Gives arguments t) is e =
-          all_pass_behind m _ held' place callee position' first next s t arguments exact is e.6 e.5 (h e.0 arguments e.2 t e.1 e.3 e.4)
+          all_pass_behind m _ held' place callee position' total' first next s t arguments exact is e.7 e.6 (h e.0 arguments e.2 t e.1 e.3 e.4 e.5)
       by (effect.Stops end t) is e = inr e
 
   -- ---- a call
@@ -208,14 +255,14 @@ module _ (g : Setting) where
       inr (returned_on s.turns s.turns a b held place is_function (action s) (omega arith) (comes_less g.target (s.turns - s.turns) least a b (omega arith) l) e)
 
   -- a call behind its actual parameters
-  pub then_returns : (m : State) (held held' : List Cell) (place place' callee position : ℕ) (is_function : Bool) (first : Action (List Argument))
-      (next : List Argument → Action Value) (s : effect.State) → UsesTurnsExactly first → AllPass m held place callee position first s
+  pub then_returns : (m : State) (held held' : List Cell) (place place' callee position total : ℕ) (is_function : Bool) (first : Action (List Argument))
+      (next : List Argument → Action Value) (s : effect.State) → UsesTurnsExactly first → AllPass m held place callee position total first s
       → ((base : List Cell) (arguments : List Argument) (cells : List Cell) (t : effect.State) → Based g t base → AllFitted callee position arguments cells
-      → g.below + length held + length cells ≤ g.limit
+      → g.below + length held + length cells ≤ g.limit → length arguments ≡ total
       → Returns (on g ((base ++ held) ++ cells) place t.output) held' place' is_function (next arguments) t)
       → Returns m held' place' is_function (first >>= next) s
-  then_returns m held held' place place' callee position is_function first next s exact (inl x) h = inl (starves_first g m first next s x)
-  then_returns m held held' place place' callee position is_function first next s exact (inr e) h = by (first s) refl e
+  then_returns m held held' place place' callee position total is_function first next s exact (inl x) h = inl (starves_first g m first next s x)
+  then_returns m held held' place place' callee position total is_function first next s exact (inr e) h = by (first s) refl e
     where
       behind : (t : effect.State) (arguments : List Argument) (there : State) → first s ≡ Gives arguments t → t.turns ≤ s.turns
           → Comes g.target (s.turns - t.turns) m there → Returns there held' place' is_function (next arguments) t
@@ -223,9 +270,9 @@ module _ (g : Setting) where
       behind t arguments there is le l (inl x) = inl (starves_behind g (s.turns - t.turns) m there first next s t arguments exact is l x)
       behind t arguments there is le l (inr e) = inr (returned_on s.turns t.turns m there held' place' is_function (next arguments t) le l e)
 
-      by : (r : Reply (List Argument)) → first s ≡ r → AllPassedOn s.turns m held place callee position r
+      by : (r : Reply (List Argument)) → first s ≡ r → AllPassedOn s.turns m held place callee position total r
           → Starves g m (first >>= next) s ⊎ Returned s.turns m held' place' is_function (effect.and_then r next)
-      by (Gives arguments t) is e = behind t arguments _ is e.6 e.5 (h e.0 arguments e.2 t e.1 e.3 e.4)
+      by (Gives arguments t) is e = behind t arguments _ is e.7 e.6 (h e.0 arguments e.2 t e.1 e.3 e.4 e.5)
       by (effect.Stops end t) is e = inr e
 
   -- the call of a function is a value
