@@ -576,7 +576,7 @@ module _ (g : Setting) where
     pub exact_found : UsesTurnsExactly found
     exact_found = exact_selected (around g) (exact_around g) start.rest (expressions indexes) (Some start.there)
 
-    pushed_runs : (place : ℕ) (base held : List Cell) (s : effect.State) → Stands g.target place (start.first ∷ rest_code) → Based g s base
+    pub pushed_runs : (place : ℕ) (base held : List Cell) (s : effect.State) → Stands g.target place (start.first ∷ rest_code) → Based g s base
         → g.below + length held + access_depth (depths indexes) ≤ g.limit
         → Addresses (on g (base ++ held) place s.output) held (place + length (start.first ∷ rest_code)) last found s
     pushed_runs place base held s stands based deep =

@@ -1,7 +1,7 @@
 -- Actual parameters, and calls: what is shown of the code of an actual parameter, that it leaves the cells of what is passed;
 -- and of a call, that the machine comes back with the result on top of what was held.
 use Rattle.std.proofs.Common.{◌≡◌, ℕ, zero, suc, ◌+◌, ◌-◌, ◌<◌, ◌≤◌, ◌⊎◌, inl, inr, List, [], ◌∷◌, ◌++◌, length, map, Option, Some, None, refl, sym, ap, ◌∙◌, subst}
-use Rattle.std.proofs.Common.{arith, Bool, true, false, length-append}
+use Rattle.std.proofs.Common.{arith, append-nil, Bool, true, false, length-append}
 use Rattle.std.specs.Prelude.{slice_get, ℤ, pos}
 use Rattle.pcode_assembler.specs.declared.instr.Instr.{Instr}
 use Rattle.pcode_assembler.specs.declared.instr.Instr.TheVariants as instr
@@ -285,6 +285,17 @@ module _ (g : Setting) where
       by (Gives (value.Number n) t) e = (e.0, e.1, e.2, e.3, room, e.4)
       by (effect.Stops end t) e = e
 
+  -- the call of a procedure is a statement
+  pub returns_executes : (m : State) (held : List Cell) (place : ℕ) (action : Action Value) (s : effect.State) → UsesTurnsExactly action
+      → Returns m held place false action s → Executes g m held place (action >>= λ _. effect.give tt) s
+  returns_executes m held place action s exact (inl x) = inl (starves_first g m action (λ _. effect.give tt) s x)
+  returns_executes m held place action s exact (inr e) = inr (by (action s) e)
+    where
+      by : (r : Reply Value) → Returned s.turns m held place false r → Executed g s.turns m held place (effect.and_then r (λ _. effect.give tt))
+      by (Gives (value.Number n) t) e =
+          (e.0, e.1, subst (λ cells. Comes g.target (s.turns - t.turns) m (on g cells place t.output)) (append-nil (e.0 ++ held)) e.2, e.4)
+      by (effect.Stops end t) e = e
+
   -- the links of a new frame, whose static link leads to this frame
   abbrev pub links_of : ℕ → List Cell
   links_of outer = Number (pos outer) ∷ Number (pos g.frame) ∷ Undefined ∷ Number (pos g.limit) ∷ []
@@ -301,3 +312,7 @@ module _ (g : Setting) where
       → Based g s base → AllFitted callee 0 arguments cells → g.below + length held + 4 + length cells ≤ g.limit
       → Returns (on g ((base ++ (held ++ links_of outer)) ++ cells) place s.output) held (place + 1) is_function
       (calls_of g.tree g.depth callee arguments g.environment) s
+
+-- the same in each setting where calls may be so many in one another
+abbrev pub CallsRun : ℕ → Type 0
+CallsRun depth = (g : Setting) → g.depth ≡ depth → CallsAt g

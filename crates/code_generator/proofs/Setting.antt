@@ -428,6 +428,12 @@ module _ (g : Setting) where
   executes_from least a b held place action s l (inr e) =
       inr (executed_on s.turns s.turns a b held place (action s) (omega arith) (comes_less g.target (s.turns - s.turns) least a b (omega arith) l) e)
 
+  -- the same action
+  pub executes_same : (m : State) (held : List Cell) (place : ℕ) (action other : Action (Unit {0})) (s : effect.State)
+      → ((t : effect.State) → action t ≡ other t) → Executes m held place other s → Executes m held place action s
+  executes_same m held place action other s same (inl x) = inl (x.0, x.1, same (record s { turns = x.0 }) ∙ x.2, x.3, x.4)
+  executes_same m held place action other s same (inr e) = inr (subst (Executed s.turns m held place) (sym (same s)) e)
+
   -- behind a piece that gave something
   pub executes_behind : {A : Type 0} (m there : State) (held : List Cell) (place : ℕ) (first : Action A) (next : A → Action (Unit {0}))
       (s t : effect.State) (v : A) → UsesTurnsExactly first → first s ≡ Gives v t → t.turns ≤ s.turns → Comes g.target (s.turns - t.turns) m there

@@ -158,7 +158,7 @@ module _ {A : Type 0} (round : Round A) (uses : UsesTurns round) (each : (a : A)
 abbrev pub Exact : (A : Type 0) → Action A → Action A → Type 0
 Exact A action other = Extended action × UsesTurnsExactly action
 
-exact_turn_if : (so : Bool) (body : Action (Unit {0})) → UsesTurnsExactly body → UsesTurnsExactly (turn_if so body)
+pub exact_turn_if : (so : Bool) (body : Action (Unit {0})) → UsesTurnsExactly body → UsesTurnsExactly (turn_if so body)
 exact_turn_if false body done = exact_give None
 exact_turn_if true body done = exact_then use_turn _ exact_turn (λ _. exact_then body _ done (λ _. exact_give (Some tt)))
 
