@@ -227,3 +227,8 @@ leads_above fixed more (suc level) frame last l =
       omega (arith, length-append fixed more),
       leads_above fixed more level l.0 last l.3,
     )
+
+-- and it is one of the cells
+pub leads_within : (fixed : Fixed) (level frame last : ℕ) → frame < length fixed → Leads fixed level frame last → last < length fixed
+leads_within fixed zero frame last inside l = omega (arith, l)
+leads_within fixed (suc level) frame last inside l = leads_within fixed level l.0 last l.2 l.3

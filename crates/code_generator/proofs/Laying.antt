@@ -74,28 +74,28 @@ module _ (g : Setting) (number : ℕ) where
   laid_none [] cells position none fitted = (refl, fitted)
   laid_none (argument ∷ arguments) cells position none fitted = absurd (omega arith)
 
-  pub laid_from : (k : ℕ) (variables : List Variable) (position : ℕ) (arguments : List Argument) (cells : List Cell)
+  abbrev LaidFrom : ℕ → List Variable → Type 0
+  LaidFrom k variables =
+      (position : ℕ) (arguments : List Argument) (cells : List Cell)
       → ((i : ℕ) (v : Variable) → slice_get variables i ≡ Some v → slice_get g.tree.variables.items (k + i) ≡ Some v)
       → ((i : ℕ) → formal_of (outline g) number (position + i)
       ≡ option_and_then (λ root. slice_get g.tree.variables.items root) (slice_get (roots_where test k variables) i))
       → length arguments ≡ length (roots_where test k variables) → AllFitted g number position arguments cells → Laid variables arguments cells
+
+  pub laid_from : (k : ℕ) (variables : List Variable) → LaidFrom k variables
   laid_from k [] position arguments cells there formals long fitted = laid_none arguments cells position long fitted
   laid_from k (v ∷ variables) position arguments cells there formals long fitted =
-      by (test v) refl
-      (λ i. formals i) long
+      by (laid_from (suc k) variables) (test v) refl formals long
     where
       next_there : (i : ℕ) (w : Variable) → slice_get variables i ≡ Some w → slice_get g.tree.variables.items (suc k + i) ≡ Some w
       next_there i w at = let e : k + suc i ≡ suc k + i = omega arith in ap (slice_get g.tree.variables.items) (sym e) ∙ there (suc i) w at
 
-      abbrev roots_by : Bool → List ℕ
-      roots_by b = if b then k ∷ roots_where test (suc k) variables else roots_where test (suc k) variables
-
-      taken : (arguments : List Argument) → AllFitted g number position arguments cells
+      taken : LaidFrom (suc k) variables → (arguments : List Argument) → AllFitted g number position arguments cells
           → ((i : ℕ) → formal_of (outline g) number (position + i)
           ≡ option_and_then (λ root. slice_get g.tree.variables.items root) (slice_get (k ∷ roots_where test (suc k) variables) i))
           → length arguments ≡ suc (length (roots_where test (suc k) variables)) → Takes true v arguments cells (Laid variables)
-      taken [] fitted formals long = absurd (omega arith)
-      taken (argument ∷ rest) fitted formals long =
+      taken recur [] fitted formals long = absurd (omega arith)
+      taken recur (argument ∷ rest) fitted formals long =
           let here : k + 0 ≡ k = omega arith in
           let start : position + 0 ≡ position = omega arith in
           let same : Some fitted.0 ≡ Some v = sym fitted.1 ∙ ap (formal_of (outline g) number) (sym start) ∙ formals 0
@@ -109,25 +109,25 @@ module _ (g : Setting) (number : ℕ) where
             refl,
             fitted.4,
             subst (λ w. Fitted g w argument fitted.2) formal fitted.5,
-            laid_from (suc k) variables (suc position) rest fitted.3 next_there
+            recur (suc position) rest fitted.3 next_there
                 (λ i. let e : position + suc i ≡ suc position + i = omega arith in ap (formal_of (outline g) number) (sym e) ∙ formals (suc i))
                 (omega arith) fitted.6,
           )
 
-      by : (b : Bool) → test v ≡ b
+      by : LaidFrom (suc k) variables → (b : Bool) → test v ≡ b
           → ((i : ℕ) → formal_of (outline g) number (position + i)
-          ≡ option_and_then (λ root. slice_get g.tree.variables.items root) (slice_get (roots_by (test v)) i))
-          → length arguments ≡ length (roots_by (test v)) → Takes (test v) v arguments cells (Laid variables)
-      by true is formals long =
+          ≡ option_and_then (λ root. slice_get g.tree.variables.items root) (slice_get (if test v then k ∷ roots_where test (suc k) variables else roots_where test (suc k) variables) i))
+          → length arguments ≡ length (if test v then k ∷ roots_where test (suc k) variables else roots_where test (suc k) variables) → Takes (test v) v arguments cells (Laid variables)
+      by recur true is formals long =
           subst (λ b. Takes b v arguments cells (Laid variables)) (sym is)
-          (taken arguments fitted
-          (λ i. formals i ∙ ap (λ b. option_and_then (λ root. slice_get g.tree.variables.items root) (slice_get (roots_by b) i)) is)
-          (long ∙ ap (λ b. length (roots_by b)) is))
-      by false is formals long =
+          (taken recur arguments fitted
+          (λ i. formals i ∙ ap (λ b. option_and_then (λ root. slice_get g.tree.variables.items root) (slice_get (if b then k ∷ roots_where test (suc k) variables else roots_where test (suc k) variables) i)) is)
+          (long ∙ ap (λ b. length (if b then k ∷ roots_where test (suc k) variables else roots_where test (suc k) variables)) is))
+      by recur false is formals long =
           subst (λ b. Takes b v arguments cells (Laid variables)) (sym is)
-          (laid_from (suc k) variables position arguments cells next_there
-          (λ i. formals i ∙ ap (λ b. option_and_then (λ root. slice_get g.tree.variables.items root) (slice_get (roots_by b) i)) is)
-          (long ∙ ap (λ b. length (roots_by b)) is) fitted)
+          (recur position arguments cells next_there
+          (λ i. formals i ∙ ap (λ b. option_and_then (λ root. slice_get g.tree.variables.items root) (slice_get (if b then k ∷ roots_where test (suc k) variables else roots_where test (suc k) variables) i)) is)
+          (long ∙ ap (λ b. length (if b then k ∷ roots_where test (suc k) variables else roots_where test (suc k) variables)) is) fitted)
 
   -- ---- what is told of each cell of a parameter
 
@@ -148,17 +148,21 @@ module _ (g : Setting) (number : ℕ) where
       ∙ ap (λ l. map (mark v) l ++ others (drop (length first) (first ++ behind))) (take-append_seam first behind)
       ∙ ap (λ l. map (mark v) first ++ others l) (drop-append_seam first behind)
 
-  pub marked_long : {A : Type 0} (mark : Variable → Cell → A) (variables : List Variable) (arguments : List Argument) (cells : List Cell)
-      → Laid variables arguments cells → (length (marked mark variables cells) ≡ length cells) × (length cells ≡ cells_where g.tree.types test variables)
+  abbrev MarkedLong : {A : Type 0} → (Variable → Cell → A) → List Variable → Type 0
+  MarkedLong mark variables =
+      (arguments : List Argument) (cells : List Cell) → Laid variables arguments cells
+      → (length (marked mark variables cells) ≡ length cells) × (length cells ≡ cells_where g.tree.types test variables)
+
+  pub marked_long : {A : Type 0} (mark : Variable → Cell → A) (variables : List Variable) → MarkedLong mark variables
   marked_long mark [] arguments cells l = let none = ap length l.1 in (omega (arith, none), none)
-  marked_long {A} mark (v ∷ variables) arguments cells l = by (test v) refl l
+  marked_long {A} mark (v ∷ variables) arguments cells l = by (marked_long mark variables) (test v) refl l
     where
-      by : (b : Bool) → test v ≡ b → Takes (test v) v arguments cells (Laid variables)
+      by : MarkedLong mark variables → (b : Bool) → test v ≡ b → Takes (test v) v arguments cells (Laid variables)
           → (length (marked_by mark (test v) v cells (marked mark variables)) ≡ length cells)
           × (length cells ≡ cells_where g.tree.types test (v ∷ variables))
-      by true is l =
+      by recur true is l =
           let t = subst (λ b. Takes b v arguments cells (Laid variables)) is l in
-          let rest = marked_long mark variables t.1 t.3 t.7 in
+          let rest = recur t.1 t.3 t.7 in
           let whole : marked_by mark (test v) v cells (marked mark variables) ≡ map (mark v) t.2 ++ marked mark variables t.3 =
           ap (λ b. marked_by mark b v cells (marked mark variables)) is ∙ ap (λ cs. marked_by mark true v cs (marked mark variables)) t.5
           ∙ marked_first mark v (marked mark variables) t.0 t.2 t.3 t.6 in
@@ -169,9 +173,9 @@ module _ (g : Setting) (number : ℕ) where
             omega (arith, cells_long, marks_long, rest.0, length-map t.2 (mark v)),
             omega (arith, cells_long, rest.1, own, where_cons g.tree.types test v variables, fitted_length v t.0 t.2 t.6),
           )
-      by false is l =
+      by recur false is l =
           let t = subst (λ b. Takes b v arguments cells (Laid variables)) is l in
-          let rest = marked_long mark variables arguments cells t in
+          let rest = recur arguments cells t in
           let whole : marked_by mark (test v) v cells (marked mark variables) ≡ marked mark variables cells =
           ap (λ b. marked_by mark b v cells (marked mark variables)) is in
           let own : (if test v then slot_cells g.tree.types v else 0) ≡ 0 = ap (λ b. if b then slot_cells g.tree.types v else 0) is in
@@ -232,15 +236,16 @@ module _ (g : Setting) (number : ℕ) where
             ∙ ap (λ (u : Variable). map (mark u) t.2 ++ marked mark variables t.3) same;
         marks_front_is = refl;
       }
-  found {A} mark k (w ∷ variables) arguments cells (suc i) v l at holds = by (test w) refl l
+  found {A} mark k (w ∷ variables) arguments cells (suc i) v l at holds =
+      by (λ rest behind t. found mark (suc k) variables rest behind i v t at holds) (test w) refl l
     where
       further : k + suc i ≡ suc k + i
       further = omega arith
 
-      by : (b : Bool) → test w ≡ b → Takes (test w) w arguments cells (Laid variables) → Found mark k (w ∷ variables) arguments cells (suc i) v
-      by true is l =
+      by : ((rest : List Argument) (behind : List Cell) → Laid variables rest behind → Found mark (suc k) variables rest behind i v) → (b : Bool) → test w ≡ b → Takes (test w) w arguments cells (Laid variables) → Found mark k (w ∷ variables) arguments cells (suc i) v
+      by recur true is l =
           let t = subst (λ b. Takes b w arguments cells (Laid variables)) is l in
-          let r = found mark (suc k) variables t.1 t.3 i v t.7 at holds in
+          let r = recur t.1 t.3 t.7 in
           let own : (if test w then slot_cells g.tree.types w else 0) ≡ slot_cells g.tree.types w = ap (λ b. if b then slot_cells g.tree.types w else 0) is in
           record {
             argument = r.argument;
@@ -264,9 +269,9 @@ module _ (g : Setting) (number : ℕ) where
             marks_front_is = omega (arith, length-append (map (mark w) t.2) r.marks_front, length-append t.2 r.front, r.marks_front_is,
                 length-map t.2 (mark w));
           }
-      by false is l =
+      by recur false is l =
           let t = subst (λ b. Takes b w arguments cells (Laid variables)) is l in
-          let r = found mark (suc k) variables arguments cells i v t at holds in
+          let r = recur arguments cells t in
           let own : (if test w then slot_cells g.tree.types w else 0) ≡ 0 = ap (λ b. if b then slot_cells g.tree.types w else 0) is in
           record {
             argument = r.argument;
