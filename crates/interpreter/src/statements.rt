@@ -1,5 +1,4 @@
 ghost use Rattle.std.specs.Prelude.{◌≡◌, ◌+◌, ◌<◌, ◌≤◌, OnOk};
-ghost use Rattle.typed_tree.specs.WellFormed.{length_of};
 ghost use Rattle.interpreter.specs.Pending.{Does, counting_on, forgetting, line_ending, repeating, resumed, whiling};
 ghost use Rattle.interpreter.specs.Pending.{writing, writing_one, writing_row};
 ghost use Rattle.interpreter.specs.Weight.{Lightens, callees_in, for_weight, pending_weight, weight_of_expression};
@@ -14,6 +13,7 @@ use operations::arms::arm_at;
 use operations::ordinals::{
     number_of, positive_width, tested_bounds, truth_of, value_toward, width_by_default,
 };
+use operations::rows::length_of;
 use operations::text::{write_row, write_row_in, write_value};
 use std::alloc::AllocError;
 use typed_tree::tree::{
@@ -474,15 +474,5 @@ impl<'t> Run<'t, '_> {
             self.output.push(b'\n')?;
         }
         Ok(None)
-    }
-}
-
-// How many components a whole value has.
-fn length_of(value: &Whole) -> usize
-    ensures { result ≡ length_of value.now }
-{
-    match value {
-        Whole::Text { characters, .. } => characters.len(),
-        Whole::Variable { cells, .. } => *cells as usize,
     }
 }
