@@ -1,5 +1,5 @@
 -- How an activation begins and ends, as the work that is pending then.
-use Rattle.std.proofs.Common.{◌≡◌, ◌+◌, ◌-◌, ◌^◌, ◌<◌, ◌≤◌, ℕ, zero, suc, List, [], ◌∷◌, ◌++◌, Option, Some, None, Result, Ok, Err, OnOk, pos, length, reverse, map, filter, slice_get}
+use Rattle.std.proofs.Common.{◌≡◌, ◌+◌, ◌-◌, ◌<◌, ℕ, suc, List, [], ◌∷◌, ◌++◌, Option, Some, None, Result, Ok, Err, OnOk, pos, length, reverse, filter, slice_get}
 use Rattle.std.proofs.Common.{arith, sym, ◌∙◌, ap, subst, refl}
 use Rattle.std.proofs.lemmas.List.{length-reverse}
 use Rattle.std.specs.declared.alloc.AllocError.{AllocError}
@@ -11,13 +11,13 @@ use Rattle.meaning.specs.declared.outcome.Ending.TheVariants as ending
 use Rattle.meaning.specs.declared.store.Value.{Value}
 use Rattle.meaning.specs.declared.store.Value.TheVariants.{Number}
 use Rattle.meaning.specs.Store.{Environment, Store}
-use Rattle.meaning.specs.Effect.{State, Reply, Gives, Stops, Action, ◌>>=◌, and_then, begin_with, end_with, give, stop}
+use Rattle.meaning.specs.Effect.{State, Reply, Gives, Stops, Action, ◌>>=◌, and_then, begin_with, end_with, give}
 use Rattle.meaning.specs.Meaning.{Activation, Argument, OfValue, Calls, Surroundings, activated, assign_all, calls_of, effect_of, environment_of}
 use Rattle.meaning.specs.Meaning.{executed, result_of}
 use Rattle.interpreter_state.specs.declared.activation.Activation.{Activation as KeptActivation}
 use Rattle.interpreter_state.specs.declared.work.Caller.{Caller}
 use Rattle.interpreter_state.specs.declared.work.Work.{Work}
-use Rattle.interpreter_state.specs.Views.{Visible, pairs_passed, visible_in}
+use Rattle.interpreter_state.specs.Views.{Visible, visible_in}
 use Rattle.interpreter_state.proofs.Sees.{own_of, sees_inner}
 use Rattle.interpreter.specs.declared.interpreter.Run.{Run}
 use Rattle.interpreter.specs.Pending.{Agrees, Resumption, Sees, Waits, StoreAgrees, activating, beginning, left_below, operands_of, pending_of, returning}
@@ -119,8 +119,14 @@ pub agrees_begun : (old begun : Run) (caller : Caller) (env : Surroundings) (out
     ∷ filter (λ (seen : Visible). is_one_of block.heading.around.items seen.block) (visible_in old.activation) →
     begun.activation.depth ≡ old.activation.depth - 1 → begun.callers.items ≡ old.callers.items ++ caller ∷ [] →
     caller.activation ≡ old.activation → caller.pending.items ≡ old.pending.items → StoreAgrees begun.store after →
-    begun ≡ record old { turns = left; called = old.called + 1; activation = begun.activation; callers = begun.callers; pending = begun.pending;
-      store = begun.store } →
+    begun ≡ record old {
+      turns = left;
+      called = old.called + 1;
+      activation = begun.activation;
+      callers = begun.callers;
+      pending = begun.pending;
+      store = begun.store;
+    } →
     Agrees (inside old.tree.now old.activation.depth (begun_activation s.activations number block arguments env.visible))
     (behind env outer old s (inside old.tree.now old.activation.depth (begun_activation s.activations number block arguments env.visible))
     begun.activation) begun (after_begin left number after s)
@@ -141,8 +147,14 @@ agrees_begun old begun caller env outer s left number block arguments after agre
     let few_left = agrees.few in
     let deep_left = agrees.deep in
     let one_more : old.activation.depth ≡ suc begun.activation.depth = omega (arith, deep, depth) in
-    let fields : Agrees there outer_there (record old { turns = left; called = old.called + 1; activation = begun.activation; callers = begun.callers;
-      pending = begun.pending; store = begun.store }) (after_begin left number after s) = record {
+    let fields : Agrees there outer_there (record old {
+      turns = left;
+      called = old.called + 1;
+      activation = begun.activation;
+      callers = begun.callers;
+      pending = begun.pending;
+      store = begun.store;
+    }) (after_begin left number after s) = record {
       visible = record {
         variables = sees_inner tree activation (visible_in old.activation) (visible_in begun.activation) agrees.visible.variables sees;
         types = refl;

@@ -2,7 +2,7 @@
 -- It says nothing of how many steps the work takes.
 use Rattle.std.specs.Prelude.{◌≡◌, ◌+◌, ◌^◌, ◌<◌, ◌≤◌, zero, suc, ℕ, ℤ, pos, Bool, List, [], ◌∷◌, Option, Some, None}
 use Rattle.std.specs.Prelude.{Result, Ok, Err, Vec, IfOk}
-use Rattle.std.specs.Prelude.{if◌then◌else◌, drop, length, map, option_map, reverse, slice_get}
+use Rattle.std.specs.Prelude.{if◌then◌else◌, drop, length, map, reverse, slice_get}
 use Rattle.std.specs.BTreeMap.{BTreeMap, get}
 use Rattle.std.specs.declared.alloc.AllocError.{AllocError}
 use Rattle.std.specs.declared.alloc.Global.{Global}

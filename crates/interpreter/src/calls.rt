@@ -56,7 +56,9 @@ impl<'t> Run<'t, '_> {
                 self.plan(Work::Whole { value, indexes }, Work::Pass(rest))
             }
             Passed::Reference {
-                access, indexes, ..
+                access,
+                indexes,
+                ..
             } => self.access(access, indexes, Work::Pass(rest)),
         }
     }
@@ -127,9 +129,9 @@ impl<'t> Run<'t, '_> {
         let Some(called) = self.called.checked_add(1) else {
             return Ok(Some(Ending::More));
         };
-        let activation =
-            self.activation
-                .inner(self.alloc, number, &block.heading, called, arguments)?;
+        let activation = self
+            .activation
+            .inner(self.alloc, number, &block.heading, called, arguments)?;
         self.turns -= 1;
         self.called = called;
         let activation = mem::replace(&mut self.activation, activation);

@@ -76,9 +76,9 @@ impl<'t> Run<'t, '_> {
     {
         match self.tree.blocks.first() {
             Some(block) => {
-                let mut activation =
-                    self.activation
-                        .inner(self.alloc, 0, &block.heading, 0, &[])?;
+                let mut activation = self
+                    .activation
+                    .inner(self.alloc, 0, &block.heading, 0, &[])?;
                 activation.depth = self.turns;
                 self.activation = activation;
                 put(&mut self.pending, Work::Statement(&block.body))?;

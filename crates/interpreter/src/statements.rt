@@ -343,10 +343,7 @@ impl<'t> Run<'t, '_> {
     }
 
     // A value that is written.
-    fn parameter(
-        &mut self,
-        parameter: &'t WriteParameter,
-    ) -> Result<Option<Ending>, AllocError>
+    fn parameter(&mut self, parameter: &'t WriteParameter) -> Result<Option<Ending>, AllocError>
         ensures fewer { OnOk result (pending_weight self.new < pending_weight self.old
             + weight_of_parameter (callees_in self.old) parameter.now self.old.turns) }
         ensures does { Does (λ env. writing_one env parameter.now) self.old result self.new }

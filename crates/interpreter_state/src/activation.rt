@@ -126,9 +126,9 @@ impl Activation {
     ) -> Result<Activation, AllocError>
         ensures visible { IfOk result (λ inner. visible_in inner
             ≡ record {
-                block = block;
-                number = number;
-                references = pairs_passed heading.now.parameters.items (map operand_seen arguments.now);
+              block = block;
+              number = number;
+              references = pairs_passed heading.now.parameters.items (map operand_seen arguments.now);
             } ∷ filter (λ seen. is_one_of heading.now.around.items seen.block) (visible_in self.now)) }
         ensures depth { IfOk result (λ inner. inner.depth ≡ self.now.depth - 1) }
         ensures told { IfOk result (λ inner. inner.result ≡ heading.now.result) }
@@ -150,10 +150,7 @@ impl Activation {
 }
 
 // What was passed, once more.
-fn references_again(
-    alloc: Global,
-    references: &[Reference],
-) -> Result<Vec<Reference>, AllocError>
+fn references_again(alloc: Global, references: &[Reference]) -> Result<Vec<Reference>, AllocError>
     ensures { IfOk result (λ again. map reference_seen again.items ≡ map reference_seen references.now) }
 {
     let mut again = Vec::new(alloc);

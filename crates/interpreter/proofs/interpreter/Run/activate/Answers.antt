@@ -1,7 +1,6 @@
 use Rattle.std.proofs.Common.{◌≡◌, ◌+◌, ◌-◌, ◌≤◌, ◌∷◌, List, OnOk, Some, suc, map, reverse, refl, slice_get, sym, arith, ◌∙◌, ap, subst}
 use Rattle.std.proofs.lemmas.Option.{slice_get_read}
 use Rattle.typed_tree.specs.declared.tree.Block.{Block}
-use Rattle.interpreter_state.specs.declared.operand.Operand.{Operand}
 use Rattle.meaning.specs.declared.outcome.Ending.TheVariants as ending
 use Rattle.meaning.specs.Meaning.{Argument}
 use Rattle.interpreter_state.specs.Views.{operand_seen}

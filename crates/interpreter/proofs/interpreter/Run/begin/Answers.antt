@@ -1,10 +1,9 @@
-use Rattle.std.proofs.Common.{◌≡◌, ◌+◌, ◌-◌, ◌∷◌, ◌++◌, [], ℕ, suc, List, OnOk, Some, filter, map, reverse, refl, sym, arith, ◌∙◌, ap, subst}
+use Rattle.std.proofs.Common.{◌≡◌, ◌+◌, ◌-◌, ◌∷◌, [], ℕ, suc, List, OnOk, filter, map, reverse, refl, sym, arith, ◌∙◌, ap, subst}
 use Rattle.interpreter_state.specs.declared.activation.Activation.{Activation}
 use Rattle.interpreter_state.specs.declared.work.Caller.{Caller}
 use Rattle.interpreter_state.specs.declared.work.Work.{Work}
-use Rattle.interpreter_state.specs.declared.work.Work.TheVariants as work
 use Rattle.typed_tree.specs.WellFormed.{is_one_of}
-use Rattle.meaning.specs.Effect.{State, and_then}
+use Rattle.meaning.specs.Effect.{and_then}
 use Rattle.meaning.specs.Meaning.{Argument, assign_all, effect_of, environment_of}
 use Rattle.interpreter_state.specs.Views.{Visible, operand_seen, pairs_passed, visible_in}
 use Rattle.interpreter_state.proofs.Sees.{own_of, sees_inner}
@@ -63,11 +62,21 @@ returns-clause-does c = λ env outer s agrees.
     let after = stored.0 in
     let stores = ap (λ l. assign_all tree visible l arguments start) (sym c.deref.ensures.value) ∙ stored.1 in
     let caller : Caller = record { activation = c.replace-activation.result; pending = c.replace-pending.result } in
-    let begun : ℕ → Run → Run = λ n r. record old { turns = left; called = n; activation = r.activation; callers = r.callers; pending = r.pending;
-      store = r.store } in
+    let begun : ℕ → Run → Run = λ n r. record old {
+      turns = left;
+      called = n;
+      activation = r.activation;
+      callers = r.callers;
+      pending = r.pending;
+      store = r.store;
+    } in
     let same = c.assign_all.ensures.same in
-    let alike : new ≡ begun (old.called + 1) new = same ∙ ap (λ n. begun n (begun c.in-Some.called (record old { activation = c.replace-activation.new.dest;
-      callers = c.push.new.self; pending = c.replace-pending.new.dest; store = new.store }))) told ∙ ap (begun (old.called + 1)) (sym same) in
+    let alike : new ≡ begun (old.called + 1) new = same ∙ ap (λ n. begun n (begun c.in-Some.called (record old {
+      activation = c.replace-activation.new.dest;
+      callers = c.push.new.self;
+      pending = c.replace-pending.new.dest;
+      store = new.store;
+    }))) told ∙ ap (begun (old.called + 1)) (sym same) in
     let outer_there = behind env outer old s there new.activation in
     let agreed = agrees_begun old new caller env outer s left number block arguments after agrees some c.requires
     (ap (λ (r : Run). visible_in r.activation) same ∙ ap visible_in c.replace-activation.ensures.after ∙ sees)

@@ -1,7 +1,7 @@
-use Rattle.std.proofs.Common.{◌≡◌, ◌<◌, ℕ, List, [], ◌∷◌, Bool, true, false, Ok, length, nat_eq, reverse, sym, ◌∙◌, ap, refl, subst, arith}
+use Rattle.std.proofs.Common.{◌≡◌, ◌<◌, ℕ, List, [], ◌∷◌, true, false, Ok, length, nat_eq, reverse, sym, ◌∙◌, ap, refl, subst, arith}
 use Rattle.std.proofs.lemmas.Bool.{eqb-true}
 use Rattle.interpreter.specs.Pending.{operands_of, pending_of}
-use Rattle.interpreter.proofs.Resuming.{continues_as, goes_on_from, stops_from, done_from, taken, none_left}
+use Rattle.interpreter.proofs.Resuming.{goes_on_from, stops_from, done_from, taken, none_left}
 use Rattle.interpreter.proofs.interpreter.Run.finish.Goals as goal
 
 -- a list is empty where the test of its length says so, and else it isn't
