@@ -191,6 +191,16 @@ inside_routine here number = record { keeps = λ block is. or_right (nat_eq bloc
         subst (λ b. is_one_of (here.around ++ b ∷ []) block ≡ true) at (among_last here.around block)
     by block false same h = among_more here.around here.block block h
 
+-- with more heads
+pub routine_longer : (here : Here) (old new : List Head) (block : ℕ) (is_function : Bool) → IsLonger old new → IsRoutine here old block is_function
+    → IsRoutine here new block is_function
+routine_longer here old new block is_function longer routine = record {
+  head = routine.head;
+  is_there = get_longer longer block routine.head routine.is_there;
+  is_visible = routine.is_visible;
+  of_kind = routine.of_kind;
+}
+
 -- ---- with more variables, types and heads
 
 module _ {outer inner : Here} (inside : IsInside outer inner) {old_variables new_variables : List Variable} {old new : List Form}

@@ -21,7 +21,7 @@ use Rattle.typed_tree.specs.WellFormed.{Outline, are_characters}
 use Rattle.typed_tree.specs.Look.{Mark, Look, mark_entries, mark_loops, mark_blocks, is_formed_mark}
 use Rattle.typing.specs.Passing.{Enclosing, Headed, Passed, Checked, After, Passing, and_then, after, pure, fail, given, by_types, mark, behind_marks, ◌>>=◌, ◌>>?◌}
 use Rattle.typing.specs.Steps.{most_sites, most_entries, pass, enter, enter_as, number_loop, begin_loop, enter_loop, site, find, told, may_change}
-use Rattle.typing.specs.Steps.{begin_control, end_control, wants_output, host_type, text_at, keep_text, is_own, is_local, may_control, with_threatened}
+use Rattle.typing.specs.Steps.{begin_control, end_control, wants_output, host_type, text_at, keep_text, is_own, is_local, may_control, with_one, with_threatened}
 use Rattle.typing.specs.Steps.{assign_result, enclosing_now, heading_at, variable_at, program_heading}
 use Rattle.typing.specs.Expressions.{behind}
 use Rattle.typing.specs.Names.{folded}
@@ -156,6 +156,16 @@ sited {here} {Has = Has} {Had = Had} has d = record {
       inner = g.inner;
       formed = g.formed;
     }
+
+-- the same, with something else that holds of its answer
+pub answered : {here : Here} {least : Reached} {A : Type 0} {Has : List Stands → Type 0} {p : Passing A} {K L : A → Reached → Type 0}
+    → ((x : A) (now : Reached) → K x now → L x now)
+    → Does here least Has p K → Does here least Has p L
+answered other d = record {
+  does = λ s a is fine h.
+      let k = d.does s a is fine h in
+      (k.0, other a.answer (reached a.passed) k.1);
+}
 
 -- ---- steps that add no site
 
@@ -391,9 +401,9 @@ may_change_does {here} place root = record {
       subst (Leaves here Nothing s Anything) x.1 (by s (is_own s.enclosing.block (slice_get s.variables root)) fine, tt);
 }
   where
-    by : (s : Passed) (test : Bool) → Fine here s → Grown here Nothing [] s (if test then s else record s { threatened = s.threatened ++ root ∷ [] })
+    by : (s : Passed) (test : Bool) → Fine here s → Grown here Nothing [] s (if test then s else record s { threatened = with_one s.threatened root })
     by s true fine = grown_silent here s s refl refl refl refl refl refl refl refl refl fine
-    by s false fine = grown_silent here s (record s { threatened = s.threatened ++ root ∷ [] }) refl refl refl refl refl refl refl refl refl fine
+    by s false fine = grown_silent here s (record s { threatened = with_one s.threatened root }) refl refl refl refl refl refl refl refl refl fine
 
 -- a control variable is one of the variable declaration part of the block
 pub may_control_does : {here : Here} {least : Reached} (place : Place) (root : ℕ)
@@ -402,7 +412,7 @@ unfolding may_control
 may_control_does {here} place root = record {
   does = λ s a is fine h.
       let own = is_local s.enclosing.block (slice_get s.variables root) in
-      let x = split_if (own && not (list_any (λ threatened. nat_eq threatened root) s.threatened)) (fault.Threatened place) (after tt [] s) a is in
+      let x = split_if (own && not (list_any (nat_eq root) s.threatened)) (fault.Threatened place) (after tt [] s) a is in
       let local = subst (λ block. is_local block (slice_get s.variables root) ≡ true) fine.block (first_of own _ x.0) in
       subst (Leaves here Nothing s (λ _ now. is_local here.block (slice_get now.variables root) ≡ true)) x.1
       (grown_silent here s s refl refl refl refl refl refl refl refl refl fine, local);
@@ -479,7 +489,7 @@ pub assign_result_does : {here : Here} {least : Reached} (root : ℕ) → Does h
 unfolding assign_result
 assign_result_does {here} root = record {
   does = λ s a is fine h.
-      let new : Passed = record s { assigned = s.assigned ++ root ∷ [] } in
+      let new : Passed = record s { assigned = with_one s.assigned root } in
       let same : after tt [] new ≡ a = cc in
       subst (Leaves here Nothing s Anything) same (grown_silent here s new refl refl refl refl refl refl refl refl refl fine, tt);
 }

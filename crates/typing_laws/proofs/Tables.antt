@@ -7,10 +7,10 @@ use Rattle.std.proofs.lemmas.List.Sums.{sum_by-cons}
 use Rattle.types.specs.Forms.{Form}
 use Rattle.types.specs.declared.form.TypeId.{TypeId}
 use Rattle.types.specs.declared.refusal.TypeRefusal.TheVariants.{TooManyCells, FirstAboveLast}
-use Rattle.types.specs.Types.{Counted, admitted_cells, cells_of, char, counted, element_of, entry_cells, few, field_at, form_cells, form_range, is_ordinal}
+use Rattle.types.specs.Types.{Counted, admitted_cells, cells_of, char, counted, element_of, entry_cells, few, field_at, form_cells, form_range, is_ordinal, range_of}
 use Rattle.types.specs.Types.{is_turned, most_cells, required_forms}
 use Rattle.types.proofs.Counts.{counted_more, one_cell}
-use Rattle.types.proofs.Longer.{cells_longer, element_longer, field_at_longer, ordinal_longer}
+use Rattle.types.proofs.Longer.{cells_longer, element_longer, field_at_longer, ordinal_longer, range_longer}
 use Rattle.typed_tree.specs.declared.tree.Variable.{Variable}
 use Rattle.typed_tree.specs.WellFormed.{are_characters}
 use Rattle.typing_laws.specs.Lawful.{BeginWithRequired}
@@ -30,6 +30,9 @@ module _ {old new : List Form} (longer : IsLonger old new) where
 
     pub is_ordinal_longer : is_ordinal new id ≡ is_ordinal old id
     is_ordinal_longer = ap (λ types. is_ordinal types id) longer.goes_on ∙ ordinal_longer old longer.more id there
+
+    pub range_of_longer : range_of new id ≡ range_of old id
+    range_of_longer = ap (λ types. range_of types id) longer.goes_on ∙ range_longer old longer.more id there
 
     pub cells_of_longer : cells_of new id ≡ cells_of old id
     cells_of_longer = ap (λ types. cells_of types id) longer.goes_on ∙ cells_longer old longer.more id there
