@@ -11,6 +11,8 @@ use Rattle.types.specs.Forms.{Form}
 use Rattle.types.specs.declared.form.TypeId.{TypeId}
 use Rattle.types.specs.declared.form.OrdinalRange.{OrdinalRange}
 use Rattle.types.specs.Types.{cells_of, is_assignable, is_ordinal, is_same, range_of}
+use Rattle.scopes.specs.declared.denotation.Denotation.{Denotation}
+use Rattle.scopes.specs.declared.denotation.Denotation.TheVariants as denotes
 use Rattle.typed_tree.specs.declared.fault.TypeFault.TheVariants as fault
 use Rattle.typed_tree.specs.declared.site.SiteKind.{SiteKind}
 use Rattle.typed_tree.specs.declared.site.SiteKind.TheVariants as kind
@@ -25,7 +27,7 @@ use Rattle.typed_tree.specs.WellFormed.{may_call, of_one, passes_value, passes_w
 use Rattle.typing.specs.Passing.{Headed}
 use Rattle.typing.specs.Steps.{or_mismatch}
 use Rattle.typing.specs.declared.typed.Typed.{Typed}
-use Rattle.typing.specs.Expressions.{Written, WrittenActual, actual, actuals_for, are_as_many, copied_cells, copying, fitting, function_value, or_no_result}
+use Rattle.typing.specs.Expressions.{Written, WrittenActual, actual, actuals_for, are_as_many, as_routine, copied_cells, copying, fitting, function_value, or_no_result}
 use Rattle.typing.specs.Expressions.{passed_ordinal, passed_to, passed_value, passed_whole, result_variable, routine_call, typed, unless_width}
 use Rattle.typing_laws.proofs.WholeRanges.{HaveWholeRanges, IsWholeRange}
 use Rattle.typing_laws.proofs.Covers.{Covers, Leads, covers_any, covers_both, covers_more, covers_none, leads_first}
@@ -34,7 +36,7 @@ use Rattle.typing_laws.proofs.Reached.{is_round_here, get_longer, get_mapped, ma
 use Rattle.typing_laws.proofs.Grown.{heads_of, FitsHeading, fits_later, both_true}
 use Rattle.typing_laws.proofs.Sound.{IsRoutine, routine_longer}
 use Rattle.typing_laws.proofs.Strings.{there, both_and}
-use Rattle.typing_laws.proofs.Steps.{Does, Anything, Nothing, joins, quietly, last, checks_types, sited, answered, pure_does, given_does, fail_does, mark_does, pass_does}
+use Rattle.typing_laws.proofs.Steps.{Does, Anything, Nothing, IsSoundThen, joins, quietly, last, checks_types, sited, answered, pure_does, given_does, fail_does, mark_does, pass_does}
 use Rattle.typing_laws.proofs.Steps.{enter_does, site_does, host_type_does, heading_at_does, variable_at_does, led, IsKnown, behind_does}
 use Rattle.typing_laws.proofs.Tables.{cells_of_longer, is_ordinal_longer, range_of_longer}
 use Rattle.typing_laws.proofs.Leading.{IsLed, Types, led_alone, known_later, lt_true, IsFormalAt, formal_later, formal_is, LawfulWritten, covers_test, led_covers}
@@ -276,6 +278,19 @@ module _ (here : Here) where
       → of_one (is_round_here here) found ≡ true → of_one (is_round o here.block) found ≡ true
   visible_is o None round is = absurd cc
   visible_is o (Some block) round is = round block is
+
+  -- a routine that a name denotes is one that the block or one round it declares
+  pub routine_is : (now : Reached) (d : Denotation) (routine : ℕ × Bool) → as_routine d ≡ Some routine → IsSoundThen here d now
+      → IsRoutine here (heads_of now) routine.0 routine.1
+  routine_is now (denotes.Routine block is_function) routine is sound =
+      let same : (block, is_function) ≡ routine = cc in subst (λ (r : ℕ × Bool). IsRoutine here (heads_of now) r.0 r.1) same sound
+  routine_is now (denotes.Constant value type_id) routine is sound = absurd cc
+  routine_is now (denotes.Text number type_id) routine is sound = absurd cc
+  routine_is now (denotes.Variable root type_id) routine is sound = absurd cc
+  routine_is now (denotes.TypeName type_id) routine is sound = absurd cc
+  routine_is now (denotes.Procedure procedure) routine is sound = absurd cc
+  routine_is now (denotes.Function function) routine is sound = absurd cc
+  routine_is now denotes.Output routine is sound = absurd cc
 
   -- a routine that may be called here, with what its heading tells
   pub record MayCall (now : Reached) (is_function : Bool) (callee : ℕ) : Type 0 where

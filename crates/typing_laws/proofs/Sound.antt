@@ -14,7 +14,7 @@ use Rattle.types.specs.declared.form.TypeId.{TypeId}
 use Rattle.typed_tree.specs.declared.tree.Variable.{Variable}
 use Rattle.typed_tree.specs.WellFormed.{is_whole, is_one_of, of_one, declarer}
 use Rattle.typing.specs.Names.{required_region}
-use Rattle.typing_laws.proofs.Reached.{IsLonger, Here, Head, is_round_here, get_longer}
+use Rattle.typing_laws.proofs.Reached.{IsLonger, Here, Head, Reached, IsFurther, is_round_here, get_longer}
 use Rattle.typing_laws.proofs.Tables.{stands_longer}
 
 -- ---- what holds of each thing that is denoted
@@ -176,7 +176,7 @@ among_last (one ∷ blocks) block = by (nat_eq one block) (among_last blocks blo
     by true h = refl
     by false h = h
 
-or_right : (a b : Bool) → b ≡ true → (a || b) ≡ true
+pub or_right : (a b : Bool) → b ≡ true → (a || b) ≡ true
 or_right true b is = refl
 or_right false b is = is
 
@@ -191,7 +191,17 @@ inside_routine here number = record { keeps = λ block is. or_right (nat_eq bloc
         subst (λ b. is_one_of (here.around ++ b ∷ []) block ≡ true) at (among_last here.around block)
     by block false same h = among_more here.around here.block block h
 
--- with more heads
+-- where more has come
+pub variable_later : (here : Here) (now next : Reached) (root : ℕ) (type_id : TypeId) → IsFurther now next
+    → IsVariable here now.variables now.types root type_id → IsVariable here next.variables next.types root type_id
+variable_later here now next root type_id more v = record {
+  variable = v.variable;
+  is_there = get_longer more.variables root v.variable v.is_there;
+  is_visible = v.is_visible;
+  of_type = v.of_type;
+  stands = stands_longer more.types type_id v.stands;
+}
+
 pub routine_longer : (here : Here) (old new : List Head) (block : ℕ) (is_function : Bool) → IsLonger old new → IsRoutine here old block is_function
     → IsRoutine here new block is_function
 routine_longer here old new block is_function longer routine = record {

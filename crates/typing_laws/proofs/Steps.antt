@@ -167,6 +167,15 @@ answered other d = record {
       (k.0, other a.answer (reached a.passed) k.1);
 }
 
+-- and what has come so far
+pub further_answered : {here : Here} {least : Reached} {A : Type 0} {Has : List Stands → Type 0} {p : Passing A} {K L : A → Reached → Type 0}
+    → Does here least Has p K → ((x : A) (now : Reached) → IsFurther least now → K x now → L x now) → Does here least Has p L
+further_answered d other = record {
+  does = λ s a is fine h.
+      let k = d.does s a is fine h in
+      (k.0, other a.answer (reached a.passed) (further_still h (further k.0)) k.1);
+}
+
 -- ---- steps that add no site
 
 -- what is known is the same, but for the latest token
