@@ -1,7 +1,7 @@
 -- How far typing has come: how many sites there are, which types, which variables, and what the headings that were passed
 -- tell; and the block round a place. What a form is stays so as more of these come.
 use Rattle.std.proofs.Common.{◌≡◌, ℕ, zero, suc, ◌<◌, ◌≤◌, ◌||◌, Bool, true, List, [], ◌∷◌, ◌++◌, length, map, nat_eq, slice_get, Option, Some, None}
-use Rattle.std.proofs.Common.{append_assoc, append-nil, refl, sym, ap, subst, ◌∙◌, arith, is_none, option_map, get_or}
+use Rattle.std.proofs.Common.{append_assoc, append-nil, refl, sym, ap, subst, ◌∙◌, arith, is_none, option_map, get_or, inl, inr, ◌⊎◌}
 use Rattle.std.specs.Prelude.{not}
 use Rattle.std.proofs.lemmas.List.{map-append}
 use Rattle.types.specs.Forms.{Form}
@@ -43,6 +43,18 @@ get_append (y ∷ old) more (suc k) x is = get_append old more k x is
 -- what is there stays
 pub get_longer : {A : Type 0} {old new : List A} → IsLonger old new → (k : ℕ) (x : A) → slice_get old k ≡ Some x → slice_get new k ≡ Some x
 get_longer {A} {old} longer k x is = ap (λ all. slice_get all k) longer.goes_on ∙ get_append old longer.more k x is
+
+-- with one more, what is there was there before, or is the one
+pub last_or_before : {A : Type 0} (all : List A) (x : A) (k : ℕ) (y : A) → slice_get (all ++ x ∷ []) k ≡ Some y
+    → (slice_get all k ≡ Some y) ⊎ ((k ≡ length all) × (x ≡ y))
+last_or_before [] x zero y is = let same : x ≡ y = cc in inr (refl, same)
+last_or_before [] x (suc k) y is = absurd cc
+last_or_before (z ∷ all) x zero y is = inl is
+last_or_before (z ∷ all) x (suc k) y is = by (last_or_before all x k y is)
+  where
+    by : (slice_get all k ≡ Some y) ⊎ ((k ≡ length all) × (x ≡ y)) → (slice_get all k ≡ Some y) ⊎ ((suc k ≡ suc (length all)) × (x ≡ y))
+    by (inl before) = inl before
+    by (inr last) = inr (ap suc last.0, last.1)
 
 -- what is there of mapped ones is what one of these is mapped to
 pub get_mapped : {A B : Type 0} (f : A → B) (all : List A) (k : ℕ) (y : B) → slice_get (map f all) k ≡ Some y
