@@ -40,6 +40,10 @@ get_append [] more k x is = absurd cc
 get_append (y ∷ old) more zero x is = is
 get_append (y ∷ old) more (suc k) x is = get_append old more k x is
 
+pub get_last : {A : Type 0} (all : List A) (x : A) → slice_get (all ++ x ∷ []) (length all) ≡ Some x
+get_last [] x = refl
+get_last (y ∷ all) x = get_last all x
+
 -- what is there stays
 pub get_longer : {A : Type 0} {old new : List A} → IsLonger old new → (k : ℕ) (x : A) → slice_get old k ≡ Some x → slice_get new k ≡ Some x
 get_longer {A} {old} longer k x is = ap (λ all. slice_get all k) longer.goes_on ∙ get_append old longer.more k x is
