@@ -75,7 +75,7 @@ define_under name denotation (region ∷ under) new is = by (is_defined (said re
 at_most : (a b : ℕ) → nat_lt a b ≡ false → b ≤ a
 at_most a b h = grind (arith, nat_tests)
 
-named_is : (names : List Name) (name : Name) (r : Result Denotation ScopeFault) (type_id : TypeId) → named_type names name r ≡ Ok type_id
+pub named_is : (names : List Name) (name : Name) (r : Result Denotation ScopeFault) (type_id : TypeId) → named_type names name r ≡ Ok type_id
     → r ≡ Ok (denotes.TypeName type_id)
 named_is names name (Ok (denotes.TypeName id)) type_id is = cc
 named_is names name (Ok (denotes.Constant value id)) type_id is = absurd cc
@@ -315,23 +315,23 @@ module _ (here : Here) (under : List Region) (counted : ℕ) (heads : List Head)
       by false is = roots_none_more (declares counted is_kind) variables one (own false is) ∙ are
 
   -- there may be one variable more, of a type of the table
-  abbrev MayCome : VariableKind → TypeId → Passed → Type 0
+  abbrev pub MayCome : VariableKind → TypeId → Passed → Type 0
   MayCome of type_id s = (type_id.index < length s.types) × (length s.variables < most_variables) × MayDeclare of s
 
   -- the number of the next variable
-  abbrev IsRoot : VariableKind → TypeId → ℕ → Passed → Type 0
+  abbrev pub IsRoot : VariableKind → TypeId → ℕ → Passed → Type 0
   IsRoot of type_id root s = IsReady s × MayCome of type_id s × (root ≡ length s.variables)
 
   -- it is declared, but has no cells yet
-  abbrev IsNext : VariableKind → TypeId → ℕ → Passed → Type 0
+  abbrev pub IsNext : VariableKind → TypeId → ℕ → Passed → Type 0
   IsNext of type_id root s =
       Ready here under counted heads (s.variables ++ declared_as of type_id ∷ []) s × MayCome of type_id s × (root ≡ length s.variables)
 
   -- behind it
-  abbrev IsBehind : VariableKind → TypeId → Passed → Type 0
+  abbrev pub IsBehind : VariableKind → TypeId → Passed → Type 0
   IsBehind of type_id s = IsTyped type_id s × MayDeclare of s
 
-  next_root_keeps : (place : Place) (of : VariableKind) (type_id : TypeId) (roots results : List ℕ)
+  pub next_root_keeps : (place : Place) (of : VariableKind) (type_id : TypeId) (roots results : List ℕ)
       → Keeps counted (λ s. IsBehind of type_id s × HasRoots roots results s) (next_root place) (λ root s. IsRoot of type_id root s × HasRoots roots results s)
   unfolding next_root
   next_root_keeps place of type_id roots results = record {
@@ -343,9 +343,10 @@ module _ (here : Here) (under : List Region) (counted : ℕ) (heads : List Head)
   }
 
   module _ (there : counted < length heads) where
-    reserve_keeps : (place : Place) (of : VariableKind) (type_id : TypeId) (root : ℕ) (roots results : List ℕ)
+    pub reserve_keeps : (place : Place) (of : VariableKind) (type_id : TypeId) (root : ℕ) (roots results : List ℕ)
         → Keeps counted (λ s. IsNext of type_id root s × HasRoots roots results s) (reserve place counted of type_id)
-        (λ _ s. IsBehind of type_id s × HasRoots (and_root of roots root) (and_result of results root) s)
+        (λ _ s. (IsBehind of type_id s × HasRoots (and_root of roots root) (and_result of results root) s)
+        × (slice_get s.variables root ≡ Some (declared_as of type_id)))
     unfolding reserve
     reserve_keeps place of type_id root roots results = record {
       keeps = λ s a is from.
@@ -368,12 +369,13 @@ module _ (here : Here) (under : List Region) (counted : ℕ) (heads : List Head)
             cells = ap (λ n. n + cells_of s.types type_id) r.cells ∙ sym (cells_more s.types counted s.variables one own);
           } in
           let at_root = next.2 in
-          subst (Kept counted s (λ _ n. IsBehind of type_id n × HasRoots (and_root of roots root) (and_result of results root) n)) x.1
-          (refl, silent_variable one taken refl, (((ready, next.1.0), next.1.2),
+          subst (Kept counted s (λ _ n. (IsBehind of type_id n × HasRoots (and_root of roots root) (and_result of results root) n)
+          × (slice_get n.variables root ≡ Some (declared_as of type_id)))) x.1
+          (refl, silent_variable one taken refl, ((((ready, next.1.0), next.1.2),
           (own_roots is_parameter_kind of type_id s.variables roots from.1.0
           ∙ ap (λ n. if is_parameter_kind of then roots ++ n ∷ [] else roots) (sym at_root),
           own_roots is_result_kind of type_id s.variables results from.1.1
-          ∙ ap (λ n. if is_result_kind of then results ++ n ∷ [] else results) (sym at_root))));
+          ∙ ap (λ n. if is_result_kind of then results ++ n ∷ [] else results) (sym at_root))), ap (slice_get (s.variables ++ one ∷ [])) at_root ∙ get_last s.variables one));
     }
 
     -- a variable with a name
@@ -385,7 +387,7 @@ module _ (here : Here) (under : List Region) (counted : ℕ) (heads : List Head)
         keeps_then (next_root_keeps name.place of type_id roots results) λ root.
         keeps_then (defined root) λ _.
         keeps_then (reserve_keeps name.place of type_id root roots results) λ _.
-        pure_keeps root (λ s is. is)
+        pure_keeps root (λ s is. is.0)
       where
         defined : (root : ℕ) → Keeps counted (λ s. IsRoot of type_id root s × HasRoots roots results s) (declare name (denotes.Variable root type_id))
             (λ _ s. IsNext of type_id root s × HasRoots roots results s)

@@ -49,7 +49,7 @@ all_of_char place bytes cs is =
 -- ---- a type more
 
 -- behind no form
-behind_nothing : {A : Type 0} (r : Checked (After A)) → behind_marks [] r ≡ r
+pub behind_nothing : {A : Type 0} (r : Checked (After A)) → behind_marks [] r ≡ r
 behind_nothing (Ok a) = refl
 behind_nothing (Err why) = refl
 
