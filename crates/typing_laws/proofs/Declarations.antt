@@ -342,6 +342,12 @@ module _ (here : Here) (under : List Region) (counted : ℕ) (heads : List Head)
         (refl, silent_as_is, ((r.0.0, (r.0.1, below most_variables (length s.variables) x.0, r.1), refl), from.1));
   }
 
+  pub root_is_next : (of : VariableKind) (type_id : TypeId) (root : ℕ) (s : Passed) → IsRoot of type_id root s → IsNext of type_id root s
+  root_is_next of type_id root s is =
+      let r = is.0 in
+      let one = declared_as of type_id in
+      (ready_regions s.regions (regions_later inside_itself (one_longer s.variables one) as_long as_long s.regions r.sound) r.under_it r, is.1, is.2)
+
   module _ (there : counted < length heads) where
     pub reserve_keeps : (place : Place) (of : VariableKind) (type_id : TypeId) (root : ℕ) (roots results : List ℕ)
         → Keeps counted (λ s. IsNext of type_id root s × HasRoots roots results s) (reserve place counted of type_id)
@@ -395,10 +401,8 @@ module _ (here : Here) (under : List Region) (counted : ℕ) (heads : List Head)
           keeps = λ s a is from.
               let one = declared_as of type_id in
               let all = s.variables ++ one ∷ [] in
-              let r = from.0.0 in
               let at_root = from.0.2 in
-              let sound = regions_later inside_itself (one_longer s.variables one) as_long as_long s.regions r.sound in
-              let next : Ready here under counted heads all s = ready_regions s.regions sound r.under_it r in
+              let next : Ready here under counted heads all s = (root_is_next of type_id root s from.0).0 in
               let last : slice_get all root ≡ Some one = ap (slice_get all) at_root ∙ get_last s.variables one in
               let variable : IsVariable here all s.types root type_id =
               record { variable = one; is_there = last; is_visible = visible; of_type = refl; stands = from.0.1.0 } in
