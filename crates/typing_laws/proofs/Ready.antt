@@ -52,7 +52,7 @@ pub record IsHeaded (types : List Form) (variables : List Variable) (headings : 
   pub ordinal : (root : ℕ) → headed.result ≡ Some root → IsOrdinalAt types variables root
   pub region : IsSoundRegion (within block headed) variables types (heads_passed headings) headed.region
 
-placed_longer : (old new : List Headed) (block : ℕ) (headed : Headed) → IsLonger old new → IsPlacedAt old block headed → IsPlacedAt new block headed
+pub placed_longer : (old new : List Headed) (block : ℕ) (headed : Headed) → IsLonger old new → IsPlacedAt old block headed → IsPlacedAt new block headed
 placed_longer old new zero headed longer p = p
 placed_longer old new (suc block) headed longer p = (p.0, p.1, p.2, p.3, p.4, get_longer longer p.1 p.4 p.5, p.6)
 
@@ -67,7 +67,7 @@ pub record Base (types : List Form) (variables : List Variable) (headings : List
   pub few_variables : length variables ≤ most_variables
   pub few_cells : (block : ℕ) → cells_of_block types block variables ≤ most_cells
 
-type_stands : (types : List Form) (variables : List Variable) (root : ℕ) (v : Variable) → HaveTypes types variables → slice_get variables root ≡ Some v
+pub type_stands : (types : List Form) (variables : List Variable) (root : ℕ) (v : Variable) → HaveTypes types variables → slice_get variables root ≡ Some v
     → v.type_id.index < length types
 type_stands types [] root v all is = absurd cc
 type_stands types (one ∷ variables) zero v all is = let same : one ≡ v = cc in subst (λ (w : Variable). w.type_id.index < length types) same all.0
