@@ -163,11 +163,11 @@ fine_later {here} {old = old} {new = new} g f =
     }
 -- numbers that marks have
 module _ (numbers : Mark → List ℕ) (look more : Look) where
-  counted : length (flat_map numbers (look ++ more)) ≡ length (flat_map numbers look) + length (flat_map numbers more)
+  pub counted : length (flat_map numbers (look ++ more)) ≡ length (flat_map numbers look) + length (flat_map numbers more)
   counted = ap length (flat_map-append numbers look more) ∙ length-append (flat_map numbers look) (flat_map numbers more)
 
   -- they go on
-  go_on : (from next : ℕ) → flat_map numbers look ≡ range_with_len from (length (flat_map numbers look)) → next ≡ from + length (flat_map numbers look)
+  pub go_on : (from next : ℕ) → flat_map numbers look ≡ range_with_len from (length (flat_map numbers look)) → next ≡ from + length (flat_map numbers look)
       → flat_map numbers more ≡ range_with_len next (length (flat_map numbers more))
       → flat_map numbers (look ++ more) ≡ range_with_len from (length (flat_map numbers (look ++ more)))
   go_on from next one is two =
