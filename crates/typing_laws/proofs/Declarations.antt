@@ -118,7 +118,7 @@ module _ (here : Here) (under : List Region) (counted : ℕ) (heads : List Head)
   -- ---- definitions
 
   -- a definition, where more variables may be denoted
-  declare_keeps : (name : Name) (denotation : Denotation) (bound : Passed → List Variable)
+  pub declare_keeps : (name : Name) (denotation : Denotation) (bound : Passed → List Variable)
       → ((s : Passed) (regions : List Region) → bound (record s { regions = regions }) ≡ bound s)
       → Keeps counted (λ s. Ready here under counted heads (bound s) s × IsSound here (bound s) s.types heads denotation) (declare name denotation)
       (λ _ s. Ready here under counted heads (bound s) s)
@@ -138,10 +138,10 @@ module _ (here : Here) (under : List Region) (counted : ℕ) (heads : List Head)
   }
 
   -- it leaves all but the regions as it is
-  abbrev IsDeclared : Passed → After (Unit {0}) → Type 0
+  abbrev pub IsDeclared : Passed → After (Unit {0}) → Type 0
   IsDeclared s a = (regions : List Region) × (after tt [] (record s { regions = regions }) ≡ a)
 
-  declare_is : (name : Name) (denotation : Denotation) (s : Passed) (a : After (Unit {0})) → declare name denotation s ≡ Ok a → IsDeclared s a
+  pub declare_is : (name : Name) (denotation : Denotation) (s : Passed) (a : After (Unit {0})) → declare name denotation s ≡ Ok a → IsDeclared s a
   unfolding declare
   declare_is name denotation s a is =
       let outcome = told name.place (define (folded name.text.now) denotation s.regions) in
