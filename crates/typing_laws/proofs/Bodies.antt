@@ -24,7 +24,7 @@ use Rattle.typing.specs.Names.{all_folded}
 use Rattle.typing.specs.Passing.{Enclosing, Headed, Passed, Checked, After, Passing, after, behind_marks, mark, pure, ◌>>=◌, ◌>>◌}
 use Rattle.typing.specs.Steps.{close_block, enclosing_now, heading_at, is_assigned, open_beside, program_heading, with_enclosing}
 use Rattle.typing.specs.Routines.{Begun, TypedBlock, block_end, forward, result_at_end, routine_block, routine_body, told_waiting}
-use Rattle.typing_laws.proofs.Built.{AreEnds, Built, Builds, EndsSo, HasSite, IsOpen, Standing, built_further, built_then, ends_append, is_between, no_ends}
+use Rattle.typing_laws.proofs.Built.{AreEnds, Built, Builds, EndsSo, HasSite, IsOpen, Standing, built_further, built_then, ends_append, ends_later, is_between, no_ends}
 use Rattle.typing_laws.proofs.Built.{open_later}
 use Rattle.typing_laws.proofs.Covers.{Covers, covers_both, covers_none}
 use Rattle.typing_laws.proofs.Grown.{Fine, Grown, both_true, counted, fine_later, further, go_on, grown_then}
@@ -442,3 +442,174 @@ module _ (here : Here) (under : List Region) (number : ℕ) (headed : Headed) (n
         where
           no : {b : Bool} → b ≡ true → b ≡ false → ⊥
           no one two = let same : true ≡ false = sym one ∙ two in absurd cc
+
+-- ---- the block of a routine
+
+-- what stands behind its statements
+record Closed (here : Here) (b : TypedBlock) (headed : Headed) (s : Passed) (a : After (Unit {0})) : Type 0 where
+  pub look : Look
+  pub result : Option FunctionResult
+  pub grown : Grown here (Covers 0 (b.end ∷ [])) look s a.passed
+  pub ends : (option_map (λ (r : FunctionResult). r.root) result ≡ headed.result) × HasSite (length a.passed.sites) result
+  pub look_is : a.look ≡ look ++ (BlockEnds here.block headed.around headed.parameters result b.end ∷ [])
+
+closed : (here : Here) (name : Place) (b : TypedBlock) (headed : Headed) (s : Passed) (a : After (Unit {0})) → Fine here s
+    → block_end here.block name b.end headed s ≡ Ok a → Closed here b headed s a
+unfolding block_end
+closed here name b headed s a fine is =
+    let ends : Option FunctionResult → Passing (Unit {0}) = λ result. mark (BlockEnds here.block headed.around headed.parameters result b.end) in
+    let x = parts_of (result_at_end name b.end headed.result) ends s a is in
+    let law = (result_does {here = here} {least = reached s} name b.end headed.result).does s x.first x.goes fine as_far in
+    let r = x.first.answer in
+    let last : after tt (BlockEnds here.block headed.around headed.parameters r b.end ∷ []) x.first.passed ≡ x.second = ok_is x.goes_on in
+    let whole : after tt (x.first.look ++ (BlockEnds here.block headed.around headed.parameters r b.end ∷ [])) x.first.passed ≡ a =
+    ap (λ (z : After (Unit {0})). after z.answer (x.first.look ++ z.look) z.passed) last ∙ x.both in
+    subst (Closed here b headed s) whole (record { look = x.first.look; result = r; grown = law.0; ends = law.1; look_is = refl })
+  where
+    ok_is : {c d : After (Unit {0})} → ◌≡◌ {A = Checked (After (Unit {0}))} (Ok c) (Ok d) → c ≡ d
+    ok_is h = cc
+
+-- the parts of a routine's block
+record Passed2 (here : Here) (under : List Region) (number : ℕ) (name : Name) (b : TypedBlock) (headed : Headed) (s : Passed) (a : After (Unit {0})) : Type 0 where
+  pub typed : After (Unit {0})
+  pub goes : b.typing (entered here under number headed (all_folded b.names) s) ≡ Ok typed
+  pub end : After (Unit {0})
+  pub ends : block_end number name.place b.end headed typed.passed ≡ Ok end
+  pub both : after tt (typed.look ++ end.look) (left here under number headed (all_folded b.names) s.enclosing end.passed) ≡ a
+
+passed2 : (here : Here) (under : List Region) (number : ℕ) (name : Name) (b : TypedBlock) (headed : Headed) (s : Passed) (a : After (Unit {0}))
+    → get_or s.headings number program_heading ≡ headed → routine_block number name b s ≡ Ok a → Passed2 here under number name b headed s a
+unfolding routine_block enclosing_now heading_at with_enclosing open_beside close_block
+passed2 here under number name b headed s a same is =
+    let rest : Headed → Passing (Unit {0}) = λ h. b.typing >> (block_end number name.place b.end h >> (close_block >> with_enclosing s.enclosing)) in
+    let start : Headed → Passed = λ h. entered here under number h (all_folded b.names) s in
+    let h0 = get_or s.headings number program_heading in
+    let on0 : rest h0 (start h0) ≡ Ok a = four (rest h0 (start h0)) a is in
+    let on : rest headed (start headed) ≡ Ok a = subst (λ h. rest h (start h) ≡ Ok a) same on0 in
+    let x = parts_of b.typing (λ _. block_end number name.place b.end headed >> (close_block >> with_enclosing s.enclosing)) (start headed) a on in
+    let y = parts_of (block_end number name.place b.end headed) (λ _. close_block >> with_enclosing s.enclosing) x.first.passed x.second x.goes_on in
+    let last : after tt [] (left here under number headed (all_folded b.names) s.enclosing y.first.passed) ≡ y.second = ok_is y.goes_on in
+    let inside : after tt y.first.look (left here under number headed (all_folded b.names) s.enclosing y.first.passed) ≡ x.second =
+    ap (λ l. after tt l (left here under number headed (all_folded b.names) s.enclosing y.first.passed)) (sym (append-nil y.first.look))
+    ∙ ap (λ (z : After (Unit {0})). after z.answer (y.first.look ++ z.look) z.passed) last ∙ y.both in
+    record {
+      typed = x.first;
+      goes = x.goes;
+      end = y.first;
+      ends = y.goes;
+      both = ap (λ (z : After (Unit {0})). after z.answer (x.first.look ++ z.look) z.passed) inside ∙ x.both;
+    }
+  where
+    four : (r : Checked (After (Unit {0}))) (a : After (Unit {0}))
+        → behind_marks [] (behind_marks [] (behind_marks [] (behind_marks [] r))) ≡ Ok a → r ≡ Ok a
+    four (Ok c) a h = let same : c ≡ a = cc in ap Ok same
+    four (Err why) a h = absurd cc
+
+    ok_is : {c d : After (Unit {0})} → ◌≡◌ {A = Checked (After (Unit {0}))} (Ok c) (Ok d) → c ≡ d
+    ok_is h = cc
+
+pub routine_block_builds : (here : Here) (under : List Region) (number : ℕ) (name : Name) (b : TypedBlock) (places : List Place) → LawfulBody places b
+    → (old s : Passed) (a : After (Unit {0})) → Told here under number false old s → routine_block number name b s ≡ Ok a
+    → Leaves2 here under (Covers 0 places) old a
+routine_block_builds here under number name b places lawful old s a t is =
+    let o = t.is_open in
+    let headed = o.headed in
+    let names = all_folded b.names in
+    let inside_here : Here = inner here under number headed names in
+    let found = get_or_is s.headings number program_heading headed o.is_there in
+    let p = passed2 here under number name b headed s a found is in
+    let start = entered here under number headed names s in
+    let begins = entered_standing here under number headed names s t.standing o refl in
+    let i = lawful.law inside_here s.regions start p.typed p.goes begins in
+    let fine = fine_later i.grown (fine_standing inside_here s.regions i.middle i.standing) in
+    let c = closed inside_here name.place b headed p.typed.passed p.end fine p.ends in
+    let f = i.built in
+    let g : Grown inside_here (λ added. Unit {0}) (i.second ++ c.look) i.middle p.end.passed = grown_then (λ x y one two. tt) i.grown c.grown in
+    let last = left here under number headed names s.enclosing p.end.passed in
+    let look = i.second ++ c.look in
+    let mark_end = BlockEnds number headed.around headed.parameters c.result b.end in
+    let ended = look ++ (mark_end ∷ []) in
+    let counted_f = counted mark_entries i.first ended in
+    let entries = closed_entries look number headed.around headed.parameters c.result b.end in
+    let loops = closed_loops look number headed.around headed.parameters c.result b.end in
+    let blocks = closed_blocks look number headed.around headed.parameters c.result b.end g.inner in
+    let all_look : p.typed.look ++ p.end.look ≡ i.first ++ ended =
+    ap₂ (λ x y. x ++ y) i.look c.look_is ∙ append_assoc i.first i.second (c.look ++ (mark_end ∷ []))
+    ∙ ap (λ l. i.first ++ l) (sym (append_assoc i.second c.look (mark_end ∷ []))) in
+    let whole : after tt (i.first ++ ended) last ≡ a = ap (λ l. after tt l last) (sym all_look) ∙ p.both in
+    let there = slice_get_within s.headings number headed o.is_there in
+    let more : IsFurther (reached i.middle) (reached last) = further g in
+    let at_end : slice_get (map signature_passed p.end.passed.headings) number ≡ Some (signature_passed headed) =
+    mapped_get signature_passed p.end.passed.headings number headed
+    (ap (λ l. slice_get l number) g.headings_kept ∙ get_longer f.headings number headed o.is_there) in
+    let end_so : EndsSo (reached last) number headed.around headed.parameters c.result = record {
+      signature = signature_passed headed;
+      is_there = at_end;
+      around_it = refl;
+      parameters_are = refl;
+      result_is = sym c.ends.0;
+      site = c.ends.1;
+    } in
+    let built : Built here (Covers 0 places) (i.first ++ ended) old last = record {
+      types = longer_still t.types (longer_still f.types g.longer);
+      variables = longer_still t.variables (longer_still f.variables (same_longer g.variables_kept));
+      headings = longer_still t.headings (longer_still f.headings (same_longer g.headings_kept));
+      added = (f.added ++ i.grown.added) ++ c.grown.added;
+      sites =
+          c.grown.sites ∙ ap (λ l. l ++ c.grown.added) (i.grown.sites ∙ ap (λ l. l ++ i.grown.added) (f.sites ∙ ap (λ l. l ++ f.added) t.sites)
+          ∙ append_assoc old.sites f.added i.grown.added)
+          ∙ append_assoc old.sites (f.added ++ i.grown.added) c.grown.added;
+      covered =
+          subst (λ l. Covers 0 l ((f.added ++ i.grown.added) ++ c.grown.added)) (sym lawful.places_are)
+          (covers_both 0 lawful.inside (b.end ∷ []) (f.added ++ i.grown.added) c.grown.added i.covered c.grown.covered);
+      numbered =
+          go_on mark_entries i.first ended old.entries i.middle.entries
+          (f.numbered ∙ ap (λ n. range_with_len n (length (entries_of_look i.first))) t.entries)
+          (f.entered ∙ ap (λ n. n + length (entries_of_look i.first)) t.entries)
+          (entries ∙ g.numbered ∙ ap (λ l. range_with_len i.middle.entries (length l)) (sym entries));
+      entered = omega (arith, t.entries, f.entered, g.entered, counted mark_entries i.first ended, ap length entries);
+      looped =
+          go_on mark_loops i.first ended old.loops i.middle.loops
+          (f.looped ∙ ap (λ n. range_with_len n (length (loops_of_look i.first))) t.loops)
+          (f.begun ∙ ap (λ n. n + length (loops_of_look i.first)) t.loops)
+          (loops ∙ g.looped ∙ ap (λ l. range_with_len i.middle.loops (length l)) (sym loops));
+      begun = omega (arith, t.loops, f.begun, g.begun, counted mark_loops i.first ended, ap length loops);
+      formed = λ w h.
+          f.parts w ended
+          ∙ both_true _ _ (f.formed w (further_still more h))
+          (closed_formed look number headed.around headed.parameters c.result b.end w g.inner (g.formed w h));
+      parts = λ w rest.
+          ap (are_formed w) (append_assoc i.first ended rest) ∙ f.parts w (ended ++ rest)
+          ∙ ap (λ x. are_formed w i.first && x) (closed_parts look number headed.around headed.parameters c.result b.end w rest)
+          ∙ and_grouped (are_formed w i.first) (are_formed w ended) (are_formed w rest)
+          ∙ ap (λ x. x && are_formed w rest) (sym (f.parts w ended));
+      ends =
+          ends_append (reached last) i.first ended (ends_later (reached i.middle) (reached last) i.first more f.ends)
+          (ends_append (reached last) look (mark_end ∷ []) (no_ends (reached last) look g.inner) (end_so, tt));
+      accounted = λ block.
+          let both = ap (count_of block) (flat_map-append mark_blocks i.first ended) ∙ count_append block (blocks_of_look i.first) (blocks_of_look ended) in
+          let one = ap (count_of block) blocks in
+          let between = between_both (length old.headings) (length s.headings) (length i.middle.headings) block
+          (no_fewer old.headings s.headings t.headings) (no_fewer s.headings i.middle.headings f.headings) in
+          let as_many = ap (λ (l : List Headed). one_if (is_between (length old.headings) (length l) block)) g.headings_kept in
+          omega (arith, both, one, f.accounted block, ap one_if (i.came block), t.accounted block, between, as_many);
+      others = λ block less other none.
+          let told = t.others block less other none in
+          let still : block < length s.headings = omega (arith, less, no_fewer old.headings s.headings t.headings) in
+          ap (variables_of block) g.variables_kept ∙ f.others block still told.0 refl ∙ told.1;
+    } in
+    let standing =
+    left_standing here under number headed names s i.middle p.end.passed s.enclosing refl t.standing t.waits_it o.other f i.standing g in
+    subst (Leaves2 here under (Covers 0 places) old) whole (built, standing)
+
+-- what stands behind a heading
+pub body_builds : (here : Here) (under : List Region) (begins : Begun) (name : Name) (block : TypedBlock) (places : List Place) → LawfulBody places block
+    → (old now : Passed) (a : After (Unit {0})) → Standing here under old → Begins here under begins old now
+    → (told_waiting begins.number None >> routine_block begins.number name block) now ≡ Ok a → Leaves2 here under (Covers 0 places) old a
+body_builds here under begins name block places lawful old now a st is_begun is =
+    let x = quiet_parts (told_waiting begins.number None) (λ _. routine_block begins.number name block) now a is
+    (λ b goes. ap (λ (c : After (Unit {0})). c.look) (sym (told_is begins.number None now b goes))) in
+    let told = begins_told here under begins old now st is_begun in
+    let on : routine_block begins.number name block (with_told begins.number None now) ≡ Ok a =
+    subst (λ (c : After (Unit {0})). routine_block begins.number name block c.passed ≡ Ok a) (sym (told_is begins.number None now x.0 x.1)) x.2 in
+    routine_block_builds here under begins.number name block places lawful old (with_told begins.number None now) a told on
