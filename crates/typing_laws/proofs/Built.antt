@@ -5,6 +5,8 @@ use Rattle.std.proofs.Common.{Some, None, Ok, option_map, slice_get, refl, sym, 
 use Rattle.std.specs.List.{range_with_len, flat_map}
 use Rattle.std.proofs.lemmas.Bool.Decides.{nat_tests}
 use Rattle.std.proofs.lemmas.Grind.{flat_map-append}
+use Rattle.std.proofs.lemmas.List.{length-map}
+use Rattle.std.proofs.lemmas.Option.{slice_get_within}
 use Rattle.types.specs.Forms.{Form}
 use Rattle.scopes.specs.Scopes.{Region}
 use Rattle.typed_tree.specs.declared.tree.FunctionResult.{FunctionResult}
@@ -17,7 +19,7 @@ use Rattle.typing_laws.proofs.Grown.{both_true, counted, go_on}
 use Rattle.typing_laws.proofs.Headings.{Parts, parts_of}
 use Rattle.typing_laws.proofs.Keeping.{Silent, Ready, Keeps}
 use Rattle.typing_laws.proofs.Owned.{Fails, cells_of_block, block_cells_longer}
-use Rattle.typing_laws.proofs.Reached.{IsLonger, as_long, longer_still, same_longer, mapped_longer, get_longer, Signature, signature_passed, Head, Reached, reached}
+use Rattle.typing_laws.proofs.Reached.{IsLonger, as_long, longer_still, same_longer, mapped_longer, get_longer, Signature, signature_passed, Head, head_of, Reached, reached}
 use Rattle.typing_laws.proofs.Reached.{whole_of, IsFurther, further_still, Here, StandsIn, stands_later}
 use Rattle.typing_laws.proofs.Ready.{heads_passed}
 use Rattle.typing_laws.proofs.Tables.{HaveTypes, cells_in}
@@ -180,6 +182,27 @@ built_then {here} {First} {Second} {Both} {look} {more} {old} {now} {new} joined
       g.others number still other (waits_no_more f number there none) ∙ f.others number there other none;
 }
 
+-- with other sites
+pub built_with : {here : Here} {Has Had : List Stands → Type 0} {look : Look} {old new : Passed} → ((a : List Stands) → Has a → Had a)
+    → Built here Has look old new → Built here Had look old new
+built_with has b = record {
+  types = b.types;
+  variables = b.variables;
+  headings = b.headings;
+  added = b.added;
+  sites = b.sites;
+  covered = has b.added b.covered;
+  numbered = b.numbered;
+  entered = b.entered;
+  looped = b.looped;
+  begun = b.begun;
+  formed = b.formed;
+  parts = b.parts;
+  ends = b.ends;
+  accounted = b.accounted;
+  others = b.others;
+}
+
 -- a step that builds nothing
 pub built_silent : {here : Here} {old new : Passed} → Silent here.block old new → Built here (λ added. added ≡ []) [] old new
 built_silent {here} {old} {new} q = record {
@@ -265,35 +288,21 @@ module _ {here : Here} {under : List Region} where
   builds_more {Has} {Had} {p} has law = record {
     builds = λ s a is st.
         let one = law.builds s a is st in
-        (otherwise one.0, one.1);
+        (built_with has one.0, one.1);
   }
-    where
-      otherwise : {look : Look} {old new : Passed} → Built here Has look old new → Built here Had look old new
-      otherwise b = record {
-        types = b.types;
-        variables = b.variables;
-        headings = b.headings;
-        added = b.added;
-        sites = b.sites;
-        covered = has b.added b.covered;
-        numbered = b.numbered;
-        entered = b.entered;
-        looped = b.looped;
-        begun = b.begun;
-        formed = b.formed;
-        parts = b.parts;
-        ends = b.ends;
-        accounted = b.accounted;
-        others = b.others;
-      }
 
   -- a step among declarations
   pub keeps_builds : {p : Passing (Unit {0})} {Also : Passed → Type 0} → ((s : Passed) → Standing here under s → Also s)
-      → ((heads : List Head)
+      → ((heads : List Head) → here.block < length heads
       → Keeps here.block (λ s. Ready here under here.block heads s.variables s × Also s) p (λ _ s. Ready here under here.block heads s.variables s × Also s))
       → Builds here under (λ added. added ≡ []) p
   keeps_builds {p} {Also} also law = record {
     builds = λ s a is st.
-        let k = (law (heads_passed s.headings)).keeps s a is (st.ready, also s st) in
+        let k = (law (heads_passed s.headings) (block_there s st)).keeps s a is (st.ready, also s st) in
         (subst (λ l. Built here (λ added. added ≡ []) l s a.passed) (sym k.0) (built_silent {here = here} k.1), standing_silent st k.1 k.2.0);
   }
+    where
+      block_there : (s : Passed) → Standing here under s → here.block < length (heads_passed s.headings)
+      block_there s st =
+          omega (arith, slice_get_within (map signature_passed s.headings) here.block st.stands.0 st.stands.1,
+          length-map (map signature_passed s.headings) head_of)
