@@ -2,7 +2,7 @@
 -- types are looked up outside the routine's block, and then the block, or the directive forward in its place. It says
 -- nothing of what a routine does.
 use Rattle.std.specs.Prelude.{ℕ, Bool, true, false, not, ◌&&◌, ◌++◌, List, [], ◌∷◌, Option, Some, None, Ok, Err}
-use Rattle.std.specs.Prelude.{filter, flat_map, if◌then◌else◌, is_none, map, nat_eq, option_map}
+use Rattle.std.specs.Prelude.{flat_map, if◌then◌else◌, is_none, map, nat_eq}
 use Rattle.std.specs.Map.{lookup}
 use Rattle.std.specs.Option.{option_or}
 use Rattle.indexmap.specs.IndexMap.{insert_entry}
@@ -10,7 +10,8 @@ use Rattle.place.specs.declared.Place.{Place}
 use Rattle.syntax_tree.specs.declared.Name.{Name}
 use Rattle.syntax_tree.specs.declared.Block.{Block}
 use Rattle.syntax_tree.specs.declared.Block.TheOpen.{Block-F, Routine-F}
-use Rattle.syntax_tree.specs.declared.Block.TheFolds.{fold-Block}
+use Rattle.syntax_tree.specs.declared.Block.TheFolds.{fold-Block, fold-Routine}
+use Rattle.syntax_tree.specs.declared.Routine.{Routine}
 use Rattle.syntax_tree.specs.declared.ConstantDefinition.{ConstantDefinition}
 use Rattle.syntax_tree.specs.declared.FormalGroup.{FormalGroup}
 use Rattle.syntax_tree.specs.declared.Heading.{Heading}
@@ -31,7 +32,7 @@ use Rattle.typed_tree.specs.declared.tree.VariableKind.{VariableKind}
 use Rattle.typed_tree.specs.declared.tree.VariableKind.TheVariants as variable
 use Rattle.typed_tree.specs.Look.{BlockEnds}
 use Rattle.typing.specs.Names.{folded, all_folded, formal_names, heading_names, names_defined}
-use Rattle.typing.specs.Passing.{Checked, Headed, Enclosing, Passing, fail, given, by_types, mark, each, pure, after, ◌>>=◌, ◌>>◌, ◌>>?◌}
+use Rattle.typing.specs.Passing.{Checked, Headed, Passing, fail, given, mark, each, pure, after, ◌>>=◌, ◌>>◌, ◌>>?◌}
 use Rattle.typing.specs.Steps.{add_heading, close_block, declare, fits, heading_at, innermost, is_assigned, may_nest}
 use Rattle.typing.specs.Steps.{next_block, next_root, open_beside, open_block, enclosing_now, reserve, site, with_enclosing}
 use Rattle.typing.specs.Constants.{constant}
@@ -296,3 +297,7 @@ block_step b = record {
 -- a block
 abbrev pub typed_block : Block → TypedBlock
 typed_block = fold-Block TypedBlock TypedRoutine block_step routine_step
+
+-- a routine
+abbrev pub typed_routine : Routine → TypedRoutine
+typed_routine = fold-Routine TypedBlock TypedRoutine block_step routine_step

@@ -7,7 +7,7 @@ use Rattle.place.specs.declared.Place.{Place}
 use Rattle.syntax_tree.specs.declared.Block.{Block}
 use Rattle.syntax_tree.specs.declared.Block.TheOpen as layer
 use Rattle.syntax_tree.specs.declared.Block.TheViews.{roll-Block, roll-Routine}
-use Rattle.syntax_tree.specs.declared.Block.TheFolds.{fold-Routine, map-Block, map-Routine, fold-roll-Block, fold-roll-Routine, ind-Block}
+use Rattle.syntax_tree.specs.declared.Block.TheFolds.{map-Block, map-Routine, fold-roll-Block, fold-roll-Routine, ind-Block}
 use Rattle.syntax_tree.specs.declared.ConstantDefinition.{ConstantDefinition}
 use Rattle.syntax_tree.specs.declared.Heading.{Heading}
 use Rattle.syntax_tree.specs.declared.Routine.{Routine}
@@ -24,7 +24,7 @@ use Rattle.typing.specs.Passing.{Enclosing, Passed, Checked, After, Passing, aft
 use Rattle.typing.specs.Steps.{enclosing_now}
 use Rattle.typing.specs.Statements.{compound, statement}
 use Rattle.typing.specs.Routines.{Begun, TypedBlock, TypedRoutine, all_came, block_step, definition, first_waiting, group, headed, heading_name, none_waits}
-use Rattle.typing.specs.Routines.{routine_body, routine_step, type_definition, typed_block}
+use Rattle.typing.specs.Routines.{routine_body, routine_step, type_definition, typed_block, typed_routine}
 use Rattle.typing_laws.proofs.Bodies.{Inside, LawfulBody, Leaves2, body_builds, fine_standing, forward_builds}
 use Rattle.typed_tree.specs.Look.{Look}
 use Rattle.typing_laws.proofs.Built.{Built, Builds, Standing, built_silent, built_then, built_with, builds_more, builds_then, keeps_builds}
@@ -228,9 +228,6 @@ sited_by here under s a has k = (built_with has k.0, k.1)
 
 abbrev LawfulBlockOf : Block → Type 0
 LawfulBlockOf b = LawfulBody (block_places b) (typed_block b)
-
-abbrev typed_routine : Routine → TypedRoutine
-typed_routine = fold-Routine TypedBlock TypedRoutine block_step routine_step
 
 abbrev LawfulRoutineOf : Routine → Type 0
 LawfulRoutineOf r = LawfulRoutine (routine_places r) (typed_routine r)

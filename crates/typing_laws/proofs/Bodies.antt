@@ -446,14 +446,14 @@ module _ (here : Here) (under : List Region) (number : ℕ) (headed : Headed) (n
 -- ---- the block of a routine
 
 -- what stands behind its statements
-record Closed (here : Here) (b : TypedBlock) (headed : Headed) (s : Passed) (a : After (Unit {0})) : Type 0 where
+pub record Closed (here : Here) (b : TypedBlock) (headed : Headed) (s : Passed) (a : After (Unit {0})) : Type 0 where
   pub look : Look
   pub result : Option FunctionResult
   pub grown : Grown here (Covers 0 (b.end ∷ [])) look s a.passed
   pub ends : (option_map (λ (r : FunctionResult). r.root) result ≡ headed.result) × HasSite (length a.passed.sites) result
   pub look_is : a.look ≡ look ++ (BlockEnds here.block headed.around headed.parameters result b.end ∷ [])
 
-closed : (here : Here) (name : Place) (b : TypedBlock) (headed : Headed) (s : Passed) (a : After (Unit {0})) → Fine here s
+pub closed : (here : Here) (name : Place) (b : TypedBlock) (headed : Headed) (s : Passed) (a : After (Unit {0})) → Fine here s
     → block_end here.block name b.end headed s ≡ Ok a → Closed here b headed s a
 unfolding block_end
 closed here name b headed s a fine is =

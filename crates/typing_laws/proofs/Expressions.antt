@@ -136,7 +136,7 @@ module _ (here : Here) where
     where
       by : (test : Bool) → is_same wanted part ≡ test
           → (if not test then Err (fault.Mismatch place)
-          else if is_of_packed types type_id selectors then Err (fault.PackedComponent place) else Ok (tt {0})) ≡ Ok (tt {0}) → is_same part wanted ≡ true
+          else if is_of_packed types (Some type_id) false selectors then Err (fault.PackedComponent place) else Ok (tt {0})) ≡ Ok (tt {0}) → is_same part wanted ≡ true
       by true same h = eq-eqb part.index wanted.index (sym (eqb-true wanted.index part.index same))
       by false same h = absurd cc
 

@@ -43,7 +43,7 @@ pub record IsOutlineOf (a : After (Unit {0})) (outline : Outline) : Type 0 where
   pub variables : outline.variables ≡ a.passed.variables
   pub types : outline.types ≡ a.passed.types
   pub sites : outline.sites ≡ length a.passed.sites
-  pub count : length outline.headings ≡ length (blocks_of_look a.look)
+  pub count : length outline.headings ≡ length a.passed.headings
   pub headings : TellsHeadings outline.headings a.look
 
 -- what a typed program has, by how its tree looks and what is known behind it
@@ -53,8 +53,8 @@ pub record Lawful (program : Program) (a : After (Unit {0})) : Type 0 where
   pub few_entries : length (entries_of_look a.look) ≤ most_entries
   -- its loops are numbered from 0, in the order of their first words
   pub loops : loops_of_look a.look ≡ range_with_len 0 (length (loops_of_look a.look))
-  -- its blocks are numbered from 0, and each ends once
-  pub blocks : IsPermutation (range_with_len 0 (length (blocks_of_look a.look))) (blocks_of_look a.look)
+  -- its blocks are numbered from 0 by their headings, and each ends once
+  pub blocks : IsPermutation (range_with_len 0 (length a.passed.headings)) (blocks_of_look a.look)
   -- each form is well formed in its block, with what the program declares
   pub formed : (outline : Outline) → IsOutlineOf a outline → are_formed outline a.look ≡ true
   -- each block has a heading that stands where it does, with the parameters and the result that it declares
@@ -65,8 +65,7 @@ pub record Lawful (program : Program) (a : After (Unit {0})) : Type 0 where
   pub few_cells : (outline : Outline) → IsOutlineOf a outline → (number : ℕ) → are_few_cells outline number ≡ true
   pub few_variables : length a.passed.variables ≤ most_variables
   -- each variable is one that a block declares
-  pub declared :
-      list_all (λ variable. nat_lt variable.block (length (blocks_of_look a.look))) a.passed.variables ≡ true
+  pub declared : list_all (λ variable. nat_lt variable.block (length a.passed.headings)) a.passed.variables ≡ true
   pub few_sites : length a.passed.sites ≤ most_sites
   pub types : BeginWithRequired a.passed.types
   -- its sites stand by place and then by kind, if its places stand in order
