@@ -27,3 +27,4 @@ pub mod Blocks
 mod Ordered
 pub mod Outlines
 pub mod Programs
+pub mod Trees

@@ -253,6 +253,11 @@ module _ (program : Program) (a : After (Unit {0})) (w : Whole program a) where
   blocks_ended : blocks_of_look ended ≡ 0 ∷ []
   blocks_ended = closed_blocks w.second 0 w.headed.around w.headed.parameters w.result w.end w.grown.inner
 
+  at_least_one : 0 < length a.passed.headings
+  at_least_one =
+      omega (arith, slice_get_within (map signature_passed a.passed.headings) 0 w.ends.signature w.ends.is_there,
+      length-map a.passed.headings signature_passed)
+
   -- each number of a heading stands once among the blocks that end
   counts : (number : ℕ) → count_of number (blocks_of_look a.look) ≡ one_if (is_between 0 (length a.passed.headings) number)
   counts number =
@@ -267,11 +272,6 @@ module _ (program : Program) (a : After (Unit {0})) (w : Whole program a) where
     where
       first_too : (number many : ℕ) → 0 < many → one_if (nat_eq number 0) + one_if (is_between 1 many number) ≡ one_if (is_between 0 many number)
       first_too number many some = grind (arith, nat_tests)
-
-      at_least_one : 0 < length a.passed.headings
-      at_least_one =
-          omega (arith, slice_get_within (map signature_passed a.passed.headings) 0 w.ends.signature w.ends.is_there,
-          length-map a.passed.headings signature_passed)
 
   blocks_permuted : IsPermutation (range_with_len 0 (length a.passed.headings)) (blocks_of_look a.look)
   blocks_permuted =
@@ -359,6 +359,7 @@ module _ (program : Program) (a : After (Unit {0})) (w : Whole program a) where
     few_entries = has_few_entries;
     loops = loops_are;
     blocks = blocks_permuted;
+    a_block = at_least_one;
     formed = is_formed;
     headings = heading_is;
     few_cells = cells_are_few;

@@ -1,6 +1,6 @@
 -- What a typed program has: by how its typed tree looks, and by what is known behind it. It says nothing of what the
 -- program does.
-use Rattle.std.specs.Prelude.{◌≡◌, ℕ, ◌≤◌, ◌++◌, List, [], ◌∷◌, Option, Some, true, IsPermutation, nat_lt, length, slice_get}
+use Rattle.std.specs.Prelude.{◌≡◌, ℕ, ◌<◌, ◌≤◌, ◌++◌, List, [], ◌∷◌, Option, Some, true, IsPermutation, nat_lt, length, slice_get}
 use Rattle.std.specs.Prelude.{Ok}
 use Rattle.std.specs.List.{range_with_len, list_all}
 use Rattle.place.specs.Place.{ArePlacesInOrder}
@@ -55,6 +55,7 @@ pub record Lawful (program : Program) (a : After (Unit {0})) : Type 0 where
   pub loops : loops_of_look a.look ≡ range_with_len 0 (length (loops_of_look a.look))
   -- its blocks are numbered from 0 by their headings, and each ends once
   pub blocks : IsPermutation (range_with_len 0 (length a.passed.headings)) (blocks_of_look a.look)
+  pub a_block : 0 < length a.passed.headings
   -- each form is well formed in its block, with what the program declares
   pub formed : (outline : Outline) → IsOutlineOf a outline → are_formed outline a.look ≡ true
   -- each block has a heading that stands where it does, with the parameters and the result that it declares
