@@ -1,5 +1,5 @@
 -- What blocks and routines do, by induction over their form.
-use Rattle.std.proofs.Common.{◌≡◌, ℕ, ◌<◌, Bool, true, false, ◌||◌, nat_eq, List, [], ◌∷◌, ◌++◌, length, map, Option, Some, None, Ok, Err, refl, sym, ap}
+use Rattle.std.proofs.Common.{◌≡◌, ◌||◌, List, [], ◌∷◌, ◌++◌, map, Option, Some, None, Ok, refl, sym, ap}
 use Rattle.std.proofs.Common.{subst, ◌∙◌, append_assoc}
 use Rattle.std.specs.List.{flat_map}
 use Rattle.std.proofs.lemmas.Bool.{eq-eqb}
@@ -14,30 +14,27 @@ use Rattle.syntax_tree.specs.declared.Routine.{Routine}
 use Rattle.syntax_tree.specs.declared.Stmt.{Stmt}
 use Rattle.syntax_tree.specs.declared.TypeDefinition.{TypeDefinition}
 use Rattle.syntax_tree.specs.declared.VariableGroup.{VariableGroup}
-use Rattle.syntax_tree.specs.Places.{Places, block_places, body_places, definition_places, group_places, heading_places, joined_places, routine_places}
+use Rattle.syntax_tree.specs.Places.{Places, block_places, definition_places, group_places, heading_places, joined_places, routine_places}
 use Rattle.syntax_tree.specs.Places.{stmt_places, type_definition_places, block_step as block_row, routine_step as routine_row}
 use Rattle.scopes.specs.Scopes.{Region}
-use Rattle.typed_tree.specs.declared.fault.TypeFault.{TypeFault}
 use Rattle.typed_tree.specs.Ids.{Stands}
 use Rattle.typed_tree.specs.WellFormed.{is_one_of}
-use Rattle.typing.specs.Passing.{Enclosing, Passed, Checked, After, Passing, after, and_then, behind_marks, each, pure, ◌>>=◌, ◌>>◌}
+use Rattle.typing.specs.Passing.{Passed, After, Passing, after, and_then, behind_marks, each, ◌>>◌}
 use Rattle.typing.specs.Steps.{enclosing_now}
 use Rattle.typing.specs.Statements.{compound, statement}
-use Rattle.typing.specs.Routines.{Begun, TypedBlock, TypedRoutine, all_came, block_step, definition, first_waiting, group, headed, heading_name, none_waits}
+use Rattle.typing.specs.Routines.{TypedBlock, TypedRoutine, all_came, block_step, definition, first_waiting, group, headed, heading_name, none_waits}
 use Rattle.typing.specs.Routines.{routine_body, routine_step, type_definition, typed_block, typed_routine}
-use Rattle.typing_laws.proofs.Bodies.{Inside, LawfulBody, Leaves2, body_builds, fine_standing, forward_builds}
+use Rattle.typing_laws.proofs.Bodies.{Inside, LawfulBody, LeavesBuilt, body_builds, fine_standing, forward_builds}
 use Rattle.typed_tree.specs.Look.{Look}
 use Rattle.typing_laws.proofs.Built.{Built, Builds, Standing, built_silent, built_then, built_with, builds_more, builds_then, keeps_builds}
-use Rattle.typing_laws.proofs.Covers.{Covers, covers_behind, covers_both, covers_more, covers_none}
+use Rattle.typing_laws.proofs.Covers.{Covers, covers_behind, covers_both, covers_none}
 use Rattle.typing_laws.proofs.Declarations.{definition_keeps, group_keeps, type_definition_keeps}
-use Rattle.typing_laws.proofs.Grown.{Grown}
 use Rattle.typing_laws.proofs.Headings.{parts_of, quiet_parts}
-use Rattle.typing_laws.proofs.Keeping.{Ready, Keeps, before, behind, each_keeps, silent_as_is}
-use Rattle.typing_laws.proofs.Reached.{Head, Here, as_far, is_round_here, reached}
-use Rattle.typing_laws.proofs.Routines.{Begins, headed_begins}
+use Rattle.typing_laws.proofs.Keeping.{before, behind, each_keeps, silent_as_is}
+use Rattle.typing_laws.proofs.Reached.{Here, as_far, reached}
+use Rattle.typing_laws.proofs.Routines.{headed_begins}
 use Rattle.typing_laws.proofs.Statements.{compound_does, statements_lawful}
-use Rattle.typing_laws.proofs.Strings.{behind_nothing}
-use Rattle.typing_laws.proofs.Waiting.{none_waiting, waits_in}
+use Rattle.typing_laws.proofs.Waiting.{none_waiting}
 
 -- ---- the parts of a block
 
@@ -113,7 +110,7 @@ routines_build : (here : Here) (under : List Region) (rows : List (List Place)) 
 routines_build here under [] [] laws = record {
   builds = λ s a is st.
       let same : after tt [] s ≡ a = cc in
-      subst (Leaves2 here under (λ sites. sites ≡ []) s) same (built_silent silent_as_is, st);
+      subst (LeavesBuilt here under (λ sites. sites ≡ []) s) same (built_silent silent_as_is, st);
 }
 routines_build here under [] (r ∷ routines) laws = absurd laws
 routines_build here under (row ∷ rows) [] laws = absurd laws
@@ -154,10 +151,12 @@ module _ (constants : List ConstantDefinition) (types : List TypeDefinition) (gr
       let behind_groups = each (λ routine. routine.typing) routines >> behind_routines in
       let behind_types = each group groups >> behind_groups in
       let one = declared_first (each definition constants) (each type_definition types >> behind_types) s a (definitions_build here under constants) is st in
-      let two = declared_next {Both = Covers 0 (flat_map definition_places constants ++ flat_map type_definition_places types)} (each type_definition types) behind_types s a
+      let two = declared_next {Both = Covers 0 (flat_map definition_places constants ++ flat_map type_definition_places types)}
+      (each type_definition types) behind_types s a
       (covers_both 0 (flat_map definition_places constants) (flat_map type_definition_places types)) one (types_build here under types) in
       let three = declared_next
-      {Both = Covers 0 ((flat_map definition_places constants ++ flat_map type_definition_places types) ++ flat_map group_places groups)} (each group groups) behind_groups s a
+      {Both = Covers 0 ((flat_map definition_places constants ++ flat_map type_definition_places types) ++ flat_map group_places groups)}
+      (each group groups) behind_groups s a
       (covers_both 0 (flat_map definition_places constants ++ flat_map type_definition_places types) (flat_map group_places groups)) two
       (groups_build here under groups) in
       let four = declared_next {Both = Covers 0 declared_places} (each (λ routine. routine.typing) routines) behind_routines s a
@@ -223,7 +222,7 @@ module _ (constants : List ConstantDefinition) (types : List TypeDefinition) (gr
 
 -- with other sites
 sited_by : (here : Here) (under : List Region) {Has Had : List Stands → Type 0} (s : Passed) (a : After (Unit {0}))
-    → ((sites : List Stands) → Has sites → Had sites) → Leaves2 here under Has s a → Leaves2 here under Had s a
+    → ((sites : List Stands) → Has sites → Had sites) → LeavesBuilt here under Has s a → LeavesBuilt here under Had s a
 sited_by here under s a has k = (built_with has k.0, k.1)
 
 abbrev LawfulBlockOf : Block → Type 0

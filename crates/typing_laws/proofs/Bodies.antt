@@ -1,9 +1,9 @@
 -- What stands behind the heading of a routine: `forward`, or its block, which ends as its heading tells.
-use Rattle.std.proofs.Common.{◌≡◌, ℕ, zero, suc, ◌+◌, ◌<◌, ◌≤◌, Bool, true, false, not, ◌||◌, ◌&&◌, nat_eq, nat_lt, nat_le, if◌then◌else◌, List, [], ◌∷◌, ◌++◌}
+use Rattle.std.proofs.Common.{◌≡◌, ℕ, ◌+◌, ◌<◌, ◌≤◌, Bool, true, false, ◌&&◌, nat_eq, if◌then◌else◌, List, [], ◌∷◌, ◌++◌}
 use Rattle.std.proofs.Common.{length, map, Option, Some, None, Ok, Err, option_map, slice_get, get_or, refl, sym, ap, ap₂, subst, ◌∙◌, arith, inl, inr, ◌⊎◌}
 use Rattle.std.proofs.Common.{append-nil, append_assoc, length-append}
-use Rattle.std.specs.List.{range_with_len, flat_map, list_any, list_all}
-use Rattle.std.proofs.lemmas.Bool.{eq-eqb, eqb-true}
+use Rattle.std.specs.List.{range_with_len, list_any, list_all}
+use Rattle.std.proofs.lemmas.Bool.{eqb-true}
 use Rattle.std.proofs.lemmas.Bool.Decides.{nat_tests}
 use Rattle.std.proofs.lemmas.Grind.{flat_map-append}
 use Rattle.std.proofs.lemmas.Option.{slice_get_within}
@@ -14,31 +14,29 @@ use Rattle.scopes.specs.Scopes.{Region, opened_beside, outer}
 use Rattle.typed_tree.specs.declared.fault.TypeFault.TheVariants as fault
 use Rattle.typed_tree.specs.declared.site.SiteKind.TheVariants as kind
 use Rattle.typed_tree.specs.declared.tree.FunctionResult.{FunctionResult}
-use Rattle.typed_tree.specs.declared.tree.Variable.{Variable}
 use Rattle.typed_tree.specs.Ids.{Stands}
 use Rattle.typed_tree.specs.WellFormed.{Outline, variables_of}
 use Rattle.typed_tree.specs.Look.{Mark, Look, BlockEnds, mark_entries, entries_of_look, mark_loops, loops_of_look, mark_blocks, blocks_of_look, are_formed}
 use Rattle.typed_tree.specs.Look.{is_formed_mark}
 use Rattle.typed_tree.proofs.Blocks.{formed_as_far, formed_before}
 use Rattle.typing.specs.Names.{all_folded}
-use Rattle.typing.specs.Passing.{Enclosing, Headed, Passed, Checked, After, Passing, after, behind_marks, mark, pure, ◌>>=◌, ◌>>◌}
+use Rattle.typing.specs.Passing.{Enclosing, Headed, Passed, Checked, After, Passing, after, behind_marks, mark, ◌>>◌}
 use Rattle.typing.specs.Steps.{close_block, enclosing_now, heading_at, is_assigned, open_beside, program_heading, with_enclosing}
-use Rattle.typing.specs.Routines.{Begun, TypedBlock, block_end, forward, result_at_end, routine_block, routine_body, told_waiting}
-use Rattle.typing_laws.proofs.Built.{AreEnds, Built, Builds, EndsSo, HasSite, IsOpen, Standing, built_further, built_then, ends_append, ends_later, is_between, no_ends}
+use Rattle.typing.specs.Routines.{Begun, TypedBlock, block_end, forward, result_at_end, routine_block, told_waiting}
+use Rattle.typing_laws.proofs.Built.{Built, EndsSo, HasSite, IsOpen, Standing, ends_append, ends_later, is_between, no_ends}
 use Rattle.typing_laws.proofs.Built.{open_later}
 use Rattle.typing_laws.proofs.Covers.{Covers, covers_both, covers_none}
 use Rattle.typing_laws.proofs.Grown.{Fine, Grown, both_true, counted, fine_later, further, go_on, grown_then}
-use Rattle.typing_laws.proofs.Headings.{parts_of, passes_on, quiet_parts}
-use Rattle.typing_laws.proofs.Keeping.{Ready}
+use Rattle.typing_laws.proofs.Headings.{parts_of, quiet_parts}
 use Rattle.typing_laws.proofs.Owned.{Fails, block_cells_longer, other_block}
-use Rattle.typing_laws.proofs.Ready.{Base, base_types, fit_of, heads_passed, within}
-use Rattle.typing_laws.proofs.Reached.{IsLonger, as_long, longer_still, same_longer, mapped_longer, get_longer, get_mapped, get_or_is, mapped_get, head_of, signature_passed}
-use Rattle.typing_laws.proofs.Reached.{Reached, reached, whole_of, IsFurther, as_far, further_still, Here, StandsIn, stands_later}
+use Rattle.typing_laws.proofs.Ready.{Base, base_types, fit_of, heads_passed}
+use Rattle.typing_laws.proofs.Reached.{IsLonger, as_long, longer_still, same_longer, mapped_longer, get_longer, get_mapped, get_or_is, mapped_get, head_of}
+use Rattle.typing_laws.proofs.Reached.{signature_passed}
+use Rattle.typing_laws.proofs.Reached.{Reached, reached, IsFurther, as_far, further_still, Here, stands_later}
 use Rattle.typing_laws.proofs.Routines.{Began, Begins}
-use Rattle.typing_laws.proofs.Sound.{AreSound, IsSoundRegion, beside_holds, inside_itself, inside_routine, region_later, regions_later}
+use Rattle.typing_laws.proofs.Sound.{AreSound, IsSoundRegion, beside_holds, inside_itself, inside_routine, regions_later}
 use Rattle.typing_laws.proofs.Sound.{IsSound}
 use Rattle.typing_laws.proofs.Steps.{Does, Anything, Nothing, Leaves, grown_silent, last as last_does, pure_does, quietly, site_does, sited, split_if}
-use Rattle.typing_laws.proofs.Strings.{behind_nothing}
 use Rattle.typing_laws.proofs.Tables.{cells_in}
 use Rattle.typing_laws.proofs.Waiting.{count_append, count_of, one_if, is_place, told_of_it, told_of_others, waits_in}
 
@@ -154,12 +152,21 @@ new_told here under number place old now st b = record {
         let told : waits_in (insert_entry nat_eq now.enclosing.waiting number place) block ≡ is_place place =
         ap (waits_in (insert_entry nat_eq now.enclosing.waiting number place)) at ∙ told_of_it now.enclosing.waiting number place in
         let before = none_waits_there here under old st block (omega (arith, at, b.number_is)) in
-        omega (arith, ap one_if told, ap one_if before, one_of (is_place place) (one_if (nat_eq block number)) (ap one_if same),
-        new_one block (length now.headings) (at ∙ b.number_is) b.one_more)
+        omega (
+          arith,
+          ap one_if told,
+          ap one_if before,
+          one_of (is_place place) (one_if (nat_eq block number)) (ap one_if same),
+          new_one block (length now.headings) (at ∙ b.number_is) b.one_more,
+        )
     by block false other =
         let told = told_of_others now.enclosing.waiting number block place other ∙ ap (λ l. waits_in l block) b.waiting in
-        omega (arith, ap one_if told, none_of (is_place place) (one_if (nat_eq block number)) (ap one_if other),
-        no_one block (length now.headings) (ap (nat_eq block) (sym b.number_is) ∙ other) b.one_more)
+        omega (
+          arith,
+          ap one_if told,
+          none_of (is_place place) (one_if (nat_eq block number)) (ap one_if other),
+          no_one block (length now.headings) (ap (nat_eq block) (sym b.number_is) ∙ other) b.one_more,
+        )
 
 -- behind one that waited
 resumed_told : (here : Here) (under : List Region) (number : ℕ) (s : Passed) → Standing here under s → waits_in s.enclosing.waiting number ≡ true
@@ -184,7 +191,7 @@ resumed_told here under number s st waits = record {
     differs : (block : ℕ) (test : Bool) → nat_eq number block ≡ test → Fails (waits_in s.enclosing.waiting block) → Fails test
     differs block true same none =
         let at : number ≡ block = eqb-true number block same in
-        absurd (no (sym (ap (waits_in s.enclosing.waiting) at) ∙ waits ) none)
+        absurd (no (sym (ap (waits_in s.enclosing.waiting) at) ∙ waits) none)
       where
         no : {b : Bool} → b ≡ true → b ≡ false → ⊥
         no one two = let same : true ≡ false = sym one ∙ two in absurd cc
@@ -232,18 +239,19 @@ built_told here under number old new t = record {
 }
 
 -- what a routine builds, from where its heading begins
-abbrev pub Leaves2 : Here → List Region → (List Stands → Type 0) → Passed → After (Unit {0}) → Type 0
-Leaves2 here under Has s a = Built here Has a.look s a.passed × Standing here under a.passed
+abbrev pub LeavesBuilt : Here → List Region → (List Stands → Type 0) → Passed → After (Unit {0}) → Type 0
+LeavesBuilt here under Has s a = Built here Has a.look s a.passed × Standing here under a.passed
 
 pub forward_builds : (here : Here) (under : List Region) (b : Begun) (place : Place) (old now : Passed) (a : After (Unit {0})) → Standing here under old
-    → Begins here under b old now → forward b.is_first b.number place now ≡ Ok a → Leaves2 here under (λ added. added ≡ []) old a
+    → Begins here under b old now → forward b.is_first b.number place now ≡ Ok a → LeavesBuilt here under (λ added. added ≡ []) old a
 forward_builds here under b place old now a st begins is = by b.is_first begins is
   where
-    by : (first : Bool) → ((first ≡ true) × Began here under b.number old now) ⊎ ((first ≡ false) × (waits_in old.enclosing.waiting b.number ≡ true) × (old ≡ now))
-        → forward first b.number place now ≡ Ok a → Leaves2 here under (λ added. added ≡ []) old a
+    by : (first : Bool) → ((first ≡ true) × Began here under b.number old now)
+        ⊎ ((first ≡ false) × (waits_in old.enclosing.waiting b.number ≡ true) × (old ≡ now))
+        → forward first b.number place now ≡ Ok a → LeavesBuilt here under (λ added. added ≡ []) old a
     by true (inl new) goes =
         let told = new_told here under b.number (Some place) old now st new.1 in
-        subst (Leaves2 here under (λ added. added ≡ []) old) (told_is b.number (Some place) now a goes)
+        subst (LeavesBuilt here under (λ added. added ≡ []) old) (told_is b.number (Some place) now a goes)
         (built_told here under b.number old (with_told b.number (Some place) now) told, told.standing)
     by true (inr waited) goes = absurd cc
     by false begins goes = absurd cc
@@ -360,9 +368,10 @@ module _ (here : Here) (under : List Region) (number : ℕ) (headed : Headed) (n
       subst (λ l. IsSoundRegion (record { block = number; around = l }) s.variables s.types heads headed.region) around told.region in
       record {
         ready = record {
-          sound =
-              (beside_holds (IsSound inner s.variables s.types heads) headed.region names region,
-              regions_later (inside_routine here number) as_long as_long as_long s.regions st.ready.sound);
+          sound = (
+            beside_holds (IsSound inner s.variables s.types heads) headed.region names region,
+            regions_later (inside_routine here number) as_long as_long as_long s.regions st.ready.sound,
+          );
           under_it = refl;
           base = st.ready.base;
           texts = st.ready.texts;
@@ -393,7 +402,7 @@ module _ (here : Here) (under : List Region) (number : ℕ) (headed : Headed) (n
       let at = get_mapped signature_passed s.headings here.block st.stands.0 st.stands.1 in
       let there = slice_get_within s.headings here.block at.0 at.1 in
       let others : (block : ℕ) → block < length s.headings → Fails (nat_eq number block)
-          → variables_of block last.variables ≡ variables_of block s.variables =
+      → variables_of block last.variables ≡ variables_of block s.variables =
       λ block less other. ap (variables_of block) g.variables_kept ∙ f.others block less other refl in
       let own : Fails (nat_eq number here.block) = turned here.block number apart in
       let base : Base last.types last.variables last.headings (length (heads_passed last.headings)) =
@@ -470,17 +479,18 @@ closed here name b headed s a fine is =
     ok_is h = cc
 
 -- the parts of a routine's block
-record Passed2 (here : Here) (under : List Region) (number : ℕ) (name : Name) (b : TypedBlock) (headed : Headed) (s : Passed) (a : After (Unit {0})) : Type 0 where
+record BlockParts (here : Here) (under : List Region) (number : ℕ) (name : Name) (b : TypedBlock) (headed : Headed) (s : Passed)
+    (a : After (Unit {0})) : Type 0 where
   pub typed : After (Unit {0})
   pub goes : b.typing (entered here under number headed (all_folded b.names) s) ≡ Ok typed
   pub end : After (Unit {0})
   pub ends : block_end number name.place b.end headed typed.passed ≡ Ok end
   pub both : after tt (typed.look ++ end.look) (left here under number headed (all_folded b.names) s.enclosing end.passed) ≡ a
 
-passed2 : (here : Here) (under : List Region) (number : ℕ) (name : Name) (b : TypedBlock) (headed : Headed) (s : Passed) (a : After (Unit {0}))
-    → get_or s.headings number program_heading ≡ headed → routine_block number name b s ≡ Ok a → Passed2 here under number name b headed s a
+block_parts : (here : Here) (under : List Region) (number : ℕ) (name : Name) (b : TypedBlock) (headed : Headed) (s : Passed) (a : After (Unit {0}))
+    → get_or s.headings number program_heading ≡ headed → routine_block number name b s ≡ Ok a → BlockParts here under number name b headed s a
 unfolding routine_block enclosing_now heading_at with_enclosing open_beside close_block
-passed2 here under number name b headed s a same is =
+block_parts here under number name b headed s a same is =
     let rest : Headed → Passing (Unit {0}) = λ h. b.typing >> (block_end number name.place b.end h >> (close_block >> with_enclosing s.enclosing)) in
     let start : Headed → Passed = λ h. entered here under number h (all_folded b.names) s in
     let h0 = get_or s.headings number program_heading in
@@ -510,14 +520,14 @@ passed2 here under number name b headed s a same is =
 
 pub routine_block_builds : (here : Here) (under : List Region) (number : ℕ) (name : Name) (b : TypedBlock) (places : List Place) → LawfulBody places b
     → (old s : Passed) (a : After (Unit {0})) → Told here under number false old s → routine_block number name b s ≡ Ok a
-    → Leaves2 here under (Covers 0 places) old a
+    → LeavesBuilt here under (Covers 0 places) old a
 routine_block_builds here under number name b places lawful old s a t is =
     let o = t.is_open in
     let headed = o.headed in
     let names = all_folded b.names in
     let inside_here : Here = inner here under number headed names in
     let found = get_or_is s.headings number program_heading headed o.is_there in
-    let p = passed2 here under number name b headed s a found is in
+    let p = block_parts here under number name b headed s a found is in
     let start = entered here under number headed names s in
     let begins = entered_standing here under number headed names s t.standing o refl in
     let i = lawful.law inside_here s.regions start p.typed p.goes begins in
@@ -600,12 +610,12 @@ routine_block_builds here under number name b places lawful old s a t is =
     } in
     let standing =
     left_standing here under number headed names s i.middle p.end.passed s.enclosing refl t.standing t.waits_it o.other f i.standing g in
-    subst (Leaves2 here under (Covers 0 places) old) whole (built, standing)
+    subst (LeavesBuilt here under (Covers 0 places) old) whole (built, standing)
 
 -- what stands behind a heading
 pub body_builds : (here : Here) (under : List Region) (begins : Begun) (name : Name) (block : TypedBlock) (places : List Place) → LawfulBody places block
     → (old now : Passed) (a : After (Unit {0})) → Standing here under old → Begins here under begins old now
-    → (told_waiting begins.number None >> routine_block begins.number name block) now ≡ Ok a → Leaves2 here under (Covers 0 places) old a
+    → (told_waiting begins.number None >> routine_block begins.number name block) now ≡ Ok a → LeavesBuilt here under (Covers 0 places) old a
 body_builds here under begins name block places lawful old now a st is_begun is =
     let x = quiet_parts (told_waiting begins.number None) (λ _. routine_block begins.number name block) now a is
     (λ b goes. ap (λ (c : After (Unit {0})). c.look) (sym (told_is begins.number None now b goes))) in

@@ -1,25 +1,24 @@
 -- What the parts of a block build: forms of blocks inside it, with sites, entries, types, variables and headings; each block
 -- ends once, as its heading tells, and what is known of blocks outside stays.
-use Rattle.std.proofs.Common.{◌≡◌, ℕ, zero, suc, ◌+◌, ◌<◌, ◌≤◌, Bool, true, false, ◌&&◌, nat_eq, nat_lt, nat_le, List, [], ◌∷◌, ◌++◌, length, map, Option}
-use Rattle.std.proofs.Common.{Some, None, Ok, option_map, slice_get, refl, sym, ap, ap₂, subst, ◌∙◌, arith, append-nil, append_assoc, length-append}
-use Rattle.std.specs.List.{range_with_len, flat_map}
+use Rattle.std.proofs.Common.{◌≡◌, ℕ, ◌+◌, ◌<◌, ◌≤◌, Bool, true, false, ◌&&◌, nat_eq, nat_lt, nat_le, List, [], ◌∷◌, ◌++◌, length, map, Option}
+use Rattle.std.proofs.Common.{Some, None, Ok, option_map, slice_get, refl, sym, ap, subst, ◌∙◌, arith, append-nil, append_assoc, length-append}
+use Rattle.std.specs.List.{range_with_len}
 use Rattle.std.proofs.lemmas.Bool.Decides.{nat_tests}
 use Rattle.std.proofs.lemmas.Grind.{flat_map-append}
 use Rattle.std.proofs.lemmas.List.{length-map}
 use Rattle.std.proofs.lemmas.Option.{slice_get_within}
-use Rattle.types.specs.Forms.{Form}
 use Rattle.scopes.specs.Scopes.{Region}
 use Rattle.typed_tree.specs.declared.tree.FunctionResult.{FunctionResult}
-use Rattle.typed_tree.specs.declared.tree.Variable.{Variable}
 use Rattle.typed_tree.specs.Ids.{Stands}
 use Rattle.typed_tree.specs.WellFormed.{Outline, variables_of}
 use Rattle.typed_tree.specs.Look.{Mark, Look, BlockEnds, mark_entries, entries_of_look, mark_loops, loops_of_look, mark_blocks, blocks_of_look, are_formed}
-use Rattle.typing.specs.Passing.{Enclosing, Headed, Passed, After, Passing, after, behind_marks, each, pure, ◌>>=◌, ◌>>◌}
+use Rattle.typing.specs.Passing.{Headed, Passed, After, Passing, ◌>>◌}
 use Rattle.typing_laws.proofs.Grown.{both_true, counted, go_on}
-use Rattle.typing_laws.proofs.Headings.{Parts, parts_of}
+use Rattle.typing_laws.proofs.Headings.{parts_of}
 use Rattle.typing_laws.proofs.Keeping.{Silent, Ready, Keeps}
 use Rattle.typing_laws.proofs.Owned.{Fails, cells_of_block, block_cells_longer}
-use Rattle.typing_laws.proofs.Reached.{IsLonger, as_long, longer_still, same_longer, mapped_longer, get_longer, Signature, signature_passed, Head, head_of, Reached, reached}
+use Rattle.typing_laws.proofs.Reached.{IsLonger, longer_still, same_longer, mapped_longer, get_longer, Signature, signature_passed, Head, head_of, Reached}
+use Rattle.typing_laws.proofs.Reached.{reached}
 use Rattle.typing_laws.proofs.Reached.{whole_of, IsFurther, further_still, Here, StandsIn, stands_later}
 use Rattle.typing_laws.proofs.Ready.{heads_passed}
 use Rattle.typing_laws.proofs.Tables.{HaveTypes, cells_in}
@@ -304,5 +303,8 @@ module _ {here : Here} {under : List Region} where
     where
       block_there : (s : Passed) → Standing here under s → here.block < length (heads_passed s.headings)
       block_there s st =
-          omega (arith, slice_get_within (map signature_passed s.headings) here.block st.stands.0 st.stands.1,
-          length-map (map signature_passed s.headings) head_of)
+          omega (
+            arith,
+            slice_get_within (map signature_passed s.headings) here.block st.stands.0 st.stands.1,
+            length-map (map signature_passed s.headings) head_of,
+          )

@@ -1,45 +1,45 @@
 -- What calls of routines do: each actual parameter fits the formal one at its place, and there are as many.
-use Rattle.std.proofs.Common.{◌≡◌, ℕ, ℤ, ◌+◌, ◌<◌, zero, suc, Bool, true, false, ◌&&◌, ◌||◌, not, nat_eq, if◌then◌else◌, List, [], ◌∷◌, ◌++◌, length, map}
-use Rattle.std.proofs.Common.{Option, Some, None, Ok, Err, is_none, slice_get, refl, sym, ap, ap₂, subst, ◌∙◌, arith, append_assoc, length-append, option_map}
+use Rattle.std.proofs.Common.{◌≡◌, ℕ, ℤ, ◌+◌, ◌<◌, Bool, true, false, ◌&&◌, ◌||◌, not, nat_eq, if◌then◌else◌, List, [], ◌∷◌, ◌++◌, length}
+use Rattle.std.proofs.Common.{Option, Some, None, Ok, Err, is_none, slice_get, refl, sym, ap, subst, ◌∙◌, arith, append_assoc, length-append, option_map}
 use Rattle.std.specs.Ordering.{int_eq}
-use Rattle.std.specs.Prelude.{is_some}
-use Rattle.std.proofs.lemmas.Bool.{eq-eqb, eqb-true}
+use Rattle.std.proofs.lemmas.Bool.{eq-eqb}
 use Rattle.std.proofs.lemmas.Int.{ints}
 use Rattle.place.specs.declared.Place.{Place}
 use Rattle.syntax_tree.specs.Places.{joined_places}
 use Rattle.types.specs.Forms.{Form}
 use Rattle.types.specs.declared.form.TypeId.{TypeId}
 use Rattle.types.specs.declared.form.OrdinalRange.{OrdinalRange}
-use Rattle.types.specs.Types.{cells_of, is_assignable, is_ordinal, is_same, range_of}
+use Rattle.types.specs.Types.{cells_of, is_assignable, is_ordinal, range_of}
 use Rattle.scopes.specs.declared.denotation.Denotation.{Denotation}
 use Rattle.scopes.specs.declared.denotation.Denotation.TheVariants as denotes
 use Rattle.typed_tree.specs.declared.fault.TypeFault.TheVariants as fault
 use Rattle.typed_tree.specs.declared.site.SiteKind.{SiteKind}
 use Rattle.typed_tree.specs.declared.site.SiteKind.TheVariants as kind
 use Rattle.typed_tree.specs.declared.tree.FunctionResult.{FunctionResult}
-use Rattle.typed_tree.specs.declared.tree.Heading.{Heading}
 use Rattle.typed_tree.specs.declared.tree.RangeTest.{RangeTest}
 use Rattle.typed_tree.specs.declared.tree.Variable.{Variable}
 use Rattle.typed_tree.specs.Accesses.{are_values_of}
 use Rattle.typed_tree.specs.Look.{Calls, Called, ForValue, ForWhole}
 use Rattle.typed_tree.specs.WellFormed.{Outline, declarer, is_callable, is_kind_of, is_parameter_kind, is_range_of, is_round, is_value_kind, is_variable_kind}
 use Rattle.typed_tree.specs.WellFormed.{may_call, of_one, passes_value, passes_whole, takes_value, takes_whole}
-use Rattle.typing.specs.Passing.{Headed}
 use Rattle.typing.specs.Steps.{or_mismatch}
 use Rattle.typing.specs.declared.typed.Typed.{Typed}
-use Rattle.typing.specs.Expressions.{Written, WrittenActual, actual, actuals_for, are_as_many, as_routine, copied_cells, copying, fitting, function_value, or_no_result}
+use Rattle.typing.specs.Expressions.{Written, WrittenActual, actual, actuals_for, are_as_many, as_routine, copied_cells, copying, fitting, function_value}
+use Rattle.typing.specs.Expressions.{or_no_result}
 use Rattle.typing.specs.Expressions.{passed_ordinal, passed_to, passed_value, passed_whole, result_variable, routine_call, typed, unless_width}
 use Rattle.typing_laws.proofs.WholeRanges.{HaveWholeRanges, IsWholeRange}
-use Rattle.typing_laws.proofs.Covers.{Covers, Leads, covers_any, covers_both, covers_more, covers_none, leads_first}
-use Rattle.typing_laws.proofs.Reached.{Signature, signature_of, signature_passed, head_of, Reached, whole_of, IsFurther, as_far, further_still, Here, StandsIn}
+use Rattle.typing_laws.proofs.Covers.{Covers, covers_any, covers_both, covers_more, covers_none, leads_first}
+use Rattle.typing_laws.proofs.Reached.{Signature, signature_of, head_of, Reached, whole_of, IsFurther, further_still, Here, StandsIn}
 use Rattle.typing_laws.proofs.Reached.{is_round_here, get_longer, get_mapped, mapped_longer, stands_later}
-use Rattle.typing_laws.proofs.Grown.{heads_of, FitsHeading, fits_later, both_true}
+use Rattle.typing_laws.proofs.Grown.{heads_of, FitsHeading, both_true}
 use Rattle.typing_laws.proofs.Sound.{IsRoutine, routine_longer}
 use Rattle.typing_laws.proofs.Strings.{there, both_and}
-use Rattle.typing_laws.proofs.Steps.{Does, Anything, Nothing, IsSoundThen, joins, quietly, last, checks_types, sited, answered, pure_does, given_does, fail_does, mark_does, pass_does}
-use Rattle.typing_laws.proofs.Steps.{enter_does, site_does, host_type_does, heading_at_does, variable_at_does, led, IsKnown, behind_does}
+use Rattle.typing_laws.proofs.Steps.{Does, Anything, Nothing, IsSoundThen, joins, quietly, last, checks_types, sited, answered, pure_does, given_does}
+use Rattle.typing_laws.proofs.Steps.{fail_does, mark_does, pass_does}
+use Rattle.typing_laws.proofs.Steps.{enter_does, site_does, host_type_does, heading_at_does, variable_at_does, led, behind_does}
 use Rattle.typing_laws.proofs.Tables.{cells_of_longer, is_ordinal_longer, range_of_longer}
-use Rattle.typing_laws.proofs.Leading.{IsLed, Types, led_alone, known_later, lt_true, IsFormalAt, formal_later, formal_is, LawfulWritten, covers_test, led_covers}
+use Rattle.typing_laws.proofs.Leading.{IsLed, Types, led_alone, known_later, lt_true, IsFormalAt, formal_later, formal_is, LawfulWritten, covers_test}
+use Rattle.typing_laws.proofs.Leading.{led_covers}
 use Rattle.typing_laws.proofs.Accesses.{round_formed, tests_ordinal_does, tested}
 
 -- ---- tests
@@ -374,7 +374,8 @@ module _ (here : Here) where
       (quietly (pass_does place) λ _ _ one _.
       joins (leads_first 0 place (led lead) (joined_places rows)) (behind_does lead place) λ id now two known.
       let seen = further_still one two in
-      last (routine_call_does true callee place actuals rows (routine_longer here (heads_of least) (heads_of now) callee true (mapped_longer head_of seen.headings) routine)
+      last (routine_call_does true callee place actuals rows
+      (routine_longer here (heads_of least) (heads_of now) callee true (mapped_longer head_of seen.headings) routine)
       (stands_later here least now seen stands) laws) λ root _ three _.
       quietly (result_variable_does root) λ found _ four _.
       quietly (given_does (or_no_result place found)) λ result _ five _.

@@ -76,7 +76,8 @@ own_whole types type_id before place (Some c) value is whole =
 
 module _ (here : Here) where
   module _ (variables : List Variable) (types : List Form) (heads : List Head) where
-    pub behind_sound : (s : Option SignAt) (c made : Denotation) → behind_sign s c ≡ Ok made → IsSound here variables types heads c → IsSound here variables types heads made
+    pub behind_sound : (s : Option SignAt) (c made : Denotation) → behind_sign s c ≡ Ok made → IsSound here variables types heads c
+        → IsSound here variables types heads made
     behind_sound None c made is sound = let same : c ≡ made = cc in subst (IsSound here variables types heads) same sound
     behind_sound (Some at) (denotes.Constant value type_id) made is sound =
         let made_is = fit_is (is_same type_id integer && is_whole value) at.place (denotes.Constant (signed_value at.sign value) integer) made is in
@@ -107,7 +108,8 @@ module _ (here : Here) where
 
   unsigned_does : {least : Reached} (v : ConstantValue) → Does here least Nothing (unsigned_constant v) (λ d now. IsSoundThen here d now)
   unfolding unsigned_constant
-  unsigned_does (value.Number number place) = checks (pass_does place) λ types _ c now _ is _. number_sound now.variables now.types (heads_of now) number place c is
+  unsigned_does (value.Number number place) = checks (pass_does place) λ types _ c now _ is _.
+      number_sound now.variables now.types (heads_of now) number place c is
   unsigned_does (value.String text place) =
       quietly (quietly (pass_does place) λ _ _ _ _. given_does (string_characters place text.now)) λ cs _ _ is.
       string_constant_does place cs (all_of_char place text.now cs is)
@@ -116,7 +118,8 @@ module _ (here : Here) where
 
   constant_does : {least : Reached} (c : Constant) → Does here least Nothing (constant c) (λ d now. IsSoundThen here d now)
   unfolding constant
-  constant_does c = checks (unsigned_does c.value) λ types unsigned made now _ is sound. behind_sound now.variables now.types (heads_of now) c.sign unsigned made is sound
+  constant_does c = checks (unsigned_does c.value) λ types unsigned made now _ is sound.
+      behind_sound now.variables now.types (heads_of now) c.sign unsigned made is sound
 
   ordinal_does : {least : Reached} (c : Constant) → Does here least Nothing (ordinal_constant c) (λ one now. IsWholeOrdinal one)
   unfolding ordinal_constant

@@ -37,8 +37,8 @@ use Rattle.typed_tree.specs.declared.tree.VariableKind.{VariableKind}
 use Rattle.typed_tree.specs.declared.tree.VariableKind.TheVariants as variable
 use Rattle.typed_tree.specs.WellFormed.{is_character, are_characters, is_local_kind, is_parameter_kind, is_result_kind, most_variables, roots_where}
 use Rattle.typing.specs.Names.{folded}
-use Rattle.typing.specs.Passing.{Enclosing, Headed, Passed, Checked, After, Passing, after, and_then, behind_marks, pure, fail, given, each, ◌>>=◌, ◌>>◌, ◌>>?◌}
-use Rattle.typing.specs.Steps.{told, fits, value_of, pass, find, declare, add_type, keep_text, latest, give_output, next_root, enclosing_now, reserve}
+use Rattle.typing.specs.Passing.{Passed, Checked, After, Passing, after, behind_marks, pure, fail, given, ◌>>=◌, ◌>>◌, ◌>>?◌}
+use Rattle.typing.specs.Steps.{told, value_of, pass, find, declare, add_type, keep_text, latest, give_output, next_root, enclosing_now, reserve}
 use Rattle.typing.specs.Strings.{string_characters, string_type, string_constant}
 use Rattle.typing.specs.Constants.{as_ordinal, unsigned_constant, constant, ordinal_constant}
 use Rattle.typing.specs.Denoters.{WrittenDenoter, named_type, type_of_name, constants_from, enumeration, between, subrange, index_type, index_types, arrays}
@@ -46,18 +46,18 @@ use Rattle.typing.specs.Denoters.{array, named_fields, grouped_fields, record_ty
 use Rattle.typing.specs.Routines.{definition, type_definition, declared, local, group}
 use Rattle.typing.specs.Typing.{parameter_of_program}
 use Rattle.typing_laws.proofs.WholeRanges.{IfWhole}
-use Rattle.typing_laws.proofs.Tables.{AreLawful, AreTexts, lawful_more, texts_more}
+use Rattle.typing_laws.proofs.Tables.{lawful_more, texts_more}
 use Rattle.typing_laws.proofs.Constants.{IsWhole, IsWholeOrdinal, number_whole, number_sound, constant_is, behind_sound, ordinal_whole}
 use Rattle.typing_laws.proofs.Strings.{fit_is, all_of_char, char_whole, type_added, string_type_is}
 use Rattle.typing_laws.proofs.Grown.{both_true}
-use Rattle.typing_laws.proofs.Owned.{cells_of_block, cells_more, declares, parameters_of, results_of, roots_none_more, roots_one_more}
-use Rattle.typing_laws.proofs.Reached.{IsLonger, as_long, one_longer, same_longer, Head, Here, is_round_here, get_last}
-use Rattle.typing_laws.proofs.Sound.{IsSound, IsVariable, AreSound, found_holds, define_holds, inside_itself, regions_later}
-use Rattle.typing_laws.proofs.Ready.{Base, IsUntold, base_types, base_variable, heads_passed}
+use Rattle.typing_laws.proofs.Owned.{cells_more, declares, parameters_of, results_of, roots_none_more, roots_one_more}
+use Rattle.typing_laws.proofs.Reached.{as_long, one_longer, Head, Here, is_round_here, get_last}
+use Rattle.typing_laws.proofs.Sound.{IsSound, IsVariable, found_holds, define_holds, inside_itself, regions_later}
+use Rattle.typing_laws.proofs.Ready.{base_variable}
 use Rattle.typing_laws.proofs.Keeping.{Silent, Ready, Keeps, Kept, silent_types, silent_regions, silent_as_is, silent_variable, silent_latest, silent_texts}
 use Rattle.typing_laws.proofs.Keeping.{silent_output, ready_regions, ready_latest, ready_output, ready_types, keeps_then, always, each_keeps, keeps_checks}
 use Rattle.typing_laws.proofs.Keeping.{pure_keeps, behind, before, aside}
-use Rattle.typing_laws.proofs.Steps.{split, split_behind, split_unless, below}
+use Rattle.typing_laws.proofs.Steps.{split, split_unless, below}
 
 told_is : {A : Type 0} (place : Place) (r : Result A ScopeFault) (x : A) → told place r ≡ Ok x → r ≡ Ok x
 told_is place (Ok a) x is = let same : a ≡ x = cc in ap Ok same
@@ -132,9 +132,11 @@ module _ (here : Here) (under : List Region) (counted : ℕ) (heads : List Head)
         let defined = told_is name.place (define text denotation s.regions) x.0 x.1 in
         let sound = define_holds (IsSound here (bound s) s.types heads) text denotation s.regions x.0 from.1 r.sound defined in
         let below = define_under text denotation s.regions x.0 defined ∙ r.under_it in
-        subst (Kept counted s (λ _ n. Ready here under counted heads (bound n) n)) same
-        (refl, silent_regions x.0,
-        subst (λ n. Ready here under counted heads n (record s { regions = x.0 })) (sym (same_bound s x.0)) (ready_regions x.0 sound below r));
+        subst (Kept counted s (λ _ n. Ready here under counted heads (bound n) n)) same (
+          refl,
+          silent_regions x.0,
+          subst (λ n. Ready here under counted heads n (record s { regions = x.0 })) (sym (same_bound s x.0)) (ready_regions x.0 sound below r),
+        );
   }
 
   -- it leaves all but the regions as it is
@@ -149,7 +151,8 @@ module _ (here : Here) (under : List Region) (counted : ℕ) (heads : List Head)
       (x.0, cc)
 
   -- a definition of what is sound
-  define_keeps : (name : Name) (denotation : Denotation) → Keeps counted (λ s. IsReady s × IsSound here s.variables s.types heads denotation) (declare name denotation) Readied
+  define_keeps : (name : Name) (denotation : Denotation) → Keeps counted (λ s. IsReady s × IsSound here s.variables s.types heads denotation)
+      (declare name denotation) Readied
   define_keeps name denotation = declare_keeps name denotation (λ s. s.variables) (λ s regions. refl)
 
   -- ---- constants
@@ -241,7 +244,8 @@ module _ (here : Here) (under : List Region) (counted : ℕ) (heads : List Head)
 
   constant_keeps : (c : Constant) → Keeps counted IsReady (constant c) Denotes
   unfolding constant
-  constant_keeps c = keeps_checks (unsigned_keeps c.value) λ types unsigned made s same is k. (k.0, behind_sound here s.variables s.types heads c.sign unsigned made is k.1)
+  constant_keeps c = keeps_checks (unsigned_keeps c.value) λ types unsigned made s same is k.
+      (k.0, behind_sound here s.variables s.types heads c.sign unsigned made is k.1)
 
   -- an ordinal is a whole number
   abbrev Whole : Option (ℤ × TypeId) → Passed → Type 0
@@ -269,7 +273,8 @@ module _ (here : Here) (under : List Region) (counted : ℕ) (heads : List Head)
   unfolding parameter_of_program
   parameter_keeps name = by (pointwise nat_eq (folded name.text.now) (codes "output"))
     where
-      by : (test : Bool) → Keeps counted IsReady (if test then declare name denotes.Output >> give_output else fail (fault.NotProgramParameter name.place)) Readied
+      by : (test : Bool)
+          → Keeps counted IsReady (if test then declare name denotes.Output >> give_output else fail (fault.NotProgramParameter name.place)) Readied
       by true = keeps_then (before (λ s r. (r, tt)) (define_keeps name denotes.Output)) λ _. give_output_keeps
       by false = record { keeps = λ s a is r. absurd cc }
 
@@ -376,12 +381,22 @@ module _ (here : Here) (under : List Region) (counted : ℕ) (heads : List Head)
           } in
           let at_root = next.2 in
           subst (Kept counted s (λ _ n. (IsBehind of type_id n × HasRoots (and_root of roots root) (and_result of results root) n)
-          × (slice_get n.variables root ≡ Some (declared_as of type_id)))) x.1
-          (refl, silent_variable one taken refl, ((((ready, next.1.0), next.1.2),
-          (own_roots is_parameter_kind of type_id s.variables roots from.1.0
-          ∙ ap (λ n. if is_parameter_kind of then roots ++ n ∷ [] else roots) (sym at_root),
-          own_roots is_result_kind of type_id s.variables results from.1.1
-          ∙ ap (λ n. if is_result_kind of then results ++ n ∷ [] else results) (sym at_root))), ap (slice_get (s.variables ++ one ∷ [])) at_root ∙ get_last s.variables one));
+          × (slice_get n.variables root ≡ Some (declared_as of type_id)))) x.1 (
+            refl,
+            silent_variable one taken refl,
+            (
+              (
+                ((ready, next.1.0), next.1.2),
+                (
+                  own_roots is_parameter_kind of type_id s.variables roots from.1.0
+                      ∙ ap (λ n. if is_parameter_kind of then roots ++ n ∷ [] else roots) (sym at_root),
+                  own_roots is_result_kind of type_id s.variables results from.1.1
+                      ∙ ap (λ n. if is_result_kind of then results ++ n ∷ [] else results) (sym at_root),
+                ),
+              ),
+              ap (slice_get (s.variables ++ one ∷ [])) at_root ∙ get_last s.variables one,
+            ),
+          );
     }
 
     -- a variable with a name
@@ -425,7 +440,8 @@ module _ (here : Here) (under : List Region) (counted : ℕ) (heads : List Head)
         let x = split (named_type names name denoted) (λ type_id. Ok (after type_id [] (record s { latest = name.place }))) a is in
         let same : after x.0 [] (record s { latest = name.place }) ≡ a = cc in
         let one : x.0.index < length s.types =
-        found_holds (IsSound here s.variables s.types heads) s.regions (folded name.text.now) (denotes.TypeName x.0) r.sound (named_is names name denoted x.0 x.1) in
+        found_holds (IsSound here s.variables s.types heads) s.regions (folded name.text.now) (denotes.TypeName x.0) r.sound
+        (named_is names name denoted x.0 x.1) in
         subst (Kept counted s IsTyped) same (refl, silent_latest name.place, (ready_latest name.place r, one));
   }
 
@@ -434,9 +450,11 @@ module _ (here : Here) (under : List Region) (counted : ℕ) (heads : List Head)
     keeps = λ s a is from.
         let x = type_added place form s a is in
         let lawful = lawful_more s.types form x.0 from.0.base.lawful from.1 x.1 in
-        subst (Kept counted s IsTyped) x.2
-        (refl, silent_types (s.types ++ form ∷ []) (one_longer s.types form),
-        (ready_types (s.types ++ form ∷ []) (one_longer s.types form) lawful from.0, omega (arith, length-append s.types (form ∷ []))));
+        subst (Kept counted s IsTyped) x.2 (
+          refl,
+          silent_types (s.types ++ form ∷ []) (one_longer s.types form),
+          (ready_types (s.types ++ form ∷ []) (one_longer s.types form) lawful from.0, omega (arith, length-append s.types (form ∷ []))),
+        );
   }
 
   -- the constants of a type leave all types as they are
@@ -458,7 +476,8 @@ module _ (here : Here) (under : List Region) (counted : ℕ) (heads : List Head)
             (refl, silent_as_is, ((from.0, whole x.0 x.1), from.1));
       }
 
-      declared_value : (value : ℤ) → Keeps counted (λ s. (IsReady s × IsWhole value) × (type_id.index < length s.types)) (declare name (denotes.Constant value type_id))
+      declared_value : (value : ℤ) → Keeps counted (λ s. (IsReady s × IsWhole value) × (type_id.index < length s.types))
+          (declare name (denotes.Constant value type_id))
           (λ _ s. IsTyped type_id s)
       declared_value value = record {
         keeps = λ s a is from.
@@ -514,14 +533,16 @@ module _ (here : Here) (under : List Region) (counted : ℕ) (heads : List Head)
   unfolding index_type
   index_type_keeps names place w law = keeps_checks (law names) λ types id b s same is k. k.0
 
-  index_types_keep : (names : List Name) (place : Place) (ws : List WrittenDenoter) → KeepDenoters ws → Keeps counted IsReady (index_types names place ws) Readied
+  index_types_keep : (names : List Name) (place : Place) (ws : List WrittenDenoter) → KeepDenoters ws
+      → Keeps counted IsReady (index_types names place ws) Readied
   index_types_keep names place [] laws = pure_keeps [] (λ s r. r)
   index_types_keep names place (w ∷ ws) laws =
       keeps_then (index_type_keeps names place w laws.0) λ id.
       keeps_then (index_types_keep names place ws laws.1) λ ids.
       pure_keeps (id ∷ ids) (λ s r. r)
 
-  arrays_keep : (packed : Bool) (place : Place) (indexes : List TypeId) (element : TypeId) → Keeps counted (IsTyped element) (arrays packed place indexes element) IsTyped
+  arrays_keep : (packed : Bool) (place : Place) (indexes : List TypeId) (element : TypeId)
+      → Keeps counted (IsTyped element) (arrays packed place indexes element) IsTyped
   arrays_keep packed place [] element = pure_keeps element (λ s is. is)
   arrays_keep packed place (index ∷ indexes) element =
       keeps_then (arrays_keep packed place indexes element) λ inner. before (λ s is. (is.0, tt)) (add_type_keeps place (Array packed index inner))

@@ -1,5 +1,5 @@
 -- What expressions do, form by form.
-use Rattle.std.proofs.Common.{◌≡◌, ℕ, ◌<◌, Bool, true, false, not, nat_le, if◌then◌else◌, List, [], ◌∷◌, length, Option, Some, None, Ok, Err, pos}
+use Rattle.std.proofs.Common.{◌≡◌, ℕ, Bool, true, false, not, nat_le, if◌then◌else◌, List, [], ◌∷◌, length, Option, Some, None, Ok, Err, pos}
 use Rattle.std.proofs.Common.{refl, sym, ap, subst, ◌∙◌}
 use Rattle.std.proofs.lemmas.Bool.{eq-eqb, eqb-true}
 use Rattle.std.specs.List.{list_all}
@@ -28,7 +28,7 @@ use Rattle.typing.specs.Strings.{string_characters, string_type}
 use Rattle.typing.specs.declared.typed.Typed.{Typed}
 use Rattle.typing.specs.Expressions.{Written, written, written_variable, typed, typed_whole, number, spelled, string, as_variable, component, denoted, named}
 use Rattle.typing.specs.Expressions.{parenthesized, negation, signed, sign_operation, is_of_packed, passable, passed_variable}
-use Rattle.typing_laws.proofs.Reached.{Reached, whole_of, IsFurther, further_still, Here}
+use Rattle.typing_laws.proofs.Reached.{Reached, IsFurther, further_still, Here}
 use Rattle.typing_laws.proofs.Sound.{IsVariable}
 use Rattle.typing_laws.proofs.Covers.{Covers, Leads, leads_first}
 use Rattle.typing_laws.proofs.Grown.{both_true}
@@ -136,7 +136,8 @@ module _ (here : Here) where
     where
       by : (test : Bool) → is_same wanted part ≡ test
           → (if not test then Err (fault.Mismatch place)
-          else if is_of_packed types (Some type_id) false selectors then Err (fault.PackedComponent place) else Ok (tt {0})) ≡ Ok (tt {0}) → is_same part wanted ≡ true
+          else if is_of_packed types (Some type_id) false selectors then Err (fault.PackedComponent place) else Ok (tt {0})) ≡ Ok (tt {0})
+          → is_same part wanted ≡ true
       by true same h = eq-eqb part.index wanted.index (sym (eqb-true wanted.index part.index same))
       by false same h = absurd cc
 

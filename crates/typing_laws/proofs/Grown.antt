@@ -5,18 +5,16 @@ use Rattle.std.proofs.Common.{append_assoc, length-append, sym, ap, ap₂, subst
 use Rattle.std.specs.List.{range_with_len, list_all, flat_map}
 use Rattle.std.proofs.lemmas.List.Folds.{list_all-append}
 use Rattle.std.proofs.lemmas.Grind.{flat_map-append}
-use Rattle.types.specs.Forms.{Form}
 use Rattle.types.specs.Types.{is_ordinal}
 use Rattle.typed_tree.specs.declared.tree.Variable.{Variable}
 use Rattle.typed_tree.specs.Ids.{Stands}
 use Rattle.typed_tree.specs.WellFormed.{Outline, is_parameter_kind}
 use Rattle.typed_tree.specs.Look.{Mark, Look, mark_entries, entries_of_look, mark_loops, loops_of_look, blocks_of_look, mark_blocks, is_formed_mark}
-use Rattle.typing.specs.Passing.{Enclosing, Headed, Passed}
+use Rattle.typing.specs.Passing.{Enclosing, Passed}
 use Rattle.typing.specs.Steps.{most_sites, most_entries}
-use Rattle.typing_laws.proofs.Reached.{IsLonger, as_long, longer_still, same_longer, get_longer, Signature, signature_passed, Head, head_of, Reached}
-use Rattle.typing_laws.proofs.Reached.{reached, whole_of, IsFurther, as_far, further_still, mapped_longer, Here, StandsIn, stands_later}
-use Rattle.scopes.specs.Scopes.{Region}
-use Rattle.typing_laws.proofs.Sound.{AreSound, IsSound, inside_itself, regions_later}
+use Rattle.typing_laws.proofs.Reached.{IsLonger, longer_still, same_longer, get_longer, Signature, signature_passed, Head, head_of, Reached}
+use Rattle.typing_laws.proofs.Reached.{reached, whole_of, IsFurther, further_still, mapped_longer, Here, StandsIn, stands_later}
+use Rattle.typing_laws.proofs.Sound.{AreSound, inside_itself, regions_later}
 use Rattle.typing_laws.proofs.Tables.{AreLawful, AreTexts, stands_longer, is_ordinal_longer}
 
 -- ---- headings that were passed
@@ -161,6 +159,7 @@ fine_later {here} {old = old} {new = new} g f =
       stands = stands_later here (reached old) (reached new) more f.stands;
       fit = fit_later (reached old) (reached new) more same f.fit;
     }
+
 -- numbers that marks have
 module _ (numbers : Mark → List ℕ) (look more : Look) where
   pub counted : length (flat_map numbers (look ++ more)) ≡ length (flat_map numbers look) + length (flat_map numbers more)

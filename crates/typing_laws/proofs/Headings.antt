@@ -1,7 +1,8 @@
 -- What the heading of a routine does: its parameters and its result are variables of its block, and the block round it goes
 -- on behind it as before.
-use Rattle.std.proofs.Common.{◌≡◌, ℕ, zero, suc, ◌+◌, ◌<◌, ◌≤◌, Bool, true, false, not, ◌||◌, ◌&&◌, nat_eq, nat_lt, nat_le, if◌then◌else◌, List, [], ◌∷◌, ◌++◌, length, map}
-use Rattle.std.proofs.Common.{Option, Some, None, Ok, Err, is_none, slice_get, refl, sym, ap, ap₂, subst, ◌∙◌, arith, inl, inr, append_assoc, append-nil}
+use Rattle.std.proofs.Common.{◌≡◌, ℕ, zero, suc, ◌+◌, ◌<◌, ◌≤◌, Bool, true, false, not, ◌||◌, ◌&&◌, nat_eq, nat_lt, nat_le, if◌then◌else◌, List, [], ◌∷◌, ◌++◌}
+use Rattle.std.proofs.Common.{length, map}
+use Rattle.std.proofs.Common.{Option, Some, None, Ok, is_none, slice_get, refl, sym, ap, ap₂, subst, ◌∙◌, arith, inl, inr, append_assoc, append-nil}
 use Rattle.std.proofs.Common.{length-append, ◌⊎◌}
 use Rattle.std.specs.List.{list_all, flat_map}
 use Rattle.std.proofs.lemmas.Bool.{eq-eqb}
@@ -23,24 +24,23 @@ use Rattle.typed_tree.specs.declared.fault.TypeFault.TheVariants as fault
 use Rattle.typed_tree.specs.declared.tree.Variable.{Variable}
 use Rattle.typed_tree.specs.declared.tree.VariableKind.{VariableKind}
 use Rattle.typed_tree.specs.declared.tree.VariableKind.TheVariants as variable
-use Rattle.typed_tree.specs.WellFormed.{declarer, is_local_kind, is_parameter_kind, is_result_kind, most_blocks, most_variables, is_one_of, of_one, roots_where, variables_of}
+use Rattle.typed_tree.specs.WellFormed.{declarer, is_local_kind, is_parameter_kind, is_result_kind, most_blocks, most_variables, is_one_of, roots_where}
+use Rattle.typed_tree.specs.WellFormed.{variables_of}
 use Rattle.typing.specs.Names.{folded, all_folded, formal_names}
 use Rattle.typing.specs.Passing.{Enclosing, Headed, Passed, Checked, After, Passing, after, and_then, behind_marks, pure, ◌>>=◌, ◌>>◌, ◌>>?◌}
 use Rattle.typing.specs.Steps.{fits, next_root, reserve, enclosing_now, with_enclosing, open_block, close_block, add_heading}
 use Rattle.typing.specs.Denoters.{named_type, type_of_name}
-use Rattle.typing.specs.Routines.{declared, group_types, heading, parameter_kind, parameters, parameters_named, result, result_type, type_of_result}
-use Rattle.typing_laws.proofs.Grown.{both_true}
-use Rattle.typing_laws.proofs.Owned.{Fails, block_cells_longer, cells_of_block, declares, other_block, parameters_of, results_of, roots_of}
-use Rattle.typing_laws.proofs.Reached.{IsLonger, as_long, longer_still, one_longer, mapped_longer, get_longer, get_last, get_mapped, Signature}
-use Rattle.typing_laws.proofs.Reached.{signature_passed, Head, head_of, Reached, reached, Here, is_round_here, StandsIn}
-use Rattle.typing_laws.proofs.Sound.{IsSound, IsVariable, AreSound, IsSoundRegion, found_holds, opened_holds, inside_itself, inside_routine, regions_later}
-use Rattle.typing_laws.proofs.Sound.{region_later}
-use Rattle.typing_laws.proofs.Ready.{Base, IsHeaded, IsOrdinalAt, IsPlacedAt, base_heading, heads_passed, placed_longer, type_stands, within}
-use Rattle.typing_laws.proofs.Keeping.{Silent, Ready, Keeps, silent_as_is, silent_then, keeps_then, pure_keeps, aside, behind, before}
-use Rattle.typing_laws.proofs.Declarations.{IsReady, IsTyped, IsBehind, HasRoots, and_root, and_result, declared_as, declared_keeps, named_is, next_root_keeps}
+use Rattle.typing.specs.Routines.{group_types, heading, parameter_kind, parameters, parameters_named, result, result_type, type_of_result}
+use Rattle.typing_laws.proofs.Owned.{Fails, block_cells_longer, cells_of_block, declares, other_block, roots_of}
+use Rattle.typing_laws.proofs.Reached.{IsLonger, as_long, longer_still, one_longer, get_longer, get_mapped, Signature}
+use Rattle.typing_laws.proofs.Reached.{signature_passed, Head, head_of, reached, Here, is_round_here, StandsIn}
+use Rattle.typing_laws.proofs.Sound.{IsSound, AreSound, IsSoundRegion, found_holds, opened_holds, inside_itself, inside_routine, regions_later}
+use Rattle.typing_laws.proofs.Ready.{Base, IsHeaded, IsOrdinalAt, IsPlacedAt, base_heading, heads_passed, placed_longer, type_stands}
+use Rattle.typing_laws.proofs.Keeping.{Silent, Ready, Keeps, keeps_then, pure_keeps, aside, before}
+use Rattle.typing_laws.proofs.Declarations.{IsReady, IsBehind, HasRoots, and_root, and_result, declared_keeps, named_is, next_root_keeps}
 use Rattle.typing_laws.proofs.Declarations.{reserve_keeps, root_is_next}
 use Rattle.typing_laws.proofs.Strings.{behind_nothing, fit_is, both_and}
-use Rattle.typing_laws.proofs.Steps.{split, split_behind, split_unless, below}
+use Rattle.typing_laws.proofs.Steps.{split, split_behind, split_unless}
 use Rattle.typing_laws.proofs.Tables.{HaveTypes, cells_in, is_ordinal_longer, stands_longer}
 
 -- ---- steps without marks
@@ -222,8 +222,10 @@ module _ (here : Here) (under : List Region) (number : ℕ) (heads : List Head) 
         added root s to =
             let kind = kind_is by in (
               ((to.0.0.0, no_local by s to.0.1), to.0.0.1),
-              (to.1.0 ∙ ap (λ (b : Bool). if b then roots ++ root ∷ [] else roots) kind.0,
-              to.1.1 ∙ ap (λ (b : Bool). if b then results ++ root ∷ [] else results) kind.1),
+              (
+                to.1.0 ∙ ap (λ (b : Bool). if b then roots ++ root ∷ [] else roots) kind.0,
+                to.1.1 ∙ ap (λ (b : Bool). if b then results ++ root ∷ [] else results) kind.1,
+              ),
             )
 
     parameters_keep : (groups : List FormalGroup) (ids : List TypeId) (roots results : List ℕ)
@@ -232,7 +234,8 @@ module _ (here : Here) (under : List Region) (number : ℕ) (heads : List Head) 
     parameters_keep [] ids roots results = pure_keeps [] (λ s from. (from.0.0, (from.1.0 ∙ sym (append-nil roots), from.1.1)))
     parameters_keep (g ∷ groups) [] roots results = pure_keeps [] (λ s from. (from.0.0, (from.1.0 ∙ sym (append-nil roots), from.1.1)))
     parameters_keep (g ∷ groups) (id ∷ ids) roots results =
-        keeps_then (before (λ s from. (((from.0.0, from.0.1.0), from.1), from.0.1.1)) (aside all_stand (named_keep g.by id g.names.items roots results))) λ more.
+        keeps_then (before (λ s from. (((from.0.0, from.0.1.0), from.1), from.0.1.1))
+        (aside all_stand (named_keep g.by id g.names.items roots results))) λ more.
         keeps_then (before (λ s from. ((from.0.0.0, from.1), from.0.1)) (parameters_keep groups ids (roots ++ more) results)) λ others.
         pure_keeps (more ++ others) (λ s to. (to.0, (to.1.0 ∙ append_assoc roots more others, to.1.1)))
       where
@@ -339,11 +342,18 @@ routine_placed headings here zero headed outer is there round around few =
     let within = slice_get_within headings here.block outer there in absurd (omega (arith, is, within))
 routine_placed headings here (suc number) headed outer is there round around few =
     let within = slice_get_within headings here.block outer there in
-    let counted : length headed.around ≡ length here.around + 1 = ap length around ∙ length-append here.around (here.block ∷ []) in
-    (omega (arith, counted, few), here.block, ap declarer around ∙ declarer_last here.around here.block, omega (arith, is, within), outer, there,
-    around ∙ ap (λ l. l ++ here.block ∷ []) (sym round))
+    let counted : length headed.around ≡ length here.around + 1 = ap length around ∙ length-append here.around (here.block ∷ []) in (
+      omega (arith, counted, few),
+      here.block,
+      ap declarer around ∙ declarer_last here.around here.block,
+      omega (arith, is, within),
+      outer,
+      there,
+      around ∙ ap (λ l. l ++ here.block ∷ []) (sym round),
+    )
 
-heads_more : (headings : List Headed) (headed : Headed) → heads_passed (headings ++ headed ∷ []) ≡ heads_passed headings ++ head_of (signature_passed headed) ∷ []
+heads_more : (headings : List Headed) (headed : Headed)
+    → heads_passed (headings ++ headed ∷ []) ≡ heads_passed headings ++ head_of (signature_passed headed) ∷ []
 heads_more headings headed =
     ap (map head_of) (map-append signature_passed headings (headed ∷ []))
     ∙ map-append head_of (map signature_passed headings) (signature_passed headed ∷ [])

@@ -1,15 +1,15 @@
 -- Steps among declarations: they add no site and no entry, and leave what is known of other blocks as it is.
-use Rattle.std.proofs.Common.{◌≡◌, ℕ, ◌<◌, ◌≤◌, Bool, false, true, nat_eq, List, [], ◌∷◌, ◌++◌, length, Ok, refl, sym, ap, subst, ◌∙◌, arith}
+use Rattle.std.proofs.Common.{◌≡◌, ℕ, ◌≤◌, true, nat_eq, List, [], ◌∷◌, ◌++◌, length, Ok, refl, sym, ap, subst, ◌∙◌}
 use Rattle.place.specs.declared.Place.{Place}
 use Rattle.types.specs.Forms.{Form}
 use Rattle.scopes.specs.Scopes.{Region, outer}
 use Rattle.typed_tree.specs.declared.tree.Variable.{Variable}
 use Rattle.typed_tree.specs.WellFormed.{variables_of}
-use Rattle.typing.specs.Passing.{Enclosing, Headed, Passed, Checked, After, Passing, after, and_then, behind_marks, pure, each, ◌>>=◌, ◌>>?◌}
+use Rattle.typing.specs.Passing.{Passed, Checked, After, Passing, after, and_then, behind_marks, pure, each, ◌>>=◌, ◌>>?◌}
 use Rattle.typing.specs.Steps.{most_sites, most_entries}
 use Rattle.typing_laws.proofs.Owned.{Fails, cells_of_block, others_kept, block_cells_longer}
 use Rattle.typing_laws.proofs.Reached.{IsLonger, as_long, longer_still, one_longer, Head, Here}
-use Rattle.typing_laws.proofs.Ready.{Base, base_types, heads_passed}
+use Rattle.typing_laws.proofs.Ready.{Base, base_types}
 use Rattle.typing_laws.proofs.Sound.{AreSound, inside_itself, regions_later}
 use Rattle.typing_laws.proofs.Steps.{split, split_behind}
 use Rattle.typing_laws.proofs.Tables.{AreLawful, AreTexts}

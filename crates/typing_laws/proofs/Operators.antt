@@ -29,10 +29,9 @@ use Rattle.typing.specs.Expressions.{compares, link, links, chain, as_function, 
 use Rattle.typing.specs.Expressions.{call_by, required_call, only}
 use Rattle.typing_laws.proofs.WholeRanges.{HaveWholeRanges, IfWhole, if_whole}
 use Rattle.typing_laws.proofs.Covers.{AreAbove, at_place, Covers, Leads, covers_both, leads_first, leads_more}
-use Rattle.typing_laws.proofs.Grown.{heads_of, both_true}
+use Rattle.typing_laws.proofs.Grown.{both_true}
 use Rattle.typing_laws.proofs.Reached.{Reached, whole_of, IsFurther, further_still, Here}
-use Rattle.typing_laws.proofs.Sound.{IsRoutine}
-use Rattle.typing_laws.proofs.Steps.{Does, Anything, Nothing, IsFound, IsSoundThen, joins, quietly, last, checks_types, pure_does, given_does, by_types_does}
+use Rattle.typing_laws.proofs.Steps.{Does, Anything, Nothing, IsFound, joins, quietly, last, checks_types, pure_does, given_does, by_types_does}
 use Rattle.typing_laws.proofs.Steps.{find_does, mark_does, enter_does, site_does, led, IsKnown, behind_does}
 use Rattle.typing_laws.proofs.Strings.{fit_is, there, both_and}
 use Rattle.typing_laws.proofs.Leading.{IsLed, Types, led_alone, led_behind, known_later, lt_true, LawfulWritten, LawfulLink, no_variable_lawful, led_covers}

@@ -1,30 +1,27 @@
 -- The headings of the blocks that end in a look, and those that were passed: where the blocks end as their headings tell,
 -- the headings of a tree that looks so are these.
-use Rattle.std.proofs.Common.{◌≡◌, ℕ, zero, suc, ◌+◌, ◌<◌, ◌≤◌, Bool, true, false, ◌&&◌, nat_eq, nat_lt, List, [], ◌∷◌, ◌++◌, length, map, Option, Some, None}
+use Rattle.std.proofs.Common.{◌≡◌, ℕ, zero, suc, ◌+◌, ◌<◌, Bool, true, false, nat_eq, nat_lt, List, [], ◌∷◌, ◌++◌, length, map, Option, Some, None}
 use Rattle.std.proofs.Common.{option_map, slice_get, refl, sym, ap, ap₂, subst, ◌∙◌, arith}
 use Rattle.std.specs.Cmp.Lexicographic.{pointwise}
 use Rattle.std.specs.Option.{option_and_then}
 use Rattle.std.proofs.lemmas.Bool.{eq-eqb, eqb-true}
 use Rattle.std.proofs.lemmas.Bool.Decides.{nat_tests}
-use Rattle.std.proofs.lemmas.List.{length-map}
-use Rattle.std.proofs.lemmas.Option.{slice_get_within}
-use Rattle.types.specs.Forms.{Form}
 use Rattle.types.specs.Types.{is_ordinal}
 use Rattle.typed_tree.specs.declared.tree.FunctionResult.{FunctionResult}
 use Rattle.typed_tree.specs.declared.tree.Heading.{Heading as TreeHeading}
 use Rattle.typed_tree.specs.declared.tree.Variable.{Variable}
-use Rattle.typed_tree.specs.Accesses.{accessed, is_type, led}
-use Rattle.typed_tree.specs.Look.{Mark, Look, BlockEnds, mark_blocks, blocks_of_look}
-use Rattle.typed_tree.specs.WellFormed.{Outline, are_all, declarer, is_declared_by, is_heading, is_parameter_kind, is_placed, is_result, is_result_kind}
+use Rattle.typed_tree.specs.Accesses.{is_type, led}
+use Rattle.typed_tree.specs.Look.{Look, BlockEnds, blocks_of_look}
+use Rattle.typed_tree.specs.WellFormed.{Outline, declarer, is_declared_by, is_heading, is_placed}
 use Rattle.typed_tree.specs.WellFormed.{is_result_or_none, most_blocks, of_one, result_roots}
-use Rattle.typing.specs.Passing.{Headed, Passed}
-use Rattle.typing_laws.specs.Lawful.{HasHeading, TellsHeading, TellsHeadings}
-use Rattle.typing_laws.proofs.Built.{AreEnds, EndsSo, HasSite, IsEnd}
+use Rattle.typing.specs.Passing.{Headed}
+use Rattle.typing_laws.specs.Lawful.{HasHeading, TellsHeadings}
+use Rattle.typing_laws.proofs.Built.{AreEnds, EndsSo, HasSite}
 use Rattle.typing_laws.proofs.Grown.{both_true}
 use Rattle.typing_laws.proofs.Owned.{parameters_of, results_of, roots_of}
 use Rattle.typing_laws.proofs.Reached.{Signature, signature_of, signature_passed, Reached, get_mapped, mapped_get}
 use Rattle.typing_laws.proofs.Ready.{IsHeaded, IsPlacedAt}
-use Rattle.typing_laws.proofs.Waiting.{count_append, count_of, one_if}
+use Rattle.typing_laws.proofs.Waiting.{count_of, one_if}
 
 -- ---- headings that agree
 

@@ -1,49 +1,47 @@
 -- The law of typing: what each typed program has.
-use Rattle.std.proofs.Common.{◌≡◌, ℕ, zero, suc, ◌+◌, ◌<◌, ◌≤◌, Bool, true, false, ◌&&◌, ◌||◌, nat_eq, nat_lt, nat_le, List, [], ◌∷◌, ◌++◌, length, map, codes}
-use Rattle.std.proofs.Common.{if◌then◌else◌, Option, Some, None, Ok, slice_get, refl, sym, ap, ap₂, subst, ◌∙◌, arith, append_assoc, append-nil, length-append}
+use Rattle.std.proofs.Common.{◌≡◌, ℕ, zero, suc, ◌+◌, ◌<◌, ◌≤◌, true, false, ◌&&◌, nat_eq, nat_lt, nat_le, List, [], ◌∷◌, ◌++◌, length, map}
+use Rattle.std.proofs.Common.{Option, Some, None, Ok, slice_get, refl, sym, ap, ap₂, subst, ◌∙◌, arith, append_assoc}
 use Rattle.std.specs.Prelude.{IsPermutation}
-use Rattle.std.specs.List.{range_with_len, list_all, flat_map}
+use Rattle.std.specs.List.{range_with_len, list_all}
 use Rattle.std.proofs.lemmas.Bool.Decides.{nat_tests}
 use Rattle.std.proofs.lemmas.Grind.{flat_map-append}
 use Rattle.std.proofs.lemmas.List.{length-map}
-use Rattle.std.proofs.lemmas.Option.{slice_get_within, slice_get-get_or}
-use Rattle.std.proofs.Common.{get_or}
+use Rattle.std.proofs.lemmas.Option.{slice_get_within}
 use Rattle.place.specs.declared.Place.{Place}
-use Rattle.place.specs.Place.{ArePlacesInOrder}
 use Rattle.syntax_tree.specs.declared.Name.{Name}
 use Rattle.syntax_tree.specs.declared.Program.{Program}
 use Rattle.syntax_tree.specs.Places.{block_places, name_places, program_places}
 use Rattle.scopes.specs.Scopes.{Region, opened}
-use Rattle.types.specs.Types.{cells_of, most_cells, required_forms}
+use Rattle.types.specs.Types.{most_cells, required_forms}
 use Rattle.typed_tree.specs.declared.tree.FunctionResult.{FunctionResult}
 use Rattle.typed_tree.specs.declared.tree.Heading.{Heading as TreeHeading}
 use Rattle.typed_tree.specs.declared.tree.Variable.{Variable}
 use Rattle.typed_tree.specs.Ids.{Stands, AreByPlace}
 use Rattle.typed_tree.specs.Look.{Look, Mark, BlockEnds, mark_entries, entries_of_look, mark_loops, loops_of_look, mark_blocks, blocks_of_look, are_formed}
-use Rattle.typed_tree.specs.WellFormed.{Outline, are_few_cells, is_heading, most_variables, variables_of}
+use Rattle.typed_tree.specs.WellFormed.{Outline, are_few_cells, is_heading}
 use Rattle.typing.specs.Names.{all_folded, required_region}
-use Rattle.typing.specs.Passing.{Enclosing, Headed, Passed, Checked, After, Passing, after, behind_marks, each, pure, ◌>>=◌, ◌>>◌}
-use Rattle.typing.specs.Steps.{begins, most_entries, most_sites, open_block, open_required, program_heading}
+use Rattle.typing.specs.Passing.{Headed, Passed, Checked, After, Passing, after, behind_marks, each, ◌>>◌}
+use Rattle.typing.specs.Steps.{begins, most_entries, open_block, open_required, program_heading}
 use Rattle.typing.specs.Routines.{TypedBlock, block_end, typed_block}
 use Rattle.typing.specs.Typing.{parameter_of_program, parameters_of_program, program_typing, typing}
 use Rattle.typing_laws.specs.Lawful.{IsOutlineOf, Lawful}
 use Rattle.typing_laws.proofs.Blocks.{block_lawful}
-use Rattle.typing_laws.proofs.Bodies.{Closed, Inside, closed, closed_blocks, closed_entries, closed_formed, closed_loops, fine_standing}
-use Rattle.typing_laws.proofs.Built.{AreEnds, Built, Builds, EndsSo, HasSite, Standing, built_further, built_then, ends_append, ends_later, is_between, keeps_builds, no_ends}
+use Rattle.typing_laws.proofs.Bodies.{closed, closed_blocks, closed_entries, closed_formed, closed_loops, fine_standing}
+use Rattle.typing_laws.proofs.Built.{AreEnds, Built, Builds, EndsSo, HasSite, Standing, built_then, ends_append, ends_later, is_between, keeps_builds, no_ends}
 use Rattle.typing_laws.proofs.Covers.{Covers, covers_behind, covers_both, covers_skip}
 use Rattle.typing_laws.proofs.Declarations.{parameter_keeps}
 use Rattle.typing_laws.proofs.Grown.{Grown, both_true, counted, fine_later, further, go_on, grown_then}
-use Rattle.typing_laws.proofs.Headings.{heads_count, parts_of, passes_on, quiet_parts}
-use Rattle.typing_laws.proofs.Keeping.{Ready, before, behind, each_keeps}
+use Rattle.typing_laws.proofs.Headings.{heads_count, parts_of}
+use Rattle.typing_laws.proofs.Keeping.{before, behind, each_keeps}
 use Rattle.typing_laws.proofs.Ordered.{covers_by_place}
 use Rattle.typing_laws.proofs.Outlines.{Agrees, agrees_in, headed_at, heading_formed, same_parts}
 use Rattle.typing_laws.proofs.Owned.{cells_of_block}
-use Rattle.typing_laws.proofs.Reached.{IsLonger, as_long, same_longer, get_longer, mapped_get, Head, Here, Reached, reached, whole_of, signature_of, signature_passed}
+use Rattle.typing_laws.proofs.Reached.{same_longer, get_longer, mapped_get, Here, reached, whole_of, signature_of, signature_passed}
 use Rattle.typing_laws.proofs.Reached.{IsFurther, further_still}
 use Rattle.typing_laws.proofs.Ready.{Base, IsHeaded, base_types, heads_passed}
 use Rattle.typing_laws.proofs.Sound.{IsSound, opened_holds, required_sound}
 use Rattle.typing_laws.proofs.Strings.{behind_nothing}
-use Rattle.typing_laws.proofs.Tables.{cells_in, no_texts, required_lawful}
+use Rattle.typing_laws.proofs.Tables.{no_texts, required_lawful}
 use Rattle.typing_laws.proofs.Waiting.{count_append, count_of, count_range, one_if, same_counts, waits_in}
 
 -- ---- where a program begins
@@ -88,10 +86,11 @@ begins_base = record {
 begins_standing : (program : Program) (block : TypedBlock) → Standing program_here round_it (opened_program program block)
 begins_standing program block = record {
   ready = record {
-    sound =
-        (opened_holds (IsSound program_here [] required_forms (heads_passed (program_heading ∷ [])))
-        (all_folded (program.parameters.items ++ block.names)),
-        (required_sound program_here [] required_forms (heads_passed (program_heading ∷ [])) (omega arith), tt));
+    sound = (
+      opened_holds (IsSound program_here [] required_forms (heads_passed (program_heading ∷ [])))
+          (all_folded (program.parameters.items ++ block.names)),
+      (required_sound program_here [] required_forms (heads_passed (program_heading ∷ [])) (omega arith), tt),
+    );
     under_it = refl;
     base = begins_base;
     texts = no_texts;
@@ -236,8 +235,16 @@ module _ (program : Program) (a : After (Unit {0})) (w : Whole program a) where
 
   has_few_entries : length (entries_of_look a.look) ≤ most_entries
   has_few_entries =
-      omega (arith, ap length (at_end entries_of_look), counted mark_entries w.first ended, ap length entries_ended, w.built.entered, w.grown.entered,
-      w.grown.few_entries, w.starts.1)
+      omega (
+        arith,
+        ap length (at_end entries_of_look),
+        counted mark_entries w.first ended,
+        ap length entries_ended,
+        w.built.entered,
+        w.grown.entered,
+        w.grown.few_entries,
+        w.starts.1,
+      )
 
   loops_are : loops_of_look a.look ≡ range_with_len 0 (length (loops_of_look a.look))
   loops_are =
@@ -255,8 +262,11 @@ module _ (program : Program) (a : After (Unit {0})) (w : Whole program a) where
 
   at_least_one : 0 < length a.passed.headings
   at_least_one =
-      omega (arith, slice_get_within (map signature_passed a.passed.headings) 0 w.ends.signature w.ends.is_there,
-      length-map a.passed.headings signature_passed)
+      omega (
+        arith,
+        slice_get_within (map signature_passed a.passed.headings) 0 w.ends.signature w.ends.is_there,
+        length-map a.passed.headings signature_passed,
+      )
 
   -- each number of a heading stands once among the blocks that end
   counts : (number : ℕ) → count_of number (blocks_of_look a.look) ≡ one_if (is_between 0 (length a.passed.headings) number)
@@ -267,8 +277,17 @@ module _ (program : Program) (a : After (Unit {0})) (w : Whole program a) where
       let as_many = ap (λ (l : List Headed). one_if (is_between 1 (length l) number)) w.grown.headings_kept in
       let from_one = ap (λ n. one_if (is_between n (length w.middle.headings) number)) w.starts.3 in
       let there = slice_get_within w.middle.headings 0 in
-      omega (arith, both, one, w.built.accounted number, ap one_if (w.came number), ap one_if (w.starts.4 number), from_one, as_many,
-      first_too number (length a.passed.headings) at_least_one)
+      omega (
+        arith,
+        both,
+        one,
+        w.built.accounted number,
+        ap one_if (w.came number),
+        ap one_if (w.starts.4 number),
+        from_one,
+        as_many,
+        first_too number (length a.passed.headings) at_least_one,
+      )
     where
       first_too : (number many : ℕ) → 0 < many → one_if (nat_eq number 0) + one_if (is_between 1 many number) ≡ one_if (is_between 0 many number)
       first_too number many some = grind (arith, nat_tests)

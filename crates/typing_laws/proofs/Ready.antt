@@ -1,28 +1,26 @@
 -- What is known among declarations: the types, the variables and the headings fit each other, each name denotes what is
 -- sound, and the cells of the block's variables are counted.
-use Rattle.std.proofs.Common.{◌≡◌, ℕ, zero, suc, ◌+◌, ◌<◌, ◌≤◌, Bool, true, false, ◌&&◌, ◌||◌, nat_lt, nat_eq, nat_le, List, [], ◌∷◌, ◌++◌, length, map}
-use Rattle.std.proofs.Common.{Option, Some, None, slice_get, refl, sym, ap, subst, ◌∙◌, arith, append-nil, length-append, inl, inr, ◌⊎◌}
+use Rattle.std.proofs.Common.{◌≡◌, ℕ, zero, suc, ◌+◌, ◌<◌, ◌≤◌, Bool, true, false, nat_lt, nat_eq, List, [], ◌∷◌, ◌++◌, length, map}
+use Rattle.std.proofs.Common.{Some, None, slice_get, refl, sym, ap, subst, ◌∙◌, arith, length-append, inl, inr, ◌⊎◌}
 use Rattle.std.specs.List.{list_all}
-use Rattle.std.proofs.lemmas.Bool.{eqb-true, eq-eqb}
+use Rattle.std.proofs.lemmas.Bool.{eqb-true}
 use Rattle.std.proofs.lemmas.Bool.Decides.{nat_tests}
 use Rattle.std.proofs.lemmas.List.Folds.{list_all-append}
 use Rattle.std.proofs.lemmas.Option.{slice_get_within}
 use Rattle.types.specs.Forms.{Form}
 use Rattle.types.specs.Types.{cells_of, is_ordinal, most_cells}
-use Rattle.scopes.specs.Scopes.{Region, outer}
 use Rattle.typed_tree.specs.declared.tree.Variable.{Variable}
 use Rattle.typed_tree.specs.declared.tree.VariableKind.{VariableKind}
 use Rattle.typed_tree.specs.WellFormed.{declarer, is_local_kind, is_parameter_kind, is_result_kind, most_blocks, most_variables}
-use Rattle.typing.specs.Passing.{Enclosing, Headed, Passed}
-use Rattle.typing.specs.Steps.{most_sites, most_entries}
-use Rattle.typing_laws.proofs.Grown.{AreFit, FitsHeading, IsFormal, IsOutcome, both_true}
+use Rattle.typing.specs.Passing.{Headed, Passed}
+use Rattle.typing_laws.proofs.Grown.{AreFit, FitsHeading, IsFormal, both_true}
 use Rattle.typing_laws.proofs.Owned.{Fails, HasRoot, declares, parameters_of, results_of, roots_of, root_there, roots_none_more, not_both, local_no_parameter}
 use Rattle.typing_laws.proofs.Owned.{local_no_result, other_block, of_other_block, cells_of_block, others_kept, cells_more, block_cells_longer}
-use Rattle.typing_laws.proofs.Reached.{IsLonger, as_long, one_longer, mapped_longer, get_longer, get_mapped, last_or_before, Signature, signature_passed, Head, head_of}
-use Rattle.typing_laws.proofs.Reached.{Reached, reached, Here}
-use Rattle.typing_laws.proofs.Sound.{AreSound, IsSoundRegion, inside_itself, regions_later, region_later}
+use Rattle.typing_laws.proofs.Reached.{IsLonger, as_long, one_longer, mapped_longer, get_longer, get_mapped, last_or_before, signature_passed, Head, head_of}
+use Rattle.typing_laws.proofs.Reached.{reached, Here}
+use Rattle.typing_laws.proofs.Sound.{IsSoundRegion, inside_itself, region_later}
 use Rattle.typing_laws.proofs.Strings.{both_and}
-use Rattle.typing_laws.proofs.Tables.{AreLawful, AreTexts, HaveTypes, cells_in, have_types_longer, is_ordinal_longer, one_has_type}
+use Rattle.typing_laws.proofs.Tables.{AreLawful, HaveTypes, cells_in, have_types_longer, is_ordinal_longer, one_has_type}
 
 -- ---- headings
 

@@ -1,12 +1,11 @@
 -- What a routine does as far as its block: a heading that is new, or one that waits for its block; and `forward`.
-use Rattle.std.proofs.Common.{◌≡◌, ℕ, zero, suc, ◌+◌, ◌<◌, ◌≤◌, Bool, true, false, not, ◌||◌, ◌&&◌, nat_eq, nat_lt, nat_le, if◌then◌else◌, List, [], ◌∷◌, ◌++◌}
-use Rattle.std.proofs.Common.{length, Option, Some, None, Ok, Err, is_none, slice_get, refl, sym, ap, ap₂, subst, ◌∙◌, arith, inl, inr, ◌⊎◌, length-append}
+use Rattle.std.proofs.Common.{◌≡◌, ℕ, ◌+◌, ◌<◌, Bool, true, false, not, ◌||◌, ◌&&◌, nat_eq, nat_lt, nat_le, if◌then◌else◌, List, [], ◌∷◌, ◌++◌}
+use Rattle.std.proofs.Common.{length, Option, Some, None, Ok, is_none, slice_get, refl, sym, ap, subst, ◌∙◌, arith, inl, inr, ◌⊎◌, length-append}
 use Rattle.std.specs.List.{list_all}
 use Rattle.std.specs.Map.{lookup}
 use Rattle.std.proofs.lemmas.Bool.{eq-eqb}
 use Rattle.std.proofs.lemmas.Bool.Decides.{nat_tests}
 use Rattle.std.proofs.lemmas.Option.{slice_get_within}
-use Rattle.indexmap.specs.IndexMap.{insert_entry}
 use Rattle.place.specs.declared.Place.{Place}
 use Rattle.syntax_tree.specs.declared.Name.{Name}
 use Rattle.syntax_tree.specs.declared.FormalGroup.{FormalGroup}
@@ -17,25 +16,24 @@ use Rattle.scopes.specs.declared.denotation.Denotation.{Denotation}
 use Rattle.scopes.specs.declared.denotation.Denotation.TheVariants as denotes
 use Rattle.typed_tree.specs.declared.fault.TypeFault.TheVariants as fault
 use Rattle.typed_tree.specs.declared.tree.Variable.{Variable}
-use Rattle.typed_tree.specs.WellFormed.{declarer, is_one_of, most_blocks, of_one, variables_of}
+use Rattle.typed_tree.specs.WellFormed.{is_one_of, most_blocks, of_one, variables_of}
 use Rattle.typing.specs.Names.{folded}
-use Rattle.typing.specs.Passing.{Enclosing, Headed, Passed, Checked, After, Passing, after, behind_marks, pure, fail, ◌>>=◌, ◌>>◌}
-use Rattle.typing.specs.Steps.{declare, enclosing_now, may_nest, most_entries, next_block, with_enclosing}
-use Rattle.typing.specs.Routines.{Begun, begun, headed, heading, heading_name, is_same_kind, is_waiting, new_heading, or_mismatched, or_new, procedure_headed}
-use Rattle.typing.specs.Routines.{resumed, told_waiting, waiting_for, waits}
-use Rattle.typing_laws.proofs.Built.{IsOpen, Standing, is_between, open_later, standing_silent}
+use Rattle.typing.specs.Passing.{Enclosing, Passed, Checked, After, Passing, after, pure, ◌>>=◌, ◌>>◌}
+use Rattle.typing.specs.Steps.{declare, may_nest, most_entries, next_block}
+use Rattle.typing.specs.Routines.{Begun, begun, headed, heading, is_same_kind, is_waiting, new_heading, or_mismatched, or_new, procedure_headed}
+use Rattle.typing.specs.Routines.{resumed, waiting_for, waits}
+use Rattle.typing_laws.proofs.Built.{IsOpen, Standing, open_later}
 use Rattle.typing_laws.proofs.Declarations.{declare_is, declare_keeps}
-use Rattle.typing_laws.proofs.Grown.{both_true}
-use Rattle.typing_laws.proofs.Headings.{HeadingAdded, Entering, declarer_last, heading_adds, heads_count, passes_on, quiet_parts}
-use Rattle.typing_laws.proofs.Keeping.{Silent, Ready, Keeps}
+use Rattle.typing_laws.proofs.Headings.{HeadingAdded, Entering, declarer_last, heading_adds, heads_count, quiet_parts}
+use Rattle.typing_laws.proofs.Keeping.{Ready}
 use Rattle.typing_laws.proofs.Owned.{Fails, other_block}
-use Rattle.typing_laws.proofs.Reached.{IsLonger, as_long, longer_still, one_longer, same_longer, get_last, get_mapped, mapped_longer, signature_passed, Head}
-use Rattle.typing_laws.proofs.Reached.{Reached, reached, IsFurther, Here, is_round_here, stands_later}
-use Rattle.typing_laws.proofs.Ready.{Base, base_blocks, heads_passed}
-use Rattle.typing_laws.proofs.Sound.{IsSound, IsRoutine, inside_itself, regions_later}
-use Rattle.typing_laws.proofs.Steps.{split, split_if, split_unless, below}
+use Rattle.typing_laws.proofs.Reached.{IsLonger, as_long, one_longer, get_last, get_mapped, mapped_longer, signature_passed, Head}
+use Rattle.typing_laws.proofs.Reached.{reached, IsFurther, Here, is_round_here, stands_later}
+use Rattle.typing_laws.proofs.Ready.{base_blocks, heads_passed}
+use Rattle.typing_laws.proofs.Sound.{IsRoutine, inside_itself, regions_later}
+use Rattle.typing_laws.proofs.Steps.{split_if, split_unless}
 use Rattle.typing_laws.proofs.Strings.{behind_nothing}
-use Rattle.typing_laws.proofs.Waiting.{one_if, told_of_it, told_of_others, waits_in}
+use Rattle.typing_laws.proofs.Waiting.{waits_in}
 
 -- ---- a new heading
 
@@ -159,7 +157,7 @@ module _ (here : Here) (under : List Region) where
           let within_it = slice_get_within s.headings here.block at.0 at.1 in
           let longer : IsLonger s.headings new.headings = record { more = added.headed ∷ []; goes_on = added.headings } in
           let others : (block : ℕ) → block < number → Fails (nat_eq here.block block)
-              → variables_of block new.variables ≡ variables_of block s.variables =
+          → variables_of block new.variables ≡ variables_of block s.variables =
           λ block less other. added.others block (other_block number block (λ same. omega (arith, same, less))) in
           let more : IsFurther (reached s) (reached new) = record {
             sites = omega (arith, ap length added.sites);

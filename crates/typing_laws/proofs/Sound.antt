@@ -1,8 +1,7 @@
 -- What holds of all that names denote: a constant is a whole number, a variable is one of the block or of one round it, of
 -- the type that it has there, a routine is one that such a block declares, and a type stands in the table.
-use Rattle.std.proofs.Common.{◌≡◌, ℕ, zero, suc, ◌<◌, Bool, true, false, cond, nat_eq, List, [], ◌∷◌, ◌++◌, Option, Some, None, Ok, Err, if◌then◌else◌, fold}
-use Rattle.std.proofs.Common.{refl, sym, ap, subst, ◌∙◌, arith, length, slice_get, ◌||◌}
-use Rattle.std.specs.List.{list_any}
+use Rattle.std.proofs.Common.{◌≡◌, ℕ, ◌<◌, Bool, true, false, cond, nat_eq, List, [], ◌∷◌, ◌++◌, Option, Some, None, Ok, Err, if◌then◌else◌, fold}
+use Rattle.std.proofs.Common.{refl, ap, subst, arith, length, slice_get, ◌||◌}
 use Rattle.std.proofs.lemmas.Bool.{eq-eqb, eqb-true}
 use Rattle.std.specs.Cmp.Lexicographic.{pointwise}
 use Rattle.scopes.specs.Scopes.{Region, said, decided, found, put, opened, listing, is_listed, opened_beside, is_defined, define}

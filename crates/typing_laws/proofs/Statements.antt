@@ -23,7 +23,6 @@ use Rattle.syntax_tree.specs.Places.{Places, selector_places, joined_places, exp
 use Rattle.syntax_tree.specs.Places.{statement_step as statement_row}
 use Rattle.types.specs.Forms.{Form}
 use Rattle.types.specs.declared.form.TypeId.{TypeId}
-use Rattle.types.specs.declared.form.OrdinalRange.{OrdinalRange}
 use Rattle.types.specs.Types.{integer, cells_of, is_ordinal, is_string}
 use Rattle.scopes.specs.declared.denotation.Denotation.{Denotation}
 use Rattle.scopes.specs.declared.denotation.RequiredProcedure.{RequiredProcedure}
@@ -39,7 +38,7 @@ use Rattle.typed_tree.specs.Look.{Access, Assign, Target, WholeTarget, Copied, F
 use Rattle.typed_tree.specs.Look.{Else, While, Do, Repeat, Until, For}
 use Rattle.typed_tree.specs.Look.{Case, Arm, Ends, Mark, WrittenString, mark_entries, mark_loops, mark_blocks, is_formed_mark}
 use Rattle.typed_tree.specs.WellFormed.{Outline, is_declared, is_local_kind, is_one_of, of_one}
-use Rattle.typing.specs.Passing.{Enclosing, Passing, and_then, each, given, mark}
+use Rattle.typing.specs.Passing.{Enclosing, Passing, and_then, each, mark}
 use Rattle.typing.specs.Steps.{fits, is_local, or_mismatch}
 use Rattle.typing.specs.declared.typed.Typed.{Typed}
 use Rattle.typing.specs.Expressions.{Written, WrittenActual, is_of, as_routine, as_variable, expression, written_actual}
@@ -57,7 +56,8 @@ use Rattle.typing_laws.proofs.Covers.{Covers, covers_both, covers_none, covers_b
 use Rattle.typing_laws.proofs.Grown.{heads_of, both_true}
 use Rattle.typing_laws.proofs.Reached.{Signature, Reached, whole_of, IsFurther, further_still, Here, StandsIn, is_round_here, get_longer, stands_later}
 use Rattle.typing_laws.proofs.Sound.{IsVariable, IsRoutine, variable_later, or_right}
-use Rattle.typing_laws.proofs.Steps.{Does, Anything, Nothing, IsFound, joins, quietly, last, checks, checks_types, sited, further_answered, pure_does, given_does}
+use Rattle.typing_laws.proofs.Steps.{Does, Anything, Nothing, IsFound, joins, quietly, last, checks, checks_types, sited, further_answered, pure_does}
+use Rattle.typing_laws.proofs.Steps.{given_does}
 use Rattle.typing_laws.proofs.Steps.{by_types_does, fail_does, find_does, pass_does, enclosing_now_does, heading_at_does, variable_at_does, assign_result_does}
 use Rattle.typing_laws.proofs.Steps.{wants_output_does}
 use Rattle.typing_laws.proofs.Steps.{mark_does, enter_does, enter_loop_does, may_change_does, may_control_does, begin_control_does, end_control_does, site_does}
@@ -192,7 +192,8 @@ module _ (here : Here) where
       quietly (may_change_does name.place variable.0) λ _ _ two _.
       quietly (enter_does Access (λ n. refl) (λ n. refl) (λ n. refl) (λ n m h. refl)) λ _ entered three _.
       let start = leads_nowhere here variable.0 variable.1 now found.0 found.1 in
-      last (selected_does here variable.0 [] variable.1 selectors rows ws laws (leads_later here variable.0 [] variable.1 now entered (further_still two three) start))
+      last (selected_does here variable.0 [] variable.1 selectors rows ws laws
+      (leads_later here variable.0 [] variable.1 now entered (further_still two three) start))
       λ component met _ l.
       quietly (tests_ordinal_does here component.1) λ ordinal next four ordered.
       let led = leads_later here variable.0 component.0 component.1 met next four l in

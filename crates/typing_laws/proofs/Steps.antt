@@ -12,22 +12,22 @@ use Rattle.types.specs.Types.{host_of}
 use Rattle.scopes.specs.Scopes.{found}
 use Rattle.scopes.specs.declared.denotation.Denotation.{Denotation}
 use Rattle.scopes.specs.declared.fault.ScopeFault.{ScopeFault}
-use Rattle.typed_tree.specs.declared.tree.Variable.{Variable}
 use Rattle.typed_tree.specs.declared.fault.TypeFault.{TypeFault}
 use Rattle.typed_tree.specs.declared.fault.TypeFault.TheVariants as fault
 use Rattle.typed_tree.specs.declared.site.SiteKind.{SiteKind}
 use Rattle.typed_tree.specs.Ids.{Stands}
 use Rattle.typed_tree.specs.WellFormed.{Outline, are_characters}
 use Rattle.typed_tree.specs.Look.{Mark, Look, mark_entries, mark_loops, mark_blocks, is_formed_mark}
-use Rattle.typing.specs.Passing.{Enclosing, Headed, Passed, Checked, After, Passing, and_then, after, pure, fail, given, by_types, mark, behind_marks, ◌>>=◌, ◌>>?◌}
+use Rattle.typing.specs.Passing.{Passed, Checked, After, Passing, and_then, after, pure, fail, given, by_types, mark, behind_marks, ◌>>=◌, ◌>>?◌}
 use Rattle.typing.specs.Steps.{most_sites, most_entries, pass, enter, enter_as, number_loop, begin_loop, enter_loop, site, find, told, may_change}
-use Rattle.typing.specs.Steps.{begin_control, end_control, wants_output, host_type, text_at, keep_text, is_own, is_local, may_control, with_one, with_threatened}
+use Rattle.typing.specs.Steps.{begin_control, end_control, wants_output, host_type, text_at, keep_text, is_own, is_local, may_control, with_one}
+use Rattle.typing.specs.Steps.{with_threatened}
 use Rattle.typing.specs.Steps.{assign_result, enclosing_now, heading_at, variable_at, program_heading}
 use Rattle.typing.specs.Expressions.{behind}
 use Rattle.typing.specs.Names.{folded}
 use Rattle.typing_laws.proofs.Covers.{at_place}
 use Rattle.typing_laws.proofs.Grown.{heads_of, FitsHeading, Fine, Grown, further, fine_later, grown_then, both_true}
-use Rattle.typing_laws.proofs.Reached.{IsLonger, as_long, same_longer, get_longer, get_mapped, get_or_is, Signature, signature_passed, Reached, reached}
+use Rattle.typing_laws.proofs.Reached.{IsLonger, as_long, get_longer, get_mapped, get_or_is, Signature, signature_passed, Reached, reached}
 use Rattle.typing_laws.proofs.Reached.{whole_of, IsFurther, as_far, further_still, Here, StandsIn}
 use Rattle.typing_laws.proofs.Sound.{IsSound, found_holds}
 use Rattle.typing_laws.proofs.Tables.{AreLawful, AreTexts, texts_more}
@@ -384,8 +384,8 @@ enter_loop_does {here} {least} marked one loop no_block formed = record {
           lawful = fine.lawful;
           texts = fine.texts;
           variables_kept = refl;
-        headings_kept = refl;
-        enclosing_kept = refl;
+          headings_kept = refl;
+          enclosing_kept = refl;
           added = [];
           sites = sym (append-nil s.sites);
           covered = refl;
@@ -479,9 +479,10 @@ heading_at_does {here} block signature there = record {
       let at = get_mapped signature_passed s.headings block signature known in
       let found : get_or s.headings block program_heading ≡ at.0 = get_or_is s.headings block program_heading at.0 at.1 in
       let same : after (get_or s.headings block program_heading) [] s ≡ a = cc in
-      subst (Leaves here Nothing s (λ headed now. (signature_passed headed ≡ signature) × FitsHeading now block signature)) same
-      (grown_silent here s s refl refl refl refl refl refl refl refl refl fine,
-      (ap signature_passed found ∙ at.2, fine.fit.fits block signature known));
+      subst (Leaves here Nothing s (λ headed now. (signature_passed headed ≡ signature) × FitsHeading now block signature)) same (
+        grown_silent here s s refl refl refl refl refl refl refl refl refl fine,
+        (ap signature_passed found ∙ at.2, fine.fit.fits block signature known),
+      );
 }
 
 pub variable_at_does : {here : Here} {least : Reached} (root : ℕ)

@@ -5,7 +5,6 @@ use Rattle.std.proofs.Common.{◌∙◌, arith}
 use Rattle.std.specs.Prelude.{IsPermutation, flat_map}
 use Rattle.std.specs.List.{list_all, range_with_len}
 use Rattle.std.proofs.lemmas.List.{length-map}
-use Rattle.std.proofs.lemmas.Option.{slice_get_within}
 use Rattle.place.specs.Place.{ArePlacesInOrder}
 use Rattle.syntax_tree.specs.declared.Program.{Program}
 use Rattle.syntax_tree.specs.Places.{program_places}
@@ -13,20 +12,20 @@ use Rattle.typed_tree.specs.declared.tree.Block.{Block}
 use Rattle.typed_tree.specs.declared.tree.Heading.{Heading}
 use Rattle.typed_tree.specs.declared.tree.Tree.{Tree}
 use Rattle.typed_tree.specs.declared.tree.Variable.{Variable}
-use Rattle.typed_tree.specs.Entries.{AreNumbered, entries_in_text, of_block}
+use Rattle.typed_tree.specs.Entries.{AreNumbered, of_block}
 use Rattle.typed_tree.specs.Ids.{AreByPlace}
-use Rattle.typed_tree.specs.Look.{Look, Mark, BlockEnds, are_formed, blocks_of_look, entries_of_look, loops_of_look, heading_look, look_block, look_stmt, mark_blocks}
+use Rattle.typed_tree.specs.Look.{Look, Mark, BlockEnds, are_formed, blocks_of_look, entries_of_look, loops_of_look, heading_look, look_block, look_stmt}
+use Rattle.typed_tree.specs.Look.{mark_blocks}
 use Rattle.typed_tree.specs.Look.{tree_look}
 use Rattle.typed_tree.specs.Loops.{loops_of}
-use Rattle.typed_tree.specs.WellFormed.{IsWellFormed, Outline, heading_of, is_well_formed_block, most_variables, outline_of}
+use Rattle.typed_tree.specs.WellFormed.{IsWellFormed, heading_of, is_well_formed_block, most_variables, outline_of}
 use Rattle.typed_tree.proofs.Blocks.{are_well_formed, bodies_are_formed}
 use Rattle.typed_tree.proofs.LoopNumbers.{loop_numbers_are}
 use Rattle.typed_tree.proofs.Measured.{entries_are}
 use Rattle.typed_tree.proofs.Quiet.{inner_stmt}
 use Rattle.typed_tree.proofs.Rows.{loops_have_rows}
-use Rattle.typing.specs.Passing.{After, Headed, Passed, after}
+use Rattle.typing.specs.Passing.{After, after}
 use Rattle.typing.specs.Sound.{HasLoops, IsLeft, IsTyped, stands}
-use Rattle.typing.specs.Typing.{typing}
 use Rattle.typing_laws.specs.Lawful.{BeginWithRequired, IsOutlineOf, Lawful, TellsHeading, TellsHeadings}
 use Rattle.typing_laws.proofs.Grown.{both_true}
 use Rattle.typing_laws.proofs.Programs.{typing_is_lawful}
