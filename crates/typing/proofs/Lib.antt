@@ -5,3 +5,4 @@ pub mod Rows
 pub mod Selectors
 pub mod Written
 mod SiteIds
+mod WaitingRows

@@ -26,7 +26,7 @@ use Rattle.syntax_tree.specs.declared.Stmt.TheVariants as stmt
 use Rattle.syntax_tree.specs.declared.Stmt.TheOpen as stmt_layer
 use Rattle.syntax_tree.specs.declared.Stmt.TheFolds.{map-Stmt, fold-roll-Stmt}
 use Rattle.typing.specs.Passing.{Passing}
-use Rattle.typing.specs.Expressions.{Written, WrittenActual, WrittenLink, written, expression_step, actual_step, link_step, expression, written_link}
+use Rattle.typing.specs.Expressions.{Written, WrittenActual, WrittenLink, written, written_variable, expression_step, actual_step, link_step, expression, written_link}
 use Rattle.typing.specs.Expressions.{written_actual, number, string, named, component, call, parenthesized, negation, signed, chain, link}
 use Rattle.typing.specs.Statements.{statement, statement_step, assignment, procedure_call, compound, choice, while_loop, repeat_loop, for_loop, case_statement}
 use Rattle.typing.specs.Denoters.{WrittenDenoter, written_denoter, denoter_step, type_of_name, enumeration, subrange, array, record_type}
@@ -43,12 +43,12 @@ rolled w d is = ap expression (sym is) ∙ fold-roll-Expr Written WrittenActual 
 pub typing_number : (value : ℕ) (place : Place) → expression (syntax.Number value place) ≡ written place (number value place)
 typing_number value place = rolled (syntax.Number value place) (layer.Number value place) (syntax.rolls-Number value place)
 
-pub typing_name : (name : Name) → expression (syntax.Name name) ≡ written name.place (named name)
+pub typing_name : (name : Name) → expression (syntax.Name name) ≡ written_variable name [] [] (named name)
 typing_name name = rolled (syntax.Name name) (layer.Name name) (syntax.rolls-Name name)
 
 pub typing_component : (name : Name) (selectors : Vec Selector Global) (indexes : Vec Expr Global)
     → expression (syntax.Component name selectors indexes)
-    ≡ written name.place (component name selectors.items (map expression indexes.items))
+    ≡ written_variable name selectors.items (map expression indexes.items) (component name selectors.items (map expression indexes.items))
 typing_component name selectors indexes =
     rolled (syntax.Component name selectors indexes) (layer.Component name selectors indexes) (syntax.rolls-Component name selectors indexes)
 

@@ -2,8 +2,9 @@
 -- types are looked up outside the routine's block, and then the block, or the directive forward in its place. It says
 -- nothing of what a routine does.
 use Rattle.std.specs.Prelude.{ℕ, Bool, true, false, not, ◌&&◌, ◌++◌, List, [], ◌∷◌, Option, Some, None, Ok, Err}
-use Rattle.std.specs.Prelude.{filter, flat_map, if◌then◌else◌, is_none, map, nat_eq, option_map}
+use Rattle.std.specs.Prelude.{flat_map, if◌then◌else◌, is_none, map, nat_eq}
 use Rattle.std.specs.Map.{lookup}
+use Rattle.std.specs.Option.{option_or}
 use Rattle.indexmap.specs.IndexMap.{insert_entry}
 use Rattle.place.specs.declared.Place.{Place}
 use Rattle.syntax_tree.specs.declared.Name.{Name}
@@ -30,7 +31,7 @@ use Rattle.typed_tree.specs.declared.tree.VariableKind.{VariableKind}
 use Rattle.typed_tree.specs.declared.tree.VariableKind.TheVariants as variable
 use Rattle.typed_tree.specs.Look.{BlockEnds}
 use Rattle.typing.specs.Names.{folded, all_folded, formal_names, heading_names, names_defined}
-use Rattle.typing.specs.Passing.{Checked, Headed, Enclosing, Passing, fail, given, by_types, mark, each, pure, after, ◌>>=◌, ◌>>◌, ◌>>?◌}
+use Rattle.typing.specs.Passing.{Checked, Headed, Passing, fail, given, mark, each, pure, after, ◌>>=◌, ◌>>◌, ◌>>?◌}
 use Rattle.typing.specs.Steps.{add_heading, close_block, declare, fits, heading_at, innermost, is_assigned, may_nest}
 use Rattle.typing.specs.Steps.{next_block, next_root, open_beside, open_block, enclosing_now, reserve, site, with_enclosing}
 use Rattle.typing.specs.Constants.{constant}
