@@ -6,3 +6,5 @@ pub mod Selectors
 pub mod Written
 mod SiteIds
 mod WaitingRows
+pub mod Stays
+pub mod StayingForms
