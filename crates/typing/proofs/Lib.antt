@@ -8,3 +8,4 @@ mod SiteIds
 mod WaitingRows
 pub mod Stays
 pub mod StayingForms
+pub mod Collected

@@ -10,7 +10,8 @@ use Rattle.place.specs.declared.Place.{Place}
 use Rattle.syntax_tree.specs.declared.Name.{Name}
 use Rattle.syntax_tree.specs.declared.Block.{Block}
 use Rattle.syntax_tree.specs.declared.Block.TheOpen.{Block-F, Routine-F}
-use Rattle.syntax_tree.specs.declared.Block.TheFolds.{fold-Block}
+use Rattle.syntax_tree.specs.declared.Block.TheFolds.{fold-Block, fold-Routine}
+use Rattle.syntax_tree.specs.declared.Routine.{Routine}
 use Rattle.syntax_tree.specs.declared.ConstantDefinition.{ConstantDefinition}
 use Rattle.syntax_tree.specs.declared.FormalGroup.{FormalGroup}
 use Rattle.syntax_tree.specs.declared.Heading.{Heading}
@@ -296,3 +297,7 @@ block_step b = record {
 -- a block
 abbrev pub typed_block : Block → TypedBlock
 typed_block = fold-Block TypedBlock TypedRoutine block_step routine_step
+
+-- a routine
+abbrev pub typed_routine : Routine → TypedRoutine
+typed_routine = fold-Routine TypedBlock TypedRoutine block_step routine_step
