@@ -1,4 +1,5 @@
 mod Defined
-mod Kept
-mod Opened
+mod Headings
+pub mod Kept
+pub mod Opened
 mod Parts

@@ -7,4 +7,4 @@ use Rattle.declarations.proofs.names.defined_names.Given as goal
 -- the names so far
 abbrev pub invariant-loop-definition : goal.invariant-loop-definition
 invariant-loop-definition l =
-    texts l.keys.items ≡ all_folded (l.program.parameters.items ++ map (λ d. d.name) (take l.definition-index (out-Block l.program.block).constants.items))
+    texts l.keys.items ≡ all_folded (l.fn.parameters ++ map (λ d. d.name) (take l.definition-index (out-Block l.block).constants.items))

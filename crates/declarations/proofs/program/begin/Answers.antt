@@ -1,0 +1,1 @@
+use Rattle.declarations.proofs.program.begin.Goals as goal
