@@ -10,3 +10,4 @@ pub mod Passed
 pub mod PlaceTypes
 pub mod Places
 pub mod Separated
+pub mod ComponentTypes
