@@ -135,20 +135,17 @@ pub(crate) fn bearers_of(
 fn alone(alloc: Global, bearer: Bearer) -> Result<Vec<Bearer>, AllocError>
     ensures { IfOk result (λ bearers. map said_bearer bearers.items ≡ said_bearer bearer ∷ []) }
 {
-    let mut bearers = Vec::new(alloc);
-    bearers.push(bearer)?;
-    Ok(bearers)
+    Vec::from_slice(alloc, &[bearer])
 }
 
 /// Those of a copy.
 fn passed_rows(alloc: Global, ranges: &[Interval]) -> Result<Vec<Bearer>, AllocError>
     ensures { IfOk result (λ bearers. map said_bearer bearers.items ≡ map Passed ranges.now) }
 {
-    let mut bearers = Vec::with_capacity(alloc, ranges.len())?;
-    for range in ranges {
-        bearers.push(Bearer::Passed(*range))?;
-    }
-    Ok(bearers)
+    ranges
+        .iter()
+        .map(|range| Bearer::Passed(*range))
+        .collect(alloc)
 }
 
 /// Those of what an access leads to: an entire ordinal variable, or components.

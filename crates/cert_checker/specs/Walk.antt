@@ -41,14 +41,14 @@ use Rattle.component_states.specs.Components.{Reach, all_stored}
 use Rattle.component_states.specs.States.{State, dead, joined_states, over_bound, over_change, over_variables}
 use Rattle.structured_states.specs.Cases.{arm_start, constants_before}
 use Rattle.structured_states.specs.Loops.{Round, all_claims, all_control, all_limits, claims_at, gives_claims}
-use Rattle.structured_states.specs.Loops.{head_of, limits_at, round_of, row_limits, touched, with_own, without_own}
+use Rattle.structured_states.specs.Loops.{head_of, limits_at, round_of, touched, with_own, without_own}
 use Rattle.structured_states.specs.Ways.{End, Way, met, next, steady, turn_begun, turn_ended, way_of, way_out}
 use Rattle.structured_states.specs.Ways.{where_counts, with_values}
 use Rattle.structured_states.specs.Pairs.{aliases_of}
 use Rattle.call_states.specs.Sections.{BlockClaims, all_block_claims, all_pairs, block_claims_at}
 use Rattle.call_states.specs.Starts.{block_start}
 use Rattle.call_states.specs.Aliases.{Stored, reach_unless_alias, unless_alias, variable_values, with_aliases_stored}
-use Rattle.call_states.specs.Actuals.{unknown_reach}
+use Rattle.call_states.specs.Actuals.{lies_among, unknown_reach}
 use Rattle.expression_checker.specs.declared.fault.Rule.{Rule}
 use Rattle.expression_checker.specs.declared.fault.Rule.TheVariants.{LoopEntry, LoopTurn, Exit, Changes}
 use Rattle.expression_checker.specs.Walk.{Context, Piece, Walked, Walking, ◌>>=◌, access_walk, asked, call_walk}
@@ -89,7 +89,7 @@ Stores = List (ℕ × Interval)
 -- the values of stores are ones of the types of their rows
 abbrev pub are_typed : Context → Stores → Bool
 are_typed context stores =
-    list_all (λ one. is_included one.1 (row_limits (rows_of context.tree) one.0)) stores
+    list_all (λ one. lies_among (values_at (rows_of context.tree) one.0) one.1) stores
 
 -- components of a variable are changed at a place. Each loop round the place lists it, and so does the block, if need
 -- be

@@ -1,6 +1,6 @@
 -- Expressions, actual parameters and values that are written leave what their block doesn't list as it was, where their walk
 -- breaks no rule.
-use Rattle.std.proofs.Common.{◌≡◌, ℕ, ℤ, pos, List, [], ◌∷◌, Option, Some, None, map, refl, sym, ap, subst}
+use Rattle.std.proofs.Common.{cond, ◌≡◌, ℕ, ℤ, pos, List, [], ◌∷◌, Option, Some, None, map, refl, sym, ap, subst}
 use Rattle.types.specs.Components.{components_of}
 use Rattle.types.specs.declared.form.Step.TheVariants as step
 use Rattle.typed_tree.specs.declared.tree.Tree.{Tree}
@@ -296,12 +296,13 @@ module _ (tree : Tree) (blocks : List BlockClaims) (declares : DeclareTheirs tre
             (given-same (meaning.OfValue run.0) argument last_run.2) tt;
       }
   passed-layer (PassedWhole type_id value indexes) context actual stands yields =
-      let one = yields-then context (walk.whole_walk value (pieces indexes.items)) (λ ranges. walk.give (OfRows ranges)) actual yields in
+      let one = yields-then context (walk.whole_walk value (pieces indexes.items)) (walk.copied type_id value) actual yields in
       record {
         kept = keeps-then at _ _ (keeps-components value indexes.items context one.0 stands one.1) (λ numbers. keeps-give at (OfRow numbers));
         tied = λ argument given.
             let run = can-then (whole_of value (values indexes.items) here) (λ numbers. give (OfRow numbers)) argument given in
-            tie-given (OfRows one.0) actual (OfRow run.0) argument one.2.value_is (given-same (OfRow run.0) argument run.2) tt;
+            tie-given (OfRows (cond (walk.fits_whole context.tree.types type_id value) one.0 [])) actual (OfRow run.0) argument one.2.value_is
+                (given-same (OfRow run.0) argument run.2) tt;
       }
   passed-layer (Reference type_id access indexes) context actual stands yields =
       let known = λ (reach : Reach). OfVariable access.root access.selectors.items reach in

@@ -26,13 +26,13 @@ use Rattle.component_states.specs.States.{State}
 use Rattle.structured_states.specs.Loops.{all_list}
 use Rattle.call_states.specs.Sections.{BlockClaims, block_claims_at}
 use Rattle.call_states.specs.Starts.{is_own}
-use Rattle.call_states.specs.Actuals.{Actual, Binding, OfRows, OfValue, OfVariable, actual_of, after_call, bound_to, settled}
+use Rattle.call_states.specs.Actuals.{Actual, Binding, OfRows, OfValue, OfVariable, actual_of, after_call, are_of_types, bound_to, settled}
 use Rattle.call_states.specs.Environments.{IsListed, LiesUnder}
 use Rattle.call_states.specs.Exit.{root_changed, roots_changed}
 use Rattle.expression_checker.specs.declared.fault.Rule.{Rule}
 use Rattle.expression_checker.specs.declared.fault.Rule.TheVariants.{Changes}
 use Rattle.expression_checker.specs.Walk.{Breach, Context, Walking, ◌>>=◌, asked, block_lists, breach_unless, called, call_aliases, call_behind}
-use Rattle.expression_checker.specs.Walk.{are_of_types, call_change, call_entry, call_with, called_block, may_change, parameters_of}
+use Rattle.expression_checker.specs.Walk.{call_change, call_entry, call_with, called_block, may_change, parameters_of}
 use Rattle.expression_checker.proofs.EffectsKept.{Keeps, Leaving, MayChange, Standing, leaves-itself, lies-itself, listed-under, under-write}
 
 -- ---- walks that break no rule
@@ -383,7 +383,7 @@ module _ (tree : Tree) (blocks : List BlockClaims) (declares : DeclareTheirs tre
           (λ _. call_change call.name bound claims >>= λ _. call_behind call bound claims) tt one.2 in
       let three = yields-then context (call_change call.name bound claims) (λ _. call_behind call bound claims) tt two.2 in
       let changes = list_all (may_change context) (roots_changed bound claims.changes) in
-      let typed = are_of_types context bound in
+      let typed = are_of_types context.tree context.limits bound in
       let rule : Yields context (asked (changes && typed) Changes call.name) three.0 =
           record { state = three.1.state; unbroken = three.1.unbroken; value_is = three.1.value_is } in
       let kept = (and_parts changes typed (yields-asked context (changes && typed) Changes call.name three.0 rule)).0 in
