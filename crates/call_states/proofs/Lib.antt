@@ -16,3 +16,4 @@ pub mod Reached
 pub mod Bearers
 pub mod Parameters
 pub mod Borne
+pub mod Given
