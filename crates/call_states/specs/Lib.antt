@@ -6,3 +6,4 @@ pub mod Actuals
 pub mod Entry
 pub mod Overlaps
 pub mod Exit
+pub mod View

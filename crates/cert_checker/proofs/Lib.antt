@@ -16,6 +16,8 @@ pub mod Steps
 pub mod StepsCase
 pub mod StepsFor
 pub mod StepsStores
-pub mod Stored
 pub mod Targets
 pub mod Written
+pub mod EffectsStatements
+pub mod EffectsParameters
+pub mod EffectsRoutines

@@ -1,4 +1,5 @@
 pub mod Entered
+pub mod Fitting
 pub mod Forms
 pub mod Held
 pub mod RowUses
@@ -10,3 +11,6 @@ pub mod SoundExpressions
 pub mod SoundOperations
 pub mod SoundRows
 pub mod Steps
+pub mod EffectsKept
+pub mod EffectsCalls
+pub mod Effects

@@ -142,18 +142,18 @@ field-same position offset selectors (index ∷ pieces) reach = refl
 
 -- ---- replies
 
-gives-state : {A : Type 0} (a b : A) (s t : effect.State) → effect.Gives a s ≡ effect.Gives b t → t ≡ s
+pub gives-state : {A : Type 0} (a b : A) (s t : effect.State) → effect.Gives a s ≡ effect.Gives b t → t ≡ s
 gives-state a b s t is = cc
 
 entered-leaves : (number : ℕ) (env : Environment) → Leaves (effect.enter number env)
 entered-leaves number env s t done is = ap (λ (u : effect.State). u.store)
     (gives-state tt done (record s { visited = s.visited ++ record { number = number; environment = env; store = s.store } ∷ [] }) t is)
 
-required-leaves : (test : Bool) (site : ℕ) → Leaves (effect.require test site)
+pub required-leaves : (test : Bool) (site : ℕ) → Leaves (effect.require test site)
 required-leaves true site s t done is = ap (λ (u : effect.State). u.store) (gives-state tt done s t is)
 required-leaves false site s t done is = absurd (cc)
 
-required-true : (test : Bool) (site : ℕ) (s t : effect.State) (done : Unit {0}) → effect.require test site s ≡ effect.Gives done t → test ≡ true
+pub required-true : (test : Bool) (site : ℕ) (s t : effect.State) (done : Unit {0}) → effect.require test site s ≡ effect.Gives done t → test ≡ true
 required-true true site s t done is = refl
 required-true false site s t done is = absurd (cc)
 
@@ -177,7 +177,7 @@ IsFormless Entire = Unit {0}
 IsFormless (At index) = index.form ≡ None
 IsFormless (Inside index) = index.form ≡ None
 
-known-range : (known : Known) (v : Value) → IsKnown known v → IsIn (range_in known) v
+pub known-range : (known : Known) (v : Value) → IsKnown known v → IsIn (range_in known) v
 known-range (Ordinal range) v inside = inside
 
 -- an index that passed its test, and what is known of it
@@ -294,7 +294,7 @@ or-left false b is = absurd (false-true is)
 in-program : (world : World) (context : Context) (P : Context → Type 0) → context.tree ≡ world.tree → P (record context { tree = world.tree }) → P context
 in-program world context P is so = subst (λ (tree : Tree). P (record context { tree = tree })) (sym is) so
 
-type-of : (wanted : TypeId → Bool) (found : Option TypeId) → is_type wanted found ≡ true → (id : TypeId) × (found ≡ Some id) × (wanted id ≡ true)
+pub type-of : (wanted : TypeId → Bool) (found : Option TypeId) → is_type wanted found ≡ true → (id : TypeId) × (found ≡ Some id) × (wanted id ≡ true)
 type-of wanted None is = absurd (false-true is)
 type-of wanted (Some id) is = (id, refl, is)
 

@@ -156,6 +156,17 @@ round-lists root rounds round all inside =
     not-both : (b : Bool) → b ≡ true → b ≡ false → ⊥
     not-both b is isnt = cc
 
+-- ---- a reply of two pieces
+
+pub then-gives : {A B : Type 0} (reply : effect.Reply A) (next : A → effect.Action B) (b : B) (t : effect.State)
+    → effect.and_then reply next ≡ effect.Gives b t
+    → (u : effect.State) × (a : A) × (reply ≡ effect.Gives a u) × (next a u ≡ effect.Gives b t)
+then-gives (effect.Gives a u) next b t is = (u, a, refl, is)
+then-gives (effect.Stops e u) next b t is = absurd (cc)
+
+gives-state : {A : Type 0} (a b : A) (s t : effect.State) → effect.Gives a s ≡ effect.Gives b t → t ≡ s
+gives-state a b s t is = cc
+
 -- ---- actual parameters
 
 module _ (world : World) (block : ℕ) (env : Surroundings) where
@@ -176,17 +187,6 @@ module _ (world : World) (block : ℕ) (env : Surroundings) where
       (formal : Variable) × (slice_get world.tree.variables.items root ≡ Some formal) × PassedIsSound formal passing piece
       × AllPassed roots passings pieces
   AllPassed roots passings pieces = ⊥
-
-  -- ---- a reply of two pieces
-
-  pub then-gives : {A B : Type 0} (reply : effect.Reply A) (next : A → effect.Action B) (b : B) (t : effect.State)
-      → effect.and_then reply next ≡ effect.Gives b t
-      → (u : effect.State) × (a : A) × (reply ≡ effect.Gives a u) × (next a u ≡ effect.Gives b t)
-  then-gives (effect.Gives a u) next b t is = (u, a, refl, is)
-  then-gives (effect.Stops e u) next b t is = absurd (cc)
-
-  gives-state : {A : Type 0} (a b : A) (s t : effect.State) → effect.Gives a s ≡ effect.Gives b t → t ≡ s
-  gives-state a b s t is = cc
 
   -- actual parameters that hold no call leave the store as it is
   all-leaves : (roots : List ℕ) (passings : List Passing) (pieces : List PassedPiece) → AllPassed roots passings pieces

@@ -2,7 +2,7 @@
 -- sites that it leaves open, the rules of certificates that its calls break, and the state at each entry into an
 -- expression (ISO 7185:1990, 6.7). It does not say that a run does what the walk says of it.
 use Rattle.std.specs.Prelude.{◌≡◌, ℕ, ℤ, pos, ◌+ℤ◌, ◌-ℤ◌, Bool, not, ◌||◌, int_le, int_lt, List, [], ◌∷◌, ◌++◌}
-use Rattle.std.specs.Prelude.{Option, Some, None, if◌then◌else◌, map, ◌&&◌, true, false, slice_get}
+use Rattle.std.specs.Prelude.{Option, Some, None, if◌then◌else◌, map, ◌&&◌, true, false, length, slice_get}
 use Rattle.std.specs.List.{list_all, list_any}
 use Rattle.place.specs.declared.Place.{Place}
 use Rattle.typed_tree.specs.declared.tree.Tree.{Tree}
@@ -23,6 +23,8 @@ use Rattle.typed_tree.specs.declared.tree.Written.{Written}
 use Rattle.typed_tree.specs.declared.tree.Written.TheVariants as written
 use Rattle.typed_tree.specs.declared.tree.Whole.{Whole}
 use Rattle.typed_tree.specs.declared.tree.Whole.TheVariants.{Text, Variable as VariableOf}
+use Rattle.types.specs.Forms.{Form as TypeForm}
+use Rattle.types.specs.Types.{have_one_length, is_same, string_length}
 use Rattle.types.specs.declared.form.TypeId.{TypeId}
 use Rattle.typed_tree.specs.declared.tree.Expr.{Expr}
 use Rattle.typed_tree.specs.declared.tree.Link.{Link}
@@ -447,10 +449,23 @@ value_passed value fits = do
   passed ← fitting fits known
   give (OfValue (range_in passed) (bound_of value.form))
 
-abbrev pub whole_passed : Whole → List Piece → Walking Actual
-whole_passed value indexes = do
+-- a whole value may be copied to a target of a structured type: it is of the same type, or a string as long
+abbrev pub fits_whole : List TypeForm → TypeId → Whole → Bool
+fits_whole types target (Text number text) =
+    is_structured types target && have_one_length (string_length types target) (Some (length text.items))
+fits_whole types target (VariableOf access type_id cells defined) =
+    is_structured types target
+    && (is_same target type_id || have_one_length (string_length types target) (string_length types type_id))
+
+-- a copy of a value for a parameter of a type: one that may not be copied has no ranges
+abbrev pub copied : TypeId → Whole → List Interval → Walking Actual
+copied type_id value ranges context =
+    give (OfRows (if fits_whole context.tree.types type_id value then ranges else [])) context
+
+abbrev pub whole_passed : TypeId → Whole → List Piece → Walking Actual
+whole_passed type_id value indexes = do
   ranges ← whole_walk value indexes
-  give (OfRows ranges)
+  copied type_id value ranges
 
 abbrev pub variable_passed : Access → List Piece → Walking Actual
 variable_passed access indexes = do
@@ -459,7 +474,7 @@ variable_passed access indexes = do
 
 abbrev pub passed_walk : Passed-F Piece PassedPiece Joint → Walking Actual
 passed_walk (PassedValue value fits) = value_passed value fits
-passed_walk (PassedWhole type_id value indexes) = whole_passed value indexes.items
+passed_walk (PassedWhole type_id value indexes) = whole_passed type_id value indexes.items
 passed_walk (Reference type_id access indexes) = variable_passed access indexes.items
 
 abbrev pub passed_holds : Passed-F Piece PassedPiece Joint → Bool

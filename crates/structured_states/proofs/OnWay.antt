@@ -155,7 +155,7 @@ behind-in DownTo last range x y n inside between apart here =
     difference-has (at_least (last.first +ℤ pos 1) range) single n (pos 1) (at_least-has (last.first +ℤ pos 1) range n here (omega (arith, ints)))
     (omega (arith, ints), omega (arith, ints))
 
-next-of_form : (env : Environment) (store : Store) (control : ℕ) (direction : Direction) (n : ℤ) → HasNumber (moment env store) control n
+pub next-of_form : (env : Environment) (store : Store) (control : ℕ) (direction : Direction) (n : ℤ) → HasNumber (moment env store) control n
     → IsOfForm (moment env store) (Some (Plus control (step direction))) (value.Number (next_value direction n))
 next-of_form env store control To n has = (n +ℤ pos 1, refl, (n, has, refl))
 next-of_form env store control DownTo n has = (n -ℤ pos 1, refl, (n, has, omega (arith, ints)))
