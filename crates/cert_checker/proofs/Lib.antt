@@ -12,6 +12,7 @@ pub mod SoundForms
 pub mod SoundLoops
 pub mod SoundProgram
 pub mod SoundStores
+pub mod Rounds
 pub mod Steps
 pub mod StepsCase
 pub mod StepsFor
