@@ -10,6 +10,7 @@ pub mod Claimed
 pub mod ComponentTypes
 pub mod Entered
 pub mod FormalRows
+pub mod Given
 pub mod Headings
 pub mod Parameters
 pub mod Passed
