@@ -47,8 +47,6 @@ use Rattle.structured_states.specs.Loops.{Round, all_limits, all_list, limits_at
 use Rattle.structured_states.specs.Pairs.{aliases_of}
 use Rattle.call_states.specs.Aliases.{variable_values}
 use Rattle.call_states.specs.Sections.{BlockClaims}
-use Rattle.call_states.proofs.AliasedStores.{aliases-apart, one-kept}
-use Rattle.call_states.proofs.AliasedTypes.{listed-keeps, written-begun, written-typed}
 use Rattle.call_states.proofs.Passed.{indexes-integer, reached-later}
 use Rattle.expression_checker.specs.declared.fault.Rule.TheVariants.{Changes}
 use Rattle.expression_checker.specs.Walk as flow
@@ -56,16 +54,14 @@ use Rattle.expression_checker.specs.Walk.{Context, Walked, Walking, followed, ma
 use Rattle.expression_checker.proofs.Sound.{Any_value, Behind, Good, Here, IsClosed, IsValue, SoundCalls, SoundFrom, World, declared_in, from-then, good-weaker}
 use Rattle.expression_checker.proofs.Sound.{is_seen, nothing-new, parts_in, sites_in, sound-anywhere, sound-here, types_in, unbroken-left, variables_in}
 use Rattle.expression_checker.proofs.SoundAccesses.{LeadsTo, leads-seen, leads-tests, leads-type, part-none, required-leaves, required-true, type-of}
-use Rattle.expression_checker.proofs.SoundCalls.{CallLaws, by-world, in_world}
+use Rattle.expression_checker.proofs.SoundCalls.{CallLaws}
 use Rattle.expression_checker.proofs.SoundExpressions.{SoundAction, access-sound, value-sound}
 use Rattle.expression_checker.proofs.SoundOperations.{IsKnownOf, fitting-sound}
 use Rattle.expression_checker.proofs.SoundRows.{IsReachedBy, Leads, Matches, rows-are}
 use Rattle.cert_checker.specs.Walk as walk
 use Rattle.cert_checker.specs.Walk.{Stores, alike, reach_before}
-use Rattle.cert_checker.proofs.Changes.{assigned-knows, whole, whole-typed, whole-written}
-use Rattle.cert_checker.proofs.SoundLoops.{Foretold, kept-rule}
 use Rattle.cert_checker.proofs.Targets.{alike-at, alike-targets}
-use Rattle.cert_checker.proofs.Written.{Fit, stores-good}
+use Rattle.cert_checker.proofs.Written.{Fit, Foretold, kept-rule, listed-good, stores-good}
 
 -- ---- what is accessed
 
@@ -106,7 +102,7 @@ reached-then outline block tree env before after root selectors reach place true
       (λ n first. indexes-integer outline block selectors leads.way n tests leads.matches first) leads.reached;
 }
 
-module _ (world : World) (ranges : world.limits ≡ all_limits world.tree) (block : ℕ) (env : Surroundings) (laws : CallLaws world)
+module _ (world : World) (limits_are : world.limits ≡ all_limits world.tree) (block : ℕ) (env : Surroundings) (laws : CallLaws world)
     (calls : SoundCalls world env.calls) where
   abbrev visible : Environment
   visible = env.visible
@@ -115,59 +111,6 @@ module _ (world : World) (ranges : world.limits ≡ all_limits world.tree) (bloc
   outline = outline_of world.tree
 
   -- ---- the store of a value
-
-  -- to an entire variable
-  module _ (root : ℕ) (seen : is_seen world block root ≡ true) (ordinal : is_some (variable_values world.tree root) ≡ true) (form : Option Bound)
-      (range : Interval) (n : ℤ) (context : Context) (state : State) (t : effect.State) (listed : all_list root context.rounds ≡ true)
-      (own : IsIn (limits_at (all_limits world.tree) root) (Number n)) (inside : HasMember range n)
-      (of_form : IsOfForm (moment visible t.store) form (Number n)) (here : Here world block visible context state t) where
-    abbrev whole_walked : Context → Walked (Unit {0})
-    whole_walked other = walk.assign root form (Ordinal range) other state
-
-    abbrev home : StorePlace
-    home = (here.proper.visible root seen).0
-
-    abbrev later : Store
-    later = written t.store home (Number n)
-
-    number-stored : Good world (Foretold world visible context (whole_walked context) t.store) t (effect.store (Some home) (Number n) t)
-    number-stored =
-        let at = (here.proper.visible root seen).1 in
-        let tree = world.tree in
-        let pairs = world.pairs in
-        let aliases = aliases_of pairs root in
-        let few = t.activations in
-        let are = whole-written visible aliases root home at (aliases-apart visible pairs here.proper.separate root home at) t.store n in
-        let typed = whole-typed tree pairs block few visible here.proper root home at n ordinal own in
-        let knows = assigned-knows tree pairs block few visible here.proper root home at n t.store later are typed range form state inside of_form
-        here.stands.known in
-        record {
-          errs = tt;
-          new = nothing-new world t.visited;
-          gives = record {
-            so = record {
-              tie = tt;
-              stands = record {
-                goes = here.stands.goes;
-                known = by-world world context
-                    (λ (other : Context). Knows (parts_in world) (variables_in world) visible (whole_walked other).after later) here.stands.goes knows;
-              };
-              kept = listed-keeps tree pairs block few visible here.proper root home at context.rounds
-                  (λ round inner. subst (λ (b : ℕ). IsClosed world b round) here.block_is (here.stands.goes.closed round inner)) t.store later
-                  (one-kept visible aliases root (whole n) t.store later are) listed;
-            };
-            fine = record {
-              typed = written-typed tree visible aliases root (whole n) t.store later are typed here.fine.typed;
-              begun = written-begun tree visible aliases root (whole n) t.store later are few home at (here.proper.begun root home at) here.fine.begun;
-            };
-            grown = omega arith;
-          };
-        }
-
-    entire-stored : Good world (Foretold world visible context (whole_walked context) t.store) t (effect.store (visible.variables root) (Number n) t)
-    entire-stored =
-        subst (λ (place : Option StorePlace). Good world (Foretold world visible context (whole_walked context) t.store) t (effect.store place (Number n) t))
-        (sym (here.proper.visible root seen).1) number-stored
 
   -- to a component
   component-stored : (becomes : Place) (root : ℕ) (selectors : List Selector) (id : TypeId)
@@ -178,6 +121,7 @@ module _ (world : World) (ranges : world.limits ≡ all_limits world.tree) (bloc
       (walk.assign_component becomes root selectors reach known)
   component-stored becomes root selectors id of_type ordinal some seen reach place (Ordinal range) (Number n) inside store leads
       context state s same unbroken part_of here =
+      let at = here.proper.visible root seen in
       let rows = rows-are world.tree root selectors id of_type in
       let scalar = ordinal_component (types_in world) id ordinal in
       let numbers = n ∷ [] in
@@ -185,7 +129,7 @@ module _ (world : World) (ranges : world.limits ≡ all_limits world.tree) (bloc
       let stores = alike range (touched context.tree) in
       let many : length (components_of (types_in world) id) ≡ length numbers = ap length scalar in
       let fit = λ (fits : ◌≡◌ {A = Bool} true true).
-      subst (λ (tree : Tree). Fit world block visible root selectors id rows reach leads.way leads.matches numbers many
+      subst (λ (tree : Tree). Fit world limits_are block visible root at.0 at.1 selectors id rows reach leads.way leads.matches numbers many
       (alike range (touched tree))) (sym here.stands.goes.tree_is)
       (record {
         structured = λ none. absurd (some none);
@@ -194,8 +138,8 @@ module _ (world : World) (ranges : world.limits ≡ all_limits world.tree) (bloc
             (λ m listed. subst (HasMember range) (alone n m listed) inside);
       }) in
       let reached = subst (λ (x : Store). IsReachedBy visible x selectors leads.way reach) (sym same) leads.reached in
-      let good = stores-good world block visible root selectors id rows reach leads.way leads.matches numbers many becomes true stores fit
-      context state s reached unbroken seen here place leads.place_is in
+      let good = stores-good world limits_are block visible root at.0 at.1 selectors id rows reach leads.way leads.matches numbers many becomes true stores fit
+      context state s reached unbroken here place leads.place_is in
       let P = Foretold world visible context (walk.store_to becomes root reach true stores context state) s.store in
       subst (λ (p : Option StorePlace). Good world P s (effect.store p (Number n) s)) (part-none place)
       (subst (λ (components : List (List Step)). Good world P s (effect.store_all place components numbers s)) scalar good)
@@ -209,6 +153,7 @@ module _ (world : World) (ranges : world.limits ≡ all_limits world.tree) (bloc
       (walk.assign_to becomes root selectors reach (limits_of fits.range) form known)
   value-stored becomes root [] fits form typed seen reach place (Ordinal range) (Number n) passes inside store of_form leads
       context state s same unbroken part_of here =
+      let at = here.proper.visible root seen in
       let known : Known = Ordinal range in
       let v : Value = Number n in
       let may = may_change context root in
@@ -223,9 +168,9 @@ module _ (world : World) (ranges : world.limits ≡ all_limits world.tree) (bloc
       subst (λ (p : Option StorePlace). Good world (Foretold world visible context (followed asked last) s.store) s (effect.store p v s)) (sym entire)
       (good-weaker world (Foretold world visible context last s.store) (Foretold world visible context (followed asked last) s.store) s
       (effect.store (visible.variables root) v s) (λ done w stored then. record { tie = tt; stands = then.so.stands; kept = then.so.kept })
-      (entire-stored root seen (ordinal-values world.tree root typed) form range n context state s (and_parts (all_list root context.rounds) _ listed.0).0
-      (subst (λ (limits : List Interval). IsIn (limits_at limits root) v) (here.stands.goes.limits_are ∙ ranges) own) inside
-      (subst (λ (x : Store). IsOfForm (moment visible x) form v) (sym same) of_form) here))
+      (listed-good world limits_are block visible root at.0 at.1 n range form context state s here (ordinal-values world.tree root typed)
+      (subst (λ (limits : List Interval). IsIn (limits_at limits root) v) here.stands.goes.limits_are own) inside
+      (subst (λ (x : Store). IsOfForm (moment visible x) form v) (sym same) of_form) (and_parts (all_list root context.rounds) _ listed.0).0))
   value-stored becomes root (selector ∷ selectors) fits form typed seen reach place known v passes inside store of_form leads
       context state s same unbroken part_of here =
       let id = type-of (is_ordinal (types_in world)) (accesses.accessed (declared_in world) (types_in world) root (selector ∷ selectors)) typed in

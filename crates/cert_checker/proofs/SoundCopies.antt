@@ -26,6 +26,7 @@ use Rattle.abstract_state.proofs.Refined.{whole-kept}
 use Rattle.leaf_rows.specs.Rows.{is_structured, rows_accessed, rows_of}
 use Rattle.leaf_rows.proofs.Accessed.{row-leaf, rows-count}
 use Rattle.component_states.specs.Components.{Reach}
+use Rattle.structured_states.specs.Loops.{all_limits}
 use Rattle.expression_checker.specs.Walk as flow
 use Rattle.expression_checker.specs.Walk.{fits_whole}
 use Rattle.expression_checker.proofs.Fitting.{fits-lie, many-numbers, same-type}
@@ -37,11 +38,10 @@ use Rattle.expression_checker.proofs.SoundRows.{IsReachedBy, IsWhole, Leads, row
 use Rattle.cert_checker.specs.Walk as walk
 use Rattle.cert_checker.specs.Walk.{paired, reach_before}
 use Rattle.cert_checker.proofs.SoundAssignments.{reached-then}
-use Rattle.cert_checker.proofs.SoundLoops.{Foretold}
 use Rattle.cert_checker.proofs.Targets.{contains-at, paired-at, paired-targets}
-use Rattle.cert_checker.proofs.Written.{Fit, stores-good}
+use Rattle.cert_checker.proofs.Written.{Fit, Foretold, stores-good}
 
-module _ (world : World) (block : ℕ) (env : Surroundings) (laws : CallLaws world) (calls : SoundCalls world env.calls) where
+module _ (world : World) (limits_are : world.limits ≡ all_limits world.tree) (block : ℕ) (env : Surroundings) (laws : CallLaws world) (calls : SoundCalls world env.calls) where
   abbrev visible : Environment
   visible = env.visible
 
@@ -77,6 +77,7 @@ module _ (world : World) (block : ℕ) (env : Surroundings) (laws : CallLaws wor
         (walk.copy_to becomes root selectors reach target value ranges)
     copy-stored becomes seen value indexes well may reach place ranges numbers whole store leads_place context state s same unbroken part here =
         let types = types_in world in
+        let at = here.proper.visible root seen in
         let rows = rows-are world.tree root selectors target leads in
         let many = many-numbers outline block target value indexes ranges numbers well may whole in
         let fits = λ (tree : Tree). fits_whole tree.types target value && nat_eq (length (rows_accessed (rows_of tree) root selectors)) (length ranges) in
@@ -84,7 +85,7 @@ module _ (world : World) (block : ℕ) (env : Surroundings) (laws : CallLaws wor
         let way = leads_place.way in
         let matches = leads_place.matches in
         let MayFit = λ (tree : Tree). fits tree ≡ true
-        → Fit world block visible root selectors target rows reach way matches numbers many (stores tree) in
+        → Fit world limits_are block visible root at.0 at.1 selectors target rows reach way matches numbers many (stores tree) in
         let fit : MayFit world.tree = λ is.
         let both = and_parts (fits_whole types target value) (nat_eq (length under) (length ranges)) is in
         let long = eqb-true (length under) (length ranges) both.1 in
@@ -101,8 +102,8 @@ module _ (world : World) (block : ℕ) (env : Surroundings) (laws : CallLaws wor
         subst (λ (own : List Form).
         Good world (Foretold world visible context (walk.copy_to becomes root selectors reach target value ranges context state) s.store) s
         (effect.store_all place (components_of own target) numbers s)) (sym here.proper.types_are)
-        (stores-good world block visible root selectors target rows reach way matches numbers many becomes (fits context.tree)
-        (stores context.tree) (subst MayFit (sym here.stands.goes.tree_is) fit) context state s reached unbroken seen here place leads_place.place_is)
+        (stores-good world limits_are block visible root at.0 at.1 selectors target rows reach way matches numbers many becomes (fits context.tree)
+        (stores context.tree) (subst MayFit (sym here.stands.goes.tree_is) fit) context state s reached unbroken here place leads_place.place_is)
       where
         fits-structured : (value : Whole) → fits_whole (types_in world) target value ≡ true → is_structured (types_in world) target ≡ true
         fits-structured (Text number text) is =

@@ -31,7 +31,7 @@ use Rattle.abstract_state.specs.Knows.{IsKept, IsOfForm, moment}
 use Rattle.abstract_state.proofs.Ranged.{included-in, is_in-limits, limits-is_in}
 use Rattle.component_states.specs.States.{State, over_bound, over_change, over_variables}
 use Rattle.component_states.specs.Holds.{Knows}
-use Rattle.component_states.specs.Laws.{AreComponents, AreEntire}
+use Rattle.component_states.specs.Laws.{AreEntire}
 use Rattle.structured_states.specs.Loops.{Round, all_control, all_limits, controls_inside, limits_at, round_of, touched, with_own, without_own}
 use Rattle.structured_states.specs.Pairs.{aliases_of}
 use Rattle.structured_states.specs.Ways as ways
@@ -57,8 +57,9 @@ use Rattle.cert_checker.specs.Walk.{are_hidden, steady_in}
 use Rattle.cert_checker.proofs.Changes.{assigned-knows, bound-knows, ended-knows, gone-knows, whole, whole-has, whole-typed, whole-written}
 use Rattle.cert_checker.proofs.Keeping.{gone-alone, gone-begun, gone-changes, gone-keeps, gone-none, gone-typed}
 use Rattle.cert_checker.proofs.Rounds.{goes-inside, hidden-in, inside-closed}
-use Rattle.cert_checker.proofs.SoundLoops.{AreFine, Foretold, RoundEnds, here-as, here-later, inner, kept-rule, loop-good, loop_begun, rounds-outer, rounds-own}
+use Rattle.cert_checker.proofs.SoundLoops.{AreFine, RoundEnds, here-as, here-later, inner, loop-good, loop_begun, rounds-outer, rounds-own}
 use Rattle.cert_checker.proofs.SoundLoops.{turn-then, ways-good, with_head}
+use Rattle.cert_checker.proofs.Written.{Foretold, kept-rule}
 
 -- a number between two of a range lies in the range
 between-in : (direction : Direction) (range : Interval) (x y n : ℤ) → HasMember range x → HasMember range y → Between direction x y n → HasMember range n
@@ -186,7 +187,7 @@ module _ (world : World) (block : ℕ) (env : Environment) (few : ℕ) (control 
         gives = record { so = refl; fine = record { typed = later.typed; begun = later.begun }; grown = omega arith };
       })
 
-module _ (world : World) (ranges : world.limits ≡ all_limits world.tree) (block : ℕ) (env : Surroundings) (inner_are : AreComponents (parts_in world))
+module _ (world : World) (ranges : world.limits ≡ all_limits world.tree) (block : ℕ) (env : Surroundings)
     (number : ℕ) (execution : meaning.Execution) (body : Walking (Unit {0}))
     (one : Sound {A = Unit {0}} {B = Unit {0}} world block env.visible Any_value (execution env) body) where
   abbrev visible : Environment
@@ -514,7 +515,7 @@ module _ (world : World) (ranges : world.limits ≡ all_limits world.tree) (bloc
           (at context tested x y few is_own here.block_is in_first in_last x_typed y_typed controls)
           (Fits context tested x y few is_own here.block_is in_first in_last x_typed y_typed controls) context begun.after x v
           (at-fine context tested x y few is_own here.block_is in_first in_last x_typed y_typed controls)
-          (goes-in context way may last.after v here is_own) inner_are
+          (goes-in context way may last.after v here is_own)
           (subst (λ (tree : Tree). AreEntire (parts_in world) (way.control ∷ controls_inside tree number)) (sym here.stands.goes.tree_is) controls_are)
           (λ n t grown fine unbroken part stands fits.
           round-good context tested x y few is_own here.block_is in_first in_last x_typed y_typed controls
