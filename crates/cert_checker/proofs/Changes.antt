@@ -150,8 +150,7 @@ module _ (tree : Tree) (pairs : List (ℕ × ℕ)) (block activations : ℕ) (en
         (sym (ap (λ (found : Option Place). store.part found []) at)
         ∙ ap (λ (p : List Step × ℤ). store.part (env.variables root) p.0) same ∙ place_is) in
         let values : variable_values tree root ≡ range_of tree.types own =
-        whole-type tree pairs block activations env proper root home own at (ap (place_type tree) there ∙ type_is) in
-        (
+        whole-type tree pairs block activations env proper root home own at (ap (place_type tree) there ∙ type_is) in (
           record { values = variable_values tree root; range = range },
           at-head (record { values = variable_values tree root; range = range }) [],
           values,

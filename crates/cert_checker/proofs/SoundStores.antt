@@ -107,7 +107,8 @@ module _ (rows : List Parts) (env : Environment) (aliases : List ℕ) (root : �
 unless-some : (aliases : List ℕ) (form : Option Bound) (b : Bound) → unless_alias aliases form ≡ Some b
     → (form ≡ Some b) × (bound_rests aliases b ≡ false)
 unless-some aliases None b is = absurd (none-some b is)
-unless-some aliases (Some (fact.Number n)) b is = (is, subst (λ (c : Bound). bound_rests aliases c ≡ false) (same_Some (fact.Number n) b is) (none-rest aliases))
+unless-some aliases (Some (fact.Number n)) b is =
+    (is, subst (λ (c : Bound). bound_rests aliases c ≡ false) (same_Some (fact.Number n) b is) (none-rest aliases))
   where
     none-rest : (aliases : List ℕ) → bound_rests aliases (fact.Number n) ≡ false
     none-rest [] = refl
@@ -232,8 +233,7 @@ module _ (tree : Tree) (pairs : List (ℕ × ℕ)) (block activations : ℕ) (en
       let row = targets.in_rows pair listed in
       let one = row.0 in
       let values = row-type tree pairs block activations env proper one.0 pair.0 home own row.2 (home-at one row.1)
-      (ap (place_type tree) (place-is pair.0 place place_is) ∙ type_is) in
-      (
+      (ap (place_type tree) (place-is pair.0 place place_is) ∙ type_is) in (
         record { values = values_at (rows_of tree) one.0; range = one.1 },
         mapped (λ (o : ℕ × Interval). record { values = values_at (rows_of tree) o.0; range = o.1 }) stores one row.1,
         values,
@@ -268,7 +268,8 @@ pub made-knows : (tree : Tree) (pairs : List (ℕ × ℕ)) (block activations : 
           (with_aliases_stored tree (aliases_of pairs root)
           (map (λ (one : ℕ × Interval). record { values = values_at (rows_of tree) one.0; range = one.1 }) stores) state).components;
     }) after
-made-knows tree pairs block activations env proper root home at numbers stores targets before after written typed typed_store reach is_reach reached state known =
+made-knows tree pairs block activations env proper root home at numbers stores targets before after written typed typed_store reach is_reach reached state
+    known =
     let aliases = aliases_of pairs root in
     let parts = all_parts tree in
     let variables = length tree.variables.items in
