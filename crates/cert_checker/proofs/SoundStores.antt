@@ -1,20 +1,17 @@
 -- Stores to components of rows are sound: what is known behind them holds.
-use Rattle.std.proofs.Common.{◌≡◌, ⊎_elim, ◌⊎◌, inl, inr, ◌∙◌, sym, ap, refl, subst, ℕ, ℤ, ◌+ℤ◌, Bool, true, false, cond, ◌+◌, length, arith, List, [], ◌∷◌}
+use Rattle.std.proofs.Common.{◌≡◌, ⊎_elim, inl, inr, ◌∙◌, sym, ap, refl, subst, ℕ, ℤ, ◌+ℤ◌, Bool, true, false, cond, ◌+◌, length, arith, List, [], ◌∷◌}
 use Rattle.std.proofs.Common.{Option, Some, None}
 use Rattle.std.specs.Option.{option_and_then}
 use Rattle.std.specs.Prelude.{map, slice_get, slice_index_or}
 use Rattle.std.specs.List.{Contains, list_all}
 use Rattle.std.proofs.lemmas.Option.{none-some, same_Some}
-use Rattle.types.specs.Types.{range_of}
 use Rattle.types.specs.declared.form.OrdinalRange.{OrdinalRange}
 use Rattle.types.specs.declared.form.Step.{Step}
-use Rattle.types.specs.declared.form.TypeId.{TypeId}
 use Rattle.typed_tree.specs.declared.tree.Selector.{Selector}
 use Rattle.typed_tree.specs.declared.tree.Tree.{Tree}
-use Rattle.typed_tree.specs.declared.tree.Variable.{Variable}
 use Rattle.domain.specs.Facts as fact
 use Rattle.domain.specs.Facts.{Bound, Plus}
-use Rattle.domain.specs.Interval.{HasMember, Interval, is_included}
+use Rattle.domain.specs.Interval.{HasMember, Interval}
 use Rattle.meaning.specs.declared.store.Value.{Value}
 use Rattle.meaning.specs.declared.store.Value.TheVariants.{Number}
 use Rattle.meaning.specs.Store.{Environment, Place, Store}
@@ -39,8 +36,8 @@ use Rattle.structured_states.specs.Loops.{all_limits, limits_at}
 use Rattle.structured_states.specs.Pairs.{aliases_of}
 use Rattle.call_states.specs.Actuals.{lies_among}
 use Rattle.call_states.specs.Aliases.{Stored, index_unless_alias, reach_unless_alias, unless_alias, with_aliases_stored}
-use Rattle.call_states.specs.Environments.{LiesIn, Proper, Typed, place_type, type_led}
-use Rattle.call_states.proofs.Aliased.{IsReady, aliases-ready}
+use Rattle.call_states.specs.Environments.{Proper, Typed, place_type}
+use Rattle.call_states.proofs.Aliased.{aliases-ready}
 use Rattle.call_states.proofs.AliasedStores.{AreWritten, Pairs, all-pass, at-head, head-or_tail, in-tail, one-kept, own-came, value-defined}
 use Rattle.call_states.proofs.AliasedTypes.{AreStoredAs, AreTyped, are-aliased, in-types, part-type, row-type, shows, written-typed}
 use Rattle.call_states.proofs.ComponentTypes.{component-typed}
