@@ -167,7 +167,7 @@ module _ (tree : Tree) (pairs : List (ℕ × ℕ)) (number : ℕ) (block : Block
       },
       leads.reached)
 
-  parameter-block : (root : ℕ) (variable : DeclaredVariable) → slice_get tree.variables.items root ≡ Some variable → ParameterHere root variable
+  pub parameter-block : (root : ℕ) (variable : DeclaredVariable) → slice_get tree.variables.items root ≡ Some variable → ParameterHere root variable
       → variable.block ≡ number
   parameter-block root variable is p =
       let inside : Contains block.heading.parameters.items root =

@@ -1,7 +1,8 @@
 pub mod Aliased
+pub mod Assigned
+pub mod PlaceTypes
 pub mod AliasedStores
 pub mod AliasedTypes
-pub mod Assigned
 pub mod Bearers
 pub mod Borne
 pub mod Callee
@@ -9,10 +10,10 @@ pub mod Claimed
 pub mod ComponentTypes
 pub mod Entered
 pub mod FormalRows
+pub mod Given
 pub mod Headings
 pub mod Parameters
 pub mod Passed
-pub mod PlaceTypes
 pub mod Places
 pub mod Reached
 pub mod Separated
