@@ -11,6 +11,7 @@ pub mod Entered
 pub mod FormalRows
 pub mod Given
 pub mod Headings
+pub mod LedComponents
 pub mod Parameters
 pub mod Passed
 pub mod PlaceTypes
