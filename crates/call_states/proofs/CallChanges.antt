@@ -142,7 +142,7 @@ module _ (tree : Tree) (pairs : List (ℕ × ℕ)) (number : ℕ) (block : Block
     pub home_is : record whole { steps = whole.steps ++ way } ≡ home
 
   -- a value parameter lies in no older activation
-  own-older : (root : ℕ) (variable : Variable) (home : Place) → slice_get tree.variables.items root ≡ Some variable → variable.block ≡ number
+  pub own-older : (root : ℕ) (variable : Variable) (home : Place) → slice_get tree.variables.items root ≡ Some variable → variable.block ≡ number
       → callee.variables root ≡ Some home → home.activation < activations → is_value_kind variable.kind ≡ true → ⊥
   own-older root variable home is own home_is older value =
       let at : Some (own_place activations root) ≡ Some home =
@@ -181,7 +181,7 @@ module _ (tree : Tree) (pairs : List (ℕ × ℕ)) (number : ℕ) (block : Block
   passed-lies root variable home is own listed home_is older (OfValue range form) (meaning.OfPlace place) actual_is place_is known fits = absurd known
   passed-lies root variable home is own listed home_is older (OfRows ranges) (meaning.OfPlace place) actual_is place_is known fits = absurd known
 
-  parameter-block : (root : ℕ) (variable : Variable) → slice_get tree.variables.items root ≡ Some variable → ParameterHere root variable
+  pub parameter-block : (root : ℕ) (variable : Variable) → slice_get tree.variables.items root ≡ Some variable → ParameterHere root variable
       → variable.block ≡ number
   parameter-block root variable is p =
       let inside : Contains block.heading.parameters.items root =

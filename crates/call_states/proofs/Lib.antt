@@ -5,6 +5,7 @@ pub mod Assigned
 pub mod Bearers
 pub mod Borne
 pub mod CallChanges
+pub mod CallLeaves
 pub mod Callee
 pub mod Claimed
 pub mod ComponentTypes
