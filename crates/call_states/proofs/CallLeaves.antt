@@ -29,7 +29,7 @@ use Rattle.domain.specs.Facts.{Fact, Order}
 use Rattle.domain.specs.Interval.{Interval, common}
 use Rattle.meaning.specs.declared.store.Value.{Value}
 use Rattle.meaning.specs.Meaning as meaning
-use Rattle.meaning.specs.Meaning.{Argument, environment_of}
+use Rattle.meaning.specs.Meaning.{Argument, environment_of, place_for, place_passed}
 use Rattle.meaning.specs.Store.{Environment, Place, Store, stored}
 use Rattle.abstract_state.specs.Holds as holds
 use Rattle.abstract_state.specs.Holds.{IsIn, Moment, part_of, value_at}
@@ -334,3 +334,242 @@ module _ (tree : Tree) (pairs : List (ℕ × ℕ)) (number : ℕ) (block : Block
       ap length (borne-rows tree other selectors reach variable.type_id lies.1.actual_type (λ none. not-ordinal_type tree.types variable.type_id structured))
       ∙ length-map (rows_accessed (rows_of tree) other selectors) (λ row. Components row reach)
       ∙ sym (rows-alike tree caller callee root other selectors lies.0 variable.type_id lies.1 structured)
+
+  abbrev changes_at : ℕ → List Change
+  changes_at root = changes_of tree claims.exit root (actual_of bindings root)
+
+  in-changes : (root : ℕ) (own : TypeId) (v : Value) → Contains claims.changes root → HasChange (changes_at root) own v → HasChange changes own v
+  in-changes root own v listed has = record {
+    change = has.change;
+    inside = in-flat changes_at claims.changes root has.change listed has.inside;
+    values_are = has.values_are;
+    in_range = has.in_range;
+  }
+
+  -- where a variable parameter lies
+  passed-lies_at : (root : ℕ) (variable : DeclaredVariable) → slice_get tree.variables.items root ≡ Some variable → (p : ParameterHere root variable)
+      → (other : ℕ) (selectors : List Selector) (reach : Reach) (place : Place)
+      → place_for root block.heading.parameters.items arguments ≡ Some place
+      → IsArgument tree caller store variable (OfVariable other selectors reach) (meaning.OfPlace (Some place))
+      → Fits tree activations (meaning.OfPlace (Some place)) variable → Lies root variable other selectors reach
+  passed-lies_at root variable is p other selectors reach place found known fits =
+      lies-at tree pairs number block arguments caller activations from back.call store back.begun actuals back.are back.of_types root variable is fits.0
+      (parameter-block tree pairs number block arguments caller activations from store actuals claims after back root variable is p) place found other selectors
+      reach known
+
+  passed-change : (root : ℕ) (variable : DeclaredVariable) (home : Place) (rest : List Step) (own : TypeId) (v : Value)
+      → slice_get tree.variables.items root ≡ Some variable → callee.variables root ≡ Some home → home.activation < activations
+      → (p : ParameterHere root variable) → (actual : Actual) (argument : Argument)
+      → place_for root block.heading.parameters.items arguments ≡ place_passed argument → IsArgument tree caller store variable actual argument
+      → Fits tree activations argument variable
+      → value_at inner root rest ≡ Some v → type_led tree.types rest variable.type_id ≡ Some own → LiesIn tree.types own v
+      → HasChange (changes_of tree claims.exit root (Some actual)) own v
+  passed-change root variable home rest own v is home_is older p (OfVariable other selectors reach) (meaning.OfPlace None) place_is known fits at leads lies =
+      absurd fits
+  passed-change root variable home rest own v is home_is older p (OfVariable other selectors reach) (meaning.OfPlace (Some place)) place_is known fits at leads
+      lies =
+      let where_it = passed-lies_at root variable is p other selectors reach place place_is known fits in
+      leaf-change root variable (bearers_of tree (OfVariable other selectors reach)) home rest own v is home_is
+      (λ ordinal. passed-bearer root variable other selectors reach is where_it ordinal)
+      (λ structured. passed-many root variable other selectors reach where_it structured) at leads lies
+  passed-change root variable home rest own v is home_is older p (OfVariable other selectors reach) (meaning.OfValue w) place_is known fits at leads lies =
+      absurd known
+  passed-change root variable home rest own v is home_is older p (OfVariable other selectors reach) (meaning.OfRow numbers) place_is known fits at leads lies =
+      absurd known
+  passed-change root variable home rest own v is home_is older p actual (meaning.OfValue w) place_is known fits at leads lies =
+      absurd
+      (own-older tree pairs number block arguments caller activations from store actuals claims after back root variable home is
+      (parameter-block tree pairs number block arguments caller activations from store actuals claims after back root variable is p) home_is older fits.0)
+  passed-change root variable home rest own v is home_is older p actual (meaning.OfRow numbers) place_is known fits at leads lies =
+      absurd
+      (own-older tree pairs number block arguments caller activations from store actuals claims after back root variable home is
+      (parameter-block tree pairs number block arguments caller activations from store actuals claims after back root variable is p) home_is older fits.0)
+  passed-change root variable home rest own v is home_is older p (OfValue range form) (meaning.OfPlace place) place_is known fits at leads lies = absurd known
+  passed-change root variable home rest own v is home_is older p (OfRows ranges) (meaning.OfPlace place) place_is known fits at leads lies = absurd known
+
+  -- a value that the callee changed is told by a change of its type
+  pub changed-told : (place : Place) (own : TypeId) (v : Value) → place.activation < activations
+      → IsChanged tree pairs number block arguments caller activations from store actuals claims after back place → stored after place ≡ Some v
+      → place_type tree place ≡ Some own → LiesIn tree.types own v → HasChange changes own v
+  changed-told place own v older is at typed lies =
+      let outward = back.outward is.root is.listed in
+      let variable = outward.0 in
+      let activation = ap (λ (q : Place). q.activation) is.place_is in
+      let value : value_at inner is.root is.rest ≡ Some v =
+      ap (λ (found : Option Place). part_of after found is.rest) is.home_is ∙ ap (stored after) is.place_is ∙ at in
+      let leads : type_led tree.types is.rest variable.type_id ≡ Some own =
+      sym (part-type tree pairs number (suc activations) callee back.proper is.root is.home variable is.rest is.home_is outward.1)
+      ∙ ap (place_type tree) is.place_is ∙ typed in
+      in-changes is.root own v is.listed
+      (⊎_elim
+      (λ (here : IsOuterHere is.root variable).
+      subst (λ (found : Option Actual). HasChange (changes_of tree claims.exit is.root found) own v) (sym here.no_actual)
+      (leaf-change is.root variable (own_bearers is.root) is.home is.rest own v outward.1 is.home_is (outer-bearer is.root)
+      (outer-many is.root variable outward.1) value leads lies))
+      (λ (p : ParameterHere is.root variable).
+      subst (λ (found : Option Actual). HasChange (changes_of tree claims.exit is.root found) own v) (sym p.actual_is)
+      (passed-change is.root variable is.home is.rest own v outward.1 is.home_is (omega (arith, activation, older)) p p.actual p.argument p.place_is p.known
+      p.fits value leads lies))
+      (outward-cases tree pairs number block arguments caller activations from back.call store actuals back.are back.of_types is.root outward))
+
+  -- ---- what is changed just as it is
+
+  -- all values of an entire variable of the caller's, or of a row, lie in a range
+  abbrev pub IsExact : Bearer → Interval → Type 0
+  IsExact (Passed own) range = Unit {0}
+  IsExact (Variable root) range = (v : Value) → value_at outer root [] ≡ Some v → IsIn range v
+  IsExact (Components row Entire) range = (steps : List Step) (v : Value) → IsOf tree row steps → component_at (all_parts tree) outer row steps ≡ Some v → IsIn range v
+  IsExact (Components row (At index)) range = Unit {0}
+  IsExact (Components row (Inside index)) range = Unit {0}
+
+  outer-same : (root : ℕ) (variable : DeclaredVariable) → IsOuterHere root variable → (steps : List Step) → value_at inner root steps ≡ value_at outer root steps
+  outer-same root variable here steps = ap (λ (found : Option Place). part_of after found steps) here.same
+
+  outer-exact : (root : ℕ) (variable : DeclaredVariable) → slice_get tree.variables.items root ≡ Some variable → IsOuterHere root variable → (change : Change)
+      → Contains (leaves_changed tree claims.exit root (own_bearers root)) change → IsExact change.bearer change.range
+  outer-exact root variable is here change inside = by (is_ordinal_variable tree root) inside
+    where
+      by : (ordinal : Bool)
+          → Contains
+          (cond ordinal (ordinals_changed tree claims.exit root (cond ordinal (Variable root ∷ []) (all_of_rows (rows_under (rows_of tree) root []))))
+          (rows_changed tree claims.exit (rows_under (rows_of tree) root [])
+          (cond ordinal (Variable root ∷ []) (all_of_rows (rows_under (rows_of tree) root []))))) change
+          → IsExact change.bearer change.range
+      by true inside =
+          let found = of-map (variable_change tree claims.exit root) (Variable root ∷ []) change inside in
+          let own : IsExact (Variable root) (variable_change tree claims.exit root found.0).range =
+          λ v at. variable-exit root variable v is (outer-same root variable here [] ∙ at) found.0 in
+          subst (λ (c : Change). IsExact c.bearer c.range) found.2
+          (subst (λ (b : Bearer). IsExact b (variable_change tree claims.exit root found.0).range) (alone found.0 found.1) own)
+        where
+          alone : (bearer : Bearer) → Contains (Variable root ∷ []) bearer → Variable root ≡ bearer
+          alone bearer (zero, within, at) = at
+          alone bearer (suc k, within, at) = absurd (omega (arith, within))
+      by false inside =
+          let rows = rows_under (rows_of tree) root [] in
+          let found = row-change_from tree claims.exit rows (all_of_rows rows) change inside in
+          let bearer = mapped-from (λ r. Components r Entire) rows found.0 found.2 found.4 in
+          let same : bearer.0 ≡ found.1 = same_Some bearer.0 found.1 (sym bearer.1 ∙ found.3) in
+          let root_is = under-root tree root [] found.1 (has-contains rows found.1 (found.0, found.3)) in
+          let own : IsExact (Components found.1 Entire) (row_change tree claims.exit found.1 found.2).range =
+          λ steps v of_row at.
+          component-exit found.1 steps v of_row
+          (ap (λ (r : ℕ). value_at inner r steps) root_is ∙ outer-same root variable here steps ∙ ap (λ (r : ℕ). value_at outer r steps) (sym root_is) ∙ at)
+          found.2 in
+          subst (λ (c : Change). IsExact c.bearer c.range) found.5
+          (subst (λ (b : Bearer). IsExact b (row_change tree claims.exit found.1 found.2).range) (ap (λ (r : ℕ). Components r Entire) (sym same) ∙ bearer.2) own)
+
+  abbrev Way : ℕ → DeclaredVariable → ℕ → List Selector → Reach → Type 0
+  Way root variable other selectors reach = Lies root variable other selectors reach
+
+  -- a row that an access without an index reaches
+  ordinal-exact : (root : ℕ) (variable : DeclaredVariable) (other : ℕ) (selectors : List Selector) (reach : Reach)
+      → slice_get tree.variables.items root ≡ Some variable → Way root variable other selectors reach → is_ordinal tree.types variable.type_id ≡ true
+      → (bearer : Bearer) → Contains (bearers_of tree (OfVariable other selectors reach)) bearer
+      → IsExact bearer (variable_change tree claims.exit root bearer).range
+  ordinal-exact root variable other [] reach is lies ordinal bearer inside =
+      by bearer (subst (λ (all : List Bearer). Contains all bearer) (borne-variable tree other reach variable.type_id lies.1.actual_type ordinal) inside)
+    where
+      no-way : (way : List Step) → Rattle.leaf_rows.proofs.Selected.Matches [] way → way ++ [] ≡ []
+      no-way [] matches = refl
+      no-way (s ∷ way) matches = absurd matches
+
+      by : (bearer : Bearer) → Contains (Variable other ∷ []) bearer → IsExact bearer (variable_change tree claims.exit root bearer).range
+      by bearer (suc k, within, at) = absurd (omega (arith, within))
+      by bearer (zero, within, at) =
+          subst (λ (b : Bearer). IsExact b (variable_change tree claims.exit root b).range) at
+          (λ v own.
+          variable-exit root variable v is
+          (same-value tree caller callee root other [] lies.0 variable.type_id lies.1 after [] ∙ ap (value_at outer other) (no-way lies.0 lies.1.matches) ∙ own)
+          (Variable other))
+  ordinal-exact root variable other (selector ∷ selectors) reach is lies ordinal bearer inside =
+      let all = selector ∷ selectors in
+      let found = of-map (λ r. Components r reach) (rows_accessed (rows_of tree) other all) bearer inside in
+      subst (λ (b : Bearer). IsExact b (variable_change tree claims.exit root b).range) found.2 (row-in found.0 found.1 reach lies)
+    where
+      row-in : (row : ℕ) → Contains (rows_accessed (rows_of tree) other (selector ∷ selectors)) row → (reach : Reach)
+          → Way root variable other (selector ∷ selectors) reach
+          → IsExact (Components row reach) (variable_change tree claims.exit root (Components row reach)).range
+      row-in row inside (At index) lies = tt
+      row-in row inside (Inside index) lies = tt
+      row-in row inside Entire lies = λ steps v of_row at.
+          let all = selector ∷ selectors in
+          let one = ordinal-steps tree caller callee root other all lies.0 variable.type_id lies.1 ordinal row steps inside of_row in
+          let way : one.0 ≡ lies.0 = one-way all one.0 lies.0 lies.2 one.2 lies.1.matches in
+          let root_is = (rows-are tree other all variable.type_id lies.1.actual_type).root_is row inside in
+          let value : value_at outer other (lies.0 ++ []) ≡ Some v =
+          ap (λ (w : List Step). value_at outer other (w ++ [])) (sym way) ∙ ap (value_at outer other) (sym one.1)
+          ∙ ap (λ (r : ℕ). value_at outer r steps) (sym root_is) ∙ at in
+          variable-exit root variable v is (same-value tree caller callee root other all lies.0 variable.type_id lies.1 after [] ∙ value) (Components row Entire)
+
+  -- a row of a structured one
+  structured-exact : (root : ℕ) (variable : DeclaredVariable) (other : ℕ) (selectors : List Selector) → (j row own : ℕ)
+      → slice_get (rows_under (rows_of tree) root []) j ≡ Some row → slice_get (rows_accessed (rows_of tree) other selectors) j ≡ Some own → (reach : Reach)
+      → Way root variable other selectors reach → (bearer : Bearer) → IsExact (Components own reach) (row_change tree claims.exit row bearer).range
+  structured-exact root variable other selectors j row own row_at own_at (At index) lies bearer = tt
+  structured-exact root variable other selectors j row own row_at own_at (Inside index) lies bearer = tt
+  structured-exact root variable other selectors j row own row_at own_at Entire lies bearer = λ steps v of_row at.
+      let rows = rows-are tree other selectors variable.type_id lies.1.actual_type in
+      let inside = has-contains (rows_accessed (rows_of tree) other selectors) own (j, own_at) in
+      let behind = rows.lies own steps inside of_row in
+      let way : behind.0 ≡ lies.0 = one-way selectors behind.0 lies.0 lies.2 behind.3 lies.1.matches in
+      let steps_are : steps ≡ lies.0 ++ behind.1 = behind.2 ∙ ap (λ (w : List Step). w ++ behind.1) way in
+      let of_own = subst (λ (s : List Step). IsOf tree own s) steps_are of_row in
+      let of_formal = actual-row tree caller callee root other selectors lies.0 variable.type_id lies.1 j row own behind.1 row_at own_at of_own in
+      let value : value_at outer other (lies.0 ++ behind.1) ≡ Some v =
+      ap (value_at outer other) (sym steps_are) ∙ ap (λ (r : ℕ). value_at outer r steps) (sym (rows.root_is own inside)) ∙ at in
+      let root_is = under-root tree root [] row (has-contains (rows_under (rows_of tree) root []) row (j, row_at)) in
+      component-exit row behind.1 v of_formal
+      (ap (λ (r : ℕ). value_at inner r behind.1) root_is
+      ∙ same-value tree caller callee root other selectors lies.0 variable.type_id lies.1 after behind.1 ∙ value) bearer
+
+  parameter-exact : (root : ℕ) (variable : DeclaredVariable) (other : ℕ) (selectors : List Selector) (reach : Reach)
+      → slice_get tree.variables.items root ≡ Some variable → Way root variable other selectors reach → (change : Change)
+      → Contains (leaves_changed tree claims.exit root (bearers_of tree (OfVariable other selectors reach))) change → IsExact change.bearer change.range
+  parameter-exact root variable other selectors reach is lies change inside = by (is_ordinal_variable tree root) refl inside
+    where
+      by : (ordinal : Bool) → is_ordinal_variable tree root ≡ ordinal
+          → Contains
+          (cond ordinal (ordinals_changed tree claims.exit root (bearers_of tree (OfVariable other selectors reach)))
+          (rows_changed tree claims.exit (rows_under (rows_of tree) root []) (bearers_of tree (OfVariable other selectors reach)))) change
+          → IsExact change.bearer change.range
+      by true ordinal inside =
+          let found = of-map (variable_change tree claims.exit root) (bearers_of tree (OfVariable other selectors reach)) change inside in
+          subst (λ (c : Change). IsExact c.bearer c.range) found.2
+          (ordinal-exact root variable other selectors reach is lies (sym (ordinal-variable tree root variable is) ∙ ordinal) found.0 found.1)
+      by false plain_root inside =
+          let rows = rows_under (rows_of tree) root [] in
+          let bearers = borne-rows tree other selectors reach variable.type_id lies.1.actual_type
+          (λ none. sym (ordinal-variable tree root variable is) ∙ plain_root) in
+          let found = row-change_from tree claims.exit rows (bearers_of tree (OfVariable other selectors reach)) change inside in
+          let bearer = mapped-from (λ r. Components r reach) (rows_accessed (rows_of tree) other selectors) found.0 found.2
+          (ap (λ (all : List Bearer). slice_get all found.0) (sym bearers) ∙ found.4) in
+          let own = structured-exact root variable other selectors found.0 found.1 bearer.0 found.3 bearer.1 reach lies found.2 in
+          subst (λ (c : Change). IsExact c.bearer c.range) found.5
+          (subst (λ (b : Bearer). IsExact b (row_change tree claims.exit found.1 found.2).range) bearer.2 own)
+
+  passed-exact : (root : ℕ) (variable : DeclaredVariable) → slice_get tree.variables.items root ≡ Some variable → (p : ParameterHere root variable)
+      → (actual : Actual) (argument : Argument) → place_for root block.heading.parameters.items arguments ≡ place_passed argument
+      → IsArgument tree caller store variable actual argument → Fits tree activations argument variable → (change : Change)
+      → Contains (changes_of tree claims.exit root (Some actual)) change → IsExact change.bearer change.range
+  passed-exact root variable is p (OfValue range form) argument place_is known fits change inside = absurd (omega (arith, inside.1))
+  passed-exact root variable is p (OfRows ranges) argument place_is known fits change inside = absurd (omega (arith, inside.1))
+  passed-exact root variable is p (OfVariable other selectors reach) (meaning.OfValue v) place_is known fits change inside = absurd known
+  passed-exact root variable is p (OfVariable other selectors reach) (meaning.OfRow numbers) place_is known fits change inside = absurd known
+  passed-exact root variable is p (OfVariable other selectors reach) (meaning.OfPlace None) place_is known fits change inside = absurd fits
+  passed-exact root variable is p (OfVariable other selectors reach) (meaning.OfPlace (Some place)) place_is known fits change inside =
+      parameter-exact root variable other selectors reach is (passed-lies_at root variable is p other selectors reach place place_is known fits) change inside
+
+  -- each change is exact
+  pub changes-exact : (change : Change) → Contains changes change → IsExact change.bearer change.range
+  changes-exact change inside =
+      let found = of-flat changes_at claims.changes change inside in
+      let outward = back.outward found.0 found.1 in
+      ⊎_elim
+      (λ (here : IsOuterHere found.0 outward.0).
+      outer-exact found.0 outward.0 outward.1 here change
+      (subst (λ (actual : Option Actual). Contains (changes_of tree claims.exit found.0 actual) change) here.no_actual found.2))
+      (λ (p : ParameterHere found.0 outward.0).
+      passed-exact found.0 outward.0 outward.1 p p.actual p.argument p.place_is p.known p.fits change
+      (subst (λ (actual : Option Actual). Contains (changes_of tree claims.exit found.0 actual) change) p.actual_is found.2))
+      (outward-cases tree pairs number block arguments caller activations from back.call store actuals back.are back.of_types found.0 outward)
