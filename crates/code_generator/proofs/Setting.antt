@@ -73,6 +73,9 @@ pub record Setting : Type 0 where
   pub target : Target
   pub sites_are : target.sites ≡ site_table tree.sites.items
   pub stands : Stands target 0 (program_code tree)
+  -- behind each call an instruction follows, whose index is a number
+  pub comes_back : (i count place : ℕ) → slice_get target.code i ≡ Some (instr.CallProcedure count place) → i + 1 < length target.code
+  pub code_is_short : length target.code ≤ 1000000
   pub repeats_are_few : (number : ℕ) (block : Block) → slice_get tree.blocks.items number ≡ Some block → suc (repeats block.body) ≤ target.rate
   pub input : List ℕ
   -- how many cells the machine has, and how far the frame's pushes go
