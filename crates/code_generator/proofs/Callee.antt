@@ -162,7 +162,7 @@ module _ (g : Setting) (number : ℕ) (block : Block) (block_is : slice_get g.tr
       )
 
   -- what is fixed at a place in the frame
-  link_at : (i : ℕ) (cell : Cell) → slice_get new_links i ≡ Some cell → slice_get new_fixed (new_frame + i) ≡ Some (Some cell)
+  pub link_at : (i : ℕ) (cell : Cell) → slice_get new_links i ≡ Some cell → slice_get new_fixed (new_frame + i) ≡ Some (Some cell)
   link_at i cell at =
       let there = slice_map (λ c. Some c) new_links i cell at in
       slice_behind under (map Some new_links ++ inside) i (new_frame + i) (omega (arith, under_long))
