@@ -624,7 +624,6 @@ module _ (g : Setting) (number : ℕ) (block : Block) (block_is : slice_get g.tr
         sites_are = g.sites_are;
         stands = g.stands;
         comes_back = g.comes_back;
-        code_is_short = g.code_is_short;
         repeats_are_few = g.repeats_are_few;
         input = g.input;
         size = g.size;

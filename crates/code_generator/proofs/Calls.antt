@@ -58,6 +58,8 @@ module _ (g : Setting) (depth : ℕ) (known : CallsRun depth) (depth_is : g.dept
     (may : is_callable (outline g) g.number is_function (length arguments) (heading_of block) ≡ true)
     (way : Leads g.fixed (links_to g.scope (called_routine g.scope number).level) g.frame outer)
     (stands : StandsAt g.target place (instr.CallProcedure (row_length (called_routine g.scope number).cells) (called_routine g.scope number).place) true)
+    (there : slice_get g.target.whole place
+    ≡ Some (instr.CallProcedure (row_length (called_routine g.scope number).cells) (called_routine g.scope number).place))
     (based : Based g s base) (fitted : AllFitted g number 0 arguments cells) (room : g.below + length held + 4 + length cells ≤ g.limit) where
   callable : Callable g.tree g.well g.number g.block number block
   callable = may_be_called g.tree g.well g.number g.block g.block_is is_function (length arguments) number block block_is may
@@ -93,7 +95,10 @@ module _ (g : Setting) (depth : ℕ) (known : CallsRun depth) (depth_is : g.dept
   return = g.target.to place + 1
 
   return_within : return < length g.target.code
-  return_within = g.comes_back (g.target.to place) _ _ stands.0
+  return_within = (g.comes_back place (row_length (called_routine g.scope number).cells) (called_routine g.scope number).place there).0
+
+  return_short : return ≤ 1000000
+  return_short = (g.comes_back place (row_length (called_routine g.scope number).cells) (called_routine g.scope number).place there).1
 
   abbrev front : List Cell
   front = base ++ held
@@ -148,8 +153,6 @@ module _ (g : Setting) (depth : ℕ) (known : CallsRun depth) (depth_is : g.dept
       let target_is : (called_routine g.scope number).place ≡ code_place = ap (λ (r : Routine). r.place) routine in
       let stack_is : (base ++ (held ++ links_of g outer)) ++ cells ≡ front ++ (links_of g outer ++ cells) =
       ap (λ l. l ++ cells) (sym (append_assoc base held (links_of g outer))) ∙ append_assoc front (links_of g outer) cells in
-      let short = g.code_is_short in
-      let within = return_within in
       let linked = g.frame_within in
       let full' = based.full in
       let does : called (row_length (called_routine g.scope number).cells) (g.target.to (called_routine g.scope number).place) return
@@ -161,7 +164,7 @@ module _ (g : Setting) (depth : ℕ) (known : CallsRun depth) (depth_is : g.dept
       (row_length (called_routine g.scope number).cells) (g.target.to (called_routine g.scope number).place) return (sym count_is)
       (omega (arith, linked, full', front_long))
       ∙ ap (λ z. Ok (framed (length front) g.limit g.size (front ++ (Number (pos outer) ∷ Number (pos g.frame) ∷ Number z ∷ Number (pos g.limit) ∷ cells)),
-      g.target.to (called_routine g.scope number).place)) (index_is return (omega (arith, short, within)))
+      g.target.to (called_routine g.scope number).place)) (index_is return return_short)
       ∙ ap (λ f. Ok (framed f g.limit g.size stack, g.target.to (called_routine g.scope number).place)) front_long
       ∙ ap (λ p. Ok (framed (g.below + length held) g.limit g.size stack, g.target.to p)) target_is in
       comes_at_rate g.target _ (on g ((base ++ (held ++ links_of g outer)) ++ cells) place s.output) arrived stands.0
@@ -352,7 +355,7 @@ module _ (g : Setting) (depth : ℕ) (known : CallsRun depth) (depth_is : g.dept
             → Starves g call_place whole_does s1 ⊎ Returned g s.turns call_place held (place + 1) is_function (whole_does s1)
         by (inl x) =
             let y = starves_first its arrived body_does ends_so s1 x in
-            inl (y.0, y.1, y.2, stops_on g.target g.target.rate _ arrived _ jump_comes y.3, y.4)
+            inl (y.0, y.1, y.2, stops_on g.target g.target.rate _ arrived _ jump_comes y.3, y.4, y.5)
         by (inr e) = inr (returned (body_does s1) e)
 
   abbrev begun_action : Action Value
@@ -390,6 +393,7 @@ module _ (g : Setting) (depth : ℕ) (known : CallsRun depth) (depth_is : g.dept
             refl,
             stops_on g.target g.target.rate at_call arrived _ jump_comes (store_is_full large),
             too_few large,
+            omega arith,
           )
       with_turn left is (inr fits) = lifted (call_runs fits left is)
         where
@@ -398,7 +402,7 @@ module _ (g : Setting) (depth : ℕ) (known : CallsRun depth) (depth_is : g.dept
               ((body_does >>= ends_so) (record s { turns = left; activations = suc s.activations; living = number ∷ s.living }))
               → Starves g at_call begun_action s
               ⊎ Returned g s.turns at_call held (place + 1) is_function (effect.and_then (effect.begin_with (suc left) number s) behind_begin)
-          lifted (inl x) = inl (suc x.0, x.1, x.2, x.3, x.4)
+          lifted (inl x) = inl (suc x.0, x.1, x.2, x.3, x.4, omega (arith, is, x.5))
           lifted (inr e) = inr e
 
       by : (turns : ℕ) → s.turns ≡ turns → Starves g at_call begun_action s
@@ -411,8 +415,8 @@ module _ (g : Setting) (depth : ℕ) (known : CallsRun depth) (depth_is : g.dept
 
 -- calls do so, in as many activations in one another as one likes
 pub calls_run : (depth : ℕ) → CallsRun depth
-calls_run zero g depth_is is_function number block outer place base held cells arguments s block_is may way stands based fitted room =
+calls_run zero g depth_is is_function number block outer place base held cells arguments s block_is may way stands there based fitted room =
     let deep = based.deep in
     absurd (omega (arith, deep, depth_is))
-calls_run (suc depth) g depth_is is_function number block outer place base held cells arguments s block_is may way stands based fitted room =
-    call_at g depth (calls_run depth) depth_is is_function number block outer place base held cells arguments s block_is may way stands based fitted room
+calls_run (suc depth) g depth_is is_function number block outer place base held cells arguments s block_is may way stands there based fitted room =
+    call_at g depth (calls_run depth) depth_is is_function number block outer place base held cells arguments s block_is may way stands there based fitted room

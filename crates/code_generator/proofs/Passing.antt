@@ -341,6 +341,8 @@ module _ (g : Setting) where
       → is_callable (outline g) g.number is_function (length arguments) (heading_of block) ≡ true
       → Leads g.fixed (links_to g.scope (called_routine g.scope callee).level) g.frame outer
       → StandsAt g.target place (instr.CallProcedure (row_length (called_routine g.scope callee).cells) (called_routine g.scope callee).place) true
+      → slice_get g.target.whole place
+      ≡ Some (instr.CallProcedure (row_length (called_routine g.scope callee).cells) (called_routine g.scope callee).place)
       → Based g s base → AllFitted callee 0 arguments cells → g.below + length held + 4 + length cells ≤ g.limit
       → Returns (on g ((base ++ (held ++ links_of outer)) ++ cells) place s.output) held (place + 1) is_function
       (calls_of g.tree g.depth callee arguments g.environment) s

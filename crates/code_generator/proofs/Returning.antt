@@ -307,7 +307,7 @@ module _ (g : Setting) (number : ℕ) (block : Block) (block_is : slice_get g.tr
   finishes (Some result) false is kind place last t after stands deep = absurd (false≢true kind)
   finishes (Some result) true is kind place last t after stands deep =
       let full = after.full in
-      (result_runs result is place last t after (stands.0, (stands.1.0, tt)) (omega (arith, full)), stands.1.1.0)
+      (result_runs result is place last t after (stands.0, (stands.1.0, tt, stands.1.2), stands.2) (omega (arith, full)), stands.1.1.0)
 
   pub finish : (is_function : Bool) → is_kind_of is_function block.heading.result ≡ true → (place : ℕ)
       (last : List Cell) (t : effect.State) → Based its t last → Stands its.target place (return_code its.scope block.heading.result)
