@@ -773,7 +773,7 @@ module _ (g : Setting) where
         known is_function call.block block.0 outer (place + 1 + length c) base2 held cells arguments t block.1
         (subst (λ n. is_callable (outline g) g.number is_function n (heading_of block.0) ≡ true) (many ∙ sym counted)
         (ap (is_callable (outline g) g.number is_function (length wf)) block.2 ∙ callee.2))
-        way.1 jumping.0 based2 fitted (omega (arith, room, taller)))))
+        way.1 jumping.0 jumping.2 based2 fitted (omega (arith, room, taller)))))
 
     call_evaluates : (call : Call) (actuals : List ((p : Passed) × PassedRuns g p))
         → RunsAs g (call_code g.scope call (map (passed_code g.scope) (bare actuals))) (call_depth (map passed_depth (bare actuals)))

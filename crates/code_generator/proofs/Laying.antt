@@ -289,3 +289,8 @@ module _ (g : Setting) (number : ℕ) where
             marks = ap (λ b. marked_by mark b w cells (marked mark variables)) is ∙ r.marks;
             marks_front_is = r.marks_front_is;
           }
+
+-- what is laid is as long as the parameters
+pub laid_cells : (g : Setting) (number : ℕ) (variables : List Variable) (arguments : List Argument) (cells : List Cell)
+    → Laid g number variables arguments cells → length cells ≡ cells_where g.tree.types (is_parameter_of number) variables
+laid_cells g number variables arguments cells laid = (marked_long g number (λ v cell. cell) variables arguments cells laid).1

@@ -106,14 +106,14 @@ module _ (g : Setting) {A : Type 0} (fit : A → Type 0) (hold : A → List Cell
       → Rounds 0 bound m (use_turn >>= next) s
   turned bound s m next same h = by s.turns refl
     where
-      behind : (left : ℕ) → RoundsBehind 0 bound s.turns m (next tt) (record s { turns = left })
+      behind : (left : ℕ) → s.turns ≡ suc left → RoundsBehind 0 bound s.turns m (next tt) (record s { turns = left })
           → Starves g m (use_turn >>= next) s ⊎ Rounded 0 bound s.turns m (next tt (record s { turns = left }))
-      behind left (inl x) = inl (suc x.0, x.1, x.2, x.3, x.4)
-      behind left (inr e) = inr e
+      behind left is (inl x) = inl (suc x.0, x.1, x.2, x.3, x.4, omega (arith, is, x.5))
+      behind left is (inr e) = inr e
 
       by : (k : ℕ) → s.turns ≡ k → Starves g m (use_turn >>= next) s ⊎ Rounded 0 bound s.turns m (effect.and_then (effect.take_turn k s) next)
       by zero is = inr (m, comes_less g.target (s.turns - g.slack) 0 m m (omega (arith, is)) (stays_here g.target m), same)
-      by (suc left) is = behind left (h left is)
+      by (suc left) is = behind left is (h left is)
 
   -- behind a round the next one comes, or the loop is over
   round_then : (m : State) (first : Action (Option A)) (next : A → Action (Unit {0})) (s : effect.State) → UsesTurnsExactly first
