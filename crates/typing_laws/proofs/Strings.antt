@@ -168,6 +168,9 @@ module _ {here : Here} {least : Reached} where
           looped = refl;
           begun = omega arith;
           inner = refl;
+          threats = λ root is. is;
+          changes = tt;
+          controls = tt;
           formed = λ o more. refl;
         } in
         subst (Leaves here Nothing s (λ id now. nat_le n 65536 ≡ true)) made.same (g, made.few);
