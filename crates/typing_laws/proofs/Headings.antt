@@ -279,6 +279,7 @@ pub record HeadingAdded (here : Here) (under : List Region) (number : ℕ) (old 
   pub sites : new.sites ≡ old.sites
   pub entries : new.entries ≡ old.entries
   pub loops : new.loops ≡ old.loops
+  pub threatened : new.threatened ≡ old.threatened
   pub types : IsLonger old.types new.types
   pub variables : IsLonger old.variables new.variables
   pub regions : new.regions ≡ old.regions
@@ -477,6 +478,7 @@ module _ (here : Here) (under : List Region) (number : ℕ) (name : Name) (group
     pub start : Passed
     pub from : (start.sites ≡ s.sites) × (start.entries ≡ s.entries) × (start.loops ≡ s.loops) × (start.regions ≡ s.regions)
         × (start.headings ≡ s.headings) × IsLonger s.types start.types × IsLonger s.variables start.variables
+    pub threatened : start.threatened ≡ s.threatened
     pub others : (block : ℕ) → Fails (nat_eq number block) → variables_of block start.variables ≡ variables_of block s.variables
     pub root : Option ℕ
     pub ready : Ready inner under number (heads_passed s.headings ++ pending ∷ []) start.variables start
@@ -540,6 +542,7 @@ module _ (here : Here) (under : List Region) (number : ℕ) (name : Name) (group
         as_told = two.2;
         start = z.0.passed;
         from = (k.1.sites, k.1.entries, k.1.loops, result_regions number name.place y.0.answer n3 z.0 z.1, k.1.headings, k.1.types, k.1.variables);
+        threatened = k.1.threatened;
         others = k.1.others;
         root = z.0.answer;
         ready = k.2.0.0.0;
@@ -649,6 +652,7 @@ module _ (here : Here) (under : List Region) (number : ℕ) (name : Name) (group
         sites = p.silent.sites ∙ r.from.0;
         entries = p.silent.entries ∙ r.from.1;
         loops = p.silent.loops ∙ r.from.2;
+        threatened = p.silent.threatened ∙ r.threatened;
         types = types;
         variables = variables;
         regions = regions;

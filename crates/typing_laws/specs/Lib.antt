@@ -1,2 +1,2 @@
-pub mod Lawful
 pub mod Controls
+pub mod Lawful
