@@ -371,7 +371,7 @@ no_fewer old new longer = omega (arith, ap length longer.goes_on, length-append 
 -- what is known where the block of a routine begins
 module _ (here : Here) (under : List Region) (number : ℕ) (headed : Headed) (names : List (List ℕ)) where
   abbrev inner : Here
-  inner = record { block = number; around = here.around ++ here.block ∷ [] }
+  inner = record { block = number; around = here.around ++ here.block ∷ []; owing = false }
 
   abbrev entered : Passed → Passed
   entered s = record s {
@@ -386,7 +386,7 @@ module _ (here : Here) (under : List Region) (number : ℕ) (headed : Headed) (n
       let heads = heads_passed s.headings in
       let told = st.ready.base.headed number headed there in
       let region : IsSoundRegion inner s.variables s.types heads headed.region =
-      subst (λ l. IsSoundRegion (record { block = number; around = l }) s.variables s.types heads headed.region) around told.region in
+      subst (λ l. IsSoundRegion (record { block = number; around = l; owing = false }) s.variables s.types heads headed.region) around told.region in
       record {
         ready = record {
           sound = (
@@ -483,7 +483,7 @@ turned : (m n : ℕ) → Fails (nat_eq m n) → Fails (nat_eq n m)
 turned m n other = grind (arith, nat_tests)
 
 -- what stands round a routine's block is that, or stands round its declarer
-round_parts : (here : Here) (number block : ℕ) → is_round_here (record { block = number; around = here.around ++ here.block ∷ [] }) block ≡ true
+round_parts : (here : Here) (number block : ℕ) → is_round_here (record { block = number; around = here.around ++ here.block ∷ []; owing = false }) block ≡ true
     → (block ≡ number) ⊎ (is_round_here here block ≡ true)
 round_parts here number block is = by (nat_eq block number) refl is
   where
@@ -579,7 +579,7 @@ module _ (here : Here) (start middle last : Passed) {first : Look} {second : Loo
 -- from the declarations of a block to its end
 module _ (here : Here) (under : List Region) (number : ℕ) (headed : Headed) (names : List (List ℕ)) where
   abbrev inner_here : Here
-  inner_here = record { block = number; around = here.around ++ here.block ∷ [] }
+  inner_here = record { block = number; around = here.around ++ here.block ∷ []; owing = false }
 
   -- what is not round the block isn't round its declarer's
   outside_too : (block : ℕ) → Fails (is_round_here inner_here block) → Fails (is_round_here here block)

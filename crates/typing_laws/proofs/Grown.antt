@@ -20,6 +20,9 @@ use Rattle.std.specs.List.{list_any}
 use Rattle.typing_laws.specs.Controls.{Each, mark_changes, mark_controls}
 use Rattle.typing_laws.proofs.Kept.{MayChange, change_later, changes_of, controls_of, each_append, each_more}
 use Rattle.typing_laws.proofs.Owned.{Fails}
+use Rattle.std.proofs.Common.{◌||◌, inl, inr, ◌⊎◌}
+use Rattle.typing_laws.specs.Results.{is_target, mark_targets}
+use Rattle.typing_laws.proofs.Sound.{or_right}
 
 -- ---- headings that were passed
 
@@ -124,6 +127,10 @@ pub record Grown (here : Here) (Has : List Stands → Type 0) (look : Look) (old
   pub begun : new.loops ≡ old.loops + length (loops_of_look look)
   pub inner : blocks_of_look look ≡ []
   pub threats : (root : ℕ) → list_any (nat_eq root) old.threatened ≡ true → list_any (nat_eq root) new.threatened ≡ true
+  pub assigns : (root : ℕ) → list_any (nat_eq root) old.assigned ≡ true → list_any (nat_eq root) new.assigned ≡ true
+  pub assigned :
+      here.owing ≡ false → (root : ℕ) → list_any (nat_eq root) new.assigned ≡ true
+      → (list_any (nat_eq root) old.assigned ≡ true) ⊎ (is_target look root ≡ true)
   pub changes : Each (MayChange here (reached new)) (changes_of look)
   pub controls : Each (IsFree here old new) (controls_of look)
   pub formed : (o : Outline) → IsFurther (reached new) (whole_of o) → list_all (is_formed_mark o here.block) look ≡ true
@@ -190,6 +197,41 @@ module _ (numbers : Mark → List ℕ) (look more : Look) where
       ∙ sym (range_joins from (length (flat_map numbers look)) (length (flat_map numbers more)))
       ∙ ap (range_with_len from) (sym counted)
 
+-- a target is one among more
+any_first : (xs ys : List ℕ) (root : ℕ) → list_any (nat_eq root) xs ≡ true → list_any (nat_eq root) (xs ++ ys) ≡ true
+any_first [] ys root is = absurd cc
+any_first (x ∷ xs) ys root is = by (nat_eq root x) (any_first xs ys root) is
+  where
+    by : (test : Bool) → (list_any (nat_eq root) xs ≡ true → list_any (nat_eq root) (xs ++ ys) ≡ true) → (test || list_any (nat_eq root) xs) ≡ true
+        → (test || list_any (nat_eq root) (xs ++ ys)) ≡ true
+    by true more h = refl
+    by false more h = more h
+
+any_second : (xs ys : List ℕ) (root : ℕ) → list_any (nat_eq root) ys ≡ true → list_any (nat_eq root) (xs ++ ys) ≡ true
+any_second [] ys root is = is
+any_second (x ∷ xs) ys root is = or_right (nat_eq root x) (list_any (nat_eq root) (xs ++ ys)) (any_second xs ys root is)
+
+pub target_first : (look more : Look) (root : ℕ) → is_target look root ≡ true → is_target (look ++ more) root ≡ true
+target_first look more root is =
+    subst (λ l. list_any (nat_eq root) l ≡ true) (sym (flat_map-append mark_targets look more))
+    (any_first (flat_map mark_targets look) (flat_map mark_targets more) root is)
+
+pub target_second : (look more : Look) (root : ℕ) → is_target more root ≡ true → is_target (look ++ more) root ≡ true
+target_second look more root is =
+    subst (λ l. list_any (nat_eq root) l ≡ true) (sym (flat_map-append mark_targets look more))
+    (any_second (flat_map mark_targets look) (flat_map mark_targets more) root is)
+
+-- assigned in one part or in the other
+pub assigned_then : {before between : Bool} (look more : Look) (root : ℕ)
+    → (between ≡ true → (before ≡ true) ⊎ (is_target look root ≡ true)) → (between ≡ true) ⊎ (is_target more root ≡ true)
+    → (before ≡ true) ⊎ (is_target (look ++ more) root ≡ true)
+assigned_then {before} look more root first (inl there) = by (first there)
+  where
+    by : (before ≡ true) ⊎ (is_target look root ≡ true) → (before ≡ true) ⊎ (is_target (look ++ more) root ≡ true)
+    by (inl old) = inl old
+    by (inr target) = inr (target_first look more root target)
+assigned_then {before} look more root first (inr target) = inr (target_second look more root target)
+
 -- a variable that is threatened later alone is free before
 free_before : (a b : Bool) → (a ≡ true → b ≡ true) → Fails b → Fails a
 free_before true b more is = let same : false ≡ true = sym is ∙ more refl in absurd cc
@@ -218,6 +260,8 @@ grown_then {here} {First} {Second} {Both} {look} {more} {old} {now} {new} joined
   begun = omega (arith, f.begun, g.begun, counted mark_loops look more);
   inner = flat_map-append mark_blocks look more ∙ ap₂ (λ a b. a ++ b) f.inner g.inner;
   threats = λ root is. g.threats root (f.threats root is);
+  assigns = λ root is. g.assigns root (f.assigns root is);
+  assigned = λ settled root is. assigned_then look more root (f.assigned settled root) (g.assigned settled root is);
   changes =
       subst (Each (MayChange here (reached new))) (sym (flat_map-append mark_changes look more))
       (each_append (MayChange here (reached new)) (changes_of look) (changes_of more)

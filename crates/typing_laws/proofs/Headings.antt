@@ -369,7 +369,7 @@ innermost_sound here variables types heads (region ∷ regions) sound = sound.0
 
 module _ (here : Here) (under : List Region) (number : ℕ) (name : Name) (groups : List FormalGroup) (of_result : Option Name) where
   abbrev inner : Here
-  inner = record { block = number; around = here.around ++ here.block ∷ [] }
+  inner = record { block = number; around = here.around ++ here.block ∷ []; owing = false }
 
   abbrev pending : Head
   pending = record { around = here.around ++ here.block ∷ []; is_function = not (is_none of_result) }
@@ -627,8 +627,8 @@ module _ (here : Here) (under : List Region) (number : ℕ) (name : Name) (group
             ordinal_later r.start.types last.types r.start.variables last.variables root r.ready.base.have_types p.silent.types p.silent.variables
             (result_ordinal heads r.id r.root r.start root r.result_is r.ordinal told);
         region =
-            subst (λ h. IsSoundRegion (record { block = number; around = headed.around }) last.variables last.types h headed.region) (sym same_heads)
-            (subst (λ l. IsSoundRegion (record { block = number; around = l }) last.variables last.types heads headed.region) (sym around)
+            subst (λ h. IsSoundRegion (record { block = number; around = headed.around; owing = false }) last.variables last.types h headed.region) (sym same_heads)
+            (subst (λ l. IsSoundRegion (record { block = number; around = l; owing = false }) last.variables last.types heads headed.region) (sym around)
             (innermost_sound inner last.variables last.types heads last.regions p.ready.sound));
       } in
       let base =

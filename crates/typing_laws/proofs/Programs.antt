@@ -50,7 +50,7 @@ use Rattle.typing_laws.proofs.Placed.{placed_inner}
 -- ---- where a program begins
 
 abbrev program_here : Here
-program_here = record { block = 0; around = [] }
+program_here = record { block = 0; around = []; owing = false }
 
 abbrev round_it : List Region
 round_it = required_region ∷ []

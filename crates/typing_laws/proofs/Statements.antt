@@ -73,6 +73,7 @@ use Rattle.typing_laws.proofs.EveryExpression.{expression_lawful, actual_lawful,
 use Rattle.typing_laws.specs.Controls.{mark_changes}
 use Rattle.typing_laws.proofs.Kept.{MayChange, change_later}
 use Rattle.typing_laws.proofs.Steps.{change_does, controlled_does}
+use Rattle.typing_laws.proofs.Targets.{target_does}
 
 -- ---- tests
 
@@ -110,101 +111,9 @@ module _ (here : Here) where
 
   -- ---- assignments
 
-  target_formed : {least : Reached} (root : ℕ) (selectors : List TreeSelector) (id : TypeId) (ordinal : Bool) → LeadsTo here root selectors id least
-      → is_ordinal least.types id ≡ ordinal → MayChange here least root → Does here least Nothing (mark (target_mark ordinal root selectors id)) Anything
-  target_formed {least} root selectors id true l is may =
-      change_does (Target root selectors (index_count selectors)) root refl refl refl refl refl may (λ n h. ordinal_formed here root selectors id least n l is h)
-  target_formed {least} root selectors id false l is may =
-      change_does (WholeTarget root selectors (index_count selectors) id) root refl refl refl refl refl may
-      (λ n h. whole_formed here root selectors id least n l is h)
-
   -- it is of a type that stands in the table
   abbrev StandsThere : TypeId → Reached → Type 0
   StandsThere id now = id.index < length now.types
-
-  -- the result of a function, inside its block
-  result_target_does : {least : Reached} (place : Place) (inside : Bool) (result : Option ℕ)
-      → Does here least Nothing (result_target place inside result) (λ root now. (inside ≡ true) × (result ≡ Some root))
-  result_target_does place true (Some root) = quietly (assign_result_does root) λ _ _ _ _. pure_does root (λ n h. (refl, refl))
-  result_target_does place true None = fail_does (fault.NotVariable place)
-  result_target_does place false result = fail_does (fault.NotVariable place)
-
-  variable_type : (place : Place) (found : Option Variable) (id : TypeId) → or_no_variable place found ≡ Ok id
-      → (v : Variable) × (found ≡ Some v) × (v.type_id ≡ id)
-  variable_type place (Some v) id is = (v, refl, cc)
-  variable_type place None id is = absurd cc
-
-  inside_is : (enclosing : Enclosing) (block : ℕ) → enclosing.block ≡ here.block → enclosing.around ≡ here.around
-      → is_one_of (enclosing.block ∷ enclosing.around) block ≡ true → is_round_here here block ≡ true
-  inside_is enclosing block one two is =
-      by (nat_eq here.block block) refl (subst (λ blocks. is_one_of blocks block ≡ true) (ap₂ (λ a b. a ∷ b) one two) is)
-    where
-      by : (test : Bool) → nat_eq here.block block ≡ test → (test || is_one_of here.around block) ≡ true
-          → (nat_eq block here.block || is_one_of here.around block) ≡ true
-      by true same h = ap (λ b. b || is_one_of here.around block) (eq-eqb block here.block (sym (eqb-true here.block block same)))
-      by false same h = or_right (nat_eq block here.block) (is_one_of here.around block) h
-
-  -- what stands left of `:=` is a variable, or the result of a function
-  abbrev IsTarget : ℕ × TypeId → Reached → Type 0
-  IsTarget variable now = IsVariable here now.variables now.types variable.0 variable.1 × StandsIn here now
-
-  function_target_does : {least : Reached} (place : Place) (block : ℕ) (is_function : Bool) → IsRoutine here (heads_of least) block is_function
-      → StandsIn here least → Does here least Nothing (function_target place block) IsTarget
-  unfolding function_target
-  function_target_does {least} place block is_function routine stands =
-      let may = may_call_it here least is_function block routine in
-      quietly enclosing_now_does λ enclosing _ one in_here.
-      quietly (heading_at_does block may.signature (get_longer one.headings block may.signature may.heading)) λ heading now two is.
-      let inside = is_one_of (enclosing.block ∷ enclosing.around) block in
-      quietly (result_target_does place inside heading.result) λ root _ three has.
-      quietly (variable_at_does root) λ found next four there.
-      quietly (given_does (or_no_variable place found)) λ id _ five type_is.
-      let outcome = is.1.outcome root (sym (ap (λ (s : Signature). s.result) is.0) ∙ has.1) in
-      let typed = variable_type place found id type_is in
-      let known : Some outcome.variable ≡ Some typed.0 =
-      sym (get_longer (further_still three four).variables root outcome.variable outcome.is_there) ∙ there ∙ typed.1 in
-      let same : outcome.variable ≡ typed.0 = some_same outcome.variable typed.0 known in
-      pure_does (root, id) (λ n h.
-      let seen = further_still three (further_still four (further_still five h)) in (
-        record {
-          variable = outcome.variable;
-          is_there = get_longer seen.variables root outcome.variable outcome.is_there;
-          is_visible = ap (is_round_here here) outcome.of_block ∙ inside_is enclosing block in_here.0 in_here.1 has.0;
-          of_type = ap (λ (v : Variable). v.type_id) same ∙ typed.2;
-          stands = stands_longer seen.types id
-              (subst (λ (i : TypeId). i.index < length now.types) (ap (λ (v : Variable). v.type_id) same ∙ typed.2) outcome.stands);
-        },
-        stands_later here least n (further_still one (further_still two seen)) stands,
-      ))
-    where
-      some_same : (a b : Variable) → Some a ≡ Some b → a ≡ b
-      some_same a b is = cc
-
-  target_of_does : {least : Reached} (found : Option (ℕ × Bool)) (place : Place) (d : Denotation) → as_routine d ≡ found → IsFound here d least
-      → Does here least Nothing (target_of found place d) IsTarget
-  target_of_does {least} None place d same sound =
-      further_answered (given_does (as_variable place d)) (λ variable now more is.
-      (variable_later here least now variable.0 variable.1 more (variable_is here least place d variable is sound.0), stands_later here least now more sound.1))
-  target_of_does {least} (Some routine) place d same sound =
-      function_target_does place routine.0 routine.1 (routine_is here least d routine same sound.0) sound.1
-
-  target_does : {least : Reached} (name : Name) (selectors : List Selector) (rows : List (List Place)) (ws : List Written) → AreLawfulRows here rows ws
-      → Does here least (Covers 0 (selector_places selectors rows)) (target name selectors ws) StandsThere
-  unfolding target
-  target_does name selectors rows ws laws =
-      quietly (find_does name) λ d _ _ sound.
-      quietly (target_of_does (as_routine d) name.place d refl sound) λ variable now _ found.
-      quietly (may_change_does name.place variable.0 variable.1 found.0) λ _ changed two may.
-      quietly (enter_does Access (λ n. refl) (λ n. refl) (λ n. refl) (λ n. refl) (λ n m h. refl)) λ _ entered three _.
-      let start = leads_nowhere here variable.0 variable.1 now found.0 found.1 in
-      last (selected_does here variable.0 [] variable.1 selectors rows ws laws
-      (leads_later here variable.0 [] variable.1 now entered (further_still two three) start))
-      λ component met later l.
-      quietly (tests_ordinal_does here component.1) λ ordinal next four ordered.
-      let may_there = change_later here changed next variable.0 (further_still three (further_still later four)) may in
-      let led = leads_later here variable.0 component.0 component.1 met next four l in
-      quietly (target_formed variable.0 component.0 component.1 ordinal led (tested_is here next component.1 ordinal ordered.1) may_there) λ _ _ five _.
-      pure_does component.1 (λ n h. stands_longer (further_still five h).types component.1 led.stands)
 
   assigned_does : {least : Reached} (id : TypeId) (becomes : Place) (places : List Place) (value : Written) → LawfulWritten here places value
       → Does here least (Covers 0 (becomes ∷ places)) (assigned id becomes value) Anything
@@ -238,14 +147,14 @@ module _ (here : Here) where
   value_does false id becomes places value stands law = copied_does id becomes places value stands law
 
   assignment_does : (name : Name) (selectors : List Selector) (rows : List (List Place)) (ws : List Written) (becomes : Place) (places : List Place)
-      (value : Written) → AreLawfulRows here rows ws → LawfulWritten here places value
+      (value : Written) → ((h : Here) → AreLawfulRows h rows ws) → LawfulWritten here places value
       → LawfulStatement (name.place ∷ (selector_places selectors rows ++ (becomes ∷ places))) (assignment name selectors ws becomes value)
   unfolding assignment
   assignment_does name selectors rows ws becomes places value laws law = record {
     passes = λ least.
         sited (λ sites. covers_skip 0 name.place (selector_places selectors rows ++ (becomes ∷ places)) sites)
         (quietly (enter_does (λ n. Assign n becomes) (λ n. refl) (λ n. refl) (λ n. refl) (λ n. refl) (λ n m h. refl)) λ _ _ _ _.
-        joins (covers_both 0 (selector_places selectors rows) (becomes ∷ places)) (target_does name selectors rows ws laws) λ id now _ stands.
+        joins (covers_both 0 (selector_places selectors rows) (becomes ∷ places)) (target_does here name selectors rows ws laws) λ id now _ stands.
         quietly (tests_ordinal_does here id) λ ordinal next one _.
         value_does ordinal id becomes places value (stands_longer one.types id stands) law);
   }
@@ -580,7 +489,7 @@ module _ (here : Here) where
   statement_layer (layer.Assign name selectors indexes becomes value) =
       from_layer (layer.Assign name selectors indexes becomes value)
       (assignment_does name selectors.items (map expr_places indexes.items) (map expression indexes.items) becomes (expr_places value) (expression value)
-      (indexes_lawful here indexes.items) (expression_lawful here value))
+      (λ h. indexes_lawful h indexes.items) (expression_lawful here value))
   statement_layer (layer.Call name actuals) = from_layer (layer.Call name actuals) (call_does name actuals.items)
   statement_layer (layer.Compound statements) = from_layer (bare (layer.Compound statements)) (compound_does _ _ (row_lawful statements.items))
   statement_layer (layer.If place condition consequence None) =

@@ -38,6 +38,7 @@ use Rattle.typing_laws.specs.Controls.{Each, mark_changes, mark_controls}
 use Rattle.typing_laws.proofs.Grown.{IsFree}
 use Rattle.typing_laws.proofs.Kept.{MayChange, change_later}
 use Rattle.typing_laws.proofs.Sound.{IsVariable, or_right}
+use Rattle.std.proofs.Common.{inl}
 
 -- a form has grown what is known, and its answer has this
 abbrev pub Leaves : {A : Type 0} → Here → (List Stands → Type 0) → Passed → (A → Reached → Type 0) → After A → Type 0
@@ -162,6 +163,8 @@ sited {here} {Has = Has} {Had = Had} has d = record {
       begun = g.begun;
       inner = g.inner;
       threats = g.threats;
+      assigns = g.assigns;
+      assigned = g.assigned;
       changes = g.changes;
       controls = g.controls;
       formed = g.formed;
@@ -192,9 +195,10 @@ further_answered d other = record {
 pub grown_silent : (here : Here) (s new : Passed) → new.regions ≡ s.regions → new.types ≡ s.types → new.texts ≡ s.texts
     → new.variables ≡ s.variables → new.headings ≡ s.headings → new.enclosing ≡ s.enclosing → new.sites ≡ s.sites
     → new.entries ≡ s.entries → new.loops ≡ s.loops
-    → ((root : ℕ) → list_any (nat_eq root) s.threatened ≡ true → list_any (nat_eq root) new.threatened ≡ true) → Fine here s
+    → ((root : ℕ) → list_any (nat_eq root) s.threatened ≡ true → list_any (nat_eq root) new.threatened ≡ true)
+    → new.assigned ≡ s.assigned → Fine here s
     → Grown here Nothing [] s new
-grown_silent here s new regions types texts declared headings enclosing sites entries loops threats fine = record {
+grown_silent here s new regions types texts declared headings enclosing sites entries loops threats assigned fine = record {
   regions = regions;
   longer = subst (IsLonger s.types) (sym types) as_long;
   lawful = subst AreLawful (sym types) fine.lawful;
@@ -213,6 +217,8 @@ grown_silent here s new regions types texts declared headings enclosing sites en
   begun = omega (arith, loops);
   inner = refl;
   threats = threats;
+  assigns = λ root is. ap (list_any (nat_eq root)) assigned ∙ is;
+  assigned = λ settled root is. inl (ap (list_any (nat_eq root)) (sym assigned) ∙ is);
   changes = tt;
   controls = tt;
   formed = λ o h. refl;
@@ -223,7 +229,7 @@ unfolding pass
 pass_does {here} place = record {
   does = λ s a is fine h.
       let same : after tt [] (record s { latest = place }) ≡ a = cc in
-      subst (Leaves here Nothing s Anything) same (grown_silent here s (record s { latest = place }) refl refl refl refl refl refl refl refl refl (λ root is. is) fine, tt);
+      subst (Leaves here Nothing s Anything) same (grown_silent here s (record s { latest = place }) refl refl refl refl refl refl refl refl refl (λ root is. is) refl fine, tt);
 }
 
 pub pure_does : {here : Here} {least : Reached} {A : Type 0} {K : A → Reached → Type 0} (x : A)
@@ -231,7 +237,7 @@ pub pure_does : {here : Here} {least : Reached} {A : Type 0} {K : A → Reached 
 pure_does {here} {least} {A} {K} x known = record {
   does = λ s a is fine h.
       let same : after x [] s ≡ a = cc in
-      subst (Leaves here Nothing s K) same (grown_silent here s s refl refl refl refl refl refl refl refl refl (λ root is. is) fine, known (reached s) h);
+      subst (Leaves here Nothing s K) same (grown_silent here s s refl refl refl refl refl refl refl refl refl (λ root is. is) refl fine, known (reached s) h);
 }
 
 pub given_does : {here : Here} {least : Reached} {A : Type 0} (checked : Checked A)
@@ -240,7 +246,7 @@ given_does {here} {least} {A} checked = record {
   does = λ s a is fine h.
       let x = split checked (λ b. Ok (after b [] s)) a is in
       let same : after x.0 [] s ≡ a = cc in
-      subst (Leaves here Nothing s (λ x now. checked ≡ Ok x)) same (grown_silent here s s refl refl refl refl refl refl refl refl refl (λ root is. is) fine, x.1);
+      subst (Leaves here Nothing s (λ x now. checked ≡ Ok x)) same (grown_silent here s s refl refl refl refl refl refl refl refl refl (λ root is. is) refl fine, x.1);
 }
 
 pub by_types_does : {here : Here} {least : Reached} {A : Type 0} (test : List Form → Checked A)
@@ -250,7 +256,7 @@ by_types_does {here} {least} {A} test = record {
       let x = split (test s.types) (λ b. Ok (after b [] s)) a is in
       let same : after x.0 [] s ≡ a = cc in
       subst (Leaves here Nothing s (λ x now. AreLawful now.types × (test now.types ≡ Ok x))) same
-      (grown_silent here s s refl refl refl refl refl refl refl refl refl (λ root is. is) fine, (fine.lawful, x.1));
+      (grown_silent here s s refl refl refl refl refl refl refl refl refl (λ root is. is) refl fine, (fine.lawful, x.1));
 }
 
 pub fail_does : {here : Here} {least : Reached} {A : Type 0} {Has : List Stands → Type 0} {K : A → Reached → Type 0} (why : TypeFault)
@@ -275,7 +281,7 @@ find_does {here} name = record {
       let same : after x.0 [] (record s { latest = name.place }) ≡ a = cc in
       let there = found_holds (IsSound here s.variables s.types (heads_of (reached s))) s.regions text x.0 fine.sound (by (found s.regions text) x.0 x.1) in
       subst (Leaves here Nothing s (λ denotation now. IsFound here denotation now)) same
-      (grown_silent here s (record s { latest = name.place }) refl refl refl refl refl refl refl refl refl (λ root is. is) fine, (there, fine.stands));
+      (grown_silent here s (record s { latest = name.place }) refl refl refl refl refl refl refl refl refl (λ root is. is) refl fine, (there, fine.stands));
 }
   where
     by : (r : Result Denotation ScopeFault) (d : Denotation) → told name.place r ≡ Ok d → r ≡ Ok d
@@ -287,7 +293,7 @@ unfolding wants_output
 wants_output_does {here} place = record {
   does = λ s a is fine h.
       let x = split_if s.has_output (fault.NotProgramParameter place) (after tt [] s) a is in
-      subst (Leaves here Nothing s Anything) x.1 (grown_silent here s s refl refl refl refl refl refl refl refl refl (λ root is. is) fine, tt);
+      subst (Leaves here Nothing s Anything) x.1 (grown_silent here s s refl refl refl refl refl refl refl refl refl (λ root is. is) refl fine, tt);
 }
 
 -- ---- marks
@@ -321,6 +327,8 @@ marked_does {here} {least} one none no_loop no_block changes no_control formed =
         begun = omega (arith, loops_counted);
         inner = ap (λ l. l ++ []) no_block;
         threats = λ root is. is;
+        assigns = λ root is. is;
+        assigned = λ settled root is. inl is;
         changes = changes (reached s) h;
         controls = subst (λ (l : List ℕ). Each (IsFree here s s) (l ++ [])) (sym no_control) tt;
         formed = λ o more. both_true _ true (formed o (further_still h more)) refl;
@@ -383,6 +391,8 @@ enter_does {here} {least} marked one no_loop no_block no_change formed = record 
         begun = omega (arith, loops_counted);
         inner = ap (λ l. l ++ []) (no_block number);
         threats = λ root is. is;
+        assigns = λ root is. is;
+        assigned = λ settled root is. inl is;
         changes = subst (λ (l : List ℕ). Each (MayChange here (reached new)) (l ++ [])) (sym (no_change number)) tt;
         controls = subst (λ (l : List ℕ). Each (IsFree here s new) (l ++ [])) (sym (no_control (marked number) (no_change number))) tt;
         formed = λ o more. both_true _ true (formed number o (further_still h more)) refl;
@@ -438,6 +448,8 @@ enter_loop_at {here} marked one loop no_block s a changes controls formed fine i
           begun = omega (arith, loops_counted);
           inner = ap (λ l. l ++ []) (no_block s.entries s.loops);
           threats = λ root is. is;
+          assigns = λ root is. is;
+          assigned = λ settled root is. inl is;
           changes = changes s.entries s.loops;
           controls = controls s.entries s.loops new refl;
           formed = λ o more. both_true _ true (formed s.entries s.loops o more) refl;
@@ -457,6 +469,23 @@ enter_loop_does {here} {least} marked one loop no_block no_change formed = recor
 }
 
 -- ---- control variables
+
+-- what is there is there with one more
+pub kept_with : (roots : List ℕ) (root other : ℕ) → list_any (nat_eq other) roots ≡ true → list_any (nat_eq other) (with_one roots root) ≡ true
+kept_with roots root other is = one (list_any (nat_eq root) roots)
+  where
+    before : (all : List ℕ) → list_any (nat_eq other) all ≡ true → list_any (nat_eq other) (all ++ root ∷ []) ≡ true
+    before [] h = absurd cc
+    before (first ∷ all) h = here_or (nat_eq other first) (before all) h
+      where
+        here_or : (test : Bool) → (list_any (nat_eq other) all ≡ true → list_any (nat_eq other) (all ++ root ∷ []) ≡ true)
+            → (test || list_any (nat_eq other) all) ≡ true → (test || list_any (nat_eq other) (all ++ root ∷ [])) ≡ true
+        here_or true more g = refl
+        here_or false more g = more g
+
+    one : (test : Bool) → list_any (nat_eq other) (if test then roots else roots ++ root ∷ []) ≡ true
+    one true = is
+    one false = before roots is
 
 -- a variable of this block or of one round it, which may be changed from here on
 pub may_change_does : {here : Here} {least : Reached} (place : Place) (root : ℕ) (type_id : TypeId)
@@ -482,22 +511,6 @@ may_change_does {here} {least} place root type_id known = record {
         one true is = is
         one false is = at_end roots
 
-    kept : (roots : List ℕ) (root other : ℕ) → list_any (nat_eq other) roots ≡ true → list_any (nat_eq other) (with_one roots root) ≡ true
-    kept roots root other is = one (list_any (nat_eq root) roots)
-      where
-        before : (all : List ℕ) → list_any (nat_eq other) all ≡ true → list_any (nat_eq other) (all ++ root ∷ []) ≡ true
-        before [] h = absurd cc
-        before (first ∷ all) h = here_or (nat_eq other first) (before all) h
-          where
-            here_or : (test : Bool) → (list_any (nat_eq other) all ≡ true → list_any (nat_eq other) (all ++ root ∷ []) ≡ true)
-                → (test || list_any (nat_eq other) all) ≡ true → (test || list_any (nat_eq other) (all ++ root ∷ [])) ≡ true
-            here_or true more g = refl
-            here_or false more g = more g
-
-        one : (test : Bool) → list_any (nat_eq other) (if test then roots else roots ++ root ∷ []) ≡ true
-        one true = is
-        one false = before roots is
-
     own_is : (s : Passed) → Fine here s → slice_get s.variables root ≡ Some known.variable → is_own s.enclosing.block (slice_get s.variables root) ≡ true
         → nat_eq known.variable.block here.block ≡ true
     own_is s fine there is =
@@ -512,7 +525,7 @@ may_change_does {here} {least} place root type_id known = record {
         → Leaves here Nothing s (λ _ now. MayChange here now root)
         (after (tt {0}) [] (if test then s else record s { threatened = with_one s.threatened root }))
     by s true own fine there = (
-      grown_silent here s s refl refl refl refl refl refl refl refl refl (λ root is. is) fine,
+      grown_silent here s s refl refl refl refl refl refl refl refl refl (λ root is. is) refl fine,
       record {
         variable = known.variable;
         is_there = there;
@@ -521,7 +534,7 @@ may_change_does {here} {least} place root type_id known = record {
       },
     )
     by s false own fine there = (
-      grown_silent here s (record s { threatened = with_one s.threatened root }) refl refl refl refl refl refl refl refl refl (kept s.threatened root) fine,
+      grown_silent here s (record s { threatened = with_one s.threatened root }) refl refl refl refl refl refl refl refl refl (kept_with s.threatened root) refl fine,
       record {
         variable = known.variable;
         is_there = there;
@@ -595,7 +608,7 @@ begin_control_does {here} root = record {
   does = λ s a is fine h.
       let new : Passed = record s { controls = s.controls ++ root ∷ [] } in
       let same : after tt [] new ≡ a = cc in
-      subst (Leaves here Nothing s Anything) same (grown_silent here s new refl refl refl refl refl refl refl refl refl (λ root is. is) fine, tt);
+      subst (Leaves here Nothing s Anything) same (grown_silent here s new refl refl refl refl refl refl refl refl refl (λ root is. is) refl fine, tt);
 }
 
 pub end_control_does : {here : Here} {least : Reached} → Does here least Nothing end_control Anything
@@ -604,7 +617,7 @@ end_control_does {here} = record {
   does = λ s a is fine h.
       let new : Passed = record s { controls = take (length s.controls - 1) s.controls } in
       let same : after tt [] new ≡ a = cc in
-      subst (Leaves here Nothing s Anything) same (grown_silent here s new refl refl refl refl refl refl refl refl refl (λ root is. is) fine, tt);
+      subst (Leaves here Nothing s Anything) same (grown_silent here s new refl refl refl refl refl refl refl refl refl (λ root is. is) refl fine, tt);
 }
 
 pub host_type_does : {here : Here} {least : Reached} (id : TypeId) → Does here least Nothing (host_type id) Anything
@@ -624,7 +637,7 @@ enclosing_now_does {here} = record {
   does = λ s a is fine h.
       let same : after s.enclosing [] s ≡ a = cc in
       subst (Leaves here Nothing s (λ enclosing now. (enclosing.block ≡ here.block) × (enclosing.around ≡ here.around))) same
-      (grown_silent here s s refl refl refl refl refl refl refl refl refl (λ root is. is) fine, (fine.block, fine.around));
+      (grown_silent here s s refl refl refl refl refl refl refl refl refl (λ root is. is) refl fine, (fine.block, fine.around));
 }
 
 -- the heading of a block that was passed tells what is so
@@ -638,7 +651,7 @@ heading_at_does {here} block signature there = record {
       let found : get_or s.headings block program_heading ≡ at.0 = get_or_is s.headings block program_heading at.0 at.1 in
       let same : after (get_or s.headings block program_heading) [] s ≡ a = cc in
       subst (Leaves here Nothing s (λ headed now. (signature_passed headed ≡ signature) × FitsHeading now block signature)) same (
-        grown_silent here s s refl refl refl refl refl refl refl refl refl (λ root is. is) fine,
+        grown_silent here s s refl refl refl refl refl refl refl refl refl (λ root is. is) refl fine,
         (ap signature_passed found ∙ at.2, fine.fit.fits block signature known),
       );
 }
@@ -650,17 +663,46 @@ variable_at_does {here} root = record {
   does = λ s a is fine h.
       let same : after (slice_get s.variables root) [] s ≡ a = cc in
       subst (Leaves here Nothing s (λ found now. slice_get now.variables root ≡ found)) same
-      (grown_silent here s s refl refl refl refl refl refl refl refl refl (λ root is. is) fine, refl);
+      (grown_silent here s s refl refl refl refl refl refl refl refl refl (λ root is. is) refl fine, refl);
 }
 
-pub assign_result_does : {here : Here} {least : Reached} (root : ℕ) → Does here least Nothing (assign_result root) Anything
+-- the target of what is assigned comes behind
+pub assign_result_does : {here : Here} {least : Reached} (root : ℕ) → here.owing ≡ true → Does here least Nothing (assign_result root) Anything
 unfolding assign_result
-assign_result_does {here} root = record {
+assign_result_does {here} root owing = record {
   does = λ s a is fine h.
       let new : Passed = record s { assigned = with_one s.assigned root } in
       let same : after tt [] new ≡ a = cc in
-      subst (Leaves here Nothing s Anything) same (grown_silent here s new refl refl refl refl refl refl refl refl refl (λ root is. is) fine, tt);
+      let g : Grown here Nothing [] s new = record {
+        regions = refl;
+        longer = as_long;
+        lawful = fine.lawful;
+        texts = fine.texts;
+        variables_kept = refl;
+        headings_kept = refl;
+        enclosing_kept = refl;
+        added = [];
+        sites = sym (append-nil s.sites);
+        covered = refl;
+        few_sites = fine.few_sites;
+        numbered = refl;
+        entered = omega arith;
+        few_entries = fine.few_entries;
+        looped = refl;
+        begun = omega arith;
+        inner = refl;
+        threats = λ root is. is;
+        assigns = λ other is. kept_with s.assigned root other is;
+        assigned = λ settled other is. absurd (no (sym owing ∙ settled));
+        changes = tt;
+        controls = tt;
+        formed = λ o more. refl;
+      } in
+      subst (Leaves here Nothing s Anything) same (g, tt);
 }
+  where
+    no : ◌≡◌ {A = Bool} true false → ⊥
+    no h = absurd cc
 
 -- ---- texts
 
@@ -671,7 +713,7 @@ text_at_does {here} {least} number = record {
   does = λ s a is fine h.
       let same : after (get_or s.texts number []) [] s ≡ a = cc in
       subst (Leaves here Nothing s (λ text now. are_characters text ≡ true)) same
-      (grown_silent here s s refl refl refl refl refl refl refl refl refl (λ root is. is) fine, fine.texts number);
+      (grown_silent here s s refl refl refl refl refl refl refl refl refl (λ root is. is) refl fine, fine.texts number);
 }
 
 pub keep_text_does : {here : Here} {least : Reached} (text : List ℕ) → are_characters text ≡ true
@@ -700,6 +742,8 @@ keep_text_does {here} {least} text is_text = record {
         begun = omega arith;
         inner = refl;
         threats = λ root is. is;
+        assigns = λ root is. is;
+        assigned = λ settled root is. inl is;
         changes = tt;
         controls = tt;
         formed = λ o more. refl;
@@ -736,6 +780,8 @@ site_does {here} {least} kind place = record {
         begun = omega arith;
         inner = refl;
         threats = λ root is. is;
+        assigns = λ root is. is;
+        assigned = λ settled root is. inl is;
         changes = tt;
         controls = tt;
         formed = λ o more. refl;
