@@ -191,6 +191,12 @@ module _ (constants : List ConstantDefinition) (types : List TypeDefinition) (gr
           ends = f.ends;
           accounted = f.accounted;
           others = f.others;
+          threats = f.threats;
+          placed = f.placed;
+          over = f.over;
+          changed = f.changed;
+          controlled = f.controlled;
+          unthreatened = f.unthreatened;
         };
         standing = four.standing;
         came = none_waiting middle.enclosing.waiting came.1;
@@ -212,6 +218,9 @@ module _ (constants : List ConstantDefinition) (types : List TypeDefinition) (gr
           looped = grown.looped;
           begun = grown.begun;
           inner = grown.inner;
+          threats = grown.threats;
+          changes = grown.changes;
+          controls = grown.controls;
           formed = grown.formed;
         };
         look = refl;

@@ -279,6 +279,7 @@ pub record HeadingAdded (here : Here) (under : List Region) (number : ℕ) (old 
   pub sites : new.sites ≡ old.sites
   pub entries : new.entries ≡ old.entries
   pub loops : new.loops ≡ old.loops
+  pub threatened : new.threatened ≡ old.threatened
   pub types : IsLonger old.types new.types
   pub variables : IsLonger old.variables new.variables
   pub regions : new.regions ≡ old.regions
@@ -368,7 +369,7 @@ innermost_sound here variables types heads (region ∷ regions) sound = sound.0
 
 module _ (here : Here) (under : List Region) (number : ℕ) (name : Name) (groups : List FormalGroup) (of_result : Option Name) where
   abbrev inner : Here
-  inner = record { block = number; around = here.around ++ here.block ∷ [] }
+  inner = record { block = number; around = here.around ++ here.block ∷ []; owing = false }
 
   abbrev pending : Head
   pending = record { around = here.around ++ here.block ∷ []; is_function = not (is_none of_result) }
@@ -477,6 +478,7 @@ module _ (here : Here) (under : List Region) (number : ℕ) (name : Name) (group
     pub start : Passed
     pub from : (start.sites ≡ s.sites) × (start.entries ≡ s.entries) × (start.loops ≡ s.loops) × (start.regions ≡ s.regions)
         × (start.headings ≡ s.headings) × IsLonger s.types start.types × IsLonger s.variables start.variables
+    pub threatened : start.threatened ≡ s.threatened
     pub others : (block : ℕ) → Fails (nat_eq number block) → variables_of block start.variables ≡ variables_of block s.variables
     pub root : Option ℕ
     pub ready : Ready inner under number (heads_passed s.headings ++ pending ∷ []) start.variables start
@@ -540,6 +542,7 @@ module _ (here : Here) (under : List Region) (number : ℕ) (name : Name) (group
         as_told = two.2;
         start = z.0.passed;
         from = (k.1.sites, k.1.entries, k.1.loops, result_regions number name.place y.0.answer n3 z.0 z.1, k.1.headings, k.1.types, k.1.variables);
+        threatened = k.1.threatened;
         others = k.1.others;
         root = z.0.answer;
         ready = k.2.0.0.0;
@@ -624,8 +627,8 @@ module _ (here : Here) (under : List Region) (number : ℕ) (name : Name) (group
             ordinal_later r.start.types last.types r.start.variables last.variables root r.ready.base.have_types p.silent.types p.silent.variables
             (result_ordinal heads r.id r.root r.start root r.result_is r.ordinal told);
         region =
-            subst (λ h. IsSoundRegion (record { block = number; around = headed.around }) last.variables last.types h headed.region) (sym same_heads)
-            (subst (λ l. IsSoundRegion (record { block = number; around = l }) last.variables last.types heads headed.region) (sym around)
+            subst (λ h. IsSoundRegion (record { block = number; around = headed.around; owing = false }) last.variables last.types h headed.region) (sym same_heads)
+            (subst (λ l. IsSoundRegion (record { block = number; around = l; owing = false }) last.variables last.types heads headed.region) (sym around)
             (innermost_sound inner last.variables last.types heads last.regions p.ready.sound));
       } in
       let base =
@@ -649,6 +652,7 @@ module _ (here : Here) (under : List Region) (number : ℕ) (name : Name) (group
         sites = p.silent.sites ∙ r.from.0;
         entries = p.silent.entries ∙ r.from.1;
         loops = p.silent.loops ∙ r.from.2;
+        threatened = p.silent.threatened ∙ r.threatened;
         types = types;
         variables = variables;
         regions = regions;

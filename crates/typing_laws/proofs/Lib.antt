@@ -4,6 +4,8 @@ pub mod Tables
 pub mod Sound
 pub mod Constants
 mod Covers
+mod Owned
+mod Kept
 pub mod Grown
 pub mod Steps
 pub mod Strings
@@ -15,9 +17,9 @@ pub mod Operators
 pub mod EveryExpression
 pub mod Statements
 mod Waiting
-mod Owned
 mod Ready
 mod Keeping
+mod Placed
 pub mod Declarations
 pub mod Headings
 pub mod Built

@@ -43,11 +43,14 @@ use Rattle.typing_laws.proofs.Sound.{IsSound, opened_holds, required_sound}
 use Rattle.typing_laws.proofs.Strings.{behind_nothing}
 use Rattle.typing_laws.proofs.Tables.{no_texts, required_lawful}
 use Rattle.typing_laws.proofs.Waiting.{count_append, count_of, count_range, one_if, same_counts, waits_in}
+use Rattle.typing_laws.specs.Controls.{AreUnthreatened, mark_changes, mark_controls}
+use Rattle.typing_laws.proofs.Bodies.{unthreatened_at_end}
+use Rattle.typing_laws.proofs.Placed.{placed_inner}
 
 -- ---- where a program begins
 
 abbrev program_here : Here
-program_here = record { block = 0; around = [] }
+program_here = record { block = 0; around = []; owing = false }
 
 abbrev round_it : List Region
 round_it = required_region ∷ []
@@ -309,6 +312,14 @@ module _ (program : Program) (a : After (Unit {0})) (w : Whole program a) where
       (ends_append (reached a.passed) w.first ended (ends_later (reached w.middle) (reached a.passed) w.first (further w.grown) w.built.ends)
       (ends_append (reached a.passed) w.second (mark_end ∷ []) (no_ends (reached a.passed) w.second w.grown.inner) (w.ends, tt)))
 
+  -- the variables of for statements are changed in their blocks alone
+  has_controls : AreUnthreatened a.look
+  has_controls =
+      subst AreUnthreatened (sym w.look)
+      (unthreatened_at_end program_here w.start w.middle a.passed w.built w.grown mark_end
+      (placed_inner mark_changes 0 w.headed.around w.headed.parameters w.result w.end w.second w.grown.inner refl)
+      (placed_inner mark_controls 0 w.headed.around w.headed.parameters w.result w.end w.second w.grown.inner refl))
+
   -- the types, variables and headings fit each other
   base : Base a.passed.types a.passed.variables a.passed.headings (length (heads_passed a.passed.headings))
   base =
@@ -340,6 +351,7 @@ module _ (program : Program) (a : After (Unit {0})) (w : Whole program a) where
       types = same_longer is.types;
       variables = same_longer is.variables;
       headings = same_longer same_headings;
+      threats = λ root threatened. refl;
     }
 
     is_formed : are_formed o a.look ≡ true
@@ -385,6 +397,7 @@ module _ (program : Program) (a : After (Unit {0})) (w : Whole program a) where
     few_variables = base.few_variables;
     declared =
         subst (λ n. list_all (λ (v : Variable). nat_lt v.block n) a.passed.variables ≡ true) (heads_count a.passed.headings) base.by_blocks;
+    unthreatened = has_controls;
     few_sites = w.grown.few_sites;
     types = w.grown.lawful.begin;
     by_place = λ order. subst AreByPlace (sym w.sites) (covers_by_place (program_places program) w.added order w.covered);

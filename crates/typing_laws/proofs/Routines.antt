@@ -1,7 +1,7 @@
 -- What a routine does as far as its block: a heading that is new, or one that waits for its block; and `forward`.
 use Rattle.std.proofs.Common.{◌≡◌, ℕ, ◌+◌, ◌<◌, Bool, true, false, not, ◌||◌, ◌&&◌, nat_eq, nat_lt, nat_le, if◌then◌else◌, List, [], ◌∷◌, ◌++◌}
 use Rattle.std.proofs.Common.{length, Option, Some, None, Ok, is_none, slice_get, refl, sym, ap, subst, ◌∙◌, arith, inl, inr, ◌⊎◌, length-append}
-use Rattle.std.specs.List.{list_all}
+use Rattle.std.specs.List.{list_all, list_any}
 use Rattle.std.specs.Map.{lookup}
 use Rattle.std.proofs.lemmas.Bool.{eq-eqb}
 use Rattle.std.proofs.lemmas.Bool.Decides.{nat_tests}
@@ -57,6 +57,7 @@ pub record Began (here : Here) (under : List Region) (number : ℕ) (old new : P
   pub sites : new.sites ≡ old.sites
   pub entries : new.entries ≡ old.entries
   pub loops : new.loops ≡ old.loops
+  pub threatened : new.threatened ≡ old.threatened
   pub types : IsLonger old.types new.types
   pub variables : IsLonger old.variables new.variables
   pub headings : IsLonger old.headings new.headings
@@ -164,12 +165,14 @@ module _ (here : Here) (under : List Region) where
             types = added.types;
             variables = added.variables;
             headings = mapped_longer signature_passed longer;
+            threats = λ root is. ap (list_any (nat_eq root)) added.threatened ∙ is;
           } in
           record {
             number_is = refl;
             sites = added.sites;
             entries = added.entries;
             loops = added.loops;
+            threatened = added.threatened;
             types = added.types;
             variables = added.variables;
             headings = longer;

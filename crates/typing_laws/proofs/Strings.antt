@@ -22,6 +22,7 @@ use Rattle.typing_laws.proofs.Tables.{AreLawful, admitted_few, char_cell, lawful
 use Rattle.typing_laws.proofs.Reached.{IsLonger, Here, Reached}
 use Rattle.typing_laws.proofs.Grown.{Grown, both_true}
 use Rattle.typing_laws.proofs.Steps.{Does, Nothing, Leaves, IsSoundThen, split, quietly, pure_does, keep_text_does}
+use Rattle.std.proofs.Common.{inl}
 
 -- ---- tests
 
@@ -168,6 +169,11 @@ module _ {here : Here} {least : Reached} where
           looped = refl;
           begun = omega arith;
           inner = refl;
+          threats = λ root is. is;
+          assigns = λ root is. is;
+          assigned = λ settled root is. inl is;
+          changes = tt;
+          controls = tt;
           formed = λ o more. refl;
         } in
         subst (Leaves here Nothing s (λ id now. nat_le n 65536 ≡ true)) made.same (g, made.few);

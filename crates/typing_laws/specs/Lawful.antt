@@ -17,6 +17,7 @@ use Rattle.typed_tree.specs.WellFormed.{Outline, most_variables, are_few_cells, 
 use Rattle.typing.specs.Passing.{After}
 use Rattle.typing.specs.Steps.{most_sites, most_entries}
 use Rattle.typing.specs.Typing.{typing}
+use Rattle.typing_laws.specs.Controls.{AreUnthreatened}
 
 -- the required types, and then a program's own
 abbrev pub BeginWithRequired : List Form → Type 0
@@ -65,6 +66,8 @@ pub record Lawful (program : Program) (a : After (Unit {0})) : Type 0 where
       → slice_get outline.headings number ≡ Some heading → is_heading outline number heading ≡ true
   -- the variables of a block take no more cells than a block has
   pub few_cells : (outline : Outline) → IsOutlineOf a outline → (number : ℕ) → are_few_cells outline number ≡ true
+  -- the variable of each for statement is changed in its block alone
+  pub unthreatened : AreUnthreatened a.look
   pub few_variables : length a.passed.variables ≤ most_variables
   -- each variable is one that a block declares
   pub declared : list_all (λ variable. nat_lt variable.block (length a.passed.headings)) a.passed.variables ≡ true
