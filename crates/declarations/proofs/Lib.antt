@@ -1,5 +1,5 @@
 mod Defined
-mod Headings
+mod HeadingForms
 pub mod Kept
 pub mod Opened
 mod Parts
