@@ -1,5 +1,5 @@
 -- What stays while declarations are passed: a name that is known stays known, and so does the block round the place.
-use Rattle.std.proofs.Common.{◌≡◌, ℕ, ◌+◌, ◌-◌, ℤ, length, Bool, true, false, if◌then◌else◌, List, [], ◌∷◌, ◌++◌, slice_index_or, Ok, Err}
+use Rattle.std.proofs.Common.{◌≡◌, ℕ, ◌+◌, ◌-◌, ℤ, length, Bool, true, false, if◌then◌else◌, List, [], ◌∷◌, ◌++◌, slice_index_or, Option, Some, None, Result, Ok, Err, IfOk}
 use Rattle.std.proofs.Common.{codes, nat_eq, map, Vec, refl, sym, ap, subst}
 use Rattle.std.specs.declared.alloc.Global.{Global}
 use Rattle.std.specs.Cmp.Lexicographic.{pointwise}
@@ -7,6 +7,7 @@ use Rattle.std.proofs.lemmas.Result.{IfOk-at_ok}
 use Rattle.place.specs.declared.Place.{Place}
 use Rattle.syntax_tree.specs.declared.Name.{Name}
 use Rattle.syntax_tree.specs.declared.Constant.{Constant}
+use Rattle.syntax_tree.specs.declared.FormalGroup.{FormalGroup}
 use Rattle.syntax_tree.specs.declared.ConstantDefinition.{ConstantDefinition}
 use Rattle.syntax_tree.specs.declared.TypeDefinition.{TypeDefinition}
 use Rattle.syntax_tree.specs.declared.TypeDenoter.{TypeDenoter}
@@ -21,22 +22,23 @@ use Rattle.types.specs.declared.form.TypeId.{TypeId}
 use Rattle.types.specs.Types.{is_ordinal}
 use Rattle.scopes.specs.Scopes.{Knows, found}
 use Rattle.scopes.specs.declared.denotation.Denotation.TheVariants as denotes
+use Rattle.typed_tree.specs.declared.fault.TypeFault.{TypeFault}
 use Rattle.typed_tree.specs.declared.fault.TypeFault.TheVariants as fault
 use Rattle.typed_tree.specs.declared.tree.VariableKind.{VariableKind}
 use Rattle.typed_tree.specs.declared.tree.VariableKind.TheVariants as variable
 use Rattle.typed_tree.specs.Look.{Look}
 use Rattle.typing.specs.Names.{folded, group_names, type_names}
-use Rattle.typing.specs.Passing.{Passed, Checked, Passing, after, and_then, fail, given, pure, each, ◌>>=◌, ◌>>◌, ◌>>?◌}
+use Rattle.typing.specs.Passing.{Passed, Checked, Passing, after, and_then, fail, given, pure, ◌>>=◌, ◌>>◌}
 use Rattle.typing.specs.Steps.{fits, value_of, pass, declare, add_type, latest, give_output}
-use Rattle.typing.specs.Constants.{constant, ordinal_constant}
 use Rattle.typing.specs.Denoters.{named_type, type_of_name, constants_from, enumeration, between, subrange, denoted_type}
 use Rattle.typing.specs.Denoters.{WrittenDenoter, written_denoter, denoter_step, index_type, index_types, arrays, array}
 use Rattle.typing.specs.Denoters.{named_fields, grouped_fields, record_type}
-use Rattle.typing.specs.Routines.{declared, definition, type_definition, group, local}
+use Rattle.typing.specs.Outcomes.{Takes}
+use Rattle.typing.specs.Routines.{declared, definition, type_definition, group, local, parameter_kind, parameters, parameters_named, result, waiting_for}
 use Rattle.typing.specs.Typing.{parameter_of_program}
-use Rattle.typing.proofs.Stays.{Leaves, Stays, keeps_then, keeps_test, pure_keeps, fail_keeps, given_keeps, quiet, add_type_keeps, declare_keeps}
+use Rattle.typing.proofs.Stays.{Leaves, keeps_then, keeps_test, pure_keeps, fail_keeps, given_keeps, quiet}
 use Rattle.typing.proofs.Stays.{enclosing_now_keeps, give_output_keeps, latest_keeps, next_root_keeps, reserve_keeps}
-pub use Rattle.typing.proofs.Stays.{Keeps, each_keeps, pass_keeps}
+pub use Rattle.typing.proofs.Stays.{Stays, Keeps, each_keeps, pass_keeps, add_type_keeps, declare_keeps}
 use Rattle.typing.proofs.StayingForms.{ordinal_constant_keeps}
 pub use Rattle.typing.proofs.StayingForms.{constant_keeps}
 use Rattle.declarations.specs.Known.{AreKnown, AreKnownDefinitions, AreKnownTypes, AreKnownGroups}
@@ -217,6 +219,43 @@ pub group_keeps : (g : VariableGroup) → Keeps (group g)
 unfolding group
 group_keeps g =
     keeps_then (denoted_type_keeps g.names.items g.denoter) (λ type_id. each_keeps (local type_id) g.names.items (local_keeps type_id))
+
+pub result_keeps : (block : ℕ) (place : Place) (type_id : Option TypeId) → Keeps (result block place type_id)
+unfolding result
+result_keeps block place None = pure_keeps None
+result_keeps block place (Some type_id) =
+    keeps_then (next_root_keeps place) λ root.
+    keeps_then (reserve_keeps place block variable.Result type_id) λ _.
+    pure_keeps (Some root)
+
+named_keep : (block : ℕ) (kind : VariableKind) (type_id : TypeId) (names : List Name) → Keeps (parameters_named block kind type_id names)
+named_keep block kind type_id [] = pure_keeps []
+named_keep block kind type_id (name ∷ names) =
+    keeps_then (declared_keeps block kind type_id name) λ root.
+    keeps_then (named_keep block kind type_id names) λ roots.
+    pure_keeps (root ∷ roots)
+
+pub parameters_named_keep : (block : ℕ) (kind : VariableKind) (type_id : TypeId) (names : List Name) → Keeps (parameters_named block kind type_id names)
+parameters_named_keep = named_keep
+
+pub parameters_keep : (block : ℕ) (groups : List FormalGroup) (types : List TypeId) → Keeps (parameters block groups types)
+parameters_keep block [] types = pure_keeps []
+parameters_keep block (g ∷ groups) [] = pure_keeps []
+parameters_keep block (g ∷ groups) (type_id ∷ types) =
+    keeps_then (named_keep block (parameter_kind g.by) type_id g.names.items) λ roots.
+    keeps_then (parameters_keep block groups types) λ others.
+    pure_keeps (roots ++ others)
+
+pub waiting_for_keeps : (is_function : Bool) (name : Name) → Keeps (waiting_for is_function name)
+unfolding waiting_for
+waiting_for_keeps is_function name = record { keeps = λ old. quiet refl refl }
+
+-- names stay known behind a step, if it passes
+pub known_behind : {A : Type 0} (step : Passing A) → Keeps step → (old new : Passed) (answer : Result A TypeFault) → Takes (step old) answer new
+    → (names : List Name) → AreKnown names old.regions → IfOk answer (λ _. AreKnown names new.regions)
+known_behind step keeps old new (Err why) takes names known = tt
+known_behind step keeps old new (Ok answer) takes names known =
+    λ k d within. (IfOk-at_ok (λ a. Stays old a.passed) takes (keeps.keeps old)).known (folded (slice_index_or names k d).text.now) (known k d within)
 
 -- behind a step that passes
 module _ {A : Type 0} (step : Passing A) (keeps : Keeps step) (answer : A) (look : Look) (old new : Passed)

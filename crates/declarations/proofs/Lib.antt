@@ -1,5 +1,6 @@
 mod Defined
-mod Headings
+mod HeadingForms
 pub mod Kept
+pub mod KeptBlocks
 pub mod Opened
 mod Parts

@@ -1,5 +1,5 @@
 -- The region of a block knows from its beginning the names that the block defines.
-use Rattle.std.proofs.Common.{◌≡◌, ◌∙◌, ℕ, List, [], ◌∷◌, ◌++◌, Ok, Err, All, Vec, map, flat_map, refl, sym, ap, subst}
+use Rattle.std.proofs.Common.{◌≡◌, ◌∙◌, ℕ, List, [], ◌∷◌, ◌++◌, Ok, Err, IfOk, Result, All, Vec, map, flat_map, sym, ap, subst}
 use Rattle.std.specs.declared.alloc.Global.{Global}
 use Rattle.std.proofs.lemmas.List.Elements.{All-cons, All-head, All-nil, All-tail}
 use Rattle.syntax_tree.specs.declared.Block.{Block}
@@ -7,15 +7,17 @@ use Rattle.syntax_tree.specs.declared.Block.TheViews.{out-Block, out-Routine}
 use Rattle.syntax_tree.specs.declared.ConstantDefinition.{ConstantDefinition}
 use Rattle.syntax_tree.specs.declared.Name.{Name}
 use Rattle.syntax_tree.specs.declared.Routine.{Routine}
-use Rattle.scopes.specs.Scopes.{Region, opened, opened_beside, Knows}
+use Rattle.scopes.specs.Scopes.{Region, opened, Knows}
 use Rattle.scopes.proofs.Known.{beside_lists, opened_lists}
-use Rattle.typing.specs.Blocks.{block_begins}
+use Rattle.typed_tree.specs.declared.fault.TypeFault.{TypeFault}
+use Rattle.typing.specs.Blocks.{BeginsBlock, block_begins}
+use Rattle.typing.specs.declared.blocks.BegunBlock.{BegunBlock}
 use Rattle.typing.specs.Names.{folded, all_folded, heading_names, type_names, group_names}
 use Rattle.typing.specs.Passing.{Headed, Enclosing, Passed, Checked, After, after}
 use Rattle.typing.specs.Routines.{typed_block}
 use Rattle.typing.specs.Steps.{enclosing_now, heading_at, open_beside, open_block, with_enclosing}
 use Rattle.typing.proofs.Written.{block_names_are}
-use Rattle.declarations.specs.Declared.{routine_names, texts}
+use Rattle.declarations.specs.Parts.{routine_names, texts}
 use Rattle.declarations.specs.Known.{AreKnown, AreKnownDefinitions, AreKnownRoutines, AreKnownTypes, AreKnownGroups}
 use Rattle.declarations.proofs.Parts.{first_known, others_known}
 
@@ -94,3 +96,11 @@ module _ (regions : List Region) where
     pub routines_known : AreKnownRoutines (out-Block block).routines.items regions
     routines_known =
         forms_are (λ (r : Routine). heading_names (out-Routine r).heading) (out-Block block).routines.items (others_known regions variables _ behind_types)
+
+-- ---- a block that began
+
+pub begun_known : (names : List Name) (number : ℕ) (keys : List (Vec ℕ Global)) (old : Passed) (result : Result BegunBlock TypeFault) (new : Passed)
+    → texts keys ≡ all_folded names → BeginsBlock (block_begins number (texts keys) old) result new → IfOk result (λ _. AreKnown names new.regions)
+begun_known names number keys old (Err why) new is begins = tt
+begun_known names number keys old (Ok made) new is begins =
+    beside_known names number _ begins.0 old new (ap (λ l. block_begins number l old) (sym is) ∙ begins.1)

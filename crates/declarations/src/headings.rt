@@ -3,7 +3,7 @@ ghost use Rattle.syntax_tree.specs.declared.Heading.TheVariants.{Resumed};
 ghost use Rattle.typing.specs.Names.{formal_names, heading_names};
 ghost use Rattle.typing.specs.Outcomes.{Takes, Makes};
 ghost use Rattle.typing.specs.Routines as spec;
-ghost use Rattle.declarations.specs.Declared.{begun_of, heading_inside, heading_of, name_of_result};
+ghost use Rattle.declarations.specs.Parts.{begun_of, heading_inside, heading_of, name_of_result};
 ghost use Rattle.declarations.specs.Known.{AreKnown};
 
 use crate::names::formal_names;
@@ -25,7 +25,6 @@ pub struct BegunRoutine {
 }
 
 /// Passes the heading of a procedure or of a function (6.6.1, 6.6.2): S4 at its name where it is nested too deep.
-#[tactic(auto, using(crate::proofs::Headings::headed_forms))]
 pub fn begin_routine(typer: &mut Typer, heading: &Heading) -> Result<BegunRoutine, TypeFault>
     requires known { AreKnown (heading_names heading.now) typer.old.regions }
     ensures { Makes begun_of (λ made. []) (spec.headed heading.now typer.old) result typer.new }
@@ -84,7 +83,7 @@ fn begin(
     of_result: Option<&Name>,
 ) -> Result<BegunRoutine, TypeFault>
     requires known { AreKnown (name.now ∷ []) typer.old.regions }
-    ensures { Makes begun_of (λ made. []) (spec.begun name.now groups.now (name_of_result of_result) typer.old) result
+    ensures { Makes begun_of (λ made. []) (spec.begun name.now groups.now (name_of_result of_result.entry) typer.old) result
         typer.new }
 {
     typer.may_nest(name.place)?;
@@ -112,7 +111,7 @@ fn heading(
     groups: &[FormalGroup],
     of_result: Option<&Name>,
 ) -> Result<(), TypeFault>
-    ensures { Takes (heading_of number place groups.now (name_of_result of_result) typer.old) result typer.new }
+    ensures { Takes (heading_of number place groups.now (name_of_result of_result.entry) typer.old) result typer.new }
 {
     let types = group_types(typer, groups)?;
     let result_id = type_of_result(typer, of_result)?;
@@ -131,11 +130,8 @@ fn group_types(typer: &mut Typer, groups: &[FormalGroup]) -> Result<Vec<TypeId>,
 }
 
 // The type of a result, if there is one.
-fn type_of_result(
-    typer: &mut Typer,
-    of_result: Option<&Name>,
-) -> Result<Option<TypeId>, TypeFault>
-    ensures { Takes (spec.type_of_result (name_of_result of_result) typer.old) result typer.new }
+fn type_of_result(typer: &mut Typer, of_result: Option<&Name>) -> Result<Option<TypeId>, TypeFault>
+    ensures { Takes (spec.type_of_result (name_of_result of_result.entry) typer.old) result typer.new }
 {
     match of_result {
         None => Ok(None),
@@ -188,7 +184,8 @@ fn parameters(
     let mut roots = Vec::new(typer.alloc);
     for (group, type_id) in groups.iter().zip(types) {
         let kind = parameter_kind(group.by);
-        roots.append(parameters_named(typer, number, kind, *type_id, &group.names)?)?;
+        let mut own = parameters_named(typer, number, kind, *type_id, &group.names)?;
+        roots.append(&mut own)?;
     }
     Ok(roots)
 }

@@ -2,7 +2,7 @@ ghost use Rattle.std.specs.Prelude.{◌≡◌, ◌++◌, OnOk, IfOk, flat_map, m
 ghost use Rattle.typing.specs.Names.{all_folded};
 ghost use Rattle.typing.specs.Names as spec;
 ghost use Rattle.typing.specs.Routines.{typed_block};
-ghost use Rattle.declarations.specs.Declared.{routine_names, texts};
+ghost use Rattle.declarations.specs.Parts.{routine_names, texts};
 ghost use Rattle.declarations.specs.Known.{names_in, names_in_groups};
 
 use std::alloc::{AllocError, Global};
@@ -94,11 +94,7 @@ fn fold_routines(
 }
 
 // That of a heading, if it is the first.
-fn fold_heading(
-    alloc: Global,
-    heading: &Heading,
-    keys: &mut Vec<Vec<u8>>,
-) -> Result<(), AllocError>
+fn fold_heading(alloc: Global, heading: &Heading, keys: &mut Vec<Vec<u8>>) -> Result<(), AllocError>
     ensures { OnOk result
         (texts keys.new.items ≡ texts keys.old.items ++ all_folded (spec.heading_names heading.now)) }
 {

@@ -5,7 +5,7 @@ ghost use Rattle.typing.specs.Outcomes.{Takes, IsFault};
 ghost use Rattle.typing.specs.Passing.{after};
 ghost use Rattle.typing.specs.Routines.{typed_block};
 ghost use Rattle.typing.specs.Typing.{parameters_of_program};
-ghost use Rattle.declarations.specs.Declared.{block_declarations, declared};
+ghost use Rattle.declarations.specs.Parts.{block_declarations, declared};
 ghost use Rattle.declarations.specs.Known.{AreKnown};
 
 use crate::constants::declare_constants;

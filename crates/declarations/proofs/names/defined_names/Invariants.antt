@@ -1,7 +1,7 @@
 use Rattle.syntax_tree.specs.declared.Block.TheViews.{out-Block}
 use Rattle.std.proofs.Common.{◌≡◌, ◌++◌, map, take}
 use Rattle.typing.specs.Names.{all_folded}
-use Rattle.declarations.specs.Declared.{texts}
+use Rattle.declarations.specs.Parts.{texts}
 use Rattle.declarations.proofs.names.defined_names.Given as goal
 
 -- the names so far

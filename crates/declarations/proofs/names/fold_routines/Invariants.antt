@@ -1,6 +1,6 @@
 use Rattle.std.proofs.Common.{◌≡◌, ◌++◌, take}
 use Rattle.typing.specs.Names.{all_folded}
-use Rattle.declarations.specs.Declared.{routine_names, texts}
+use Rattle.declarations.specs.Parts.{routine_names, texts}
 use Rattle.declarations.proofs.names.fold_routines.Given as goal
 
 -- the names so far

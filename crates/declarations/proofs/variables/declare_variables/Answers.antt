@@ -11,8 +11,8 @@ loop-name-preserved c =
     let names = c.args.names.now in
     let i = c.loop-name.name-index in
     let now = c.loop-name.typer in
-    let new = c.variable.new.self in
-    let passes = c.in_ok-variable.ensures in
+    let new = c.local.new.self in
+    let passes = c.in_ok-local.ensures in
     record {
       left =
           each_next (local c.args.type_id) names c.args.typer.now i _ [] [] now new c.loop-name-test.true (get_or_default names i _ _ c.loop-name-test.true)

@@ -1,6 +1,6 @@
 -- The parts of a block's declarations, and of a heading, as steps, and the texts of names.
 -- It says nothing of what they pass.
-use Rattle.std.specs.Prelude.{◌≡◌, ℕ, List, Option, None, Vec, map, flat_map, option_map}
+use Rattle.std.specs.Prelude.{ℕ, List, Option, Vec, map, flat_map, option_map}
 use Rattle.std.specs.Borrow.{Bor}
 use Rattle.std.specs.declared.alloc.Global.{Global}
 use Rattle.syntax_tree.specs.declared.Block.{Block}
