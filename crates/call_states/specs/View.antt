@@ -4,6 +4,9 @@ use Rattle.std.specs.Prelude.{ℕ, ℤ, neg_ℤ, pos, ◌≡◌, ◌<◌, ◌≤
 use Rattle.std.specs.Prelude.{if◌then◌else◌, filter, length, map, nat_eq}
 use Rattle.types.specs.declared.form.OrdinalRange.{OrdinalRange}
 use denote.Ref.{Bor}
+use Rattle.typed_tree.specs.declared.tree.Selector.{Selector}
+use Rattle.typed_tree.specs.declared.tree.Tree.{Tree}
+use Rattle.structured_states.specs.Loops.{is_ordinal_variable}
 use Rattle.certificate.specs.declared.Section.{Section as KeptSection}
 use Rattle.certificate.specs.Contents.{said_fact}
 use Rattle.domain.specs.Interval.{Interval, common}
@@ -25,7 +28,8 @@ use Rattle.call_states.specs.Actuals.{Actual, Bearer, Binding, OfRows, OfValue, 
 use Rattle.call_states.specs.Actuals.{bound_to}
 use Rattle.call_states.specs.Entry.{Limit}
 use Rattle.call_states.specs.Exit.{Change, Touches, all_common, is_row, is_steady, is_variable, range_behind}
-use Rattle.call_states.specs.Exit.{roots_changed}
+use Rattle.call_states.specs.Exit.{roots_changed, touched_behind, with_exits}
+use Rattle.component_states.specs.States.{State}
 use Rattle.structured_states.specs.Pairs.{all_aliases}
 
 -- ---- what is claimed of a block
@@ -73,6 +77,11 @@ said_actual (kept.Value range form) = OfValue range (said_form form)
 said_actual (kept.Rows ranges) = OfRows ranges.items
 said_actual (kept.Variable root selectors reach) = OfVariable root selectors.now (said_reach reach)
 
+-- an access leads to an entire ordinal variable
+abbrev pub is_entire : Tree → ℕ → List Selector → Bool
+is_entire tree root [] = is_ordinal_variable tree root
+is_entire tree root (selector ∷ selectors) = false
+
 abbrev pub said_found : Option (Bor KeptActual) → Option Actual
 said_found None = None
 said_found (Some actual) = Some (said_actual actual.now)
@@ -101,6 +110,11 @@ touched_by pairs bindings changes =
 
 abbrev pub said_touches : KeptTouches → Touches
 said_touches touches = record { touched = touches.touched.now; changes = map said_change touches.changes.now }
+
+-- what is known behind a call that touches this, and of whose end these facts are claimed
+abbrev pub left_behind : Tree → ℕ → List Binding → Touches → List Fact → State → State
+left_behind tree block bindings touches facts state =
+    with_exits tree block bindings touches facts (touched_behind tree touches.changes touches.touched state)
 
 -- a bearer is all of an entire ordinal variable, or all of a row
 abbrev pub is_of : Bearer → Bearer → Bool

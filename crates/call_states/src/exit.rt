@@ -12,9 +12,10 @@ ghost use Rattle.call_states.specs.Exit.{exit_bound_of, is_own_path, is_steady, 
 ghost use Rattle.call_states.specs.Exit.{stretch_defined, stretches_defined, touched_behind, untouched_form};
 ghost use Rattle.call_states.specs.Exit.{variables_behind, with_exit, with_exits};
 ghost use Rattle.call_states.specs.View.{behind, common_of, is_of, met, said_actual, said_bearer, said_bindings};
-ghost use Rattle.call_states.specs.View.{said_change, said_claims, said_touches, steady_at, touched_by};
+ghost use Rattle.call_states.specs.View.{left_behind, said_change, said_claims, said_touches, steady_at};
+ghost use Rattle.call_states.specs.View.{touched_by};
 
-use crate::actuals::{Actual, Bearer, Bindings, bearers_named};
+use crate::actuals::{Actual, Bearer, Bindings, bearers_named, is_entire};
 use crate::aliases::{drop_all, is_among, is_same, variable_values};
 use crate::changes::{Change, all_changes, exit_range, roots_changed};
 use crate::sections;
@@ -25,7 +26,6 @@ use domain::facts::Bound;
 use domain::interval::Interval;
 use leaf_rows::{Rows, Span};
 use std::alloc::{AllocError, Global};
-use structured_states::kept_claims::is_ordinal_variable;
 use structured_states::pairs::Pairs;
 use structured_states::rounds::limits_or_integer;
 use typed_tree::tree::Tree;
@@ -57,11 +57,27 @@ pub fn call(
     let exit = sections::exit(claims);
     let changes = all_changes(alloc, rows, bindings, listed, exit)?;
     let touched = touched(alloc, pairs, bindings, listed)?;
-    touch(state, rows, &changes, &touched);
     let touches = Touches {
         touched: &touched,
         changes: &changes,
     };
+    go_behind(alloc, state, rows, block, bindings, touches, exit)
+}
+
+/// The same by what the call touches, and by the facts that are claimed of the block's end.
+fn go_behind(
+    alloc: Global,
+    state: &mut State,
+    rows: &Rows,
+    block: u32,
+    bindings: Bindings,
+    touches: Touches,
+    exit: &[Claim],
+) -> Result<(), AllocError>
+    ensures { IfOk result (λ _. viewed state.new ≡ left_behind rows.now block (said_bindings bindings.entry)
+        (said_touches touches.entry) (map said_fact exit.now) (viewed state.old)) }
+{
+    touch(state, rows, touches.changes, touches.touched);
     add_exits(alloc, state, rows, block, bindings, touches, exit)
 }
 
@@ -385,7 +401,7 @@ fn exit_bound_of(tree: &Tree, touches: Touches, number: i32, actual: &Actual) ->
             selectors,
             ..
         } => {
-            if selectors.is_empty() && is_ordinal_variable(tree, *other) {
+            if is_entire(tree, *other, selectors) {
                 steady(touches, *other, number)
             } else {
                 None
@@ -423,8 +439,9 @@ fn is_steady(touches: Touches, root: u32) -> bool
 }
 
 /// Whether a variable is changed just as it is.
+#[tactic(auto, using(crate::proofs::Mapped::any_mapped))]
 fn is_changed(changes: &[Change], root: u32) -> bool
-    ensures { result ≡ list_any (λ change. is_variable root (said_bearer change.bearer)) changes.now }
+    ensures { result ≡ list_any (λ change. is_variable root change.bearer) (map said_change changes.now) }
 {
     changes
         .iter()

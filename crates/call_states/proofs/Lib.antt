@@ -1,0 +1,6 @@
+pub mod Bound
+pub mod Borne
+pub mod Commons
+pub mod Mapped
+pub mod Rows
+pub mod Sectioned
