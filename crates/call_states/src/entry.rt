@@ -91,10 +91,9 @@ fn variable(root: u32, number: i32) -> Bound
 }
 
 /// Whether the values of each bearer lie in a range.
-#[tactic(auto, using(crate::proofs::Mapped::all_mapped))]
 fn are_within(state: &State, bearers: &[Bearer], range: Interval) -> bool
-    ensures { result ≡ list_all (λ bearer. is_included (range_borne (viewed state.now) bearer) range)
-        (map said_bearer bearers.now) }
+    ensures { result ≡ list_all (λ bearer. is_included (range_borne (viewed state.now) (said_bearer bearer)) range)
+        bearers.now }
 {
     bearers
         .iter()
@@ -113,9 +112,9 @@ fn range_borne(state: &State, bearer: Bearer) -> Interval
 }
 
 /// Whether each bearer is known to be defined.
-#[tactic(auto, using(crate::proofs::Mapped::all_mapped))]
 fn are_defined(rows: &Rows, state: &State, bearers: &[Bearer]) -> bool
-    ensures { result ≡ list_all (is_defined_borne rows.now (viewed state.now)) (map said_bearer bearers.now) }
+    ensures { result ≡ list_all (λ bearer. is_defined_borne rows.now (viewed state.now) (said_bearer bearer))
+        bearers.now }
 {
     bearers
         .iter()
@@ -175,10 +174,9 @@ fn lie_between(rows: &Rows, state: &State, bearers: &[Bearer], first: Limit, las
         || all_between(rows, state, bearers, first, last)
 }
 
-#[tactic(auto, using(crate::proofs::Mapped::all_mapped))]
 fn all_between(rows: &Rows, state: &State, bearers: &[Bearer], first: Limit, last: Limit) -> bool
-    ensures { result ≡ list_all (is_borne_between rows.now (viewed state.now) (said_limit first)
-        (said_limit last)) (map said_bearer bearers.now) }
+    ensures { result ≡ list_all (λ bearer. is_borne_between rows.now (viewed state.now) (said_limit first)
+        (said_limit last) (said_bearer bearer)) bearers.now }
 {
     bearers
         .iter()

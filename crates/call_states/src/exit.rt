@@ -1,4 +1,4 @@
-ghost use Rattle.std.specs.Prelude.{◌≡◌, ℕ, IfOk, Some, filter, map, slice_get};
+ghost use Rattle.std.specs.Prelude.{◌≡◌, IfOk, filter, map, slice_get};
 ghost use Rattle.std.specs.List.{list_any};
 ghost use Rattle.abstract_state.specs.View.{said_form};
 ghost use Rattle.certificate.specs.Contents.{said_fact, said_path};
@@ -11,7 +11,7 @@ ghost use Rattle.call_states.specs.Exit.{all_joined, bearer_defined, bearers_def
 ghost use Rattle.call_states.specs.Exit.{exit_bound_of, is_own_path, is_steady, is_variable, result_range, rows_behind};
 ghost use Rattle.call_states.specs.Exit.{stretch_defined, stretches_defined, touched_behind, untouched_form};
 ghost use Rattle.call_states.specs.Exit.{variables_behind, with_exit, with_exits};
-ghost use Rattle.call_states.specs.View.{behind, common_of, is_of, met, said_actual, said_bearer, said_bindings};
+ghost use Rattle.call_states.specs.View.{behind, common_of, is_of, met, said_bearer, said_bindings, said_found};
 ghost use Rattle.call_states.specs.View.{left_behind, said_change, said_claims, said_touches, steady_at};
 ghost use Rattle.call_states.specs.View.{touched_by};
 
@@ -61,7 +61,7 @@ pub fn call(
         touched: &touched,
         changes: &changes,
     };
-    go_behind(alloc, state, rows, block, bindings, touches, exit)
+    go_behind(alloc, state, rows, block, bindings, &touches, exit)
 }
 
 /// The same by what the call touches, and by the facts that are claimed of the block's end.
@@ -71,11 +71,11 @@ fn go_behind(
     rows: &Rows,
     block: u32,
     bindings: Bindings,
-    touches: Touches,
+    touches: &Touches,
     exit: &[Claim],
 ) -> Result<(), AllocError>
     ensures { IfOk result (λ _. viewed state.new ≡ left_behind rows.now block (said_bindings bindings.entry)
-        (said_touches touches.entry) (map said_fact exit.now) (viewed state.old)) }
+        (said_touches touches.now) (map said_fact exit.now) (viewed state.old)) }
 {
     touch(state, rows, touches.changes, touches.touched);
     add_exits(alloc, state, rows, block, bindings, touches, exit)
@@ -224,11 +224,11 @@ fn add_exits(
     rows: &Rows,
     block: u32,
     bindings: Bindings,
-    touches: Touches,
+    touches: &Touches,
     exit: &[Claim],
 ) -> Result<(), AllocError>
     ensures { IfOk result (λ _. viewed state.new ≡ with_exits rows.now block (said_bindings bindings.entry)
-        (said_touches touches.entry) (map said_fact exit.now) (viewed state.old)) }
+        (said_touches touches.now) (map said_fact exit.now) (viewed state.old)) }
 {
     for claim in exit {
         add_exit(alloc, state, rows, block, bindings, touches, claim)?;
@@ -242,11 +242,11 @@ fn add_exit(
     rows: &Rows,
     block: u32,
     bindings: Bindings,
-    touches: Touches,
+    touches: &Touches,
     claim: &Claim,
 ) -> Result<(), AllocError>
     ensures { IfOk result (λ _. viewed state.new ≡ with_exit rows.now block (said_bindings bindings.entry)
-        (said_touches touches.entry) (said_fact claim.now) (viewed state.old)) }
+        (said_touches touches.now) (said_fact claim.now) (viewed state.old)) }
 {
     let tree = rows.tree();
     match claim {
@@ -375,32 +375,52 @@ fn variable(root: u32, number: i32) -> Bound
 }
 
 /// A bound of the callee at its end, where it is called: it says nothing where that isn't known.
-fn exit_bound(tree: &Tree, bindings: Bindings, touches: Touches, bound: Bound) -> Option<Bound>
+fn exit_bound(tree: &Tree, bindings: Bindings, touches: &Touches, bound: Bound) -> Option<Bound>
     ensures { said_form result
-        ≡ exit_bound tree.now (said_bindings bindings.entry) (said_touches touches.entry) (said_bound bound) }
+        ≡ exit_bound tree.now (said_bindings bindings.entry) (said_touches touches.now) (said_bound bound) }
 {
     match bound {
         Bound::Number(_) => Some(bound),
-        Bound::Plus { root, number } => match bindings.actual(root) {
-            None => steady(touches, root, number),
-            Some(actual) => exit_bound_of(tree, touches, number, actual),
-        },
+        Bound::Plus { root, number } => exit_root(tree, bindings, touches, root, number),
     }
 }
 
-/// The same of a formal parameter with a number more.
-fn exit_bound_of(tree: &Tree, touches: Touches, number: i32, actual: &Actual) -> Option<Bound>
-    ensures { (root : ℕ) → said_form result
-        ≡ exit_bound_of tree.now (said_touches touches.entry) root number (Some (said_actual actual.now)) }
+/// The same of a variable with a number more.
+fn exit_root(
+    tree: &Tree,
+    bindings: Bindings,
+    touches: &Touches,
+    root: u32,
+    number: i32,
+) -> Option<Bound>
+    ensures { said_form result
+        ≡ exit_bound tree.now (said_bindings bindings.entry) (said_touches touches.now) (Plus root number) }
+{
+    exit_bound_of(tree, touches, root, number, bindings.actual(root))
+}
+
+/// The same of a variable that perhaps is a formal parameter.
+fn exit_bound_of(
+    tree: &Tree,
+    touches: &Touches,
+    root: u32,
+    number: i32,
+    actual: Option<&Actual>,
+) -> Option<Bound>
+    ensures { said_form result
+        ≡ exit_bound_of tree.now (said_touches touches.now) root number (said_found actual.entry) }
 {
     match actual {
-        Actual::Value { form, .. } => untouched(touches, number, *form),
-        Actual::Rows(_) => None,
-        Actual::Variable {
-            root: other,
-            selectors,
-            ..
-        } => {
+        None => steady(touches, root, number),
+        Some(Actual::Value { form, .. }) => untouched(touches, number, *form),
+        Some(Actual::Rows(_)) => None,
+        Some(
+            Actual::Variable {
+                root: other,
+                selectors,
+                ..
+            },
+        ) => {
             if is_entire(tree, *other, selectors) {
                 steady(touches, *other, number)
             } else {
@@ -411,8 +431,8 @@ fn exit_bound_of(tree: &Tree, touches: Touches, number: i32, actual: &Actual) ->
 }
 
 /// A bound of an actual parameter with a number more, if its variable is untouched.
-fn untouched(touches: Touches, number: i32, form: Option<Bound>) -> Option<Bound>
-    ensures { said_form result ≡ untouched_form (said_touches touches.entry) number (said_form form) }
+fn untouched(touches: &Touches, number: i32, form: Option<Bound>) -> Option<Bound>
+    ensures { said_form result ≡ untouched_form (said_touches touches.now) number (said_form form) }
 {
     match form {
         None => None,
@@ -422,8 +442,8 @@ fn untouched(touches: Touches, number: i32, form: Option<Bound>) -> Option<Bound
 }
 
 /// A variable with a number more, if it is untouched, or changed just as it is.
-fn steady(touches: Touches, root: u32, number: i32) -> Option<Bound>
-    ensures { said_form result ≡ steady_at (said_touches touches.entry) root number }
+fn steady(touches: &Touches, root: u32, number: i32) -> Option<Bound>
+    ensures { said_form result ≡ steady_at (said_touches touches.now) root number }
 {
     if is_steady(touches, root) {
         Some(variable(root, number))
@@ -432,16 +452,15 @@ fn steady(touches: Touches, root: u32, number: i32) -> Option<Bound>
     }
 }
 
-fn is_steady(touches: Touches, root: u32) -> bool
-    ensures { result ≡ is_steady (said_touches touches.entry) root }
+fn is_steady(touches: &Touches, root: u32) -> bool
+    ensures { result ≡ is_steady (said_touches touches.now) root }
 {
     !is_among(touches.touched, root) || is_changed(touches.changes, root)
 }
 
 /// Whether a variable is changed just as it is.
-#[tactic(auto, using(crate::proofs::Mapped::any_mapped))]
 fn is_changed(changes: &[Change], root: u32) -> bool
-    ensures { result ≡ list_any (λ change. is_variable root change.bearer) (map said_change changes.now) }
+    ensures { result ≡ list_any (λ change. is_variable root (said_bearer change.bearer)) changes.now }
 {
     changes
         .iter()

@@ -116,10 +116,23 @@ pub(crate) fn limit_of(
 {
     match bound {
         Bound::Number(_) => Some(Limit::of(state, bound)),
-        Bound::Plus { root, number } => Some(limit_of_root(tree, state, bindings, root)?.moved(
-            number,
-        )),
+        Bound::Plus { root, number } => limit_above(tree, state, bindings, root, number),
     }
+}
+
+/// A variable of the callee with a number more.
+fn limit_above(
+    tree: &Tree,
+    state: &State,
+    bindings: Bindings,
+    root: u32,
+    number: i32,
+) -> Option<Limit>
+    ensures { IsLimit AreBounded result
+        (limit_of_bound tree.now (viewed state.now) (said_bindings bindings.entry) (Plus root number)) }
+{
+    let limit = limit_of_root(tree, state, bindings, root)?;
+    Some(limit.moved(number))
 }
 
 /// A variable of the callee.

@@ -1,4 +1,4 @@
-use Rattle.std.proofs.Common.{arith, ◌∙◌, ◌≡◌, sym, ◌≤◌, ◌<◌, ◌+◌, Bool, true, false, nat_lt, inl, inr, ap, subst}
+use Rattle.std.proofs.Common.{arith, ◌∙◌, ◌≡◌, sym, ◌≤◌, ◌<◌, ◌+◌, Bool, true, false, nat_le, nat_lt, inl, inr, ap, subst}
 use Rattle.std.proofs.lemmas.Bool.{cases_lt}
 use Rattle.call_states.proofs.Rows.{among-below, among-in, among-past}
 use Rattle.call_states.proofs.actuals.has.Goals as goal
@@ -19,4 +19,5 @@ returns-then-span-row c =
 pub returns-else-span-row : goal.returns-else-span-row
 returns-else-span-row c =
     let below : c.args.row < c.args.span.first = c.if-span-row.false in
-    ? ∙ sym (among-below c.args.span.count c.args.span.first c.args.row below)
+    let test : nat_le c.args.span.first c.args.row ≡ false = grind (arith, below) in
+    test ∙ sym (among-below c.args.span.count c.args.span.first c.args.row below)
