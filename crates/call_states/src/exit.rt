@@ -1,4 +1,4 @@
-ghost use Rattle.std.specs.Prelude.{◌≡◌, IfOk, filter, map, slice_get};
+ghost use Rattle.std.specs.Prelude.{◌≡◌, ℕ, IfOk, Some, filter, map, slice_get};
 ghost use Rattle.std.specs.List.{list_any};
 ghost use Rattle.abstract_state.specs.View.{said_form};
 ghost use Rattle.certificate.specs.Contents.{said_fact, said_path};
@@ -11,8 +11,8 @@ ghost use Rattle.call_states.specs.Exit.{all_joined, bearer_defined, bearers_def
 ghost use Rattle.call_states.specs.Exit.{exit_bound_of, is_own_path, is_steady, is_variable, result_range, rows_behind};
 ghost use Rattle.call_states.specs.Exit.{stretch_defined, stretches_defined, touched_behind, untouched_form};
 ghost use Rattle.call_states.specs.Exit.{variables_behind, with_exit, with_exits};
-ghost use Rattle.call_states.specs.View.{behind, common_of, is_of, met, said_bearer, said_bindings, said_found};
-ghost use Rattle.call_states.specs.View.{left_behind, said_change, said_claims, said_touches, steady_at};
+ghost use Rattle.call_states.specs.View.{behind, common_of, is_of, met, said_actual, said_bearer, said_bindings};
+ghost use Rattle.call_states.specs.View.{left_behind, said_change, said_claims, said_found, said_touches, steady_at};
 ghost use Rattle.call_states.specs.View.{touched_by};
 
 use crate::actuals::{Actual, Bearer, Bindings, bearers_named, is_entire};
@@ -412,15 +412,23 @@ fn exit_bound_of(
 {
     match actual {
         None => steady(touches, root, number),
-        Some(Actual::Value { form, .. }) => untouched(touches, number, *form),
-        Some(Actual::Rows(_)) => None,
-        Some(
-            Actual::Variable {
-                root: other,
-                selectors,
-                ..
-            },
-        ) => {
+        Some(actual) => exit_bound_by(tree, touches, number, actual),
+    }
+}
+
+/// The same of a formal parameter.
+fn exit_bound_by(tree: &Tree, touches: &Touches, number: i32, actual: &Actual) -> Option<Bound>
+    ensures { (root : ℕ) → said_form result
+        ≡ exit_bound_of tree.now (said_touches touches.now) root number (Some (said_actual actual.now)) }
+{
+    match actual {
+        Actual::Value { form, .. } => untouched(touches, number, *form),
+        Actual::Rows(_) => None,
+        Actual::Variable {
+            root: other,
+            selectors,
+            ..
+        } => {
             if is_entire(tree, *other, selectors) {
                 steady(touches, *other, number)
             } else {
