@@ -1,4 +1,5 @@
 pub mod Bound
+pub mod Beginning
 pub mod Borne
 pub mod Commons
 pub mod Mapped
