@@ -10,13 +10,13 @@ use Rattle.meaning.specs.declared.store.Value.{Value}
 use Rattle.meaning.specs.Effect as effect
 use Rattle.meaning.specs.Effect.{Gives}
 use Rattle.meaning.specs.Meaning.{Surroundings, is_so, value_of}
-use Rattle.meaning.specs.Store.{Environment, Place, Store, written}
+use Rattle.meaning.specs.Store.{Environment, Store}
 use Rattle.abstract_state.specs.State.{State, gives_fact, joined_states}
 use Rattle.abstract_state.specs.Changes.{assigned}
 use Rattle.abstract_state.specs.Conditions.{bound_form, branched}
 use Rattle.abstract_state.specs.Loops.{head, replaced, with_undefined}
 use Rattle.abstract_state.specs.Holds.{Moment, HasNumber, Holds, IsBound, IsIn, StateHolds, value_at}
-use Rattle.abstract_state.specs.Knows.{InLimits, IsKept, IsOfForm, Knows, Shows, moment}
+use Rattle.abstract_state.specs.Knows.{InLimits, IsFormApart, IsKept, IsLooseIn, IsOfForm, Knows, Shows, moment}
 
 -- where two ways meet, what is known behind them holds, whichever was taken
 pub record JoinHolds : Type 0 where
@@ -37,14 +37,16 @@ FormsTell =
     (expression : Expr) (env : Surroundings) (s t : effect.State) (v : Value) → value_of expression env s ≡ Gives v t
     → IsOfForm (moment env.visible t.store) (bound_form expression) v
 
--- after a value was written to a variable, what is known after its assignment holds
+-- after a value was written to a variable, which its aliases may have then too, and no other changed, what is known
+-- after its assignment holds
 abbrev pub AssignmentsHold : Type 0
 AssignmentsHold =
-    (variables : ℕ) (env : Environment) → Shows variables env
-    → (state : State) (store : Store) (root : ℕ) (place : Place) (range : Interval) (form : Option Bound) (v : Value)
-    → root < variables → env.variables root ≡ Some place → Knows variables env state store → IsIn range v
-    → IsOfForm (moment env store) form v
-    → Knows variables env (assigned root range form state) (written store place v)
+    (variables : ℕ) (env : Environment) (aliases : List ℕ) (state : State) (before after : Store) (root : ℕ)
+    (range : Interval) (form : Option Bound) (v : Value)
+    → root < variables → IsKept env (root ∷ aliases) [] before after
+    → value_at (moment env after) root [] ≡ Some v → Knows variables env state before
+    → IsLooseIn env aliases state after → IsIn range v → IsOfForm (moment env before) form v
+    → IsFormApart aliases form → Knows variables env (assigned root range form state) after
 
 -- where a condition had a truth value, what is known of that branch holds
 abbrev pub ConditionsTell : Type 0

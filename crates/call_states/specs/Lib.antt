@@ -1,4 +1,5 @@
 pub mod Sections
+pub mod Environments
 pub mod Aliases
 pub mod Starts
 pub mod Actuals

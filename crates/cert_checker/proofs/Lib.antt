@@ -12,10 +12,13 @@ pub mod SoundForms
 pub mod SoundLoops
 pub mod SoundProgram
 pub mod SoundStores
+pub mod Rounds
 pub mod Steps
 pub mod StepsCase
 pub mod StepsFor
 pub mod StepsStores
-pub mod Stored
 pub mod Targets
 pub mod Written
+pub mod EffectsStatements
+pub mod EffectsParameters
+pub mod EffectsRoutines

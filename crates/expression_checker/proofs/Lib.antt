@@ -1,11 +1,16 @@
 pub mod Entered
+pub mod Fitting
 pub mod Forms
 pub mod Held
 pub mod RowUses
 pub mod Keeping
 pub mod Sound
 pub mod SoundAccesses
+pub mod SoundCalls
 pub mod SoundExpressions
 pub mod SoundOperations
 pub mod SoundRows
 pub mod Steps
+pub mod EffectsKept
+pub mod EffectsCalls
+pub mod Effects
