@@ -35,7 +35,7 @@ use Rattle.call_states.proofs.Passed.{AllFit, Fits}
 
 -- ---- places that are the same
 
-same-step : (s t : Step) → step_eq s t ≡ true → s ≡ t
+pub same-step : (s t : Step) → step_eq s t ≡ true → s ≡ t
 same-step (step.Element i) (step.Element j) is = ap step.Element (numbers-same i j is)
   where
     numbers-same : (i j : ℤ) → int_eq i j ≡ true → i ≡ j
@@ -44,7 +44,7 @@ same-step (step.Field a) (step.Field b) is = ap step.Field (eqb-true a b is)
 same-step (step.Element i) (step.Field b) is = absurd (false≢true is)
 same-step (step.Field a) (step.Element j) is = absurd (false≢true is)
 
-same-steps : (ps qs : List Step) → pointwise step_eq ps qs ≡ true → ps ≡ qs
+pub same-steps : (ps qs : List Step) → pointwise step_eq ps qs ≡ true → ps ≡ qs
 same-steps [] [] is = refl
 same-steps [] (t ∷ qs) is = absurd (false≢true is)
 same-steps (s ∷ ps) [] is = absurd (false≢true is)

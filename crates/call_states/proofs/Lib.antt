@@ -5,6 +5,8 @@ pub mod AliasedStores
 pub mod AliasedTypes
 pub mod Bearers
 pub mod Borne
+pub mod CallChanges
+pub mod CallLeaves
 pub mod Callee
 pub mod Claimed
 pub mod ComponentTypes
@@ -12,6 +14,7 @@ pub mod Entered
 pub mod FormalRows
 pub mod Given
 pub mod Headings
+pub mod LedComponents
 pub mod Parameters
 pub mod Passed
 pub mod Places

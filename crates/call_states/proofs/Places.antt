@@ -26,7 +26,7 @@ step-back (step.Field a) (step.Field b) is = eq-eqb b a (sym (eqb-true a b is))
 step-back (step.Element i) (step.Field b) is = is
 step-back (step.Field a) (step.Element j) is = is
 
-step-itself : (s : Step) → step_eq s s ≡ true
+pub step-itself : (s : Step) → step_eq s s ≡ true
 step-itself (step.Element index) = int_eq_equiv.refl index
 step-itself (step.Field position) = eq-eqb position position refl
 
@@ -75,7 +75,7 @@ both-share false b c d a_is b_is is = absurd (false≢true a_is)
 both-share true false c d a_is b_is is = absurd (false≢true b_is)
 
 -- what goes on alike begins alike
-begin-share : (ps qs more others : List Step) → is_beginning (ps ++ more) (qs ++ others) ≡ true → share ps qs ≡ true
+pub begin-share : (ps qs more others : List Step) → is_beginning (ps ++ more) (qs ++ others) ≡ true → share ps qs ≡ true
 begin-share [] qs more others is = refl
 begin-share (s ∷ ps) [] more others is = refl
 begin-share (s ∷ ps) (t ∷ qs) more others is =
