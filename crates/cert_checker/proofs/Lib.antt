@@ -6,6 +6,7 @@ pub mod Heads
 pub mod Keeping
 pub mod Rounds
 pub mod SoundAssignments
+pub mod SoundBlocks
 pub mod SoundCase
 pub mod SoundCopies
 pub mod SoundFor
