@@ -3,6 +3,7 @@ pub mod AliasedStores
 pub mod AliasedTypes
 pub mod Assigned
 pub mod Bearers
+pub mod Behind
 pub mod Borne
 pub mod CallChanges
 pub mod CallLeaves
