@@ -4,6 +4,7 @@ pub mod AliasedTypes
 pub mod Assigned
 pub mod Bearers
 pub mod Behind
+pub mod BehindExits
 pub mod Borne
 pub mod CallChanges
 pub mod CallLeaves
