@@ -4,6 +4,8 @@ pub mod AliasedTypes
 pub mod Assigned
 pub mod Bearers
 pub mod Beginning
+pub mod Behind
+pub mod BehindExits
 pub mod Borne
 pub mod Bound
 pub mod CallChanges

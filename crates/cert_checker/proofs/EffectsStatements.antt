@@ -89,7 +89,7 @@ may-copy : (context : Context) (place : SourcePlace) (root : ℕ) (selectors : L
     (ranges : List Interval) → Yields context (walk.copy_to place root selectors reach type_id value ranges) tt → may_change context root ≡ true
 may-copy context place root selectors reach type_id value ranges yields =
     let rows = walk.target_rows context root selectors in
-    may-store context place root reach (walk.fits_whole context.tree.types type_id value && nat_eq (length rows) (length ranges))
+    may-store context place root reach (flow.fits_whole context.tree.types type_id value && nat_eq (length rows) (length ranges))
     (walk.paired rows ranges) (record { state = yields.state; unbroken = yields.unbroken; value_is = yields.value_is })
 
 -- both ways break no rule
@@ -283,8 +283,7 @@ module _ (tree : Tree) (blocks : List BlockClaims) (declares : DeclareTheirs tre
           (slice_get tree.variables.items control) in
       let local = (and_parts declared (leads_to_ordinal (outline_of tree) block control [] 0) is).0 in
       let (variable, found, own) = declared-local (slice_get tree.variables.items control) local in
-      let number_is = grounds.own control variable place found own seen in
-      omega (arith, number_is)
+      grounds.own control variable place found own seen
 
   keeps-between : (control : ℕ) (first_fits : RangeTest) (direction : Direction) (last_fits : RangeTest) (execution : Execution)
       → IsOwn at (at.visible.variables control) → Keeps at (execution here) → (first last : Value)
