@@ -7,6 +7,7 @@ use Rattle.typed_tree.specs.WellFormed.{IsWellFormed}
 use Rattle.typed_tree.specs.declared.tree.Block.{Block}
 use Rattle.typed_tree.specs.declared.tree.Tree.{Tree}
 use Rattle.typed_tree.specs.declared.tree.Variable.{Variable}
+use Rattle.types.specs.declared.form.Step.{Step}
 use Rattle.domain.specs.Facts.{Fact}
 use Rattle.domain.specs.Interval.{Interval}
 use Rattle.meaning.specs.declared.store.Value.{Value}
@@ -22,13 +23,13 @@ use Rattle.component_states.specs.States.{State}
 use Rattle.structured_states.specs.Loops.{all_limits}
 use Rattle.structured_states.specs.Pairs.{aliases_of}
 use Rattle.call_states.specs.Actuals.{Actual, OfRows, OfValue, OfVariable, are_of_types, bound_to, is_of_type}
-use Rattle.call_states.specs.Environments.{Fine, Proper}
+use Rattle.call_states.specs.Environments.{Fine, Proper, Typed}
 use Rattle.call_states.specs.Exit.{behind_call}
 use Rattle.call_states.specs.Sections.{block_claims_at}
 use Rattle.call_states.proofs.AliasedTypes.{seen}
 use Rattle.call_states.proofs.Assigned.{all_assigned, assigns-all}
 use Rattle.call_states.proofs.BehindExits.{MayEnd, behind-known}
-use Rattle.call_states.proofs.CallChanges.{HasReturned, defined-kept, value-same_or_near}
+use Rattle.call_states.proofs.CallChanges.{HasLeft, IsNear, defined-kept, value-same_or_near}
 use Rattle.call_states.proofs.Callee.{IsCalled}
 use Rattle.call_states.proofs.Claimed.{AllHold}
 use Rattle.call_states.proofs.Entered.{behind_assignments}
@@ -40,6 +41,9 @@ use Rattle.call_states.proofs.Places.{pair-listed}
 use Rattle.call_states.proofs.Separated.{callee-separate, callee-stands}
 use Rattle.expression_checker.proofs.Sound.{Called, Returned, World, activation_of, parts_in, variables_in}
 use Rattle.expression_checker.proofs.SoundCalls.{ArePassed, CallLaws, IsApartFrom, IsOfKind, IsPassed, MayCall, changed_by_call}
+
+gives-same : (a b : Unit {0}) (t u : effect.State) → effect.Gives a t ≡ effect.Gives b u → t ≡ u
+gives-same a b t u is = cc
 
 -- the claims on each block name what they may: its changes and the facts at its begin what its caller may know, those at its end its own result too
 pub record AreClaims (world : World) : Type 0 where
@@ -126,12 +130,9 @@ module _ (world : World) (well : IsWellFormed world.tree) (limits_are : world.li
         let given = given-hold tree world.pairs number callee arguments visible s.activations block is-called s.store may.fine.begun actuals are-arguments of-types
         state may.known (block_claims_at world.blocks number).entry (are_claims.entry number) may.given in
         let ready_is : record begun { store = all_assigned tree inner roots arguments begun.store } ≡ ready =
-        gives-same (record begun { store = all_assigned tree inner roots arguments begun.store }) ready (sym (assigns-all tree inner roots arguments begun) ∙ is) in
+        gives-same tt tt (record begun { store = all_assigned tree inner roots arguments begun.store }) ready (sym (assigns-all tree inner roots arguments begun) ∙ is) in
         subst (λ (t : effect.State). AllHold tree (block_claims_at world.blocks number).entry inner t.store) ready_is
         (subst (λ (store : Store). AllHold tree (block_claims_at world.blocks number).entry inner (all_assigned tree inner roots arguments store)) (sym same) given)
-      where
-        gives-same : (t u : effect.State) → effect.Gives tt t ≡ effect.Gives tt u → t ≡ u
-        gives-same t u is = cc
 
     pub may-called : Called world number callee arguments visible s
     may-called = record {
@@ -147,8 +148,57 @@ module _ (world : World) (well : IsWellFormed world.tree) (limits_are : world.li
     -- ---- behind it
 
     module _ (v : Value) (after : Store) (back : Returned world number callee arguments visible s v after) where
-      -- the changes of a call, but for the values that it left
-      leaves-known : HasReturned tree world.pairs number callee arguments visible s.activations block s.store actuals
-          (record { changes = (block_claims_at world.blocks number).changes; entry = (block_claims_at world.blocks number).entry; exit = [] }) after
-          → Unit {0}
-      leaves-known known = tt
+      has-left : HasLeft tree world.pairs number callee arguments visible s.activations block s.store actuals (block_claims_at world.blocks number) after
+      has-left = record {
+        call = is-called;
+        begun = may.fine.begun;
+        are = are-arguments;
+        of_types = of-types;
+        proper = callee-stands tree world.pairs number callee arguments visible s.activations block is-called s.store actuals are-arguments may.separate;
+        leaves = back.leaves;
+        outward = are_claims.changes number;
+      }
+
+      -- what is defined stays so
+      pub defined-behind : (root : ℕ) (steps : List Step) → HasValue (moment visible s.store) root steps → HasValue (moment visible after) root steps
+      defined-behind root steps has =
+          defined-kept tree world.pairs number callee arguments visible s.activations block s.store actuals (block_claims_at world.blocks number) after has-left
+          root steps has
+
+      -- what is neither changed nor an alias of that is as it was
+      pub kept-behind : (root : ℕ) → IsApartFrom world block (changed_by_call world number callee actuals) root → (steps : List Step)
+          → value_at (moment visible after) root steps ≡ value_at (moment visible s.store) root steps
+      kept-behind root apart steps =
+          ⊎_elim (λ same. same)
+          (λ (near : IsNear tree world.pairs number callee arguments visible s.activations block s.store actuals (block_claims_at world.blocks number) after
+              has-left root).
+          let there = seen tree world.pairs block s.activations visible may.proper near.other near.place near.place_is in
+          let both = apart near.other near.among there in
+          absurd
+          (⊎_elim (λ same. both.0 same)
+          (λ pair. both_ways (is_among root (aliases_of world.pairs near.other)) both.1 (pair-listed world.pairs near.other root pair)) near.near))
+          (value-same_or_near tree world.pairs number callee arguments visible s.activations block s.store actuals (block_claims_at world.blocks number) after
+          has-left root steps)
+
+      -- what the walk knows holds
+      pub state-behind : (t : effect.State) → t.store ≡ after → Fine tree t
+          → Knows (parts_in world) (variables_in world) visible
+          (behind_call tree world.pairs number (bound_to roots actuals) (block_claims_at world.blocks number) state) after
+      state-behind t same fine =
+          behind-known tree world.pairs number callee arguments visible s.activations block s.store actuals (block_claims_at world.blocks number) after
+          (record { left = has-left; typed = subst (Typed tree) same fine.typed; exit = back.exit })
+          (back.passed s (record s { store = all_assigned tree inner roots arguments s.store }) refl (assigns-all tree inner roots arguments s))
+          (are_claims.exit number) state may.known
+
+  -- ---- the laws
+
+  pub call-laws : CallLaws world
+  call-laws = record {
+    called = λ block number callee visible state actuals arguments s may. may-called block number callee visible state actuals arguments s may;
+    behind = λ block number callee visible state actuals arguments s t v may fine back.
+        state-behind block number callee visible state actuals arguments s may v t.store back t refl fine;
+    kept = λ block number callee visible state actuals arguments s t v may back root apart steps.
+        kept-behind block number callee visible state actuals arguments s may v t.store back root apart steps;
+    defined = λ block number callee visible state actuals arguments s t v may back root steps has.
+        defined-behind block number callee visible state actuals arguments s may v t.store back root steps has;
+  }

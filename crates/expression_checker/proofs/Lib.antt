@@ -1,3 +1,4 @@
+pub mod CallLaws
 pub mod Entered
 pub mod Fitting
 pub mod Forms
