@@ -13,6 +13,7 @@ pub mod Callee
 pub mod Claimed
 pub mod ComponentTypes
 pub mod Entered
+pub mod Fitting
 pub mod FormalRows
 pub mod Given
 pub mod Headings
