@@ -4,7 +4,7 @@ use Rattle.std.proofs.Common.{zero-add, List, [], ◌∷◌, ◌++◌, map, filt
 use Rattle.std.specs.Prelude.{◌+◌, ◌≤◌, nat_lt, slice_get}
 use Rattle.std.specs.List.{Contains, flat_map, list_any, list_all, range_with_len, sum_by}
 use Rattle.std.proofs.lemmas.Bool.{and_parts, eq-eqb, eqb-true}
-use Rattle.std.proofs.lemmas.List.{length-map, get_or-map, get_or_default}
+use Rattle.std.proofs.lemmas.List.{length-map, get_or-map}
 use Rattle.std.proofs.lemmas.Option.{none-some, slice_get_within}
 use Rattle.std.proofs.lemmas.List.Folds.{list_any_at}
 use Rattle.std.proofs.lemmas.List.Sorted.{sum_by-IsPermutation}
@@ -13,7 +13,7 @@ use Rattle.std.proofs.lemmas.List.Concat.{flat_map-cons}
 use Rattle.std.proofs.lemmas.List.FromFn.{get_or-map-range_with_len, length-range_with_len, get_or-range_with_len}
 use Rattle.certificate.specs.declared.Certificate.{Certificate}
 use Rattle.certificate.specs.declared.Section.{Section as KeptSection}
-use Rattle.certificate.specs.Contents.{Section, contents, is_empty, said_fact, section_of}
+use Rattle.certificate.specs.Contents.{contents, is_empty, said_fact, section_of}
 use Rattle.typed_tree.specs.declared.tree.Tree.{Tree}
 use Rattle.typed_tree.specs.declared.tree.Block.{Block}
 use Rattle.typed_tree.specs.declared.site.Site.{Site}
@@ -25,10 +25,8 @@ use Rattle.meaning.specs.declared.outcome.Ending.TheVariants.{Error}
 use Rattle.meaning.specs.Effect as effect
 use Rattle.meaning.specs.Effect.{Reply, Visit}
 use Rattle.meaning.specs.Meaning.{calls_of, ended, environment_of, first_state, program_activation, run, run_of}
-use Rattle.meaning.specs.Store.{Environment}
-use Rattle.abstract_state.specs.Holds.{Separate}
 use Rattle.call_states.specs.Environments.{Fine}
-use Rattle.call_states.specs.Sections.{BlockClaims, all_block_claims, all_pairs, block_claims_at, block_claims_in, no_block_claims}
+use Rattle.call_states.specs.Sections.{BlockClaims, all_block_claims, block_claims_at, block_claims_in, no_block_claims}
 use Rattle.call_states.proofs.AliasedStores.{head-or_tail}
 use Rattle.call_states.proofs.Claimed.{AllHold}
 use Rattle.call_states.proofs.Started.{no-claims, program-proper, program-start}
@@ -165,7 +163,8 @@ element-at (x ∷ xs) (suc k) within = element-at xs k (omega arith)
 
 -- each error of a run is at a site that the walk leaves open
 pub closed-never_err : (tree : Tree) (certificate : Certificate) (open_sites : List Site) → (program_walk tree certificate).broken ≡ []
-    → is_known tree certificate ≡ true → CallLaws (program_world tree certificate) → open_sites ≡ open_in (program_walk tree certificate).open_ids tree.sites.items → IsWellFormed tree → AreInOrder tree.sites.items
+    → is_known tree certificate ≡ true → CallLaws (program_world tree certificate)
+    → open_sites ≡ open_in (program_walk tree certificate).open_ids tree.sites.items → IsWellFormed tree → AreInOrder tree.sites.items
     → ClosedNeverErr tree open_sites
 closed-never_err tree certificate open_sites unbroken known laws open_are well in_order input turns id errs =
     let ids = (program_walk tree certificate).open_ids in
