@@ -30,7 +30,7 @@ use Rattle.call_states.proofs.Passed.{AllFit}
 -- ---- the roots of the parameters
 
 -- the roots of variables of which a test holds are those of such variables
-roots-are : (test : Variable → Bool) (first : ℕ) (variables : List Variable) (root : ℕ) → Contains (roots_where test first variables) root
+pub roots-are : (test : Variable → Bool) (first : ℕ) (variables : List Variable) (root : ℕ) → Contains (roots_where test first variables) root
     → (k : ℕ) × (variable : Variable) × (root ≡ first + k) × (slice_get variables k ≡ Some variable) × (test variable ≡ true)
 roots-are test first [] root inside = absurd (omega (arith, inside.1))
 roots-are test first (v ∷ variables) root inside = by (test v) refl inside (λ later. roots-are test (suc first) variables root later)

@@ -1,7 +1,8 @@
 pub mod Aliased
+pub mod Assigned
+pub mod PlaceTypes
 pub mod AliasedStores
 pub mod AliasedTypes
-pub mod Assigned
 pub mod Bearers
 pub mod Behind
 pub mod BehindExits
@@ -19,7 +20,6 @@ pub mod Headings
 pub mod LedComponents
 pub mod Parameters
 pub mod Passed
-pub mod PlaceTypes
 pub mod Places
 pub mod Reached
 pub mod Separated

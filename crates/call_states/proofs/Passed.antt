@@ -142,7 +142,7 @@ indexes-integer outline block (Element fits cells ∷ selectors) (step.Element i
 -- ---- an actual parameter that was evaluated before a call
 
 module _ (tree : Tree) (env : Environment) (before after : Store) where
-  reached-later : (selectors : List Selector) (way : List Step) (reach : Reach) → ((n : ℤ) → first_index way ≡ Some n → HasMember integer n)
+  pub reached-later : (selectors : List Selector) (way : List Step) (reach : Reach) → ((n : ℤ) → first_index way ≡ Some n → HasMember integer n)
       → IsReachedBy env before selectors way reach → IsReachedBy env after selectors way (unknown_reach reach)
   reached-later selectors way Entire integers reached = reached
   reached-later selectors way (At index) integers reached =

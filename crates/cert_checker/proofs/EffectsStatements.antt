@@ -89,7 +89,7 @@ may-copy : (context : Context) (place : SourcePlace) (root : ℕ) (selectors : L
     (ranges : List Interval) → Yields context (walk.copy_to place root selectors reach type_id value ranges) tt → may_change context root ≡ true
 may-copy context place root selectors reach type_id value ranges yields =
     let rows = walk.target_rows context root selectors in
-    may-store context place root reach (walk.fits_whole context.tree.types type_id value && nat_eq (length rows) (length ranges))
+    may-store context place root reach (flow.fits_whole context.tree.types type_id value && nat_eq (length rows) (length ranges))
     (walk.paired rows ranges) (record { state = yields.state; unbroken = yields.unbroken; value_is = yields.value_is })
 
 -- both ways break no rule

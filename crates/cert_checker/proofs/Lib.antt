@@ -4,7 +4,9 @@ pub mod Controls
 pub mod Entered
 pub mod Heads
 pub mod Keeping
+pub mod Rounds
 pub mod SoundAssignments
+pub mod SoundBlocks
 pub mod SoundCase
 pub mod SoundCopies
 pub mod SoundFor
@@ -12,7 +14,6 @@ pub mod SoundForms
 pub mod SoundLoops
 pub mod SoundProgram
 pub mod SoundStores
-pub mod Rounds
 pub mod Steps
 pub mod StepsCase
 pub mod StepsFor

@@ -1,132 +1,183 @@
--- The loops round a point: each touches the aliases of what its turns change, as far as they are visible in the block.
-use Rattle.std.proofs.Common.{arith, ◌≡◌, ⊎_elim, ◌∙◌, sym, ap, refl, subst, ℕ, Bool, true, false, cond, not, ◌||◌, nat_eq, List, [], ◌∷◌, ◌++◌, Option, Some}
-use Rattle.std.proofs.Common.{filter}
+-- What the turns of a loop change, the loop touches, and the aliases of that: at its head, and inside it as far as they are visible.
+use Rattle.std.proofs.Common.{◌≡◌, ⊎_elim, ◌∙◌, sym, ap, ap₂, refl, subst, ℕ, Bool, true, false, not, cond, ◌&&◌, ◌||◌, nat_eq, List, [], ◌∷◌, ◌++◌, Option, Some}
+use Rattle.std.proofs.Common.{None}
 use Rattle.std.specs.Prelude.{flat_map}
 use Rattle.std.specs.List.{Contains, list_all}
-use Rattle.std.proofs.lemmas.Bool.{and_parts, both_ways, cases_Bool, eq-eqb, eqb-true, false_from_ne_true, or_cases}
-use Rattle.std.proofs.lemmas.List.Elements.{Contains-push_cases}
+use Rattle.std.proofs.lemmas.Bool.{and_parts, eqb-true, eq-eqb, or_cases}
 use Rattle.std.proofs.lemmas.List.Folds.{list_any-append}
+use Rattle.std.proofs.lemmas.List.Elements.{Contains-push_cases}
 use Rattle.typed_tree.specs.WellFormed.{is_visible, outline_of}
-use Rattle.typed_tree.specs.declared.tree.Tree.{Tree}
 use Rattle.abstract_state.specs.Loops.{is_among}
-use Rattle.structured_states.specs.Loops.{Claims, Round, all_but, claims_at, controls_inside, round_of, touched, without_own}
-use Rattle.structured_states.specs.Pairs.{aliases_of, all_aliases}
-use Rattle.call_states.proofs.AliasedTypes.{IsClosedIn}
-use Rattle.call_states.proofs.Places.{listed-pair, pair-back, pair-listed}
+use Rattle.structured_states.specs.Loops.{Round, all_but, round_of, touched, with_own, without_own}
+use Rattle.structured_states.specs.Pairs.{aliases_of, all_aliases, partner}
+use Rattle.structured_states.proofs.Touched.{among-but, inside-parts, touched_parts}
+use Rattle.expression_checker.specs.Walk.{Context, may_change}
+use Rattle.expression_checker.proofs.Sound.{Goes, IsClosed, World, is_seen}
+use Rattle.cert_checker.specs.Walk.{are_hidden}
 
--- ---- lists
+or-second : (a b : Bool) → b ≡ true → (a || b) ≡ true
+or-second true b is = refl
+or-second false b is = is
 
-among-append : (root : ℕ) (first second : List ℕ) → is_among root (first ++ second) ≡ (is_among root first || is_among root second)
-among-append root first second = list_any-append (λ (other : ℕ). nat_eq other root) first second
+or-first : (a b : Bool) → a ≡ true → (a || b) ≡ true
+or-first true b is = refl
+or-first false b is = absurd (cc)
 
-or-left : (a b : Bool) → a ≡ true → (a || b) ≡ true
-or-left true b is = refl
-or-left false b is = absurd (both_ways false refl is)
+not-both : (b : Bool) → b ≡ true → b ≡ false → ⊥
+not-both b is isnt = cc
 
-or-right : (a b : Bool) → b ≡ true → (a || b) ≡ true
-or-right true b is = refl
-or-right false b is = is
+false-true : ◌≡◌ {A = Bool} false true → ⊥
+false-true is = cc
 
-pub among-left : (root : ℕ) (first second : List ℕ) → is_among root first ≡ true → is_among root (first ++ second) ≡ true
-among-left root first second is = among-append root first second ∙ or-left (is_among root first) (is_among root second) is
-
-pub among-right : (root : ℕ) (first second : List ℕ) → is_among root second ≡ true → is_among root (first ++ second) ≡ true
-among-right root first second is = among-append root first second ∙ or-right (is_among root first) (is_among root second) is
-
--- the aliases of one are among those of all
-among-all : (pairs : List (ℕ × ℕ)) (root alias : ℕ) (roots : List ℕ) → is_among root roots ≡ true → is_among alias (aliases_of pairs root) ≡ true
+-- an alias of one of several variables is one of theirs
+pub among-all : (pairs : List (ℕ × ℕ)) (roots : List ℕ) (root alias : ℕ) → is_among root roots ≡ true → is_among alias (aliases_of pairs root) ≡ true
     → is_among alias (all_aliases pairs roots) ≡ true
-among-all pairs root alias [] among is = absurd (both_ways false refl among)
-among-all pairs root alias (first ∷ roots) among is =
-    ⊎_elim
-    (λ (same : nat_eq first root ≡ true).
-    among-left alias (aliases_of pairs first) (all_aliases pairs roots)
-    (subst (λ (r : ℕ). is_among alias (aliases_of pairs r) ≡ true) (sym (eqb-true first root same)) is))
-    (λ later. among-right alias (aliases_of pairs first) (all_aliases pairs roots) (among-all pairs root alias roots later is))
-    (or_cases (nat_eq first root) (is_among root roots) among)
+among-all pairs [] root alias among is = absurd (false-true among)
+among-all pairs (other ∷ roots) root alias among is =
+    list_any-append (λ (x : ℕ). nat_eq x alias) (aliases_of pairs other) (all_aliases pairs roots)
+    ∙ ⊎_elim
+    (λ (same : nat_eq other root ≡ true).
+    or-first (is_among alias (aliases_of pairs other)) (is_among alias (all_aliases pairs roots))
+    (subst (λ (r : ℕ). is_among alias (aliases_of pairs r) ≡ true) (sym (eqb-true other root same)) is))
+    (λ (later : is_among root roots ≡ true).
+    or-second (is_among alias (aliases_of pairs other)) (is_among alias (all_aliases pairs roots)) (among-all pairs roots root alias later is))
+    (or_cases (nat_eq other root) (is_among root roots) among)
 
--- all of some but one
-kept-but : (root control : ℕ) (roots : List ℕ) → is_among root (all_but control roots) ≡ true → is_among root roots ≡ true
-kept-but root control [] among = among
-kept-but root control (first ∷ roots) among = by (nat_eq first control) among (kept-but root control roots)
+-- an alias of a variable has it as an alias
+partner-back : (pair : ℕ × ℕ) (root alias : ℕ) → is_among alias (partner root pair) ≡ true → is_among root (partner alias pair) ≡ true
+partner-back pair root alias is =
+    by (nat_eq pair.0 root) (nat_eq pair.1 root) refl refl is
   where
-    by : (same : Bool) → is_among root (cond (not same) (first ∷ all_but control roots) (all_but control roots)) ≡ true
-        → (is_among root (all_but control roots) ≡ true → is_among root roots ≡ true) → is_among root (first ∷ roots) ≡ true
-    by true among more = or-right (nat_eq first root) (is_among root roots) (more among)
-    by false among more =
-        ⊎_elim (λ here. or-left (nat_eq first root) (is_among root roots) here) (λ later. or-right (nat_eq first root) (is_among root roots) (more later))
-        (or_cases (nat_eq first root) (is_among root (all_but control roots)) among)
+    single : (x y : ℕ) → is_among x (y ∷ []) ≡ true → y ≡ x
+    single x y among = ⊎_elim (λ (same : nat_eq y x ≡ true). eqb-true y x same) (λ (none : ◌≡◌ {A = Bool} false true). absurd (false-true none))
+        (or_cases (nat_eq y x) false among)
 
-but-kept : (root control : ℕ) (roots : List ℕ) → nat_eq root control ≡ false → is_among root roots ≡ true → is_among root (all_but control roots) ≡ true
-but-kept root control [] differ among = among
-but-kept root control (first ∷ roots) differ among = by (nat_eq first control) refl (but-kept root control roots differ)
+    own : (x : ℕ) → is_among x (x ∷ []) ≡ true
+    own x = or-first (nat_eq x x) false (eq-eqb x x refl)
+
+    first-of : (x y : ℕ) → is_among x (partner y (x, y)) ≡ true
+    first-of x y = by-first (nat_eq x y) refl
+      where
+        by-first : (b : Bool) → nat_eq x y ≡ b → is_among x (partner y (x, y)) ≡ true
+        by-first true same =
+            ap (λ (b : Bool). is_among x (cond b (y ∷ []) (cond (nat_eq y y) (x ∷ []) []))) same
+            ∙ or-first (nat_eq y x) false (eq-eqb y x (sym (eqb-true x y same)))
+        by-first false apart =
+            ap (λ (b : Bool). is_among x (cond b (y ∷ []) (cond (nat_eq y y) (x ∷ []) []))) apart
+            ∙ ap (λ (b : Bool). is_among x (cond b (x ∷ []) [])) (eq-eqb y y refl) ∙ own x
+
+    second-of : (x y : ℕ) → is_among y (partner x (x, y)) ≡ true
+    second-of x y = ap (λ (b : Bool). is_among y (cond b (y ∷ []) (cond (nat_eq y x) (x ∷ []) []))) (eq-eqb x x refl) ∙ own y
+
+    by : (first second : Bool) → nat_eq pair.0 root ≡ first → nat_eq pair.1 root ≡ second → is_among alias (partner root pair) ≡ true
+        → is_among root (partner alias pair) ≡ true
+    by true second one other among =
+        let same : pair.1 ≡ alias = single alias pair.1
+        (sym (ap (λ (b : Bool). is_among alias (cond b (pair.1 ∷ []) (cond (nat_eq pair.1 root) (pair.0 ∷ []) []))) one) ∙ among) in
+        subst (λ (r : ℕ). is_among r (partner alias pair) ≡ true) (eqb-true pair.0 root one)
+        (subst (λ (a : ℕ). is_among pair.0 (partner a pair) ≡ true) same (first-of pair.0 pair.1))
+    by false true one other among =
+        let same : pair.0 ≡ alias = single alias pair.0
+        (sym (ap (λ (b : Bool). is_among alias (cond b (pair.1 ∷ []) (cond (nat_eq pair.1 root) (pair.0 ∷ []) []))) one
+        ∙ ap (λ (b : Bool). is_among alias (cond b (pair.0 ∷ []) [])) other) ∙ among) in
+        subst (λ (r : ℕ). is_among r (partner alias pair) ≡ true) (eqb-true pair.1 root other)
+        (subst (λ (a : ℕ). is_among pair.1 (partner a pair) ≡ true) same (second-of pair.0 pair.1))
+    by false false one other among =
+        absurd (false-true
+        (sym (ap (λ (b : Bool). is_among alias (cond b (pair.1 ∷ []) (cond (nat_eq pair.1 root) (pair.0 ∷ []) []))) one
+        ∙ ap (λ (b : Bool). is_among alias (cond b (pair.0 ∷ []) [])) other) ∙ among))
+
+pub aliases-back : (pairs : List (ℕ × ℕ)) (root alias : ℕ) → is_among alias (aliases_of pairs root) ≡ true → is_among root (aliases_of pairs alias) ≡ true
+aliases-back [] root alias is = absurd (false-true is)
+aliases-back (pair ∷ pairs) root alias is =
+    list_any-append (λ (x : ℕ). nat_eq x root) (partner alias pair) (aliases_of pairs alias)
+    ∙ ⊎_elim
+    (λ (here : is_among alias (partner root pair) ≡ true).
+    or-first (is_among root (partner alias pair)) (is_among root (aliases_of pairs alias)) (partner-back pair root alias here))
+    (λ (later : is_among alias (aliases_of pairs root) ≡ true).
+    or-second (is_among root (partner alias pair)) (is_among root (aliases_of pairs alias)) (aliases-back pairs root alias later))
+    (or_cases (is_among alias (partner root pair)) (is_among alias (aliases_of pairs root))
+    (sym (list_any-append (λ (x : ℕ). nat_eq x alias) (partner root pair) (aliases_of pairs root)) ∙ is))
+
+-- ---- a loop
+
+module _ (world : World) (block : ℕ) (context : Context) (number : ℕ) (pairs_are : context.pairs ≡ world.pairs) where
+  abbrev loop : Round
+  loop = round_of context.tree context.pairs context.claims number
+
+  among-aliases : (root alias : ℕ) → is_among root (loop.controls ++ loop.changes) ≡ true → is_among alias (aliases_of world.pairs root) ≡ true
+      → is_among alias loop.aliases ≡ true
+  among-aliases root alias among is =
+      among-all context.pairs (loop.controls ++ loop.changes) root alias among
+      (subst (λ (pairs : List (ℕ × ℕ)). is_among alias (aliases_of pairs root) ≡ true) (sym pairs_are) is)
+
+  -- round its body, where it is no for statement
+  pub loop-closed : IsClosed world block loop
+  loop-closed root alias shown other among is =
+      touched_parts None loop alias
+      ∙ or-second (is_among alias loop.controls) (is_among alias loop.changes || is_among alias loop.aliases)
+      (or-second (is_among alias loop.changes) (is_among alias loop.aliases) (among-aliases root alias among is))
+
+  -- and where it is one, whose control variable has no aliases that are visible
+  pub inside-closed : (control : ℕ) → is_seen world block control ≡ true
+      → ((alias : ℕ) → is_among alias (aliases_of world.pairs control) ≡ true → is_seen world block alias ≡ false)
+      → IsClosed world block (without_own (Some control) loop)
+  inside-closed control own_seen hidden root alias shown other among is =
+      let parts = list_any-append (λ (x : ℕ). nat_eq x root) (all_but control loop.controls) (all_but control loop.changes) in
+      let inner : is_among root (loop.controls ++ loop.changes) ≡ true =
+      list_any-append (λ (x : ℕ). nat_eq x root) loop.controls loop.changes
+      ∙ ⊎_elim
+      (λ (one : is_among root (all_but control loop.controls) ≡ true).
+      or-first (is_among root loop.controls) (is_among root loop.changes)
+      (and_parts (not (nat_eq control root)) (is_among root loop.controls) (sym (among-but root control loop.controls) ∙ one)).1)
+      (λ (two : is_among root (all_but control loop.changes) ≡ true).
+      or-second (is_among root loop.controls) (is_among root loop.changes)
+      (and_parts (not (nat_eq control root)) (is_among root loop.changes) (sym (among-but root control loop.changes) ∙ two)).1)
+      (or_cases (is_among root (all_but control loop.controls)) (is_among root (all_but control loop.changes)) (sym parts ∙ among)) in
+      let listed = among-aliases root alias inner is in
+      let apart : nat_eq control alias ≡ false = none (nat_eq control alias)
+      (λ same.
+      not-both (is_seen world block root) shown
+      (hidden root (aliases-back world.pairs root control
+      (subst (λ (a : ℕ). is_among a (aliases_of world.pairs root) ≡ true) (sym (eqb-true control alias same)) is)))) in
+      inside-parts control loop alias
+      ∙ or-second (not (nat_eq control alias) && is_among alias loop.controls)
+      ((not (nat_eq control alias) && is_among alias loop.changes) || (not (nat_eq control alias) && is_among alias loop.aliases))
+      (or-second (not (nat_eq control alias) && is_among alias loop.changes) (not (nat_eq control alias) && is_among alias loop.aliases)
+      (ap (λ (b : Bool). not b && is_among alias loop.aliases) apart ∙ listed))
+    where
+      none : (b : Bool) → (b ≡ true → ⊥) → b ≡ false
+      none true isnt = absurd (isnt refl)
+      none false isnt = refl
+
+-- with a loop more round a piece
+pub goes-inside : (world : World) (context : Context) (round : Round) → IsClosed world context.block round → Goes world context
+    → Goes world (record context { rounds = context.rounds ++ round ∷ [] })
+goes-inside world context round closed goes = record {
+  tree_is = goes.tree_is;
+  limits_are = goes.limits_are;
+  pairs_are = goes.pairs_are;
+  blocks_are = goes.blocks_are;
+  closed = λ other inside. ⊎_elim (λ old. goes.closed other old) (λ same. subst (λ (r : Round). IsClosed world context.block r) same closed)
+      (Contains-push_cases context.rounds round other inside);
+}
+
+-- ---- hidden variables
+
+false-one : (test : ℕ → Bool) (roots : List ℕ) (root : ℕ) → list_all (λ (r : ℕ). not (test r)) roots ≡ true → is_among root roots ≡ true → test root ≡ false
+false-one test [] root all among = absurd (false-true among)
+false-one test (other ∷ roots) root all among =
+    let parts = and_parts (not (test other)) (list_all (λ (r : ℕ). not (test r)) roots) all in
+    ⊎_elim
+    (λ (same : nat_eq other root ≡ true). subst (λ (r : ℕ). test r ≡ false) (eqb-true other root same) (not-true (test other) parts.0))
+    (λ (later : is_among root roots ≡ true). false-one test roots root parts.1 later) (or_cases (nat_eq other root) (is_among root roots) among)
   where
-    by : (same : Bool) → nat_eq first control ≡ same → (is_among root roots ≡ true → is_among root (all_but control roots) ≡ true)
-        → is_among root (cond (not same) (first ∷ all_but control roots) (all_but control roots)) ≡ true
-    by true here more =
-        ⊎_elim
-        (λ (own : nat_eq first root ≡ true).
-        absurd (both_ways (nat_eq root control) differ (subst (λ (r : ℕ). nat_eq r control ≡ true) (eqb-true first root own) here)))
-        (λ later. more later) (or_cases (nat_eq first root) (is_among root roots) among)
-    by false here more =
-        ⊎_elim (λ own. or-left (nat_eq first root) (is_among root (all_but control roots)) own)
-        (λ later. or-right (nat_eq first root) (is_among root (all_but control roots)) (more later))
-        (or_cases (nat_eq first root) (is_among root roots) among)
+    not-true : (b : Bool) → not b ≡ true → b ≡ false
+    not-true true is = absurd (false-true is)
+    not-true false is = refl
 
--- ---- loops
-
--- a loop of the table
-pub round-closed : (tree : Tree) (pairs : List (ℕ × ℕ)) (claims : List Claims) (block number : ℕ) → IsClosedIn tree pairs block (round_of tree pairs claims number)
-round-closed tree pairs claims block number root alias seen there among is =
-    let controls = controls_inside tree number in
-    let changes = (claims_at claims number).changes in
-    let aliases = all_aliases pairs (controls ++ changes) in
-    among-right alias controls (changes ++ aliases) (among-right alias changes aliases (among-all pairs root alias (controls ++ changes) among is))
-
--- pairs go both ways
-alias-back : (pairs : List (ℕ × ℕ)) (root alias : ℕ) → is_among alias (aliases_of pairs root) ≡ true → is_among root (aliases_of pairs alias) ≡ true
-alias-back pairs root alias is = pair-listed pairs alias root (pair-back pairs root alias (listed-pair pairs root alias is))
-
-hidden-one : (tree : Tree) (block : ℕ) (roots : List ℕ) (root : ℕ) → list_all (λ root. not (is_visible (outline_of tree) block root)) roots ≡ true
-    → is_among root roots ≡ true → is_visible (outline_of tree) block root ≡ true → ⊥
-hidden-one tree block [] root all among seen = both_ways false refl among
-hidden-one tree block (first ∷ roots) root all among seen =
-    let test = λ (r : ℕ). not (is_visible (outline_of tree) block r) in
-    let parts = and_parts (test first) (list_all test roots) all in
-    ⊎_elim
-    (λ (same : nat_eq first root ≡ true).
-    both_ways (test root) (ap not seen) (subst (λ (r : ℕ). test r ≡ true) (eqb-true first root same) parts.0))
-    (λ later. hidden-one tree block roots root parts.1 later seen)
-    (or_cases (nat_eq first root) (is_among root roots) among)
-
--- round the body of a for statement, of whose control variable no alias is visible
-pub own-closed : (tree : Tree) (pairs : List (ℕ × ℕ)) (block control : ℕ) (round : Round)
-    → list_all (λ root. not (is_visible (outline_of tree) block root)) (aliases_of pairs control) ≡ true
-    → IsClosedIn tree pairs block round → IsClosedIn tree pairs block (without_own (Some control) round)
-own-closed tree pairs block control round hidden closed root alias seen there among is =
-    let but = all_but control in
-    let differ : nat_eq alias control ≡ false =
-    false_from_ne_true (nat_eq alias control) (λ same.
-    hidden-one tree block (aliases_of pairs control) root hidden
-    (subst (λ (a : ℕ). is_among root (aliases_of pairs a) ≡ true) (eqb-true alias control same) (alias-back pairs root alias is)) seen) in
-    let before : is_among root (round.controls ++ round.changes) ≡ true =
-    ⊎_elim (λ one. among-left root round.controls round.changes (kept-but root control round.controls one))
-    (λ one. among-right root round.controls round.changes (kept-but root control round.changes one))
-    (or_cases (is_among root (but round.controls)) (is_among root (but round.changes)) (sym (among-append root (but round.controls) (but round.changes)) ∙ among)) in
-    let all = closed root alias seen there before is in
-    ⊎_elim
-    (λ one. among-left alias (but round.controls) (but round.changes ++ but round.aliases) (but-kept alias control round.controls differ one))
-    (λ one.
-    among-right alias (but round.controls) (but round.changes ++ but round.aliases)
-    (⊎_elim (λ two. among-left alias (but round.changes) (but round.aliases) (but-kept alias control round.changes differ two))
-    (λ two. among-right alias (but round.changes) (but round.aliases) (but-kept alias control round.aliases differ two))
-    (or_cases (is_among alias round.changes) (is_among alias round.aliases) (sym (among-append alias round.changes round.aliases) ∙ one))))
-    (or_cases (is_among alias round.controls) (is_among alias (round.changes ++ round.aliases))
-    (sym (among-append alias round.controls (round.changes ++ round.aliases)) ∙ all))
-
--- one more inside others
-pub more-closed : (tree : Tree) (pairs : List (ℕ × ℕ)) (block : ℕ) (rounds : List Round) (own : Round)
-    → ((round : Round) → Contains rounds round → IsClosedIn tree pairs block round) → IsClosedIn tree pairs block own
-    → (round : Round) → Contains (rounds ++ own ∷ []) round → IsClosedIn tree pairs block round
-more-closed tree pairs block rounds own outer inner round inside =
-    ⊎_elim (λ before. outer round before) (λ is. subst (IsClosedIn tree pairs block) is inner) (Contains-push_cases rounds own round inside)
+pub hidden-in : (world : World) (context : Context) (roots : List ℕ) → context.tree ≡ world.tree → are_hidden context roots ≡ true → (root : ℕ)
+    → is_among root roots ≡ true → is_seen world context.block root ≡ false
+hidden-in world context roots tree_is all root among =
+    ap (λ t. is_visible (outline_of t) context.block root) (sym tree_is)
+    ∙ false-one (λ (r : ℕ). is_visible (outline_of context.tree) context.block r) roots root all among

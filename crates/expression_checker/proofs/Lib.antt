@@ -1,10 +1,13 @@
 pub mod CallLaws
+pub mod Effects
+pub mod EffectsCalls
+pub mod EffectsKept
 pub mod Entered
 pub mod Fitting
 pub mod Forms
 pub mod Held
-pub mod RowUses
 pub mod Keeping
+pub mod RowUses
 pub mod Sound
 pub mod SoundAccesses
 pub mod SoundCalls
@@ -12,6 +15,3 @@ pub mod SoundExpressions
 pub mod SoundOperations
 pub mod SoundRows
 pub mod Steps
-pub mod EffectsKept
-pub mod EffectsCalls
-pub mod Effects

@@ -75,7 +75,7 @@ neither-own : (e a b d : Bool) → e ≡ true → ((not e && a) || ((not e && b)
 neither-own true a b d is = refl
 neither-own false a b d is = absurd (cc)
 
-inside-parts : (control : ℕ) (loop : Round) (root : ℕ) → is_among root (touched (without_own (Some control) loop))
+pub inside-parts : (control : ℕ) (loop : Round) (root : ℕ) → is_among root (touched (without_own (Some control) loop))
     ≡ ((not (nat_eq control root) && is_among root loop.controls)
     || ((not (nat_eq control root) && is_among root loop.changes) || (not (nat_eq control root) && is_among root loop.aliases)))
 inside-parts control loop root =
