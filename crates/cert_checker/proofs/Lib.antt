@@ -23,3 +23,4 @@ pub mod Written
 pub mod EffectsStatements
 pub mod EffectsParameters
 pub mod EffectsRoutines
+pub mod ClaimsKnown
