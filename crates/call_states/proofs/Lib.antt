@@ -1,8 +1,7 @@
 pub mod Aliased
-pub mod Assigned
-pub mod PlaceTypes
 pub mod AliasedStores
 pub mod AliasedTypes
+pub mod Assigned
 pub mod Bearers
 pub mod Behind
 pub mod BehindExits
@@ -20,6 +19,7 @@ pub mod Headings
 pub mod LedComponents
 pub mod Parameters
 pub mod Passed
+pub mod PlaceTypes
 pub mod Places
 pub mod Reached
 pub mod Separated
