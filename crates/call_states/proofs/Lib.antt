@@ -22,6 +22,7 @@ pub mod Given
 pub mod Headings
 pub mod LedComponents
 pub mod Mapped
+pub mod OfTypes
 pub mod Parameters
 pub mod Passed
 pub mod PlaceTypes
