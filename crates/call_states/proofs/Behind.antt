@@ -50,15 +50,9 @@ use Rattle.call_states.specs.Exit.{Change, all_common, all_joined, is_row, is_va
 use Rattle.call_states.specs.Exit.{variables_behind}
 use Rattle.call_states.specs.Sections.{BlockClaims}
 use Rattle.call_states.proofs.AliasedTypes.{in-types, row-type, seen, declared, shows, stored-of, whole-type}
-use Rattle.call_states.proofs.Bearers.{among-contains, contains-among, contains-more}
 use Rattle.call_states.proofs.CallChanges.{HasReturned, defined-kept, same-or_changed, touched, untouched-kept}
-use Rattle.call_states.proofs.CallLeaves.{IsExact, changed-told, changes, changes-exact, in-flat}
-
-filtered : {A : Type 0} (test : A → Bool) (items : List A) (item : A) → Contains (filter test items) item → Contains items item × (test item ≡ true)
-filtered test items item inside = (
-  All-contains (Contains items) (filter test items) item (All-filter test (Contains items) items (All-contains_itself items)) inside,
-  All-contains (λ (x : _). test x ≡ true) (filter test items) item (filter_passes test items) inside,
-)
+use Rattle.call_states.proofs.CallLeaves.{IsExact, changed-told, changes, changes-exact}
+use Rattle.call_states.proofs.Lists.{among-contains, contains-among, contains-more, filtered, in-flat}
 
 -- ---- ranges behind a call
 

@@ -36,6 +36,7 @@ use Rattle.abstract_state.proofs.Given.{entire-steps, named-entire}
 use Rattle.abstract_state.proofs.Knows.{defined-known}
 use Rattle.leaf_rows.specs.Rows.{all_parts, first_index, index_at, no_parts, rows_accessed, rows_of, rows_under}
 use Rattle.leaf_rows.proofs.Accessed.{IsOf, has-contains, indexes-are, rows-are}
+use Rattle.leaf_rows.proofs.Components.{mapped-at}
 use Rattle.leaf_rows.proofs.Selected.{Matches}
 use Rattle.component_states.specs.Components as components
 use Rattle.component_states.specs.Components.{At, ComponentFact, Entire, Inside, Reach, moved_bound}
@@ -52,7 +53,7 @@ use Rattle.call_states.specs.Exit.{is_steady, steady_bound, stretch_defined, str
 use Rattle.call_states.specs.Sections.{BlockClaims}
 use Rattle.call_states.specs.Starts.{is_passed_value}
 use Rattle.call_states.proofs.Assigned.{Received}
-use Rattle.call_states.proofs.Bearers.{among-contains, bearer-from, borne-rows, borne-variable, contains-more, in-map, named-root, of-map, ordinal-variable, under-root}
+use Rattle.call_states.proofs.Bearers.{bearer-from, borne-rows, borne-variable, named-root, ordinal-variable, under-root}
 use Rattle.call_states.proofs.Behind.{touched-behind_known}
 use Rattle.call_states.proofs.Borne.{value-received}
 use Rattle.call_states.proofs.CallChanges.{HasReturned, parameter-block, touched, untouched-kept}
@@ -61,6 +62,7 @@ use Rattle.call_states.proofs.Callee.{activation_of}
 use Rattle.call_states.proofs.Entered.{behind_assignments, parameter-own}
 use Rattle.call_states.proofs.FormalRows.{LiesAt, actual-row, first-behind_fields, one-way, ordinal-steps, same-value}
 use Rattle.call_states.proofs.Given.{AreOutward, fact_roots}
+use Rattle.call_states.proofs.Lists.{among-contains, contains-more, in-map, of-map}
 use Rattle.call_states.proofs.Parameters.{IsOuter, IsOutward, IsParameter, actual-of_parameter, outward-cases}
 use Rattle.call_states.proofs.Passed.{Fits, IsArgument, IsReachedBy}
 use Rattle.call_states.proofs.Started.{value-home}
@@ -377,12 +379,6 @@ module _ (tree : Tree) (pairs : List (ℕ × ℕ)) (number : ℕ) (block : Block
             );
       })
 
-  mapped-from : {A B : Type 0} (f : A → B) (items : List A) (k : ℕ) (y : B) → slice_get (map f items) k ≡ Some y
-      → (x : A) × (slice_get items k ≡ Some x) × (f x ≡ y)
-  mapped-from f [] k y is = absurd (none-some y is)
-  mapped-from f (first ∷ items) zero y is = (first, refl, same_Some (f first) y is)
-  mapped-from f (first ∷ items) (suc k) y is = mapped-from f items k y is
-
   parameter-seen : (path : Path) (variable : DeclaredVariable) → slice_get tree.variables.items path.root ≡ Some variable
       → (is_ordinal_variable tree path.root ≡ true → names_entire tree path ≡ true) → (p : ParameterHere path.root variable) → (actual : Actual)
       (argument : Argument) → place_for path.root block.heading.parameters.items arguments ≡ place_passed argument
@@ -408,7 +404,7 @@ module _ (tree : Tree) (pairs : List (ℕ × ℕ)) (number : ℕ) (block : Block
           let bearers = borne-rows tree other selectors reach variable.type_id lies.1.actual_type
           (λ none. sym (ordinal-variable tree path.root variable is) ∙ plain) in
           let found = bearer-from (rows_named tree path) (rows_under (rows_of tree) path.root []) (bearers_of tree (OfVariable other selectors reach)) bearer inside in
-          let own = mapped-from (λ r. Components r reach) (rows_accessed (rows_of tree) other selectors) found.0 bearer
+          let own = mapped-at (λ r. Components r reach) (rows_accessed (rows_of tree) other selectors) found.0 bearer
           (ap (λ (all : List Bearer). slice_get all found.0) (sym bearers) ∙ found.4) in
           subst (IsSeen path) own.2 (rows-seen path variable is other selectors found.0 found.1 own.0 found.2 found.3 own.1 reach lies)
 

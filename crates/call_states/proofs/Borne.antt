@@ -32,6 +32,7 @@ use Rattle.leaf_rows.specs.Leaves.{leaves_of}
 use Rattle.leaf_rows.specs.Rows.{all_parts, is_structured, no_parts, rows_accessed, rows_of, rows_under}
 use Rattle.abstract_state.specs.Loops.{is_among}
 use Rattle.leaf_rows.proofs.Accessed.{IsOf, contains-has, has-contains, row-leaf, rows-are, rows-count}
+use Rattle.leaf_rows.proofs.Components.{map-at}
 use Rattle.leaf_rows.proofs.Selected.{Matches}
 use Rattle.component_states.specs.Components.{Entire, Reach}
 use Rattle.component_states.specs.Holds.{component_at}
@@ -40,10 +41,11 @@ use Rattle.call_states.specs.Actuals.{Actual, Bearer, Binding, Components, OfRow
 use Rattle.call_states.specs.Actuals.{are_of_types, bearers_at, bearers_for, bearers_named, bearers_of, bound_to, is_copy_for, is_of_type, lies_among}
 use Rattle.call_states.specs.Environments.{Begun}
 use Rattle.call_states.proofs.Assigned.{Received}
-use Rattle.call_states.proofs.Bearers.{bearer-at, borne-rows, borne-variable, contains-among, in-map, named-root, not-ordinal, ordinal-variable, under-whole}
+use Rattle.call_states.proofs.Bearers.{bearer-at, borne-rows, borne-variable, named-root, not-ordinal, ordinal-variable, under-whole}
 use Rattle.call_states.proofs.Callee.{IsCalled, activation_of, not-both_kinds}
 use Rattle.call_states.proofs.Entered.{behind_assignments, outer-kept, own-home, parameter-own, passed-where}
 use Rattle.call_states.proofs.FormalRows.{LiesAt, actual-of_row, formal-row, not-both, ordinal-row, row-structured, same-value}
+use Rattle.call_states.proofs.Lists.{contains-among, in-map, some-there}
 use Rattle.call_states.proofs.Parameters.{IsOuter, IsOutward, IsParameter, outward-cases}
 use Rattle.call_states.proofs.Passed.{AreArguments, Fits, IsArgument, IsReachedBy}
 use Rattle.call_states.proofs.Started.{callee-received, value-home}
@@ -57,16 +59,6 @@ rows-many tree [] (range ∷ ranges) all = absurd (false≢true all)
 rows-many tree (row ∷ rows) [] all = absurd (false≢true all)
 rows-many tree (row ∷ rows) (range ∷ ranges) all =
     let rest = rows-many tree rows ranges (and_parts _ (are_of_rows tree rows ranges) all).1 in omega (arith, rest)
-
-some-there : {A : Type 0} (items : List A) (k : ℕ) → k < length items → (item : A) × (slice_get items k ≡ Some item)
-some-there [] k within = absurd (omega (arith, within))
-some-there (item ∷ items) zero within = (item, refl)
-some-there (item ∷ items) (suc k) within = some-there items k (omega (arith, within))
-
-mapped : {A B : Type 0} (f : A → B) (items : List A) (k : ℕ) (item : A) → slice_get items k ≡ Some item → slice_get (map f items) k ≡ Some (f item)
-mapped f [] k item is = absurd (none-some item is)
-mapped f (first ∷ items) zero item is = ap (λ x. Some (f x)) (same_Some first item is)
-mapped f (first ∷ items) (suc k) item is = mapped f items k item is
 
 -- a copy for a variable is one for a structured one
 pub copy-for : (tree : Tree) (root : ℕ) (ranges : List Interval) (variable : DeclaredVariable) → slice_get tree.variables.items root ≡ Some variable
@@ -218,7 +210,7 @@ module _ (tree : Tree) (pairs : List (ℕ × ℕ)) (number : ℕ) (block : Block
       let home = value-home tree pairs number block arguments caller activations from call path.root variable is (parameter-block path.root variable is p) fits.0 in
       record {
         bearer = Passed range.0;
-        inside = bearer-at (rows_named tree path) (own_rows path.root) (map Passed ranges) j row (Passed range.0) among at (mapped Passed ranges j range.0 range.1);
+        inside = bearer-at (rows_named tree path) (own_rows path.root) (map Passed ranges) j row (Passed range.0) among at (map-at Passed ranges j range.0 range.1);
         borne = (has.0, ap (λ (found : Option Place). part_of behind found steps) home ∙ has.1, subst (IsIn range.0) (sym gets.4) member);
       }
   row-borne path variable is row steps of_row root_is among j at p (OfVariable other selectors reach) (meaning.OfValue v) argument_is known fits of_type
@@ -241,7 +233,7 @@ module _ (tree : Tree) (pairs : List (ℕ × ℕ)) (number : ℕ) (block : Block
         inside = bearer-at (rows_named tree path) (own_rows path.root) (bearers_of tree (OfVariable other selectors reach)) j row (Components own.0 reach) among
             at
             (ap (λ (all : List Bearer). slice_get all j) bearers
-            ∙ mapped (λ r. Components r reach) (rows_accessed (rows_of tree) other selectors) j own.0 own.1);
+            ∙ map-at (λ r. Components r reach) (rows_accessed (rows_of tree) other selectors) j own.0 own.1);
         borne = record {
           selectors = selectors;
           way = lies.0;

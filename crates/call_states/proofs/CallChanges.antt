@@ -26,10 +26,10 @@ use Rattle.call_states.specs.Environments.{Begun, Leaves, Proper, Typed}
 use Rattle.call_states.specs.Exit.{root_changed, roots_changed}
 use Rattle.call_states.specs.Sections.{BlockClaims}
 use Rattle.call_states.proofs.Assigned.{same-step}
-use Rattle.call_states.proofs.Bearers.{among-contains}
 use Rattle.call_states.proofs.Callee.{IsCalled, activation_of}
 use Rattle.call_states.proofs.Claimed.{AllHold}
 use Rattle.call_states.proofs.Entered.{own-home, own-where, parameter-own, passed-where, value-not_variable}
+use Rattle.call_states.proofs.Lists.{among-contains, among-flat}
 use Rattle.call_states.proofs.Parameters.{IsOuter, IsOutward, IsParameter, outward-cases}
 use Rattle.call_states.proofs.Passed.{AreArguments, Fits, IsArgument}
 use Rattle.call_states.proofs.Places.{IsPair, begin-share, overlaps-so, pair-listed, part-there, step-itself}
@@ -49,15 +49,6 @@ beginning-rest (s ∷ first) (t ∷ whole) is =
     let more = beginning-rest first whole parts.1 in
     (more.0, ap (λ (x : Step). x ∷ whole) (sym (same-step s t parts.0)) ∙ ap (λ (all : List Step). s ∷ all) more.1)
 
-pub in-flat_map : (f : ℕ → List ℕ) (items : List ℕ) (item x : ℕ) → Contains items item → is_among x (f item) ≡ true → is_among x (flat_map f items) ≡ true
-in-flat_map f [] item x inside among = absurd (omega (arith, inside.1))
-in-flat_map f (first ∷ items) item x (zero, within, at) among =
-    list_any-append (λ (other : ℕ). nat_eq other x) (f first) (flat_map f items)
-    ∙ or_left (is_among x (f first)) (is_among x (flat_map f items)) (ap (λ (i : ℕ). is_among x (f i)) at ∙ among)
-in-flat_map f (first ∷ items) item x (suc k, within, at) among =
-    list_any-append (λ (other : ℕ). nat_eq other x) (f first) (flat_map f items)
-    ∙ or_right (is_among x (f first)) (is_among x (flat_map f items)) (in-flat_map f items item x (k, omega (arith, within), at) among)
-
 alone-among : (x : ℕ) → is_among x (x ∷ []) ≡ true
 alone-among x = or_left (nat_eq x x) false (eq-eqb x x refl)
 
@@ -67,7 +58,7 @@ among-alone roots x root among same = subst (λ (r : ℕ). is_among r roots ≡ 
 -- aliases of one of several are among the aliases of all
 aliases-among : (pairs : List (ℕ × ℕ)) (roots : List ℕ) (x root : ℕ) → is_among x roots ≡ true → is_among root (aliases_of pairs x) ≡ true
     → is_among root (all_aliases pairs roots) ≡ true
-aliases-among pairs roots x root among alias = in-flat_map (aliases_of pairs) roots x root (among-contains roots x among) alias
+aliases-among pairs roots x root among alias = among-flat (aliases_of pairs) roots x root (among-contains roots x among) alias
 
 -- ---- a call that returned
 
@@ -170,7 +161,7 @@ module _ (tree : Tree) (pairs : List (ℕ × ℕ)) (number : ℕ) (block : Block
       let there = part-there (caller.variables other) known.0.way home (sym known.0.place_is ∙ at) in
       record {
         root = other;
-        among = in-flat_map (λ r. root_changed r (actual_of bindings r)) claims.changes root other listed
+        among = among-flat (λ r. root_changed r (actual_of bindings r)) claims.changes root other listed
             (ap (λ (found : Option Actual). is_among other (root_changed root found)) actual_is ∙ alone-among other);
         whole = there.0;
         whole_is = there.1;
@@ -204,7 +195,7 @@ module _ (tree : Tree) (pairs : List (ℕ × ℕ)) (number : ℕ) (block : Block
       (λ (here : IsOuterHere root outward.0).
       record {
         root = root;
-        among = in-flat_map (λ r. root_changed r (actual_of bindings r)) claims.changes root root listed
+        among = among-flat (λ r. root_changed r (actual_of bindings r)) claims.changes root root listed
             (ap (λ (found : Option Actual). is_among root (root_changed root found)) here.no_actual ∙ alone-among root);
         whole = home;
         whole_is = sym here.same ∙ home_is;

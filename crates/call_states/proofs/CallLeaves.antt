@@ -40,6 +40,7 @@ use Rattle.abstract_state.proofs.Given.{entire-steps}
 use Rattle.abstract_state.proofs.Ranged.{common-in}
 use Rattle.leaf_rows.specs.Rows.{all_parts, has_components, is_structured, no_parts, rows_accessed, rows_of, rows_under, values_at}
 use Rattle.leaf_rows.proofs.Accessed.{IsOf, contains-has, has-contains, rows-are}
+use Rattle.leaf_rows.proofs.Components.{mapped-at}
 use Rattle.component_states.specs.Components as components
 use Rattle.component_states.specs.Components.{At, ComponentFact, Entire, Inside, Reach}
 use Rattle.component_states.specs.Holds.{Holds, component_at}
@@ -52,42 +53,18 @@ use Rattle.call_states.specs.Exit.{Change, all_changes, changes_of, claimed_of_r
 use Rattle.call_states.specs.Exit.{row_change, row_exit_range, rows_changed, variable_change}
 use Rattle.call_states.specs.Sections.{BlockClaims}
 use Rattle.call_states.proofs.AliasedTypes.{InTypes, in-types, part-type, row-type, values-limits}
-use Rattle.call_states.proofs.Bearers.{among-contains, borne-rows, borne-variable, contains-more, in-map, of-map, ordinal-variable, under-root}
+use Rattle.call_states.proofs.Bearers.{borne-rows, borne-variable, ordinal-variable, under-root}
 use Rattle.call_states.proofs.Borne.{lies-at, own-type}
 use Rattle.call_states.proofs.CallChanges.{HasReturned, IsChanged, own-older, parameter-block}
 use Rattle.call_states.proofs.Callee.{activation_of}
 use Rattle.call_states.proofs.FormalRows.{LiesAt, actual-row, not-both, one-way, ordinal-row, ordinal-steps, rows-alike, row-structured, same-value}
 use Rattle.call_states.proofs.LedComponents.{led-component, led-ordinal}
+use Rattle.call_states.proofs.Lists.{among-contains, contains-more, in-filter_map, in-flat, in-map, of-flat, of-map, some-there}
 use Rattle.call_states.proofs.Parameters.{IsOuter, IsParameter, outward-cases}
 use Rattle.call_states.proofs.Passed.{Fits, IsArgument, IsReachedBy}
 use Rattle.call_states.proofs.PlaceTypes.{first-led}
 
 -- ---- lists
-
-pub in-flat : {A B : Type 0} (f : A → List B) (items : List A) (item : A) (y : B) → Contains items item → Contains (f item) y → Contains (flat_map f items) y
-in-flat f [] item y inside own = absurd (omega (arith, inside.1))
-in-flat f (first ∷ items) item y (zero, within, at) own =
-    Contains-append_left (f first) (flat_map f items) y (subst (λ i. Contains (f i) y) (sym at) own)
-in-flat f (first ∷ items) item y (suc k, within, at) own =
-    Contains-append_right (f first) (flat_map f items) y (in-flat f items item y (k, omega (arith, within), at) own)
-
-pub of-flat : {A B : Type 0} (f : A → List B) (items : List A) (y : B) → Contains (flat_map f items) y → (item : A) × Contains items item × Contains (f item) y
-of-flat f [] y inside = absurd (omega (arith, inside.1))
-of-flat f (first ∷ items) y inside =
-    ⊎_elim (λ here. (first, (0, omega arith, refl), here))
-    (λ there. let more = of-flat f items y there in (more.0, contains-more first items more.0 more.1, more.2))
-    (Contains-append_cases (f first) (flat_map f items) y inside)
-
-pub in-filter_map : {A B : Type 0} (f : A → Option B) (items : List A) (item : A) (y : B) → Contains items item → f item ≡ Some y
-    → Contains (filter_map f items) y
-in-filter_map f [] item y inside is = absurd (omega (arith, inside.1))
-in-filter_map f (first ∷ items) item y (zero, within, at) is =
-    subst (λ found. Contains (cons_option found (filter_map f items)) y) (sym (ap f at ∙ is)) (0, omega arith, refl)
-in-filter_map f (first ∷ items) item y (suc k, within, at) is = by (f first) (in-filter_map f items item y (k, omega (arith, within), at) is)
-  where
-    by : (found : Option _) → Contains (filter_map f items) y → Contains (cons_option found (filter_map f items)) y
-    by None later = later
-    by (Some x) later = contains-more x (filter_map f items) y later
 
 row-change_at : (tree : Tree) (facts : List Fact) (rows : List ℕ) (bearers : List Bearer) (j row : ℕ) (bearer : Bearer) → slice_get rows j ≡ Some row
     → slice_get bearers j ≡ Some bearer → Contains (rows_changed tree facts rows bearers) (row_change tree facts row bearer)
@@ -108,17 +85,6 @@ row-change_from tree facts (first ∷ rows) (one ∷ bearers) change (zero, with
 row-change_from tree facts (first ∷ rows) (one ∷ bearers) change (suc k, within, at) =
     let more = row-change_from tree facts rows bearers change (k, omega (arith, within), at) in
     (suc more.0, more.1, more.2, more.3, more.4, more.5)
-
-some-there : {A : Type 0} (items : List A) (k : ℕ) → k < length items → (item : A) × (slice_get items k ≡ Some item)
-some-there [] k within = absurd (omega (arith, within))
-some-there (item ∷ items) zero within = (item, refl)
-some-there (item ∷ items) (suc k) within = some-there items k (omega (arith, within))
-
-mapped-from : {A B : Type 0} (f : A → B) (items : List A) (k : ℕ) (y : B) → slice_get (map f items) k ≡ Some y
-    → (x : A) × (slice_get items k ≡ Some x) × (f x ≡ y)
-mapped-from f [] k y is = absurd (none-some y is)
-mapped-from f (first ∷ items) zero y is = (first, refl, same_Some (f first) y is)
-mapped-from f (first ∷ items) (suc k) y is = mapped-from f items k y is
 
 -- what steps lead on from is structured
 led-structured : (types : List Form) (s : Step) (rest : List Step) (id own : TypeId) → type_led types (s ∷ rest) id ≡ Some own → is_structured types id ≡ true
@@ -448,7 +414,7 @@ module _ (tree : Tree) (pairs : List (ℕ × ℕ)) (number : ℕ) (block : Block
       by false inside =
           let rows = rows_under (rows_of tree) root [] in
           let found = row-change_from tree claims.exit rows (all_of_rows rows) change inside in
-          let bearer = mapped-from (λ r. Components r Entire) rows found.0 found.2 found.4 in
+          let bearer = mapped-at (λ r. Components r Entire) rows found.0 found.2 found.4 in
           let same : bearer.0 ≡ found.1 = same_Some bearer.0 found.1 (sym bearer.1 ∙ found.3) in
           let root_is = under-root tree root [] found.1 (has-contains rows found.1 (found.0, found.3)) in
           let own : IsExact (Components found.1 Entire) (row_change tree claims.exit found.1 found.2).range =
@@ -542,7 +508,7 @@ module _ (tree : Tree) (pairs : List (ℕ × ℕ)) (number : ℕ) (block : Block
           let bearers = borne-rows tree other selectors reach variable.type_id lies.1.actual_type
           (λ none. sym (ordinal-variable tree root variable is) ∙ plain_root) in
           let found = row-change_from tree claims.exit rows (bearers_of tree (OfVariable other selectors reach)) change inside in
-          let bearer = mapped-from (λ r. Components r reach) (rows_accessed (rows_of tree) other selectors) found.0 found.2
+          let bearer = mapped-at (λ r. Components r reach) (rows_accessed (rows_of tree) other selectors) found.0 found.2
           (ap (λ (all : List Bearer). slice_get all found.0) (sym bearers) ∙ found.4) in
           let own = structured-exact root variable other selectors found.0 found.1 bearer.0 found.3 bearer.1 reach lies found.2 in
           subst (λ (c : Change). IsExact c.bearer c.range) found.5

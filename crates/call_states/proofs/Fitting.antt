@@ -29,14 +29,10 @@ use Rattle.call_states.proofs.AliasedTypes.{part-type}
 use Rattle.call_states.proofs.Borne.{copy-count, copy-for, own-type}
 use Rattle.call_states.proofs.ComponentTypes.{component-typed}
 use Rattle.call_states.proofs.FormalRows.{variable-accessed}
+use Rattle.call_states.proofs.Lists.{some-there}
 use Rattle.call_states.proofs.Passed.{AreComponentsOf, Leads, LieIn}
 use Rattle.call_states.proofs.Places.{part-there}
 use Rattle.call_states.proofs.PlaceTypes.{way-typed}
-
-some-there : {A : Type 0} (items : List A) (k : ℕ) → k < length items → (item : A) × (slice_get items k ≡ Some item)
-some-there [] k within = absurd (omega (arith, within))
-some-there (item ∷ items) zero within = (item, refl)
-some-there (item ∷ items) (suc k) within = some-there items k (omega (arith, within))
 
 -- each range of a copy lies among the values of its row
 row-among : (tree : Tree) (rows : List ℕ) (ranges : List Interval) (j row : ℕ) (range : Interval) → are_of_rows tree rows ranges ≡ true

@@ -27,6 +27,7 @@ use Rattle.leaf_rows.specs.Rows.{all_parts, first_index, has_components, is_stru
 use Rattle.leaf_rows.proofs.Accessed.{IsOf, RowsAre, contains-has, has-contains, row-is, row-leaf, rows-are, rows-count}
 use Rattle.leaf_rows.proofs.Components.{Has}
 use Rattle.leaf_rows.proofs.Selected.{Matches}
+use Rattle.call_states.proofs.Lists.{some-there}
 
 -- ---- ways
 
@@ -160,11 +161,6 @@ module _ (tree : Tree) (env callee : Environment) (formal root : ℕ) (selectors
   pub rows-alike : is_structured tree.types id ≡ true → length own_rows ≡ length actual_rows
   rows-alike structured =
       rows-count tree formal [] id at.formal_type (λ none. structured) ∙ sym (rows-count tree root selectors id at.actual_type (λ none. structured))
-
-  some-there : (items : List ℕ) (k : ℕ) → k < length items → (item : ℕ) × (slice_get items k ≡ Some item)
-  some-there [] k within = absurd (omega (arith, within))
-  some-there (item ∷ items) zero within = (item, refl)
-  some-there (item ∷ items) (suc k) within = some-there items k (omega (arith, within))
 
   pub actual-of_row : is_structured tree.types id ≡ true → (j row : ℕ) → slice_get own_rows j ≡ Some row → (own : ℕ) × (slice_get actual_rows j ≡ Some own)
   actual-of_row structured j row row_at =

@@ -52,12 +52,13 @@ use Rattle.call_states.specs.Entry.{Limit, are_borne_between, are_given, are_ord
 use Rattle.call_states.specs.Entry.{is_defined_borne, is_given, limit_moved, limit_of, limit_of_actual, limit_of_bound, limit_of_variable, range_borne}
 use Rattle.call_states.specs.Environments.{Begun, LiesIn}
 use Rattle.call_states.proofs.Assigned.{Received}
-use Rattle.call_states.proofs.Bearers.{borne-rows, contains-more, named-root, ordinal-variable}
+use Rattle.call_states.proofs.Bearers.{borne-rows, named-root, ordinal-variable}
 use Rattle.call_states.proofs.Borne.{IsBorne, IsBorneBy, IsReached, component-borne, entire-borne, outer-value, parameter-block, value-received}
 use Rattle.call_states.proofs.Callee.{IsCalled, activation_of}
 use Rattle.call_states.proofs.Claimed.{AllHold}
 use Rattle.call_states.proofs.Entered.{behind_assignments}
 use Rattle.call_states.proofs.FormalRows.{first-behind_fields}
+use Rattle.call_states.proofs.Lists.{contains-more}
 use Rattle.call_states.proofs.Parameters.{IsOuter, IsOutward, IsParameter, outward-cases}
 use Rattle.call_states.proofs.Passed.{AreArguments, Fits, IsArgument, IsReachedBy}
 use Rattle.call_states.proofs.Reached.{alive, reached-has}

@@ -17,6 +17,7 @@ pub mod FormalRows
 pub mod Given
 pub mod Headings
 pub mod LedComponents
+pub mod Lists
 pub mod Parameters
 pub mod Passed
 pub mod PlaceTypes
