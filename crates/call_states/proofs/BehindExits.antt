@@ -56,14 +56,14 @@ use Rattle.call_states.proofs.Assigned.{Received}
 use Rattle.call_states.proofs.Bearers.{bearer-from, borne-rows, borne-variable, named-root, ordinal-variable, under-root}
 use Rattle.call_states.proofs.Behind.{touched-behind_known}
 use Rattle.call_states.proofs.Borne.{value-received}
-use Rattle.call_states.proofs.CallChanges.{HasReturned, parameter-block, touched, untouched-kept}
+use Rattle.call_states.proofs.CallChanges.{HasReturned, touched, untouched-kept}
 use Rattle.call_states.proofs.CallLeaves.{changes, component-holds, passed-lies_at, plain-holds}
 use Rattle.call_states.proofs.Callee.{activation_of}
 use Rattle.call_states.proofs.Entered.{behind_assignments, parameter-own}
-use Rattle.call_states.proofs.FormalRows.{LiesAt, actual-row, first-behind_fields, one-way, ordinal-steps, same-value}
+use Rattle.call_states.proofs.FormalRows.{LiesAt, actual-row, first-behind_fields, no-way, one-way, ordinal-steps, same-value}
 use Rattle.call_states.proofs.Given.{AreOutward, fact_roots}
 use Rattle.call_states.proofs.Lists.{among-contains, contains-more, in-map, of-map}
-use Rattle.call_states.proofs.Parameters.{IsOuter, IsOutward, IsParameter, actual-of_parameter, outward-cases}
+use Rattle.call_states.proofs.Parameters.{IsOuter, IsOutward, IsParameter, actual-of_parameter, outward-cases, parameter-block}
 use Rattle.call_states.proofs.Passed.{Fits, IsArgument, IsReachedBy}
 use Rattle.call_states.proofs.Started.{value-home}
 
@@ -151,10 +151,6 @@ module _ (tree : Tree) (pairs : List (ℕ × ℕ)) (number : ℕ) (block : Block
       passed-lies_at tree pairs number block arguments caller activations from store actuals claims after back root variable is p other selectors reach place
       found known fits
 
-  no-way : (way : List Step) → Matches [] way → way ++ [] ≡ []
-  no-way [] matches = refl
-  no-way (s ∷ way) matches = absurd matches
-
   -- ---- bounds
 
   same-numbers : (a b : ℤ) → Number a ≡ Number b → a ≡ b
@@ -165,7 +161,7 @@ module _ (tree : Tree) (pairs : List (ℕ × ℕ)) (number : ℕ) (block : Block
       → p.argument ≡ meaning.OfValue v → is_value_kind variable.kind ≡ true → is_among root claims.changes ≡ false → (m : ℤ)
       → HasNumber inner root m → v ≡ Number m
   value-kept root variable is p v argument_is value apart m has =
-      let own = parameter-block tree pairs number block arguments caller activations from store actuals claims after back.left root variable is p in
+      let own = parameter-block tree pairs number block arguments caller activations from back.call store actuals back.are back.of_types root variable is p in
       let home = value-home tree pairs number block arguments caller activations from back.call root variable is own value in
       let kept = passed root variable [] is (and-true (nat_eq variable.block number) (is_value_kind variable.kind) (eq-eqb variable.block number own) value) apart in
       let got = subst (λ (a : Argument). Received tree activations activations callee root variable a
@@ -232,7 +228,7 @@ module _ (tree : Tree) (pairs : List (ℕ × ℕ)) (number : ℕ) (block : Block
       → place_for root block.heading.parameters.items arguments ≡ place_passed argument → IsArgument tree caller store variable actual argument
       → Fits tree activations argument variable → exit_bound_of tree touches root k (Some actual) ≡ Some b → IsBound outer b n
   parameter-bound root variable is p lasting k m n has n_is b (OfValue range form) (meaning.OfValue v) argument_is place_is known fits bound_is =
-      let own = parameter-block tree pairs number block arguments caller activations from store actuals claims after back.left root variable is p in
+      let own = parameter-block tree pairs number block arguments caller activations from back.call store actuals back.are back.of_types root variable is p in
       let passed_so : is_passed_value number variable ≡ true =
       ap (λ (b : Bool). b && is_value_kind variable.kind) (eq-eqb variable.block number own) ∙ fits.0 in
       let v_is = value-kept root variable is p v argument_is fits.0 (lasting passed_so) m has in

@@ -44,9 +44,9 @@ use Rattle.call_states.proofs.Assigned.{Received}
 use Rattle.call_states.proofs.Bearers.{bearer-at, borne-rows, borne-variable, named-root, not-ordinal, ordinal-variable, under-whole}
 use Rattle.call_states.proofs.Callee.{IsCalled, activation_of, not-both_kinds}
 use Rattle.call_states.proofs.Entered.{behind_assignments, outer-kept, own-home, parameter-own, passed-where}
-use Rattle.call_states.proofs.FormalRows.{LiesAt, actual-of_row, formal-row, not-both, ordinal-row, row-structured, same-value}
+use Rattle.call_states.proofs.FormalRows.{LiesAt, actual-of_row, formal-row, no-way, not-both, ordinal-row, row-structured, same-value}
 use Rattle.call_states.proofs.Lists.{contains-among, in-map, some-there}
-use Rattle.call_states.proofs.Parameters.{IsOuter, IsOutward, IsParameter, outward-cases}
+use Rattle.call_states.proofs.Parameters.{IsOuter, IsOutward, IsParameter, outward-cases, parameter-block}
 use Rattle.call_states.proofs.Passed.{AreArguments, Fits, IsArgument, IsReachedBy}
 use Rattle.call_states.proofs.Started.{callee-received, value-home}
 
@@ -159,14 +159,10 @@ module _ (tree : Tree) (pairs : List (ℕ × ℕ)) (number : ℕ) (block : Block
       },
       leads.reached)
 
-  pub parameter-block : (root : ℕ) (variable : DeclaredVariable) → slice_get tree.variables.items root ≡ Some variable → ParameterHere root variable
+  own-block : (root : ℕ) (variable : DeclaredVariable) → slice_get tree.variables.items root ≡ Some variable → ParameterHere root variable
       → variable.block ≡ number
-  parameter-block root variable is p =
-      let inside : Contains block.heading.parameters.items root =
-      (p.i, slice_get_within block.heading.parameters.items p.i root p.root_at,
-      Rattle.std.proofs.lemmas.Option.get_or_from_slice_get block.heading.parameters.items p.i root root p.root_at) in
-      let own = parameter-own tree call.well number block call.block_is root inside in
-      subst (λ (v : DeclaredVariable). v.block ≡ number) (same_Some own.0 variable (sym own.1 ∙ is)) own.2
+  own-block root variable is p =
+      parameter-block tree pairs number block arguments caller activations from call store actuals are typed root variable is p
 
   -- a value parameter has what is passed to it
   pub value-received : (root : ℕ) (variable : DeclaredVariable) → slice_get tree.variables.items root ≡ Some variable → (p : ParameterHere root variable)
@@ -207,7 +203,7 @@ module _ (tree : Tree) (pairs : List (ℕ × ℕ)) (number : ℕ) (block : Block
       let has = got.has steps inside in
       let gets = got.gets steps has.0 has.1 in
       let member = known.1 many.1 gets.0 j steps leaf.0 gets.1 range.0 gets.2 leaf.1 leaf.2 gets.3 range.1 in
-      let home = value-home tree pairs number block arguments caller activations from call path.root variable is (parameter-block path.root variable is p) fits.0 in
+      let home = value-home tree pairs number block arguments caller activations from call path.root variable is (own-block path.root variable is p) fits.0 in
       record {
         bearer = Passed range.0;
         inside = bearer-at (rows_named tree path) (own_rows path.root) (map Passed ranges) j row (Passed range.0) among at (map-at Passed ranges j range.0 range.1);
@@ -221,7 +217,7 @@ module _ (tree : Tree) (pairs : List (ℕ × ℕ)) (number : ℕ) (block : Block
       place_is = absurd fits
   row-borne path variable is row steps of_row root_is among j at p (OfVariable other selectors reach) (meaning.OfPlace (Some place)) argument_is known fits
       of_type place_is =
-      let lies = lies-at path.root variable is fits.0 (parameter-block path.root variable is p) place place_is other selectors reach known in
+      let lies = lies-at path.root variable is fits.0 (own-block path.root variable is p) place place_is other selectors reach known in
       let structured = (row-structured tree path.root row steps variable of_row root_is is).0 in
       let own = actual-of_row tree caller callee path.root other selectors lies.0 variable.type_id lies.1 structured j row at in
       let of_own = formal-row tree caller callee path.root other selectors lies.0 variable.type_id lies.1 j row own.0 steps at own.1 of_row in
@@ -293,7 +289,7 @@ module _ (tree : Tree) (pairs : List (ℕ × ℕ)) (number : ℕ) (block : Block
       (value-received root variable is p fits.0) in
       let has = got.has [] (subst (λ (all : List (List Step)). Contains all []) (sym (ordinal_component tree.types variable.type_id ordinal)) (0, omega arith, refl)) in
       let gets = got.gets [] has.0 has.1 in
-      let home = value-home tree pairs number block arguments caller activations from call root variable is (parameter-block root variable is p) fits.0 in
+      let home = value-home tree pairs number block arguments caller activations from call root variable is (own-block root variable is p) fits.0 in
       record {
         bearer = Passed range;
         inside = (0, omega arith, refl);
@@ -307,7 +303,7 @@ module _ (tree : Tree) (pairs : List (ℕ × ℕ)) (number : ℕ) (block : Block
   whole-borne root variable is ordinal p (OfVariable other selectors reach) (meaning.OfRow numbers) argument_is known fits of_type place_is = absurd known
   whole-borne root variable is ordinal p (OfVariable other selectors reach) (meaning.OfPlace None) argument_is known fits of_type place_is = absurd fits
   whole-borne root variable is ordinal p (OfVariable other [] reach) (meaning.OfPlace (Some place)) argument_is known fits of_type place_is =
-      let lies = lies-at root variable is fits.0 (parameter-block root variable is p) place place_is other [] reach known in
+      let lies = lies-at root variable is fits.0 (own-block root variable is p) place place_is other [] reach known in
       let bearers = borne-variable tree other reach variable.type_id lies.1.actual_type ordinal in
       record {
         bearer = Variable other;
@@ -316,13 +312,9 @@ module _ (tree : Tree) (pairs : List (ℕ × ℕ)) (number : ℕ) (block : Block
             same-value tree caller callee root other [] lies.0 variable.type_id lies.1 behind [] ∙ caller-kept other (lies.0 ++ [])
             ∙ ap (value_at outer other) (no-way lies.0 lies.1.matches));
       }
-    where
-      no-way : (way : List Step) → Matches [] way → way ++ [] ≡ []
-      no-way [] matches = refl
-      no-way (s ∷ way) matches = absurd matches
   whole-borne root variable is ordinal p (OfVariable other (selector ∷ selectors) reach) (meaning.OfPlace (Some place)) argument_is known fits of_type place_is =
       let all = selector ∷ selectors in
-      let lies = lies-at root variable is fits.0 (parameter-block root variable is p) place place_is other all reach known in
+      let lies = lies-at root variable is fits.0 (own-block root variable is p) place place_is other all reach known in
       let own = ordinal-row tree caller callee root other all lies.0 variable.type_id lies.1 ordinal (λ none. absurd (cc)) in
       record {
         bearer = Components own.0 reach;

@@ -30,7 +30,7 @@ use Rattle.call_states.proofs.Callee.{IsCalled, activation_of}
 use Rattle.call_states.proofs.Claimed.{AllHold}
 use Rattle.call_states.proofs.Entered.{own-home, own-where, parameter-own, passed-where, value-not_variable}
 use Rattle.call_states.proofs.Lists.{among-contains, among-flat}
-use Rattle.call_states.proofs.Parameters.{IsOuter, IsOutward, IsParameter, outward-cases}
+use Rattle.call_states.proofs.Parameters.{IsOuter, IsOutward, IsParameter, outward-cases, parameter-block}
 use Rattle.call_states.proofs.Passed.{AreArguments, Fits, IsArgument}
 use Rattle.call_states.proofs.Places.{IsPair, begin-share, overlaps-so, pair-listed, part-there, step-itself}
 
@@ -178,15 +178,6 @@ module _ (tree : Tree) (pairs : List (ℕ × ℕ)) (number : ℕ) (block : Block
   passed-lies root variable home is own listed home_is older (OfValue range form) (meaning.OfPlace place) actual_is place_is known fits = absurd known
   passed-lies root variable home is own listed home_is older (OfRows ranges) (meaning.OfPlace place) actual_is place_is known fits = absurd known
 
-  pub parameter-block : (root : ℕ) (variable : Variable) → slice_get tree.variables.items root ≡ Some variable → ParameterHere root variable
-      → variable.block ≡ number
-  parameter-block root variable is p =
-      let inside : Contains block.heading.parameters.items root =
-      (p.i, slice_get_within block.heading.parameters.items p.i root p.root_at,
-      get_or_from_slice_get block.heading.parameters.items p.i root root p.root_at) in
-      let own = parameter-own tree back.call.well number block back.call.block_is root inside in
-      subst (λ (v : Variable). v.block ≡ number) (same_Some own.0 variable (sym own.1 ∙ is)) own.2
-
   pub lies-in_caller : (root : ℕ) (home : Place) → Contains claims.changes root → callee.variables root ≡ Some home → home.activation < activations
       → LiesIn_caller home
   lies-in_caller root home listed home_is older =
@@ -203,7 +194,7 @@ module _ (tree : Tree) (pairs : List (ℕ × ℕ)) (number : ℕ) (block : Block
         home_is = ap (λ (s : List Step). record home { steps = s }) (append-nil home.steps);
       })
       (λ (p : ParameterHere root outward.0).
-      passed-lies root outward.0 home outward.1 (parameter-block root outward.0 outward.1 p) listed home_is older p.actual p.argument p.actual_is p.place_is
+      passed-lies root outward.0 home outward.1 (parameter-block tree pairs number block arguments caller activations from back.call store actuals back.are back.of_types root outward.0 outward.1 p) listed home_is older p.actual p.argument p.actual_is p.place_is
       p.known p.fits)
       (outward-cases tree pairs number block arguments caller activations from back.call store actuals back.are back.of_types root outward)
 

@@ -55,12 +55,12 @@ use Rattle.call_states.specs.Sections.{BlockClaims}
 use Rattle.call_states.proofs.AliasedTypes.{InTypes, in-types, part-type, row-type, values-limits}
 use Rattle.call_states.proofs.Bearers.{borne-rows, borne-variable, ordinal-variable, under-root}
 use Rattle.call_states.proofs.Borne.{lies-at, own-type}
-use Rattle.call_states.proofs.CallChanges.{HasReturned, IsChanged, own-older, parameter-block}
+use Rattle.call_states.proofs.CallChanges.{HasReturned, IsChanged, own-older}
 use Rattle.call_states.proofs.Callee.{activation_of}
-use Rattle.call_states.proofs.FormalRows.{LiesAt, actual-row, not-both, one-way, ordinal-row, ordinal-steps, rows-alike, row-structured, same-value}
+use Rattle.call_states.proofs.FormalRows.{LiesAt, actual-row, no-way, not-both, one-way, ordinal-row, ordinal-steps, rows-alike, row-structured, same-value}
 use Rattle.call_states.proofs.LedComponents.{led-component, led-ordinal}
 use Rattle.call_states.proofs.Lists.{among-contains, contains-more, in-filter_map, in-flat, in-map, of-flat, of-map, some-there}
-use Rattle.call_states.proofs.Parameters.{IsOuter, IsParameter, outward-cases}
+use Rattle.call_states.proofs.Parameters.{IsOuter, IsParameter, outward-cases, parameter-block}
 use Rattle.call_states.proofs.Passed.{Fits, IsArgument, IsReachedBy}
 use Rattle.call_states.proofs.PlaceTypes.{first-led}
 
@@ -320,7 +320,7 @@ module _ (tree : Tree) (pairs : List (ℕ × ℕ)) (number : ℕ) (block : Block
       → Fits tree activations (meaning.OfPlace (Some place)) variable → Lies root variable other selectors reach
   passed-lies_at root variable is p other selectors reach place found known fits =
       lies-at tree pairs number block arguments caller activations from back.call store back.begun actuals back.are back.of_types root variable is fits.0
-      (parameter-block tree pairs number block arguments caller activations from store actuals claims after back.left root variable is p) place found other selectors
+      (parameter-block tree pairs number block arguments caller activations from back.call store actuals back.are back.of_types root variable is p) place found other selectors
       reach known
 
   passed-change : (root : ℕ) (variable : DeclaredVariable) (home : Place) (rest : List Step) (own : TypeId) (v : Value)
@@ -345,11 +345,11 @@ module _ (tree : Tree) (pairs : List (ℕ × ℕ)) (number : ℕ) (block : Block
   passed-change root variable home rest own v is home_is older p actual (meaning.OfValue w) place_is known fits at leads lies =
       absurd
       (own-older tree pairs number block arguments caller activations from store actuals claims after back.left root variable home is
-      (parameter-block tree pairs number block arguments caller activations from store actuals claims after back.left root variable is p) home_is older fits.0)
+      (parameter-block tree pairs number block arguments caller activations from back.call store actuals back.are back.of_types root variable is p) home_is older fits.0)
   passed-change root variable home rest own v is home_is older p actual (meaning.OfRow numbers) place_is known fits at leads lies =
       absurd
       (own-older tree pairs number block arguments caller activations from store actuals claims after back.left root variable home is
-      (parameter-block tree pairs number block arguments caller activations from store actuals claims after back.left root variable is p) home_is older fits.0)
+      (parameter-block tree pairs number block arguments caller activations from back.call store actuals back.are back.of_types root variable is p) home_is older fits.0)
   passed-change root variable home rest own v is home_is older p (OfValue range form) (meaning.OfPlace place) place_is known fits at leads lies = absurd known
   passed-change root variable home rest own v is home_is older p (OfRows ranges) (meaning.OfPlace place) place_is known fits at leads lies = absurd known
 
@@ -436,10 +436,6 @@ module _ (tree : Tree) (pairs : List (ℕ × ℕ)) (number : ℕ) (block : Block
   ordinal-exact root variable other [] reach is lies ordinal bearer inside =
       by bearer (subst (λ (all : List Bearer). Contains all bearer) (borne-variable tree other reach variable.type_id lies.1.actual_type ordinal) inside)
     where
-      no-way : (way : List Step) → Rattle.leaf_rows.proofs.Selected.Matches [] way → way ++ [] ≡ []
-      no-way [] matches = refl
-      no-way (s ∷ way) matches = absurd matches
-
       by : (bearer : Bearer) → Contains (Variable other ∷ []) bearer → IsExact bearer (variable_change tree claims.exit root bearer).range
       by bearer (suc k, within, at) = absurd (omega (arith, within))
       by bearer (zero, within, at) =

@@ -49,6 +49,11 @@ same-rest (Field position offset ∷ selectors) (step.Field p ∷ way) (step.Ele
 same-rest (Field position offset ∷ selectors) (step.Field p ∷ way) (step.Field q ∷ other) a b one two is =
     same-rest selectors way other a b one.1 two.1 (cc)
 
+-- no selectors go no way
+pub no-way : (way : List Step) → Matches [] way → way ++ [] ≡ []
+no-way [] matches = refl
+no-way (s ∷ way) matches = absurd matches
+
 -- without an index there is one way
 pub one-way : (selectors : List Selector) (way other : List Step) → index_count selectors ≡ 0 → Matches selectors way → Matches selectors other → way ≡ other
 one-way [] [] [] none one two = refl

@@ -9,7 +9,7 @@ use Rattle.std.proofs.lemmas.Int.{ints}
 use Rattle.std.proofs.lemmas.List.Elements.{All-append, All-cons, All-contains, All-contains_itself, All-map, All-nil, All-weaker}
 use Rattle.std.proofs.lemmas.List.Elements.{Contains-append_left, Contains-append_right}
 use Rattle.std.proofs.lemmas.List.Sums.{AllPass-from_list_all}
-use Rattle.std.proofs.lemmas.Option.{none-some, same_Some}
+use Rattle.std.proofs.lemmas.Option.{cond_some, none-some, same_Some}
 use Rattle.types.specs.Types.{is_ordinal}
 use Rattle.types.specs.declared.form.OrdinalRange.{OrdinalRange}
 use Rattle.types.specs.declared.form.Step.{Step}
@@ -53,13 +53,13 @@ use Rattle.call_states.specs.Entry.{is_defined_borne, is_given, limit_moved, lim
 use Rattle.call_states.specs.Environments.{Begun, LiesIn}
 use Rattle.call_states.proofs.Assigned.{Received}
 use Rattle.call_states.proofs.Bearers.{borne-rows, named-root, ordinal-variable}
-use Rattle.call_states.proofs.Borne.{IsBorne, IsBorneBy, IsReached, component-borne, entire-borne, outer-value, parameter-block, value-received}
+use Rattle.call_states.proofs.Borne.{IsBorne, IsBorneBy, IsReached, component-borne, entire-borne, outer-value, value-received}
 use Rattle.call_states.proofs.Callee.{IsCalled, activation_of}
 use Rattle.call_states.proofs.Claimed.{AllHold}
 use Rattle.call_states.proofs.Entered.{behind_assignments}
 use Rattle.call_states.proofs.FormalRows.{first-behind_fields}
 use Rattle.call_states.proofs.Lists.{contains-more}
-use Rattle.call_states.proofs.Parameters.{IsOuter, IsOutward, IsParameter, outward-cases}
+use Rattle.call_states.proofs.Parameters.{IsOuter, IsOutward, IsParameter, outward-cases, parameter-block}
 use Rattle.call_states.proofs.Passed.{AreArguments, Fits, IsArgument, IsReachedBy}
 use Rattle.call_states.proofs.Reached.{alive, reached-has}
 use Rattle.call_states.proofs.Started.{value-home}
@@ -343,7 +343,7 @@ module _ (tree : Tree) (pairs : List (ℕ × ℕ)) (number : ℕ) (block : Block
       (value-received tree pairs number block arguments caller activations from call store begun actuals are typed root variable is p value) in
       let has = got.has [] (subst (λ (all : List (List Step)). Contains all []) (sym (ordinal_component tree.types variable.type_id ordinal)) (0, omega arith, refl)) in
       let same = (got.gets [] has.0 has.1).1 in
-      let block_is = parameter-block tree pairs number block arguments caller activations from call store begun actuals are typed root variable is p in
+      let block_is = parameter-block tree pairs number block arguments caller activations from call store actuals are typed root variable is p in
       let home = value-home tree pairs number block arguments caller activations from call root variable is block_is value in
       let m = number-of v in
       let at : value_at inner root [] ≡ Some (Number m.0) =
@@ -473,13 +473,9 @@ module _ (tree : Tree) (pairs : List (ℕ × ℕ)) (number : ℕ) (block : Block
           by zero within at = (1, omega arith, at)
           by (suc i) within at = absurd (omega (arith, within))
 
-  taken : (test : Bool) (one other : Fact) → cond test (Some one) None ≡ Some other → (test ≡ true) × (one ≡ other)
-  taken true one other is = (refl, same_Some one other is)
-  taken false one other is = absurd (none-some other is)
-
   plain-given : (one other : Fact) → Outward one → is_given_here one ≡ true → plain tree one ≡ Some other → holds.Holds other inner
   plain-given (fact.Range path range) other outward is plain_is =
-      let named = taken (names_entire tree path) (fact.Range path range) other plain_is in
+      let named = cond_some (names_entire tree path) (fact.Range path range) other plain_is in
       let at = outward path.root (0, omega arith, refl) in
       let borne = entire-at path at named.0 in
       let included = all-bearers (λ bearer. is_included (range_borne state bearer) range) (bearers_named tree bindings path) borne.bearer is borne.inside in
@@ -489,7 +485,7 @@ module _ (tree : Tree) (pairs : List (ℕ × ℕ)) (number : ℕ) (block : Block
       let none = named-entire steps (subst (λ (own : List fact.Step). holds.is_named own steps ≡ true) whole steps_named) in
       range-given borne.bearer path.root [] range v borne.borne included (subst (λ (s : List Step). value_at inner path.root s ≡ Some v) none there))
   plain-given (fact.Defined path) other outward is plain_is =
-      let named = taken (names_entire tree path) (fact.Defined path) other plain_is in
+      let named = cond_some (names_entire tree path) (fact.Defined path) other plain_is in
       let at = outward path.root (0, omega arith, refl) in
       let borne = entire-at path at named.0 in
       let defined = all-bearers (is_defined_borne tree state) (bearers_named tree bindings path) borne.bearer is borne.inside in

@@ -7,7 +7,7 @@ use Rattle.std.specs.Option.{option_and_then}
 use Rattle.std.specs.Ordering.{int_eq}
 use Rattle.std.specs.Prelude.{is_some, nat_lt, slice_get}
 use Rattle.std.proofs.lemmas.Bool.{and_from, eq-eqb, false≢true}
-use Rattle.std.proofs.lemmas.Option.{none-some, same_Some}
+use Rattle.std.proofs.lemmas.Option.{cond_some, none-some, same_Some}
 use Rattle.types.specs.Components.{components_of}
 use Rattle.types.specs.Forms.{Array, Boolean, Char, Enumeration, Form, Integer, Record, Subrange}
 use Rattle.types.specs.Types.{before, element_of, field_at, field_in, field_of, form_at, form_range, is_ordinal, own_field}
@@ -37,10 +37,6 @@ use Rattle.leaf_rows.proofs.Selected.{Matches, reaches}
 use Rattle.call_states.specs.Environments.{element_behind, field_behind, type_behind, type_led}
 use Rattle.call_states.proofs.PlaceTypes.{first-led}
 
-taken : {A : Type 0} (test : Bool) (one other : A) → cond test (Some one) None ≡ Some other → (test ≡ true) × (one ≡ other)
-taken true one other is = (refl, same_Some one other is)
-taken false one other is = absurd (none-some other is)
-
 module _ (types : List Form) where
   -- a component behind a selector that leads on
   covered : (selector : Selector) (s : Step) (id next : TypeId) (rest : List Step) → selected types selector id ≡ Some next → Matches (selector ∷ []) (s ∷ [])
@@ -56,7 +52,7 @@ module _ (types : List Form) where
           → Has (components_of types id) (step.Element index ∷ rest)
       by None found is = absurd (none-some next is)
       by (Some e) found is =
-          let within = taken (is_within e.range.first e.range.last index) e.type_id next is in
+          let within = cond_some (is_within e.range.first e.range.last index) e.type_id next is in
           let lies = is_within-has e.range.first e.range.last index within.0 in
           let same : are_values_of e.range e.range ≡ true =
           and_from (int_eq e.range.first e.range.first) (int_eq e.range.last e.range.last) (int_eq_equiv.refl e.range.first) (int_eq_equiv.refl e.range.last) in

@@ -4,7 +4,7 @@ use Rattle.std.proofs.Common.{nat_eq, List, [], ◌∷◌, length, Option, Some,
 use Rattle.std.specs.List.{Contains}
 use Rattle.std.specs.Prelude.{slice_get}
 use Rattle.std.proofs.lemmas.Bool.{and_parts, both_ways, eq-eqb, eqb-false, eqb-true, false≢true, ne_eqb}
-use Rattle.std.proofs.lemmas.Option.{none-some, same_Some}
+use Rattle.std.proofs.lemmas.Option.{get_or_from_slice_get, none-some, same_Some, slice_get_within}
 use Rattle.typed_tree.specs.WellFormed.{encloses, is_local_kind, is_one_of, is_parameter_kind, is_result_kind, is_round, of_one, outline_of}
 use Rattle.typed_tree.specs.declared.tree.Block.{Block}
 use Rattle.typed_tree.specs.declared.tree.Tree.{Tree}
@@ -178,3 +178,16 @@ module _ (tree : Tree) (pairs : List (ℕ × ℕ)) (number : ℕ) (block : Block
           (parameter-listed tree call.well number block call.block_is root variable is (eqb-true variable.block number own) (other-kind variable.kind kinds)))
       by false own =
           inl (outer-is root variable is own (sym (ap (λ (b : Bool). b || is_one_of block.heading.around.items variable.block) own) ∙ encloses-it))
+
+  -- a parameter is declared by the callee's block
+  pub parameter-block : (root : ℕ) (variable : Variable) → slice_get tree.variables.items root ≡ Some variable → Parameter root variable
+      → variable.block ≡ number
+  parameter-block root variable is p =
+      let inside : Contains block.heading.parameters.items root =
+      (
+        p.i,
+        slice_get_within block.heading.parameters.items p.i root p.root_at,
+        get_or_from_slice_get block.heading.parameters.items p.i root root p.root_at,
+      ) in
+      let own = parameter-own tree call.well number block call.block_is root inside in
+      subst (λ (v : Variable). v.block ≡ number) (same_Some own.0 variable (sym own.1 ∙ is)) own.2
