@@ -1,9 +1,9 @@
 -- What has the values of a leaf of a formal parameter for the caller, found among the bearers of what a path names.
-use Rattle.std.proofs.Common.{arith, ◌≡◌, ⊎_elim, ◌⊎◌, inl, inr, ◌∙◌, sym, ap, refl, subst, ℕ, zero, suc, ◌+◌, ◌<◌, Bool, true, false, cond, ◌&&◌, ◌||◌}
-use Rattle.std.proofs.Common.{nat_eq, List, [], ◌∷◌, length, map, Option, Some, None}
+use Rattle.std.proofs.Common.{arith, ◌≡◌, ◌∙◌, sym, ap, refl, subst, ℕ, zero, suc, Bool, true, false, cond}
+use Rattle.std.proofs.Common.{nat_eq, List, [], ◌∷◌, map, Option, Some, None}
 use Rattle.std.specs.List.{Contains}
 use Rattle.std.specs.Prelude.{slice_get, slice_index_or}
-use Rattle.std.proofs.lemmas.Bool.{and_parts, eq-eqb, eqb-true, false≢true, or_left, or_right}
+use Rattle.std.proofs.lemmas.Bool.{and_parts, eqb-true}
 use Rattle.std.proofs.lemmas.Option.{get_or_from_slice_get, none-some, same_Some, slice_get_within}
 use Rattle.types.specs.Types.{is_ordinal}
 use Rattle.types.specs.declared.form.Step.{Step}
@@ -15,12 +15,12 @@ use Rattle.typed_tree.specs.declared.tree.Variable.{Variable as DeclaredVariable
 use Rattle.domain.specs.Facts.{Path}
 use Rattle.abstract_state.specs.Loops.{is_among}
 use Rattle.leaf_rows.specs.Leaves.{LeafStep, begins}
-use Rattle.leaf_rows.specs.Rows.{Named, Parts, all_parts, is_structured, is_under, no_parts, part_named, rows_accessed, rows_of, rows_under}
-use Rattle.leaf_rows.proofs.Accessed.{IsOf, contains-has, has-contains, in-numbers, parts-at, row-is}
+use Rattle.leaf_rows.specs.Rows.{Named, Parts, all_parts, is_under, no_parts, part_named, rows_accessed, rows_of, rows_under}
+use Rattle.leaf_rows.proofs.Accessed.{IsOf, contains-has, in-numbers, parts-at, row-is}
 use Rattle.leaf_rows.proofs.Numbered.{number-under}
-use Rattle.component_states.specs.Components.{Entire, Reach}
-use Rattle.structured_states.specs.Loops.{has_ordinals, is_ordinal_variable, names_entire, rows_in, rows_named}
-use Rattle.call_states.specs.Actuals.{Actual, Bearer, Components, OfVariable, Variable, all_of_rows, bearers_at, bearers_of, borne_by}
+use Rattle.component_states.specs.Components.{Reach}
+use Rattle.structured_states.specs.Loops.{has_ordinals, is_ordinal_variable, rows_in, rows_named}
+use Rattle.call_states.specs.Actuals.{Bearer, Components, OfVariable, Variable, bearers_at, bearers_of}
 use Rattle.call_states.proofs.FormalRows.{not-both, row-structured, variable-accessed}
 use Rattle.call_states.proofs.Lists.{contains-more}
 

@@ -1,14 +1,14 @@
 -- What is known behind a call, but for the facts that are claimed of its end, holds there.
-use Rattle.std.proofs.Common.{arith, ◌≡◌, ⊎_elim, ◌⊎◌, inl, inr, ◌∙◌, sym, ap, refl, subst, ℕ, zero, suc, ◌+◌, ◌<◌, ◌≤◌, Bool, true, false, cond, ◌&&◌, ◌||◌}
-use Rattle.std.proofs.Common.{filter, get_or, nat_eq, set, List, [], ◌∷◌, ◌++◌, length, map, Option, Some, None}
+use Rattle.std.proofs.Common.{arith, ◌≡◌, ⊎_elim, ◌⊎◌, inl, inr, ◌∙◌, sym, ap, refl, subst, ℕ, zero, suc, ◌<◌, ◌≤◌, Bool, true, false, cond}
+use Rattle.std.proofs.Common.{filter, get_or, nat_eq, List, [], ◌∷◌, ◌++◌, length, Option, Some, None}
 use Rattle.std.specs.Cmp.{int_eq_equiv}
-use Rattle.std.specs.List.{All, Contains, filter_map, flat_map}
+use Rattle.std.specs.List.{Contains, filter_map}
 use Rattle.std.specs.Ordering.{int_eq}
-use Rattle.std.specs.Prelude.{slice_get, slice_index_or}
+use Rattle.std.specs.Prelude.{slice_index_or}
 use Rattle.std.proofs.lemmas.Bool.{and_from, cases_Bool, eqb-true, eqb-false, false≢true, or_cases}
 use Rattle.std.proofs.lemmas.List.{get_or-set_other, get_or-set_same, length-set}
-use Rattle.std.proofs.lemmas.List.Elements.{All-contains, All-contains_itself, All-filter, All-nil, filter_passes}
-use Rattle.std.proofs.lemmas.Option.{none-some, same_Some, slice_get_within}
+use Rattle.std.proofs.lemmas.List.Elements.{All-nil}
+use Rattle.std.proofs.lemmas.Option.{slice_get_within}
 use Rattle.types.specs.Types.{range_of}
 use Rattle.types.specs.declared.form.OrdinalRange.{OrdinalRange}
 use Rattle.types.specs.declared.form.Step.{Step}
@@ -19,7 +19,7 @@ use Rattle.domain.specs.Facts.{Fact}
 use Rattle.domain.specs.Interval.{Interval, common, joined, vacant}
 use Rattle.meaning.specs.declared.store.Value.{Value}
 use Rattle.meaning.specs.Meaning.{Argument}
-use Rattle.meaning.specs.Store.{Environment, Place, Store, stored}
+use Rattle.meaning.specs.Store.{Environment, Place, Store}
 use Rattle.abstract_state.specs.Holds as holds
 use Rattle.abstract_state.specs.Holds.{IsIn, Moment, part_of, value_at}
 use Rattle.abstract_state.specs.Knows as known
@@ -45,7 +45,7 @@ use Rattle.component_states.proofs.Rows.{of_row-within, with_range-defined, with
 use Rattle.call_states.specs.Actuals.{Actual, Bearer, Passed, Variable, bound_to}
 use Rattle.call_states.specs.Actuals as bearing
 use Rattle.call_states.specs.Aliases.{all_dropped, same_values, variable_values}
-use Rattle.call_states.specs.Environments.{LiesIn, place_type}
+use Rattle.call_states.specs.Environments.{place_type}
 use Rattle.call_states.specs.Exit.{Change, all_common, all_joined, is_row, is_variable, range_behind, row_behind, rows_behind, touched_behind, variable_behind}
 use Rattle.call_states.specs.Exit.{variables_behind}
 use Rattle.call_states.specs.Sections.{BlockClaims}

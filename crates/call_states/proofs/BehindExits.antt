@@ -1,9 +1,9 @@
 -- What is known behind a call holds there, with the facts that are claimed of the end of the callee's block.
-use Rattle.std.proofs.Common.{arith, ◌≡◌, ⊎_elim, ◌⊎◌, inl, inr, ◌∙◌, sym, ap, refl, subst, ℕ, zero, suc, ◌+◌, ◌<◌, Bool, true, false, cond, not, ◌&&◌}
-use Rattle.std.proofs.Common.{◌||◌, ℤ, pos, ◌+ℤ◌, ◌-ℤ◌, ◌≤ℤ◌, get_or, nat_eq, List, [], ◌∷◌, ◌++◌, length, map, Option, Some, None}
+use Rattle.std.proofs.Common.{arith, ◌≡◌, ⊎_elim, ◌⊎◌, inl, inr, ◌∙◌, sym, ap, refl, subst, ℕ, zero, suc, Bool, true, false, cond, not, ◌&&◌}
+use Rattle.std.proofs.Common.{ℤ, pos, ◌+ℤ◌, ◌-ℤ◌, ◌≤ℤ◌, nat_eq, List, [], ◌∷◌, ◌++◌, length, map, Option, Some, None}
 use Rattle.std.specs.List.{Contains}
-use Rattle.std.specs.Prelude.{slice_get, slice_index_or}
-use Rattle.std.proofs.lemmas.Bool.{and_parts, and_right, eq-eqb, eqb-true, eqb-false, false≢true}
+use Rattle.std.specs.Prelude.{slice_get}
+use Rattle.std.proofs.lemmas.Bool.{and_parts, eq-eqb, false≢true}
 use Rattle.std.proofs.lemmas.Int.{ints}
 use Rattle.std.proofs.lemmas.List.Elements.{Contains-append_left, Contains-append_right}
 use Rattle.std.proofs.lemmas.Option.{none-some, same_Some}
@@ -24,27 +24,24 @@ use Rattle.meaning.specs.declared.store.Value.TheVariants.{Number}
 use Rattle.meaning.specs.Meaning as meaning
 use Rattle.meaning.specs.Meaning.{Argument, environment_of, own_place, place_for, place_passed}
 use Rattle.meaning.specs.Store.{Environment, Place, Store, stored}
-use Rattle.abstract_state.specs.Changes.{ordered, with_some}
 use Rattle.abstract_state.specs.Holds as holds
 use Rattle.abstract_state.specs.Holds.{HasNumber, HasValue, IsBound, Moment, part_of, value_at}
 use Rattle.abstract_state.specs.Knows.{IsOfForm, moment}
 use Rattle.abstract_state.specs.Loops.{is_among}
-use Rattle.abstract_state.specs.State as variables
 use Rattle.abstract_state.specs.State.{is_entire}
 use Rattle.abstract_state.proofs.Changed.{ordered-known}
 use Rattle.abstract_state.proofs.Given.{entire-steps, named-entire}
 use Rattle.abstract_state.proofs.Knows.{defined-known}
-use Rattle.leaf_rows.specs.Rows.{all_parts, first_index, index_at, no_parts, rows_accessed, rows_of, rows_under}
+use Rattle.leaf_rows.specs.Rows.{all_parts, first_index, index_at, rows_accessed, rows_of, rows_under}
 use Rattle.leaf_rows.proofs.Accessed.{IsOf, has-contains, indexes-are, rows-are}
 use Rattle.leaf_rows.proofs.Components.{mapped-at}
-use Rattle.leaf_rows.proofs.Selected.{Matches}
 use Rattle.component_states.specs.Components as components
 use Rattle.component_states.specs.Components.{At, ComponentFact, Entire, Inside, Reach, moved_bound}
 use Rattle.component_states.specs.Holds.{HasComponent, Holds, Knows, component_at}
-use Rattle.component_states.specs.States.{State, all_of_row, over_components, over_variables}
+use Rattle.component_states.specs.States.{State, all_of_row, over_components}
 use Rattle.component_states.proofs.Bounds.{moved-is}
 use Rattle.component_states.proofs.Looped.{with_claim-holds}
-use Rattle.structured_states.specs.Loops.{all_limits, component_claims, is_ordinal_variable, names_entire, rows_named}
+use Rattle.structured_states.specs.Loops.{is_ordinal_variable, names_entire, rows_named}
 use Rattle.call_states.specs.Actuals.{Actual, Bearer, Binding, Components, OfRows, OfValue, OfVariable, Passed, Variable, actual_of, all_of_rows, bearers_at}
 use Rattle.call_states.specs.Actuals.{bearers_for, bearers_named, bearers_of, bound_to}
 use Rattle.call_states.specs.Environments.{LeavesPassed}
@@ -210,9 +207,12 @@ module _ (tree : Tree) (pairs : List (ℕ × ℕ)) (number : ℕ) (block : Block
       whole [] lies ordinal bound_is =
           let bearers = borne-variable tree other reach variable.type_id lies.1.actual_type ordinal in
           let same = steady-is (is_steady touches other) (Plus other k) b (ap (steady_bound touches k) (sym bearers) ∙ bound_is) in
-          subst (λ (x : Bound). IsBound outer x n) same
-          (m, sym (same-value tree caller callee root other [] lies.0 variable.type_id lies.1 after []
-          ∙ ap (value_at outer other) (no-way lies.0 lies.1.matches)) ∙ has, n_is)
+          subst (λ (x : Bound). IsBound outer x n) same (
+            m,
+            sym (same-value tree caller callee root other [] lies.0 variable.type_id lies.1 after []
+                ∙ ap (value_at outer other) (no-way lies.0 lies.1.matches)) ∙ has,
+            n_is,
+          )
       whole (selector ∷ selectors) lies ordinal bound_is =
           absurd (no-steady k (rows_accessed (rows_of tree) other (selector ∷ selectors)) reach b bound_is)
 
@@ -307,12 +307,12 @@ module _ (tree : Tree) (pairs : List (ℕ × ℕ)) (number : ℕ) (block : Block
             row = found.0;
             named = found.1;
             each = λ steps of_row. (
-                  steps,
-                  of_row,
-                  ap (λ (r : ℕ). value_at outer r steps) root_is ∙ sym (outer-same path.root variable here steps)
-                      ∙ ap (λ (r : ℕ). value_at inner r steps) (sym root_is),
-                  refl,
-                );
+              steps,
+              of_row,
+              ap (λ (r : ℕ). value_at outer r steps) root_is ∙ sym (outer-same path.root variable here steps)
+                  ∙ ap (λ (r : ℕ). value_at inner r steps) (sym root_is),
+              refl,
+            );
           }))
 
   passed-seen : (path : Path) (ranges : List _) (bearer : Bearer) → Contains (map Passed ranges) bearer → IsSeen path bearer
@@ -325,9 +325,11 @@ module _ (tree : Tree) (pairs : List (ℕ × ℕ)) (number : ℕ) (block : Block
       → IsSeen path bearer
   ordinal-seen path variable is entire other [] reach lies ordinal bearer inside =
       alone-bearer path (Variable other) bearer
-      (subst (λ (all : List Bearer). Contains all bearer) (borne-variable tree other reach variable.type_id lies.1.actual_type ordinal) inside)
-      (entire, sym (same-value tree caller callee path.root other [] lies.0 variable.type_id lies.1 after []
-      ∙ ap (value_at outer other) (no-way lies.0 lies.1.matches)))
+      (subst (λ (all : List Bearer). Contains all bearer) (borne-variable tree other reach variable.type_id lies.1.actual_type ordinal) inside) (
+        entire,
+        sym (same-value tree caller callee path.root other [] lies.0 variable.type_id lies.1 after []
+            ∙ ap (value_at outer other) (no-way lies.0 lies.1.matches)),
+      )
   ordinal-seen path variable is entire other (selector ∷ selectors) reach lies ordinal bearer inside =
       let all = selector ∷ selectors in
       let found = of-map (λ r. Components r reach) (rows_accessed (rows_of tree) other all) bearer inside in
@@ -339,12 +341,15 @@ module _ (tree : Tree) (pairs : List (ℕ × ℕ)) (number : ℕ) (block : Block
       row-seen row inside (Inside index) lies = tt
       row-seen row inside Entire lies =
           let all = selector ∷ selectors in
-          inl (entire, λ steps of_row.
-          let one = ordinal-steps tree caller callee path.root other all lies.0 variable.type_id lies.1 ordinal row steps inside of_row in
-          let way : one.0 ≡ lies.0 = one-way all one.0 lies.0 lies.2 one.2 lies.1.matches in
-          let root_is = (rows-are tree other all variable.type_id lies.1.actual_type).root_is row inside in
-          ap (λ (r : ℕ). value_at outer r steps) root_is ∙ ap (value_at outer other) one.1 ∙ ap (λ (w : List Step). value_at outer other (w ++ [])) way
-          ∙ sym (same-value tree caller callee path.root other all lies.0 variable.type_id lies.1 after []))
+          inl (
+            entire,
+            λ steps of_row.
+                let one = ordinal-steps tree caller callee path.root other all lies.0 variable.type_id lies.1 ordinal row steps inside of_row in
+                let way : one.0 ≡ lies.0 = one-way all one.0 lies.0 lies.2 one.2 lies.1.matches in
+                let root_is = (rows-are tree other all variable.type_id lies.1.actual_type).root_is row inside in
+                ap (λ (r : ℕ). value_at outer r steps) root_is ∙ ap (value_at outer other) one.1 ∙ ap (λ (w : List Step). value_at outer other (w ++ [])) way
+                ∙ sym (same-value tree caller callee path.root other all lies.0 variable.type_id lies.1 after []),
+          )
 
   -- those of rows of a structured one
   rows-seen : (path : Path) (variable : DeclaredVariable) → slice_get tree.variables.items path.root ≡ Some variable → (other : ℕ) (selectors : List Selector)
@@ -364,8 +369,7 @@ module _ (tree : Tree) (pairs : List (ℕ × ℕ)) (number : ℕ) (block : Block
             let behind = rows.lies own steps inside of_row in
             let way : behind.0 ≡ lies.0 = one-way selectors behind.0 lies.0 lies.2 behind.3 lies.1.matches in
             let steps_are : steps ≡ lies.0 ++ behind.1 = behind.2 ∙ ap (λ (w : List Step). w ++ behind.1) way in
-            let of_own = subst (λ (s : List Step). IsOf tree own s) steps_are of_row in
-            (
+            let of_own = subst (λ (s : List Step). IsOf tree own s) steps_are of_row in (
               behind.1,
               actual-row tree caller callee path.root other selectors lies.0 variable.type_id lies.1 j row own behind.1 row_at own_at of_own,
               ap (λ (r : ℕ). value_at outer r steps) (rows.root_is own inside) ∙ ap (value_at outer other) steps_are
@@ -530,11 +534,16 @@ module _ (tree : Tree) (pairs : List (ℕ × ℕ)) (number : ℕ) (block : Block
       (λ (named : IsNamedRow path own).
       let claim = component-holds tree pairs number block arguments caller activations from store actuals claims after back (fact.Stretch path first last)
       (components.Stretched (record { row = named.row; first = first; last = last })) listed
-      (in-map (λ r. components.Stretched (record { row = r; first = first; last = last })) (rows_named tree path) named.row named.named) in
-      (claim.0, claim.1, low_is claim.0 claim.2 low refl, high_is claim.1 claim.3 high refl, λ steps index of_row first_is above below.
-      let at = named.each steps of_row in
-      let has = claim.4 at.0 index at.1 (sym at.3 ∙ first_is) above below in
-      (has.0, at.2 ∙ has.1))) seen) knows
+      (in-map (λ r. components.Stretched (record { row = r; first = first; last = last })) (rows_named tree path) named.row named.named) in (
+        claim.0,
+        claim.1,
+        low_is claim.0 claim.2 low refl,
+        high_is claim.1 claim.3 high refl,
+        λ steps index of_row first_is above below.
+            let at = named.each steps of_row in
+            let has = claim.4 at.0 index at.1 (sym at.3 ∙ first_is) above below in
+            (has.0, at.2 ∙ has.1),
+      )) seen) knows
 
   all-stretches : (path : Path) (first last : Bound) (low high : Option Bound) → Contains claims.exit (fact.Stretch path first last)
       → ((n : ℤ) → IsBound inner first n → (b : Bound) → low ≡ Some b → IsBound outer b n)

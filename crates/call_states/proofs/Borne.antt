@@ -1,16 +1,13 @@
 -- Where a call begins, each component of a variable that caller and callee know is borne by one of the bearers of what a path names: it has the value of
 -- what bears it.
-use Rattle.std.proofs.Common.{arith, ◌≡◌, ⊎_elim, ◌⊎◌, inl, inr, ◌∙◌, sym, ap, refl, subst, ℕ, zero, suc, ◌+◌, ◌<◌, Bool, true, false, cond, ◌&&◌, ◌||◌}
-use Rattle.std.proofs.Common.{nat_eq, List, [], ◌∷◌, ◌++◌, length, map, Option, Some, None}
+use Rattle.std.proofs.Common.{arith, ◌≡◌, ⊎_elim, ◌∙◌, sym, ap, refl, subst, ℕ, Bool, true, false, cond}
+use Rattle.std.proofs.Common.{List, [], ◌∷◌, ◌++◌, length, map, Option, Some, None}
 use Rattle.std.specs.List.{Contains}
 use Rattle.std.specs.Prelude.{is_some, slice_get, slice_index_or}
-use Rattle.std.proofs.lemmas.Bool.{and_parts, and_right, eqb-true, false≢true}
-use Rattle.std.proofs.lemmas.List.{length-map}
-use Rattle.std.proofs.lemmas.Option.{none-some, same_Some, slice_get_within}
-use Rattle.types.specs.Components.{components_of}
-use Rattle.types.specs.Types.{is_ordinal, range_of}
+use Rattle.std.proofs.lemmas.Bool.{and_parts, and_right, false≢true}
+use Rattle.std.proofs.lemmas.Option.{slice_get_within}
+use Rattle.types.specs.Types.{is_ordinal}
 use Rattle.types.specs.declared.form.Step.{Step}
-use Rattle.types.specs.declared.form.TypeId.{TypeId}
 use Rattle.types.proofs.Scalars.{ordinal_component}
 use Rattle.typed_tree.specs.Accesses.{accessed, led}
 use Rattle.typed_tree.specs.WellFormed.{is_value_kind, is_variable_kind}
@@ -21,10 +18,9 @@ use Rattle.typed_tree.specs.declared.tree.Variable.{Variable as DeclaredVariable
 use Rattle.domain.specs.Facts.{Path}
 use Rattle.domain.specs.Interval.{Interval}
 use Rattle.meaning.specs.declared.store.Value.{Value}
-use Rattle.meaning.specs.declared.store.Value.TheVariants.{Number}
 use Rattle.meaning.specs.Meaning as meaning
 use Rattle.meaning.specs.Meaning.{Argument, environment_of, home_of, place_for, place_passed}
-use Rattle.meaning.specs.Store.{Environment, Place, Store, part}
+use Rattle.meaning.specs.Store.{Environment, Place, Store}
 use Rattle.abstract_state.specs.Holds.{IsIn, Moment, part_of, value_at}
 use Rattle.abstract_state.specs.Knows.{moment}
 use Rattle.abstract_state.specs.State.{is_entire}
@@ -37,13 +33,13 @@ use Rattle.leaf_rows.proofs.Selected.{Matches}
 use Rattle.component_states.specs.Components.{Entire, Reach}
 use Rattle.component_states.specs.Holds.{component_at}
 use Rattle.structured_states.specs.Loops.{all_limits, is_ordinal_variable, names_entire, rows_named}
-use Rattle.call_states.specs.Actuals.{Actual, Bearer, Binding, Components, OfRows, OfValue, OfVariable, Passed, Variable, actual_of, all_of_rows, are_of_rows}
-use Rattle.call_states.specs.Actuals.{are_of_types, bearers_at, bearers_for, bearers_named, bearers_of, bound_to, is_copy_for, is_of_type, lies_among}
+use Rattle.call_states.specs.Actuals.{Actual, Bearer, Binding, Components, OfRows, OfValue, OfVariable, Passed, Variable, all_of_rows, are_of_rows}
+use Rattle.call_states.specs.Actuals.{are_of_types, bearers_at, bearers_for, bearers_named, bearers_of, bound_to, is_copy_for, is_of_type}
 use Rattle.call_states.specs.Environments.{Begun}
 use Rattle.call_states.proofs.Assigned.{Received}
 use Rattle.call_states.proofs.Bearers.{bearer-at, borne-rows, borne-variable, named-root, not-ordinal, ordinal-variable, under-whole}
-use Rattle.call_states.proofs.Callee.{IsCalled, activation_of, not-both_kinds}
-use Rattle.call_states.proofs.Entered.{behind_assignments, outer-kept, own-home, parameter-own, passed-where}
+use Rattle.call_states.proofs.Callee.{IsCalled, activation_of}
+use Rattle.call_states.proofs.Entered.{behind_assignments, outer-kept, own-home, passed-where}
 use Rattle.call_states.proofs.FormalRows.{LiesAt, actual-of_row, formal-row, no-way, not-both, ordinal-row, row-structured, same-value}
 use Rattle.call_states.proofs.Lists.{contains-among, in-map, some-there}
 use Rattle.call_states.proofs.Parameters.{IsOuter, IsOutward, IsParameter, outward-cases, parameter-block}
@@ -148,16 +144,17 @@ module _ (tree : Tree) (pairs : List (ℕ × ℕ)) (number : ℕ) (block : Block
       → IsArgument tree caller store variable (OfVariable other selectors reach) (meaning.OfPlace (Some place))
       → (way : List Step) × LiesAt tree caller callee root other selectors way variable.type_id × IsReachedBy caller store selectors way reach
   lies-at root variable is kind_is own place found other selectors reach known =
-      let leads = known.0 in
-      (leads.way,
-      record {
-        formal_type = own-type tree root variable is;
-        actual_type = known.1;
-        place_is = own-home tree (activation_of number block arguments caller activations) root variable is own
-            ∙ passed-where (activation_of number block arguments caller activations) root variable.kind kind_is ∙ found ∙ leads.place_is;
-        matches = leads.matches;
-      },
-      leads.reached)
+      let leads = known.0 in (
+        leads.way,
+        record {
+          formal_type = own-type tree root variable is;
+          actual_type = known.1;
+          place_is = own-home tree (activation_of number block arguments caller activations) root variable is own
+              ∙ passed-where (activation_of number block arguments caller activations) root variable.kind kind_is ∙ found ∙ leads.place_is;
+          matches = leads.matches;
+        },
+        leads.reached,
+      )
 
   own-block : (root : ℕ) (variable : DeclaredVariable) → slice_get tree.variables.items root ≡ Some variable → ParameterHere root variable
       → variable.block ≡ number
@@ -308,9 +305,11 @@ module _ (tree : Tree) (pairs : List (ℕ × ℕ)) (number : ℕ) (block : Block
       record {
         bearer = Variable other;
         inside = subst (λ (all : List Bearer). Contains all (Variable other)) (sym bearers) (0, omega arith, refl);
-        borne = (refl,
-            same-value tree caller callee root other [] lies.0 variable.type_id lies.1 behind [] ∙ caller-kept other (lies.0 ++ [])
-            ∙ ap (value_at outer other) (no-way lies.0 lies.1.matches));
+        borne = (
+          refl,
+          same-value tree caller callee root other [] lies.0 variable.type_id lies.1 behind [] ∙ caller-kept other (lies.0 ++ [])
+              ∙ ap (value_at outer other) (no-way lies.0 lies.1.matches),
+        );
       }
   whole-borne root variable is ordinal p (OfVariable other (selector ∷ selectors) reach) (meaning.OfPlace (Some place)) argument_is known fits of_type place_is =
       let all = selector ∷ selectors in

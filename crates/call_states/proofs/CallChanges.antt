@@ -1,21 +1,20 @@
 -- What a call changes for its caller: values of what the callee lists, and of what shares places with that; all else is as it was.
-use Rattle.std.proofs.Common.{arith, ◌≡◌, ◌≢◌, ⊎_elim, ◌⊎◌, inl, inr, ◌∙◌, sym, ap, refl, subst, ℕ, zero, suc, ◌+◌, ◌<◌, Bool, true, false, cond, ◌&&◌, ◌||◌}
-use Rattle.std.proofs.Common.{append-nil, append_assoc, get_or, nat_eq, List, [], ◌∷◌, ◌++◌, length, map, Option, Some, None}
-use Rattle.std.specs.List.{Contains, flat_map}
+use Rattle.std.proofs.Common.{arith, ◌≡◌, ⊎_elim, ◌⊎◌, inl, inr, ◌∙◌, sym, ap, refl, subst, ℕ, suc, ◌<◌, true, false}
+use Rattle.std.proofs.Common.{append-nil, append_assoc, nat_eq, List, [], ◌∷◌, ◌++◌, Option, Some, None}
+use Rattle.std.specs.List.{Contains}
 use Rattle.std.specs.Prelude.{slice_get}
-use Rattle.std.proofs.lemmas.Bool.{and_from, and_parts, both_ways, cases_eq, eq-eqb, eqb-true, or_left, or_right}
+use Rattle.std.proofs.lemmas.Bool.{and_from, and_parts, both_ways, cases_eq, eq-eqb, or_left, or_right}
 use Rattle.std.proofs.lemmas.List.Folds.{list_any-append}
-use Rattle.std.proofs.lemmas.Option.{get_or_from_slice_get, none-some, same_Some, slice_get_within}
+use Rattle.std.proofs.lemmas.Option.{none-some, same_Some}
 use Rattle.types.specs.declared.form.Step.{Step}
-use Rattle.types.specs.declared.form.Step.TheVariants as step
-use Rattle.typed_tree.specs.WellFormed.{is_value_kind, is_variable_kind}
+use Rattle.typed_tree.specs.WellFormed.{is_value_kind}
 use Rattle.typed_tree.specs.declared.tree.Block.{Block}
 use Rattle.typed_tree.specs.declared.tree.Tree.{Tree}
 use Rattle.typed_tree.specs.declared.tree.Variable.{Variable}
 use Rattle.meaning.specs.declared.store.Value.{Value}
 use Rattle.meaning.specs.Meaning as meaning
 use Rattle.meaning.specs.Meaning.{Argument, environment_of, home_of, own_place, place_for, place_passed}
-use Rattle.meaning.specs.Store.{Environment, Place, Store, is_beginning, overlap, part, step_eq, stored}
+use Rattle.meaning.specs.Store.{Environment, Place, Store, is_beginning, overlap, step_eq, stored}
 use Rattle.abstract_state.specs.Holds.{HasValue, part_of, value_at}
 use Rattle.abstract_state.specs.Knows.{moment}
 use Rattle.abstract_state.specs.Loops.{is_among}
@@ -28,7 +27,7 @@ use Rattle.call_states.specs.Sections.{BlockClaims}
 use Rattle.call_states.proofs.Assigned.{same-step}
 use Rattle.call_states.proofs.Callee.{IsCalled, activation_of}
 use Rattle.call_states.proofs.Claimed.{AllHold}
-use Rattle.call_states.proofs.Entered.{own-home, own-where, parameter-own, passed-where, value-not_variable}
+use Rattle.call_states.proofs.Entered.{own-home, own-where, passed-where, value-not_variable}
 use Rattle.call_states.proofs.Lists.{among-contains, among-flat}
 use Rattle.call_states.proofs.Parameters.{IsOuter, IsOutward, IsParameter, outward-cases, parameter-block}
 use Rattle.call_states.proofs.Passed.{AreArguments, Fits, IsArgument}
@@ -115,7 +114,7 @@ module _ (tree : Tree) (pairs : List (ℕ × ℕ)) (number : ℕ) (block : Block
   same-or_changed place older =
       ⊎_elim
       (λ (listed : (root : ℕ) × (home : Place) × Contains claims.changes root × (callee.variables root ≡ Some home)
-          × ((home.activation ≡ place.activation) × (home.variable ≡ place.variable) × (is_beginning home.steps place.steps ≡ true))).
+      × ((home.activation ≡ place.activation) × (home.variable ≡ place.variable) × (is_beginning home.steps place.steps ≡ true))).
       let home = listed.1 in
       let under = listed.4 in
       let rest = beginning-rest home.steps place.steps under.2 in

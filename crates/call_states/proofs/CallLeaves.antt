@@ -1,19 +1,17 @@
 -- The leaves that a call changes: each value that it changed for its caller lies in the range of a change of its type, and what is changed just as it is
 -- lies in that of its change.
-use Rattle.std.proofs.Common.{arith, ◌≡◌, ⊎_elim, ◌⊎◌, inl, inr, ◌∙◌, sym, ap, refl, subst, ℕ, zero, suc, ◌+◌, ◌<◌, Bool, true, false, cond, ◌&&◌, ◌||◌}
-use Rattle.std.proofs.Common.{get_or, nat_eq, List, [], ◌∷◌, ◌++◌, length, map, Option, Some, None}
-use Rattle.std.specs.List.{All, Contains, cons_option, filter_map, flat_map}
+use Rattle.std.proofs.Common.{arith, ◌≡◌, ⊎_elim, ◌∙◌, sym, ap, refl, subst, ℕ, zero, suc, ◌<◌, Bool, true, false, cond, ◌&&◌}
+use Rattle.std.proofs.Common.{nat_eq, List, [], ◌∷◌, ◌++◌, length, Option, Some, None}
+use Rattle.std.specs.List.{Contains, filter_map, flat_map}
 use Rattle.std.specs.Option.{option_and_then}
-use Rattle.std.specs.Prelude.{is_some, slice_get, slice_index_or}
-use Rattle.std.proofs.lemmas.Bool.{and_from, and_parts, eq-eqb, eqb-true, false≢true}
+use Rattle.std.specs.Prelude.{is_some, slice_get}
+use Rattle.std.proofs.lemmas.Bool.{and_parts, eqb-true, false≢true}
 use Rattle.std.proofs.lemmas.List.{length-map}
-use Rattle.std.proofs.lemmas.List.Elements.{All-contains, Contains-append_cases, Contains-append_left, Contains-append_right}
+use Rattle.std.proofs.lemmas.List.Elements.{All-contains}
 use Rattle.std.proofs.lemmas.Option.{none-some, same_Some, slice_get_within}
-use Rattle.types.specs.Components.{components_of}
 use Rattle.types.specs.Forms.{Form}
 use Rattle.types.specs.Types.{element_of, field_at, is_ordinal, range_of}
 use Rattle.types.specs.declared.form.ArrayElement.{ArrayElement}
-use Rattle.types.specs.declared.form.OrdinalRange.{OrdinalRange}
 use Rattle.types.specs.declared.form.RecordField.{RecordField}
 use Rattle.types.specs.declared.form.Step.{Step}
 use Rattle.types.specs.declared.form.Step.TheVariants as step
@@ -38,13 +36,13 @@ use Rattle.abstract_state.specs.Loops.{is_among}
 use Rattle.abstract_state.specs.State.{is_entire}
 use Rattle.abstract_state.proofs.Given.{entire-steps}
 use Rattle.abstract_state.proofs.Ranged.{common-in}
-use Rattle.leaf_rows.specs.Rows.{all_parts, has_components, is_structured, no_parts, rows_accessed, rows_of, rows_under, values_at}
+use Rattle.leaf_rows.specs.Rows.{all_parts, has_components, is_structured, rows_accessed, rows_of, rows_under, values_at}
 use Rattle.leaf_rows.proofs.Accessed.{IsOf, contains-has, has-contains, rows-are}
 use Rattle.leaf_rows.proofs.Components.{mapped-at}
 use Rattle.component_states.specs.Components as components
 use Rattle.component_states.specs.Components.{At, ComponentFact, Entire, Inside, Reach}
 use Rattle.component_states.specs.Holds.{Holds, component_at}
-use Rattle.structured_states.specs.Loops.{all_limits, component_claims, is_ordinal_variable, limits_or_integer, names_entire, plain, row_limits, rows_named}
+use Rattle.structured_states.specs.Loops.{component_claims, is_ordinal_variable, limits_or_integer, names_entire, plain, rows_named}
 use Rattle.call_states.specs.Actuals.{Actual, Bearer, Binding, Components, OfRows, OfValue, OfVariable, Passed, Variable, actual_of, all_of_rows, bearers_of}
 use Rattle.call_states.specs.Actuals.{bound_to}
 use Rattle.call_states.specs.Aliases.{variable_values}
@@ -57,7 +55,7 @@ use Rattle.call_states.proofs.Bearers.{borne-rows, borne-variable, ordinal-varia
 use Rattle.call_states.proofs.Borne.{lies-at, own-type}
 use Rattle.call_states.proofs.CallChanges.{HasReturned, IsChanged, own-older}
 use Rattle.call_states.proofs.Callee.{activation_of}
-use Rattle.call_states.proofs.FormalRows.{LiesAt, actual-row, no-way, not-both, one-way, ordinal-row, ordinal-steps, rows-alike, row-structured, same-value}
+use Rattle.call_states.proofs.FormalRows.{LiesAt, actual-row, no-way, not-both, one-way, ordinal-row, ordinal-steps, rows-alike, same-value}
 use Rattle.call_states.proofs.LedComponents.{led-component, led-ordinal}
 use Rattle.call_states.proofs.Lists.{among-contains, contains-more, in-filter_map, in-flat, in-map, of-flat, of-map, some-there}
 use Rattle.call_states.proofs.Parameters.{IsOuter, IsParameter, outward-cases, parameter-block}
@@ -70,9 +68,11 @@ row-change_at : (tree : Tree) (facts : List Fact) (rows : List ℕ) (bearers : L
     → slice_get bearers j ≡ Some bearer → Contains (rows_changed tree facts rows bearers) (row_change tree facts row bearer)
 row-change_at tree facts [] bearers j row bearer row_at bearer_at = absurd (none-some row row_at)
 row-change_at tree facts (first ∷ rows) [] j row bearer row_at bearer_at = absurd (none-some bearer bearer_at)
-row-change_at tree facts (first ∷ rows) (one ∷ bearers) zero row bearer row_at bearer_at =
-    (0, omega arith,
-    ap (λ (r : ℕ). row_change tree facts r one) (same_Some first row row_at) ∙ ap (row_change tree facts row) (same_Some one bearer bearer_at))
+row-change_at tree facts (first ∷ rows) (one ∷ bearers) zero row bearer row_at bearer_at = (
+  0,
+  omega arith,
+  ap (λ (r : ℕ). row_change tree facts r one) (same_Some first row row_at) ∙ ap (row_change tree facts row) (same_Some one bearer bearer_at),
+)
 row-change_at tree facts (first ∷ rows) (one ∷ bearers) (suc j) row bearer row_at bearer_at =
     contains-more (row_change tree facts first one) (rows_changed tree facts rows bearers) (row_change tree facts row bearer)
     (row-change_at tree facts rows bearers j row bearer row_at bearer_at)
@@ -257,9 +257,11 @@ module _ (tree : Tree) (pairs : List (ℕ × ℕ)) (number : ℕ) (block : Block
   own_bearers root = cond (is_ordinal_variable tree root) (Variable root ∷ []) (all_of_rows (rows_under (rows_of tree) root []))
 
   outer-bearer : (root : ℕ) → is_ordinal_variable tree root ≡ true → (bearer : Bearer) × Contains (own_bearers root) bearer
-  outer-bearer root ordinal =
-      (Variable root, subst (λ (b : Bool). Contains (cond b (Variable root ∷ []) (all_of_rows (rows_under (rows_of tree) root []))) (Variable root)) (sym ordinal)
-      (0, omega arith, refl))
+  outer-bearer root ordinal = (
+    Variable root,
+    subst (λ (b : Bool). Contains (cond b (Variable root ∷ []) (all_of_rows (rows_under (rows_of tree) root []))) (Variable root)) (sym ordinal)
+        (0, omega arith, refl),
+  )
 
   outer-many : (root : ℕ) (variable : DeclaredVariable) → slice_get tree.variables.items root ≡ Some variable
       → is_structured tree.types variable.type_id ≡ true → length (own_bearers root) ≡ length (rows_under (rows_of tree) root [])
@@ -278,9 +280,11 @@ module _ (tree : Tree) (pairs : List (ℕ × ℕ)) (number : ℕ) (block : Block
   passed-bearer : (root : ℕ) (variable : DeclaredVariable) (other : ℕ) (selectors : List Selector) (reach : Reach)
       → slice_get tree.variables.items root ≡ Some variable → Lies root variable other selectors reach → is_ordinal_variable tree root ≡ true
       → (bearer : Bearer) × Contains (bearers_of tree (OfVariable other selectors reach)) bearer
-  passed-bearer root variable other [] reach is lies ordinal =
-      (Variable other, subst (λ (all : List Bearer). Contains all (Variable other))
-      (sym (borne-variable tree other reach variable.type_id lies.1.actual_type (sym (ordinal-variable tree root variable is) ∙ ordinal))) (0, omega arith, refl))
+  passed-bearer root variable other [] reach is lies ordinal = (
+    Variable other,
+    subst (λ (all : List Bearer). Contains all (Variable other))
+        (sym (borne-variable tree other reach variable.type_id lies.1.actual_type (sym (ordinal-variable tree root variable is) ∙ ordinal))) (0, omega arith, refl),
+  )
   passed-bearer root variable other (selector ∷ selectors) reach is lies ordinal =
       let row = ordinal-row tree caller callee root other (selector ∷ selectors) lies.0 variable.type_id lies.1
       (sym (ordinal-variable tree root variable is) ∙ ordinal) (λ none. absurd (cc)) in

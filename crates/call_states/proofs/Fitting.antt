@@ -1,14 +1,12 @@
 -- What is passed fits its formal parameter, where the checker's tests of types hold.
-use Rattle.std.proofs.Common.{arith, ◌≡◌, ⊎_elim, ◌∙◌, sym, ap, refl, subst, ℕ, zero, suc, ◌+◌, ◌<◌, Bool, true, false, ◌&&◌, List, [], ◌∷◌, ◌++◌, length}
+use Rattle.std.proofs.Common.{arith, ◌≡◌, ◌∙◌, sym, ap, refl, subst, ℕ, zero, suc, ◌+◌, ◌<◌, true, List, [], ◌∷◌, length}
 use Rattle.std.proofs.Common.{Option, Some, None}
-use Rattle.std.specs.List.{Contains}
 use Rattle.std.specs.Option.{option_and_then}
-use Rattle.std.specs.Prelude.{slice_get, slice_index_or}
+use Rattle.std.specs.Prelude.{slice_get}
 use Rattle.std.proofs.lemmas.Bool.{and_parts, false≢true}
 use Rattle.std.proofs.lemmas.Option.{none-some, same_Some, slice_get_within}
 use Rattle.types.specs.Components.{components_of}
 use Rattle.types.specs.declared.form.OrdinalRange.{OrdinalRange}
-use Rattle.types.specs.declared.form.Step.{Step}
 use Rattle.types.specs.declared.form.TypeId.{TypeId}
 use Rattle.typed_tree.specs.Accesses.{accessed}
 use Rattle.typed_tree.specs.declared.tree.Selector.{Selector}
@@ -19,12 +17,12 @@ use Rattle.meaning.specs.declared.store.Value.TheVariants.{Number}
 use Rattle.meaning.specs.Store.{Environment, Place, Store}
 use Rattle.abstract_state.specs.State.{limits_of}
 use Rattle.abstract_state.proofs.Ranged.{included-in}
-use Rattle.leaf_rows.specs.Leaves.{Leaf, leaves_of}
+use Rattle.leaf_rows.specs.Leaves.{leaves_of}
 use Rattle.leaf_rows.specs.Rows.{Row, rows_of, rows_under, values_at}
-use Rattle.leaf_rows.proofs.Accessed.{has-contains, leaf-of_component, row-is, rows-are, rows-count}
+use Rattle.leaf_rows.proofs.Accessed.{has-contains, leaf-of_component, row-is, rows-are}
 use Rattle.component_states.specs.Components.{Reach}
 use Rattle.call_states.specs.Actuals.{are_of_rows, is_copy_for, lies_among}
-use Rattle.call_states.specs.Environments.{LiesIn, Proper, place_type}
+use Rattle.call_states.specs.Environments.{Proper, place_type}
 use Rattle.call_states.proofs.AliasedTypes.{part-type}
 use Rattle.call_states.proofs.Borne.{copy-count, copy-for, own-type}
 use Rattle.call_states.proofs.ComponentTypes.{component-typed}
@@ -94,6 +92,7 @@ pub place-fits : (tree : Tree) (pairs : List (ℕ × ℕ)) (block activations : 
 place-fits tree pairs block activations env proper store root selectors reach id place leads typed =
     let variable = variable-accessed tree root selectors id typed in
     let there = part-there (env.variables root) leads.way place (sym leads.place_is) in
-    let way = way-typed tree.types selectors leads.way variable.0.type_id id variable.2 leads.matches in
-    (ap (place_type tree) (sym there.2) ∙ part-type tree pairs block activations env proper root there.0 variable.0 leads.way there.1 variable.1 ∙ way,
-    subst (λ (p : Place). p.activation < activations) there.2 (proper.begun root there.0 there.1))
+    let way = way-typed tree.types selectors leads.way variable.0.type_id id variable.2 leads.matches in (
+      ap (place_type tree) (sym there.2) ∙ part-type tree pairs block activations env proper root there.0 variable.0 leads.way there.1 variable.1 ∙ way,
+      subst (λ (p : Place). p.activation < activations) there.2 (proper.begun root there.0 there.1),
+    )

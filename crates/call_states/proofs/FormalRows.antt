@@ -1,6 +1,6 @@
 -- A variable parameter and its actual one: the components of the one are those of the other, row by row.
-use Rattle.std.proofs.Common.{arith, ◌≡◌, ⊎_elim, ◌∙◌, sym, ap, refl, subst, ℕ, zero, suc, ◌+◌, ◌<◌, ℤ, Bool, true, false, List, [], ◌∷◌, ◌++◌, append_assoc}
-use Rattle.std.proofs.Common.{length, map, Option, Some, None}
+use Rattle.std.proofs.Common.{arith, ◌≡◌, ◌∙◌, sym, ap, refl, subst, ℕ, zero, suc, ◌+◌, true, List, [], ◌∷◌, ◌++◌, append_assoc}
+use Rattle.std.proofs.Common.{length, Option, Some, None}
 use Rattle.std.specs.List.{Contains}
 use Rattle.std.specs.Option.{option_and_then}
 use Rattle.std.specs.Prelude.{is_some, slice_get, slice_index_or}
@@ -18,13 +18,11 @@ use Rattle.typed_tree.specs.declared.tree.Selector.{Selector}
 use Rattle.typed_tree.specs.declared.tree.Selector.TheVariants.{Element, Field}
 use Rattle.typed_tree.specs.declared.tree.Tree.{Tree}
 use Rattle.typed_tree.specs.declared.tree.Variable.{Variable}
-use Rattle.meaning.specs.declared.store.Value.{Value}
 use Rattle.meaning.specs.Store.{Environment, Place, Store, part, stored}
 use Rattle.abstract_state.specs.Holds.{part_of, value_at}
 use Rattle.abstract_state.specs.Knows.{moment}
-use Rattle.leaf_rows.specs.Leaves.{leaves_of}
 use Rattle.leaf_rows.specs.Rows.{all_parts, first_index, has_components, is_structured, no_parts, rows_accessed, rows_of, rows_under}
-use Rattle.leaf_rows.proofs.Accessed.{IsOf, RowsAre, contains-has, has-contains, row-is, row-leaf, rows-are, rows-count}
+use Rattle.leaf_rows.proofs.Accessed.{IsOf, contains-has, has-contains, row-is, row-leaf, rows-are, rows-count}
 use Rattle.leaf_rows.proofs.Components.{Has}
 use Rattle.leaf_rows.proofs.Selected.{Matches}
 use Rattle.call_states.proofs.Lists.{some-there}
@@ -111,10 +109,11 @@ row-structured tree root row steps variable of_row root_is is =
     (let e : found.leaf.root ≡ 0 + found.leaf.root = omega arith in e) ∙ sym found.leaf.root_is
     ∙ sym (ap (λ (p : Rattle.leaf_rows.specs.Rows.Parts). p.root) found.parts_are) ∙ root_is in
     let same : found.leaf.variable ≡ variable =
-    same_Some found.leaf.variable variable (sym found.leaf.variable_is ∙ ap (slice_get tree.variables.items) own ∙ is) in
-    (subst (λ (v : Variable). is_structured tree.types v.type_id ≡ true) same found.leaf.structured,
-    subst (λ (v : Variable). Contains (components_of tree.types v.type_id) steps) same
-    (has-contains (components_of tree.types found.leaf.variable.type_id) steps found.of_type))
+    same_Some found.leaf.variable variable (sym found.leaf.variable_is ∙ ap (slice_get tree.variables.items) own ∙ is) in (
+      subst (λ (v : Variable). is_structured tree.types v.type_id ≡ true) same found.leaf.structured,
+      subst (λ (v : Variable). Contains (components_of tree.types v.type_id) steps) same
+          (has-contains (components_of tree.types found.leaf.variable.type_id) steps found.of_type),
+    )
 
 -- ---- a formal parameter and its actual one
 

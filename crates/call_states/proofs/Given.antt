@@ -1,9 +1,9 @@
 -- The facts that are given where a block is called hold where it begins.
-use Rattle.std.proofs.Common.{arith, ◌≡◌, ⊎_elim, ◌⊎◌, inl, inr, ◌∙◌, sym, ap, refl, subst, ℕ, zero, suc, ◌+◌, ◌<◌, Bool, true, false, cond, not, ◌&&◌}
+use Rattle.std.proofs.Common.{arith, ◌≡◌, ⊎_elim, ◌∙◌, sym, ap, refl, subst, ℕ, zero, suc, ◌<◌, Bool, true, false, cond, not, ◌&&◌}
 use Rattle.std.proofs.Common.{◌||◌, get_or, ℤ, pos, ◌+ℤ◌, ◌≤ℤ◌, int_le, nat_eq, List, [], ◌∷◌, ◌++◌, length, map, Option, Some, None}
-use Rattle.std.specs.List.{All, Contains, cons_option, filter_map, flat_map, list_all, list_any}
+use Rattle.std.specs.List.{All, Contains, cons_option, list_all, list_any}
 use Rattle.std.specs.Option.{option_and_then}
-use Rattle.std.specs.Prelude.{is_some, slice_get, slice_index_or}
+use Rattle.std.specs.Prelude.{is_some, slice_index_or}
 use Rattle.std.proofs.lemmas.Bool.{and_parts, eqb-true, false≢true, or_cases}
 use Rattle.std.proofs.lemmas.Int.{ints}
 use Rattle.std.proofs.lemmas.List.Elements.{All-append, All-cons, All-contains, All-contains_itself, All-map, All-nil, All-weaker}
@@ -37,8 +37,7 @@ use Rattle.abstract_state.specs.State.{at_most, bound_range, is_below, is_define
 use Rattle.abstract_state.proofs.Given.{bound-in, defined-number, entire-steps, named-entire}
 use Rattle.abstract_state.proofs.Ranged.{included-in}
 use Rattle.leaf_rows.specs.Rows.{all_parts, first_index, index_at, no_parts, rows_accessed, rows_of, rows_under}
-use Rattle.leaf_rows.proofs.Accessed.{IsOf, indexes-are}
-use Rattle.leaf_rows.proofs.Selected.{Matches}
+use Rattle.leaf_rows.proofs.Accessed.{IsOf}
 use Rattle.component_states.specs.Components as components
 use Rattle.component_states.specs.Components.{At, ComponentFact, Entire, Inside, Reach, has_value, moved_bound, row_at}
 use Rattle.component_states.specs.Holds.{HasComponent, Holds, Knows}
@@ -60,7 +59,7 @@ use Rattle.call_states.proofs.Entered.{behind_assignments}
 use Rattle.call_states.proofs.FormalRows.{first-behind_fields}
 use Rattle.call_states.proofs.Lists.{contains-more}
 use Rattle.call_states.proofs.Parameters.{IsOuter, IsOutward, IsParameter, outward-cases, parameter-block}
-use Rattle.call_states.proofs.Passed.{AreArguments, Fits, IsArgument, IsReachedBy}
+use Rattle.call_states.proofs.Passed.{AreArguments, Fits, IsArgument}
 use Rattle.call_states.proofs.Reached.{alive, reached-has}
 use Rattle.call_states.proofs.Started.{value-home}
 
@@ -242,9 +241,11 @@ module _ (tree : Tree) (pairs : List (ℕ × ℕ)) (number : ℕ) (block : Block
       let own_first = first-behind_fields borne.selectors borne.way steps borne.reached borne.matches ∙ first_is in
       let of_row : IsOf tree held.row (borne.way ++ steps) =
       subst (λ (r : ℕ). IsOf tree r (borne.way ++ steps)) (sym (eqb-true held.row row one.0)) borne.of_row in
-      let has = stretch.4 (borne.way ++ steps) index of_row own_first (omega (arith, ints, before, above)) (omega (arith, ints, after, below)) in
-      (has.0, borne.same
-      ∙ ap (λ (r : ℕ). value_at outer (slice_index_or (all_parts tree) r no_parts).root (borne.way ++ steps)) (sym (eqb-true held.row row one.0)) ∙ has.1))
+      let has = stretch.4 (borne.way ++ steps) index of_row own_first (omega (arith, ints, before, above)) (omega (arith, ints, after, below)) in (
+        has.0,
+        borne.same
+            ∙ ap (λ (r : ℕ). value_at outer (slice_index_or (all_parts tree) r no_parts).root (borne.way ++ steps)) (sym (eqb-true held.row row one.0)) ∙ has.1,
+      ))
       (or_cases (gives_reached state Entire (index_at (rows_of tree) row) row) (list_any (has_between state.variables row first last) state.components.stretches) is)
 
   between-given : (first last : Limit) (low high index : ℤ) → is-limit first low → is-limit last high → low ≤ℤ index → index ≤ℤ high → (bearer : Bearer)
@@ -272,10 +273,13 @@ module _ (tree : Tree) (pairs : List (ℕ × ℕ)) (number : ℕ) (block : Block
   variable-limit root other limit same is has =
       let own = value-is total caller store state.variables knows.variables (Plus other (pos 0)) (ap (λ (l : Limit). l.has_value) is ∙ has) in
       let m = own.1.0 in
-      let e : own.0 ≡ m = (let s = own.1.2 in omega (arith, ints, s)) in
-      (m, same ∙ own.1.1, subst (λ (l : Limit). IsLimit outer l m) is
-      (subst (λ (n : ℤ). IsLimit outer (limit_of state.variables (Plus other (pos 0))) n) e
-      (limit-is total caller store state.variables knows.variables (Plus other (pos 0)) own.0 own.1)))
+      let e : own.0 ≡ m = (let s = own.1.2 in omega (arith, ints, s)) in (
+        m,
+        same ∙ own.1.1,
+        subst (λ (l : Limit). IsLimit outer l m) is
+            (subst (λ (n : ℤ). IsLimit outer (limit_of state.variables (Plus other (pos 0))) n) e
+            (limit-is total caller store state.variables knows.variables (Plus other (pos 0)) own.0 own.1)),
+      )
 
   -- the one bearer of an ordinal variable of the callee
   alone-limit : (root : ℕ) (bearers : List Bearer) (limit : Limit)
@@ -347,13 +351,16 @@ module _ (tree : Tree) (pairs : List (ℕ × ℕ)) (number : ℕ) (block : Block
       let home = value-home tree pairs number block arguments caller activations from call root variable is block_is value in
       let m = number-of v in
       let at : value_at inner root [] ≡ Some (Number m.0) =
-      ap (λ (found : Option Place). part_of behind found []) home ∙ has.1 ∙ ap Some same ∙ ap Some m.1 in
-      (m.0, at, record {
-        of_form = λ b form_is.
-            let formed = subst (λ (f : Option Bound). IsOfForm outer f v) form_is of_form in
-            subst (λ (n : ℤ). IsBound outer b n) (number-same formed.0 m.0 (sym formed.1 ∙ m.1)) formed.2;
-        in_range = subst (IsIn range) m.1 inside;
-      })
+      ap (λ (found : Option Place). part_of behind found []) home ∙ has.1 ∙ ap Some same ∙ ap Some m.1 in (
+        m.0,
+        at,
+        record {
+          of_form = λ b form_is.
+              let formed = subst (λ (f : Option Bound). IsOfForm outer f v) form_is of_form in
+              subst (λ (n : ℤ). IsBound outer b n) (number-same formed.0 m.0 (sym formed.1 ∙ m.1)) formed.2;
+          in_range = subst (IsIn range) m.1 inside;
+        },
+      )
     where
       number-same : (a b : ℤ) → Number a ≡ Number b → a ≡ b
       number-same a b is = cc
@@ -542,19 +549,24 @@ module _ (tree : Tree) (pairs : List (ℕ × ℕ)) (number : ℕ) (block : Block
       (λ r inside. outward r (contains-more path.root (bound_roots first ++ bound_roots last) r (Contains-append_right (bound_roots first) (bound_roots last) r inside)))
       found.3 found.5 in
       each-row (rows_named tree path) (λ row. components.Stretched (record { row = row; first = first; last = last }))
-      (λ row inside.
-      (low.n, high.n, low.is_bound, high.is_bound, λ steps index of_row first_is above below.
-      ⊎_elim
-      (λ empty.
-      let less = limits-hold total caller store state.variables knows.variables (limit_moved (pos 1) found.1) found.0 (high.n +ℤ pos 1) low.n
-      (moved-limit total caller store state.variables knows.variables (pos 1) high.n found.1 high.is_limit) low.is_limit empty in
-      absurd (omega (arith, ints, less, above, below)))
-      (λ each.
-      let borne = component-at path (outward path.root (0, omega arith, refl)) row steps inside of_row in
-      in-root path row steps inside
-      (between-given found.0 found.1 low.n high.n index low.is_limit high.is_limit above below borne.bearer path.root steps first_is borne.borne
-      (all-bearers (is_borne_between tree state found.0 found.1) bearers borne.bearer each borne.inside)))
-      (or_cases (is_at_most state.variables (limit_moved (pos 1) found.1) found.0) (list_all (is_borne_between tree state found.0 found.1) bearers) found.6)))
+      (λ row inside. (
+        low.n,
+        high.n,
+        low.is_bound,
+        high.is_bound,
+        λ steps index of_row first_is above below.
+            ⊎_elim
+            (λ empty.
+            let less = limits-hold total caller store state.variables knows.variables (limit_moved (pos 1) found.1) found.0 (high.n +ℤ pos 1) low.n
+            (moved-limit total caller store state.variables knows.variables (pos 1) high.n found.1 high.is_limit) low.is_limit empty in
+            absurd (omega (arith, ints, less, above, below)))
+            (λ each.
+            let borne = component-at path (outward path.root (0, omega arith, refl)) row steps inside of_row in
+            in-root path row steps inside
+            (between-given found.0 found.1 low.n high.n index low.is_limit high.is_limit above below borne.bearer path.root steps first_is borne.borne
+            (all-bearers (is_borne_between tree state found.0 found.1) bearers borne.bearer each borne.inside)))
+            (or_cases (is_at_most state.variables (limit_moved (pos 1) found.1) found.0) (list_all (is_borne_between tree state found.0 found.1) bearers) found.6),
+      ))
   components-given (Order root other k) outward is = All-nil HoldsHere
 
   all-given : (facts : List Fact) → ((one : Fact) → Contains facts one → Outward one) → list_all is_given_here facts ≡ true → AllHold tree facts callee behind

@@ -1,18 +1,17 @@
 -- Steps that lead to an ordinal lead to a component; none lead on from an ordinal.
-use Rattle.std.proofs.Common.{arith, ◌≡◌, ◌≤ℤ◌, ⊎_elim, ◌∙◌, sym, ap, refl, subst, ℕ, ℤ, Bool, true, false, cond, ◌&&◌, nat_eq, List, [], ◌∷◌, ◌++◌, Option, Some}
+use Rattle.std.proofs.Common.{arith, ◌≡◌, ◌∙◌, sym, ap, refl, subst, ℕ, Bool, true, cond, nat_eq, List, [], ◌∷◌, Option, Some}
 use Rattle.std.proofs.Common.{None}
 use Rattle.std.specs.Cmp.{int_eq_equiv}
 use Rattle.std.specs.List.{Contains}
 use Rattle.std.specs.Option.{option_and_then}
 use Rattle.std.specs.Ordering.{int_eq}
-use Rattle.std.specs.Prelude.{is_some, nat_lt, slice_get}
+use Rattle.std.specs.Prelude.{is_some, slice_get}
 use Rattle.std.proofs.lemmas.Bool.{and_from, eq-eqb, false≢true}
 use Rattle.std.proofs.lemmas.Option.{cond_some, none-some, same_Some}
 use Rattle.types.specs.Components.{components_of}
 use Rattle.types.specs.Forms.{Array, Boolean, Char, Enumeration, Form, Integer, Record, Subrange}
 use Rattle.types.specs.Types.{before, element_of, field_at, field_in, field_of, form_at, form_range, is_ordinal, own_field}
 use Rattle.types.specs.declared.form.ArrayElement.{ArrayElement}
-use Rattle.types.specs.declared.form.OrdinalRange.{OrdinalRange}
 use Rattle.types.specs.declared.form.RecordField.{RecordField}
 use Rattle.types.specs.declared.form.Step.{Step}
 use Rattle.types.specs.declared.form.Step.TheVariants as step
@@ -30,7 +29,7 @@ use Rattle.domain.specs.Facts.{Path}
 use Rattle.meaning.specs.Integers.{is_within}
 use Rattle.abstract_state.specs.State.{is_entire}
 use Rattle.abstract_state.proofs.Ranged.{is_within-has}
-use Rattle.leaf_rows.specs.Rows.{Named, behind_element, behind_name, next_named, part_named, steps_named, variable_named}
+use Rattle.leaf_rows.specs.Rows.{Named, behind_element, behind_name, part_named, steps_named, variable_named}
 use Rattle.leaf_rows.proofs.Accessed.{contains-has, has-contains}
 use Rattle.leaf_rows.proofs.Components.{Has}
 use Rattle.leaf_rows.proofs.Selected.{Matches, reaches}

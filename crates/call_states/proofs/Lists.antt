@@ -1,7 +1,7 @@
 -- Items of lists: what is among them, of maps, filters and joined lists.
 use Rattle.std.proofs.Common.{arith, ◌≡◌, ⊎_elim, ◌∙◌, sym, ap, refl, subst, ℕ, zero, suc, ◌<◌, Bool, true, false, ◌||◌, filter, nat_eq, List, [], ◌∷◌, length}
 use Rattle.std.proofs.Common.{map, Option, Some, None}
-use Rattle.std.specs.List.{All, Contains, cons_option, filter_map, flat_map}
+use Rattle.std.specs.List.{Contains, cons_option, filter_map, flat_map}
 use Rattle.std.specs.Prelude.{slice_get}
 use Rattle.std.proofs.lemmas.Bool.{eq-eqb, eqb-true, false≢true, or_left, or_right}
 use Rattle.std.proofs.lemmas.List.Elements.{All-contains, All-contains_itself, All-filter, Contains-append_cases, Contains-append_left}

@@ -1,12 +1,12 @@
 -- What a call passes makes only listed pairs of variables that share a place in the callee.
-use Rattle.std.proofs.Common.{arith, ◌≡◌, ⊎_elim, ◌⊎◌, inl, inr, ◌≢◌, ◌∙◌, sym, ap, refl, subst, ℕ, zero, suc, ◌+◌, ◌<◌, Bool, true, false, not, cond}
-use Rattle.std.proofs.Common.{◌&&◌, ◌||◌, append-nil, nat_eq, List, [], ◌∷◌, ◌++◌, length, Option, Some, None}
+use Rattle.std.proofs.Common.{arith, ◌≡◌, ⊎_elim, ◌≢◌, ◌∙◌, sym, ap, refl, subst, ℕ, suc, ◌<◌, Bool, true, false, not}
+use Rattle.std.proofs.Common.{◌&&◌, append-nil, nat_eq, List, [], ◌∷◌, Option, Some}
 use Rattle.std.specs.List.{Contains, list_all}
 use Rattle.std.specs.Prelude.{slice_get}
 use Rattle.std.proofs.lemmas.Bool.{and_parts, both_ways, eqb-true, false≢true, not_from_true, or_cases, or_left, or_right}
 use Rattle.std.proofs.lemmas.List.Elements.{All-contains}
 use Rattle.std.proofs.lemmas.List.Sums.{AllPass-from_list_all}
-use Rattle.std.proofs.lemmas.Option.{none-some, same_Some}
+use Rattle.std.proofs.lemmas.Option.{none-some}
 use Rattle.typed_tree.specs.WellFormed.{is_one_of}
 use Rattle.typed_tree.specs.declared.tree.Block.{Block}
 use Rattle.typed_tree.specs.declared.tree.Selector.{Selector}
@@ -21,11 +21,11 @@ use Rattle.component_states.specs.Components.{Reach}
 use Rattle.structured_states.specs.Pairs.{aliases_of}
 use Rattle.call_states.specs.Actuals.{Actual, Binding, OfRows, OfValue, OfVariable, bound_to}
 use Rattle.call_states.specs.Environments.{Proper}
-use Rattle.call_states.specs.Overlaps.{are_parted, are_separate, is_actual_listed, is_actual_separate, is_declared_in, is_listed, is_listed_round, is_listed_with}
+use Rattle.call_states.specs.Overlaps.{are_parted, are_separate, is_actual_separate, is_declared_in, is_listed, is_listed_round, is_listed_with}
 use Rattle.call_states.specs.Overlaps.{may_overlap}
 use Rattle.call_states.proofs.Callee.{IsCalled, Outer, Own, PassedTo, Seen, activation_of, callee-proper, either-cond, place-for_fits, seen-as}
 use Rattle.call_states.proofs.Passed.{AreArguments, IsArgument, Leads}
-use Rattle.call_states.proofs.Places.{IsPair, listed-pair, may-overlap, overlap-back, overlaps-from, pair-back, pair-listed}
+use Rattle.call_states.proofs.Places.{IsPair, listed-pair, may-overlap, overlap-back, overlaps-from, pair-back}
 
 -- a test that holds of all of some numbers holds of one among them
 pub all-among : (test : ℕ → Bool) (items : List ℕ) (item : ℕ) → list_all test items ≡ true → is_among item items ≡ true → test item ≡ true
