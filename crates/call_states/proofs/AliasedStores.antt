@@ -154,7 +154,8 @@ part-steps home found first steps at is =
     let one : part home first ≡ part home steps = cc in
     parts-same home first steps (ap (λ (p : Place). place_eq (part home first) p) (sym one) ∙ place-itself (part home first))
 
-module _ (env : Environment) (aliases : List ℕ) (root : ℕ) (pairs : Pairs) (before after : Store) (written : AreWritten env aliases root pairs before after) where
+module _ (env : Environment) (aliases : List ℕ) (root : ℕ) (pairs : Pairs) (before after : Store)
+    (written : AreWritten env aliases root pairs before after) where
   pub value-defined : (other : ℕ) (steps : List Step) → HasValue (moment env before) other steps → HasValue (moment env after) other steps
   value-defined other steps has = defined-at before after written.defined (env.variables other) steps has
 

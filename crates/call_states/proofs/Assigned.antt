@@ -287,7 +287,8 @@ module _ (tree : Tree) (number activations : ℕ) (visible : Environment) where
   one-gets root formal (meaning.OfPlace (Some found)) store home is fits value empty = λ place v at rest same.
       absurd (none-some v (sym (empty rest) ∙ ap (stored store) (sym same) ∙ at))
   one-gets root formal (meaning.OfValue w) store home is fits value empty =
-      kept-each (λ place v. (rest : List Step) → place ≡ own_part root rest → Gets tree.types formal (meaning.OfValue w) rest v) store (visible.variables root) w
+      kept-each (λ place v. (rest : List Step) → place ≡ own_part root rest → Gets tree.types formal (meaning.OfValue w) rest v) store
+      (visible.variables root) w
       (λ place at rest same.
       (sym (steps-of root [] rest (same_Some (own_place number root) place (sym home ∙ at) ∙ same)), refl))
       (λ place v at rest same. absurd (none-some v (sym (empty rest) ∙ ap (stored store) (sym same) ∙ at)))
@@ -363,10 +364,12 @@ module _ (tree : Tree) (number activations : ℕ) (visible : Environment) where
       } in
       subst (λ (a : Argument). Received root formal a after) same_argument
       (subst (λ (v : Variable). Received root v one after) same (subst (λ (r : ℕ). Received r variable one after) same_root got))
-  received (first ∷ roots) (one ∷ arguments) (variable, variable_is, fits, others) homes distinct (suc i) root argument formal root_at argument_at is value store
+  received (first ∷ roots) (one ∷ arguments) (variable, variable_is, fits, others) homes distinct
+      (suc i) root argument formal root_at argument_at is value store
       empty =
       let inside : Contains roots root = (i, slice_get_within roots i root root_at, get_or_from_slice_get roots i root root root_at) in
-      received roots arguments others (homes-later first roots homes) distinct.1 i root argument formal root_at argument_at is value (assigned_to first one store)
+      received roots arguments others (homes-later first roots homes) distinct.1 i root argument formal root_at argument_at is value
+      (assigned_to first one store)
       (λ rest.
       one-other first variable one (own_part root rest) store (either-kind first roots variable homes variable_is) variable_is fits
       (λ own_value here at. distinct.0 (subst (Contains roots) at inside))

@@ -306,7 +306,8 @@ module _ (tree : Tree) (all : List Change) where
       by false other more =
           let range = range_behind (values_at (rows_of tree) first) all (filter (λ change. is_row first change.bearer) all) (row_at known first).range in
           let same : row_at (row_behind tree all first known) row ≡ row_at known row =
-          get_or-set_other known.rows first row (record (row_at known first) { range = range }) no_row (λ (e : row ≡ first). eqb-false first row other (sym e)) in
+          get_or-set_other known.rows first row (record (row_at known first) { range = range }) no_row
+          (λ (e : row ≡ first). eqb-false first row other (sym e)) in
           more (⊎_elim (λ inside. inl (subst (λ (s : RowState). IsIn s.range v) (sym same) inside)) (λ told. inr told) so)
           (⊎_elim
           (λ among.
@@ -362,7 +363,8 @@ module _ (tree : Tree) (pairs : List (ℕ × ℕ)) (number : ℕ) (block : Block
   pub call-kept : IsKept caller roots [] store after
   call-kept = record {
     values = λ root apart steps. untouched-kept tree pairs number block arguments caller activations from store actuals claims after back.left root apart steps;
-    defined = λ root among steps has. defined-kept tree pairs number block arguments caller activations from store actuals claims after back.left root steps has;
+    defined = λ root among steps has. defined-kept tree pairs number block arguments caller activations from store actuals claims after back.left root steps
+        has;
   }
 
   integers : (root : ℕ) (steps : List Step) (v : Value) → value_at outer root steps ≡ Some v → IsIn integer v
@@ -385,7 +387,8 @@ module _ (tree : Tree) (pairs : List (ℕ × ℕ)) (number : ℕ) (block : Block
       (back.call.proper.begun root home at.1) changed_so at.2 own.1 own.2 in
       let equal : values ≡ told.change.values = values_are home own.0 at.1 own.1 ∙ sym told.values_are in
       inr (told.change, told.inside, subst (λ (r : Option OrdinalRange). same_values values r ≡ true) equal (same-itself values), told.in_range))
-      (same-or_changed tree pairs number block arguments caller activations from store actuals claims after back.left place (back.call.proper.begun root home at.1))
+      (same-or_changed tree pairs number block arguments caller activations from store actuals claims after back.left place
+      (back.call.proper.begun root home at.1))
 
   abbrev Exact : Bearer → Interval → Type 0
   Exact bearer range = IsExact tree pairs number block arguments caller activations from store actuals claims after back bearer range
@@ -419,7 +422,8 @@ module _ (tree : Tree) (pairs : List (ℕ × ℕ)) (number : ℕ) (block : Block
   dropped-in : (root : ℕ) (v : Value) → value_at (moment caller store) root [] ≡ Some v → IsIn (variables.range_of dropped.variables root) v
   dropped-in root v is =
       subst (λ (range : Interval). IsIn range v)
-      (range-is state.variables root ∙ ap (λ (own : List Interval). get_or own root vacant) (sym (dropped-ranges roots state)) ∙ sym (range-is dropped.variables root))
+      (range-is state.variables root ∙ ap (λ (own : List Interval). get_or own root vacant) (sym (dropped-ranges roots state)) ∙ sym
+      (range-is dropped.variables root))
       (known-in total caller state.variables store root v knows.variables is)
 
   range-behind : (root : ℕ) (v : Value) → value_at outer root [] ≡ Some v → IsIn (variables.range_of behind root) v

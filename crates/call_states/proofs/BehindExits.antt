@@ -46,7 +46,8 @@ use Rattle.call_states.specs.Actuals.{Actual, Bearer, Binding, Components, OfRow
 use Rattle.call_states.specs.Actuals.{bearers_for, bearers_named, bearers_of, bound_to}
 use Rattle.call_states.specs.Environments.{LeavesPassed}
 use Rattle.call_states.specs.Exit.{Touches, bearer_defined, bearers_defined, behind_call, bounds_ordered, exit_bound, exit_bound_of, has_actual, is_own_path}
-use Rattle.call_states.specs.Exit.{is_steady, steady_bound, stretch_defined, stretches_defined, touched_behind, touches_of, untouched_form, with_exit, with_exits}
+use Rattle.call_states.specs.Exit.{is_steady, steady_bound, stretch_defined, stretches_defined, touched_behind, touches_of, untouched_form, with_exit}
+use Rattle.call_states.specs.Exit.{with_exits}
 use Rattle.call_states.specs.Sections.{BlockClaims}
 use Rattle.call_states.specs.Starts.{is_passed_value}
 use Rattle.call_states.proofs.Assigned.{Received}
@@ -137,7 +138,8 @@ module _ (tree : Tree) (pairs : List (ℕ × ℕ)) (number : ℕ) (block : Block
   cases : (root : ℕ) → (outward : IsOutward tree number root) → IsOuterHere root outward.0 ⊎ ParameterHere root outward.0
   cases root outward = outward-cases tree pairs number block arguments caller activations from back.call store actuals back.are back.of_types root outward
 
-  outer-same : (root : ℕ) (variable : DeclaredVariable) → IsOuterHere root variable → (steps : List Step) → value_at inner root steps ≡ value_at outer root steps
+  outer-same : (root : ℕ) (variable : DeclaredVariable) → IsOuterHere root variable → (steps : List Step)
+      → value_at inner root steps ≡ value_at outer root steps
   outer-same root variable here steps = ap (λ (found : Option Place). part_of after found steps) here.same
 
   lies-here : (root : ℕ) (variable : DeclaredVariable) → slice_get tree.variables.items root ≡ Some variable → (p : ParameterHere root variable) → (other : ℕ)
@@ -160,10 +162,12 @@ module _ (tree : Tree) (pairs : List (ℕ × ℕ)) (number : ℕ) (block : Block
   value-kept root variable is p v argument_is value apart m has =
       let own = parameter-block tree pairs number block arguments caller activations from back.call store actuals back.are back.of_types root variable is p in
       let home = value-home tree pairs number block arguments caller activations from back.call root variable is own value in
-      let kept = passed root variable [] is (and-true (nat_eq variable.block number) (is_value_kind variable.kind) (eq-eqb variable.block number own) value) apart in
+      let kept = passed root variable [] is (and-true (nat_eq variable.block number) (is_value_kind variable.kind) (eq-eqb variable.block number own) value)
+      apart in
       let got = subst (λ (a : Argument). Received tree activations activations callee root variable a
       (behind_assignments tree pairs number block arguments caller activations from back.call store)) argument_is
-      (value-received tree pairs number block arguments caller activations from back.call store back.begun actuals back.are back.of_types root variable is p value) in
+      (value-received tree pairs number block arguments caller activations from back.call store back.begun actuals back.are back.of_types root variable is p
+      value) in
       let at : stored after (own_place activations root) ≡ Some (Number m) =
       sym (Rattle.abstract_state.proofs.Apart.entire-stored after (own_place activations root))
       ∙ sym (ap (λ (found : Option Place). part_of after found []) home) ∙ has in
@@ -233,18 +237,22 @@ module _ (tree : Tree) (pairs : List (ℕ × ℕ)) (number : ℕ) (block : Block
       ap (λ (b : Bool). b && is_value_kind variable.kind) (eq-eqb variable.block number own) ∙ fits.0 in
       let v_is = value-kept root variable is p v argument_is fits.0 (lasting passed_so) m has in
       subst (IsBound outer b) n_is (form-bound k m form v v_is known.1 b bound_is)
-  parameter-bound root variable is p lasting k m n has n_is b (OfValue range form) (meaning.OfRow numbers) argument_is place_is known fits bound_is = absurd known
-  parameter-bound root variable is p lasting k m n has n_is b (OfValue range form) (meaning.OfPlace place) argument_is place_is known fits bound_is = absurd known
+  parameter-bound root variable is p lasting k m n has n_is b (OfValue range form) (meaning.OfRow numbers) argument_is place_is known fits bound_is = absurd
+      known
+  parameter-bound root variable is p lasting k m n has n_is b (OfValue range form) (meaning.OfPlace place) argument_is place_is known fits bound_is = absurd
+      known
   parameter-bound root variable is p lasting k m n has n_is b (OfRows ranges) argument argument_is place_is known fits bound_is = absurd (none-some b bound_is)
   parameter-bound root variable is p lasting k m n has n_is b (OfVariable other selectors reach) (meaning.OfValue v) argument_is place_is known fits bound_is =
       absurd known
   parameter-bound root variable is p lasting k m n has n_is b (OfVariable other selectors reach) (meaning.OfRow numbers) argument_is place_is known fits
       bound_is = absurd known
-  parameter-bound root variable is p lasting k m n has n_is b (OfVariable other selectors reach) (meaning.OfPlace None) argument_is place_is known fits bound_is =
+  parameter-bound root variable is p lasting k m n has n_is b (OfVariable other selectors reach) (meaning.OfPlace None) argument_is place_is known fits
+      bound_is =
       absurd fits
   parameter-bound root variable is p lasting k m n has n_is b (OfVariable other selectors reach) (meaning.OfPlace (Some place)) argument_is place_is known fits
       bound_is =
-      passed-bound root variable is other selectors reach (lies-here root variable is p other selectors reach place place_is known fits) k m n has n_is b bound_is
+      passed-bound root variable is other selectors reach (lies-here root variable is p other selectors reach place place_is known fits) k m n has n_is b
+      bound_is
 
   -- a bound of the callee at its end is its number for the caller
   bound-behind : (bound : Bound) (n : ℤ) → ((root : ℕ) → Contains (Rattle.call_states.proofs.Given.bound_roots bound) root → IsOutward tree number root)
@@ -403,7 +411,8 @@ module _ (tree : Tree) (pairs : List (ℕ × ℕ)) (number : ℕ) (block : Block
           let lies = lies-here path.root variable is p other selectors reach place place_is known fits in
           let bearers = borne-rows tree other selectors reach variable.type_id lies.1.actual_type
           (λ none. sym (ordinal-variable tree path.root variable is) ∙ plain) in
-          let found = bearer-from (rows_named tree path) (rows_under (rows_of tree) path.root []) (bearers_of tree (OfVariable other selectors reach)) bearer inside in
+          let found = bearer-from (rows_named tree path) (rows_under (rows_of tree) path.root [])
+          (bearers_of tree (OfVariable other selectors reach)) bearer inside in
           let own = mapped-at (λ r. Components r reach) (rows_accessed (rows_of tree) other selectors) found.0 bearer
           (ap (λ (all : List Bearer). slice_get all found.0) (sym bearers) ∙ found.4) in
           subst (IsSeen path) own.2 (rows-seen path variable is other selectors found.0 found.1 own.0 found.2 found.3 own.1 reach lies)
@@ -418,7 +427,8 @@ module _ (tree : Tree) (pairs : List (ℕ × ℕ)) (number : ℕ) (block : Block
       whole-of (OfVariable other selectors reach) (meaning.OfPlace None) place_is known fits ordinal inside = absurd fits
       whole-of (OfVariable other selectors reach) (meaning.OfPlace (Some place)) place_is known fits ordinal inside =
           ordinal-seen path variable is (entire ordinal) other selectors reach
-          (lies-here path.root variable is p other selectors reach place place_is known fits) (sym (ordinal-variable tree path.root variable is) ∙ ordinal) bearer
+          (lies-here path.root variable is p other selectors reach place place_is known fits)
+          (sym (ordinal-variable tree path.root variable is) ∙ ordinal) bearer
           inside
 
       by : (ordinal : Bool) → is_ordinal_variable tree path.root ≡ ordinal
@@ -473,7 +483,8 @@ module _ (tree : Tree) (pairs : List (ℕ × ℕ)) (number : ℕ) (block : Block
   is-defined : (path : Path) → Contains claims.exit (fact.Defined path) → IsDefined path
   is-defined path listed = record {
     entire = λ named.
-        let claim = plain-holds tree pairs number block arguments caller activations from store actuals claims after back (fact.Defined path) (fact.Defined path)
+        let claim = plain-holds tree pairs number block arguments caller activations from store actuals claims after back (fact.Defined path)
+        (fact.Defined path)
         listed (ap (λ (b : Bool). cond b (Some (fact.Defined path)) None) named) in
         let whole = entire-steps path.steps (and_parts (is_entire path.steps) (is_ordinal_variable tree path.root) named).0 in
         let none = named-entire claim.0 (subst (λ (own : List fact.Step). holds.is_named own claim.0 ≡ true) whole claim.1) in
@@ -634,11 +645,13 @@ module _ (tree : Tree) (pairs : List (ℕ × ℕ)) (number : ℕ) (block : Block
       (λ root inside. contains-more path.root _ root
       (Contains-append_right (Rattle.call_states.proofs.Given.bound_roots first) (Rattle.call_states.proofs.Given.bound_roots last) root inside)))
       lasts.ordinals (bearers_named tree bindings path)
-      (bearers-seen path (lasts.outward path.root (0, omega arith, refl)) (λ ordinal. absurd (false≢true (sym lasts.ordinals ∙ ordinal)))) state knows) may) knows
+      (bearers-seen path (lasts.outward path.root (0, omega arith, refl)) (λ ordinal. absurd (false≢true (sym lasts.ordinals ∙ ordinal)))) state knows) may)
+      knows
   exit-known (Order root other k) listed may state knows =
       ⊎_elim (λ never. absurd never)
       (λ (lasts : IsLasting tree number claims.changes (Order root other k)).
-      let claim = plain-holds tree pairs number block arguments caller activations from store actuals claims after back (Order root other k) (Order root other k)
+      let claim = plain-holds tree pairs number block arguments caller activations from store actuals claims after back (Order root other k)
+      (Order root other k)
       listed refl in
       let m = claim.0 in
       let n = claim.1 in

@@ -203,7 +203,8 @@ module _ (tree : Tree) (pairs : List (ℕ × ℕ)) (number : ℕ) (block : Block
       let home = value-home tree pairs number block arguments caller activations from call path.root variable is (own-block path.root variable is p) fits.0 in
       record {
         bearer = Passed range.0;
-        inside = bearer-at (rows_named tree path) (own_rows path.root) (map Passed ranges) j row (Passed range.0) among at (map-at Passed ranges j range.0 range.1);
+        inside = bearer-at (rows_named tree path) (own_rows path.root) (map Passed ranges) j row (Passed range.0) among at
+            (map-at Passed ranges j range.0 range.1);
         borne = (has.0, ap (λ (found : Option Place). part_of behind found steps) home ∙ has.1, subst (IsIn range.0) (sym gets.4) member);
       }
   row-borne path variable is row steps of_row root_is among j at p (OfVariable other selectors reach) (meaning.OfValue v) argument_is known fits of_type
@@ -255,7 +256,8 @@ module _ (tree : Tree) (pairs : List (ℕ × ℕ)) (number : ℕ) (block : Block
       ∙ ap (λ (b : Bool). cond b (Variable path.root ∷ []) (all_of_rows (rows_named tree path))) (and_right (is_entire path.steps) _ plain) in
       record {
         bearer = Components row Entire;
-        inside = subst (λ (all : List Bearer). Contains all (Components row Entire)) (sym bearers) (in-map (λ r. Components r Entire) (rows_named tree path) row named);
+        inside = subst (λ (all : List Bearer). Contains all (Components row Entire)) (sym bearers)
+            (in-map (λ r. Components r Entire) (rows_named tree path) row named);
         borne = record {
           selectors = [];
           way = [];
@@ -284,7 +286,8 @@ module _ (tree : Tree) (pairs : List (ℕ × ℕ)) (number : ℕ) (block : Block
   whole-borne root variable is ordinal p (OfValue range form) (meaning.OfValue v) argument_is known fits of_type place_is =
       let got = subst (λ (a : Argument). Received tree activations activations callee root variable a behind) argument_is
       (value-received root variable is p fits.0) in
-      let has = got.has [] (subst (λ (all : List (List Step)). Contains all []) (sym (ordinal_component tree.types variable.type_id ordinal)) (0, omega arith, refl)) in
+      let has = got.has [] (subst (λ (all : List (List Step)). Contains all []) (sym (ordinal_component tree.types variable.type_id ordinal))
+      (0, omega arith, refl)) in
       let gets = got.gets [] has.0 has.1 in
       let home = value-home tree pairs number block arguments caller activations from call root variable is (own-block root variable is p) fits.0 in
       record {
@@ -311,7 +314,8 @@ module _ (tree : Tree) (pairs : List (ℕ × ℕ)) (number : ℕ) (block : Block
               ∙ ap (value_at outer other) (no-way lies.0 lies.1.matches),
         );
       }
-  whole-borne root variable is ordinal p (OfVariable other (selector ∷ selectors) reach) (meaning.OfPlace (Some place)) argument_is known fits of_type place_is =
+  whole-borne root variable is ordinal p (OfVariable other (selector ∷ selectors) reach) (meaning.OfPlace (Some place)) argument_is known fits of_type
+      place_is =
       let all = selector ∷ selectors in
       let lies = lies-at root variable is fits.0 (own-block root variable is p) place place_is other all reach known in
       let own = ordinal-row tree caller callee root other all lies.0 variable.type_id lies.1 ordinal (λ none. absurd (cc)) in

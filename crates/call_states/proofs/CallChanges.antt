@@ -193,7 +193,8 @@ module _ (tree : Tree) (pairs : List (ℕ × ℕ)) (number : ℕ) (block : Block
         home_is = ap (λ (s : List Step). record home { steps = s }) (append-nil home.steps);
       })
       (λ (p : ParameterHere root outward.0).
-      passed-lies root outward.0 home outward.1 (parameter-block tree pairs number block arguments caller activations from back.call store actuals back.are back.of_types root outward.0 outward.1 p) listed home_is older p.actual p.argument p.actual_is p.place_is
+      passed-lies root outward.0 home outward.1 (parameter-block tree pairs number block arguments caller activations from back.call store actuals back.are
+      back.of_types root outward.0 outward.1 p) listed home_is older p.actual p.argument p.actual_is p.place_is
       p.known p.fits)
       (outward-cases tree pairs number block arguments caller activations from back.call store actuals back.are back.of_types root outward)
 

@@ -77,7 +77,8 @@ row-change_at tree facts (first ∷ rows) (one ∷ bearers) (suc j) row bearer r
     contains-more (row_change tree facts first one) (rows_changed tree facts rows bearers) (row_change tree facts row bearer)
     (row-change_at tree facts rows bearers j row bearer row_at bearer_at)
 
-row-change_from : (tree : Tree) (facts : List Fact) (rows : List ℕ) (bearers : List Bearer) (change : Change) → Contains (rows_changed tree facts rows bearers) change
+row-change_from : (tree : Tree) (facts : List Fact) (rows : List ℕ) (bearers : List Bearer) (change : Change)
+    → Contains (rows_changed tree facts rows bearers) change
     → (j row : ℕ) × (bearer : Bearer) × (slice_get rows j ≡ Some row) × (slice_get bearers j ≡ Some bearer) × (row_change tree facts row bearer ≡ change)
 row-change_from tree facts [] bearers change inside = absurd (omega (arith, inside.1))
 row-change_from tree facts (first ∷ rows) [] change inside = absurd (omega (arith, inside.1))
@@ -158,7 +159,8 @@ module _ (tree : Tree) (pairs : List (ℕ × ℕ)) (number : ℕ) (block : Block
           claimed-in (names_entire tree path && nat_eq path.root root) known range v inside
           (λ both.
           let parts = and_parts (names_entire tree path) (nat_eq path.root root) both in
-          let claim = plain-holds (fact.Range path range) (fact.Range path range) listed (ap (λ (b : Bool). cond b (Some (fact.Range path range)) None) parts.0) in
+          let claim = plain-holds (fact.Range path range) (fact.Range path range) listed
+          (ap (λ (b : Bool). cond b (Some (fact.Range path range)) None) parts.0) in
           let whole = entire-steps path.steps (and_parts (is_entire path.steps) (is_ordinal_variable tree path.root) parts.0).0 in
           claim [] v (ap (λ (own_steps : List fact.Step). holds.is_named own_steps []) whole)
           (subst (λ (r : ℕ). value_at inner r [] ≡ Some v) (sym (eqb-true path.root root parts.1)) is))
@@ -196,7 +198,8 @@ module _ (tree : Tree) (pairs : List (ℕ × ℕ)) (number : ℕ) (block : Block
   component-exit : (row : ℕ) (steps : List Step) (v : Value) → IsOf tree row steps → component_at (all_parts tree) inner row steps ≡ Some v
       → (bearer : Bearer) → IsIn (row_change tree claims.exit row bearer).range v
   component-exit row steps v of_row at bearer =
-      row-exit row steps v of_row at claims.exit (λ one inside. inside) (limits_or_integer (values_at (rows_of tree) row)) (in_types.components row steps v of_row at)
+      row-exit row steps v of_row at claims.exit (λ one inside. inside) (limits_or_integer (values_at (rows_of tree) row))
+      (in_types.components row steps v of_row at)
 
   -- ---- a leaf that is changed
 
@@ -216,7 +219,8 @@ module _ (tree : Tree) (pairs : List (ℕ × ℕ)) (number : ℕ) (block : Block
   leaf-change root variable bearers home rest own v is home_is some many at leads lies = by (is_ordinal_variable tree root) refl
     where
       by : (ordinal : Bool) → is_ordinal_variable tree root ≡ ordinal
-          → HasChange (cond ordinal (ordinals_changed tree claims.exit root bearers) (rows_changed tree claims.exit (rows_under (rows_of tree) root []) bearers)) own v
+          → HasChange (cond ordinal (ordinals_changed tree claims.exit root bearers)
+          (rows_changed tree claims.exit (rows_under (rows_of tree) root []) bearers)) own v
       by true ordinal =
           let still = led-ordinal tree.types rest variable.type_id own (sym (ordinal-variable tree root variable is) ∙ ordinal) leads in
           let bearer = some ordinal in
@@ -283,7 +287,8 @@ module _ (tree : Tree) (pairs : List (ℕ × ℕ)) (number : ℕ) (block : Block
   passed-bearer root variable other [] reach is lies ordinal = (
     Variable other,
     subst (λ (all : List Bearer). Contains all (Variable other))
-        (sym (borne-variable tree other reach variable.type_id lies.1.actual_type (sym (ordinal-variable tree root variable is) ∙ ordinal))) (0, omega arith, refl),
+        (sym (borne-variable tree other reach variable.type_id lies.1.actual_type (sym (ordinal-variable tree root variable is) ∙ ordinal)))
+        (0, omega arith, refl),
   )
   passed-bearer root variable other (selector ∷ selectors) reach is lies ordinal =
       let row = ordinal-row tree caller callee root other (selector ∷ selectors) lies.0 variable.type_id lies.1
@@ -324,7 +329,8 @@ module _ (tree : Tree) (pairs : List (ℕ × ℕ)) (number : ℕ) (block : Block
       → Fits tree activations (meaning.OfPlace (Some place)) variable → Lies root variable other selectors reach
   passed-lies_at root variable is p other selectors reach place found known fits =
       lies-at tree pairs number block arguments caller activations from back.call store back.begun actuals back.are back.of_types root variable is fits.0
-      (parameter-block tree pairs number block arguments caller activations from back.call store actuals back.are back.of_types root variable is p) place found other selectors
+      (parameter-block tree pairs number block arguments caller activations from back.call store actuals back.are back.of_types root variable is p) place found
+      other selectors
       reach known
 
   passed-change : (root : ℕ) (variable : DeclaredVariable) (home : Place) (rest : List Step) (own : TypeId) (v : Value)
@@ -349,11 +355,13 @@ module _ (tree : Tree) (pairs : List (ℕ × ℕ)) (number : ℕ) (block : Block
   passed-change root variable home rest own v is home_is older p actual (meaning.OfValue w) place_is known fits at leads lies =
       absurd
       (own-older tree pairs number block arguments caller activations from store actuals claims after back.left root variable home is
-      (parameter-block tree pairs number block arguments caller activations from back.call store actuals back.are back.of_types root variable is p) home_is older fits.0)
+      (parameter-block tree pairs number block arguments caller activations from back.call store actuals back.are back.of_types root variable is p) home_is
+      older fits.0)
   passed-change root variable home rest own v is home_is older p actual (meaning.OfRow numbers) place_is known fits at leads lies =
       absurd
       (own-older tree pairs number block arguments caller activations from store actuals claims after back.left root variable home is
-      (parameter-block tree pairs number block arguments caller activations from back.call store actuals back.are back.of_types root variable is p) home_is older fits.0)
+      (parameter-block tree pairs number block arguments caller activations from back.call store actuals back.are back.of_types root variable is p) home_is
+      older fits.0)
   passed-change root variable home rest own v is home_is older p (OfValue range form) (meaning.OfPlace place) place_is known fits at leads lies = absurd known
   passed-change root variable home rest own v is home_is older p (OfRows ranges) (meaning.OfPlace place) place_is known fits at leads lies = absurd known
 
@@ -388,11 +396,13 @@ module _ (tree : Tree) (pairs : List (ℕ × ℕ)) (number : ℕ) (block : Block
   abbrev pub IsExact : Bearer → Interval → Type 0
   IsExact (Passed own) range = Unit {0}
   IsExact (Variable root) range = (v : Value) → value_at outer root [] ≡ Some v → IsIn range v
-  IsExact (Components row Entire) range = (steps : List Step) (v : Value) → IsOf tree row steps → component_at (all_parts tree) outer row steps ≡ Some v → IsIn range v
+  IsExact (Components row Entire) range = (steps : List Step) (v : Value) → IsOf tree row steps → component_at (all_parts tree) outer row steps ≡ Some v → IsIn
+      range v
   IsExact (Components row (At index)) range = Unit {0}
   IsExact (Components row (Inside index)) range = Unit {0}
 
-  outer-same : (root : ℕ) (variable : DeclaredVariable) → IsOuterHere root variable → (steps : List Step) → value_at inner root steps ≡ value_at outer root steps
+  outer-same : (root : ℕ) (variable : DeclaredVariable) → IsOuterHere root variable → (steps : List Step)
+      → value_at inner root steps ≡ value_at outer root steps
   outer-same root variable here steps = ap (λ (found : Option Place). part_of after found steps) here.same
 
   outer-exact : (root : ℕ) (variable : DeclaredVariable) → slice_get tree.variables.items root ≡ Some variable → IsOuterHere root variable → (change : Change)
@@ -427,7 +437,8 @@ module _ (tree : Tree) (pairs : List (ℕ × ℕ)) (number : ℕ) (block : Block
           (ap (λ (r : ℕ). value_at inner r steps) root_is ∙ outer-same root variable here steps ∙ ap (λ (r : ℕ). value_at outer r steps) (sym root_is) ∙ at)
           found.2 in
           subst (λ (c : Change). IsExact c.bearer c.range) found.5
-          (subst (λ (b : Bearer). IsExact b (row_change tree claims.exit found.1 found.2).range) (ap (λ (r : ℕ). Components r Entire) (sym same) ∙ bearer.2) own)
+          (subst (λ (b : Bearer). IsExact b (row_change tree claims.exit found.1 found.2).range)
+          (ap (λ (r : ℕ). Components r Entire) (sym same) ∙ bearer.2) own)
 
   abbrev Way : ℕ → DeclaredVariable → ℕ → List Selector → Reach → Type 0
   Way root variable other selectors reach = Lies root variable other selectors reach
@@ -466,7 +477,8 @@ module _ (tree : Tree) (pairs : List (ℕ × ℕ)) (number : ℕ) (block : Block
           let value : value_at outer other (lies.0 ++ []) ≡ Some v =
           ap (λ (w : List Step). value_at outer other (w ++ [])) (sym way) ∙ ap (value_at outer other) (sym one.1)
           ∙ ap (λ (r : ℕ). value_at outer r steps) (sym root_is) ∙ at in
-          variable-exit root variable v is (same-value tree caller callee root other all lies.0 variable.type_id lies.1 after [] ∙ value) (Components row Entire)
+          variable-exit root variable v is (same-value tree caller callee root other all lies.0 variable.type_id lies.1 after [] ∙ value)
+          (Components row Entire)
 
   -- a row of a structured one
   structured-exact : (root : ℕ) (variable : DeclaredVariable) (other : ℕ) (selectors : List Selector) → (j row own : ℕ)

@@ -148,7 +148,8 @@ module _ (tree : Tree) (pairs : List (ℕ × ℕ)) (number : ℕ) (block : Block
   -- what is older is as it was
   pub older-kept : (store : Store) (place : Place) → place.activation < activations → stored (behind_assignments store) place ≡ stored store place
   older-kept store place older =
-      all-older tree activations activations visible roots arguments place call.fit homes (λ (same : place.activation ≡ activations). omega (arith, older, same))
+      all-older tree activations activations visible roots arguments place call.fit homes
+      (λ (same : place.activation ≡ activations). omega (arith, older, same))
       store
 
   -- and so is each variable that the callee's block doesn't declare

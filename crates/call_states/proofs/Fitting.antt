@@ -70,7 +70,8 @@ copy-fits tree root formal ranges numbers is copy count lie = record {
       let range = some-there ranges leaf.0 (omega (arith, two, within)) in
       let of_row = (rows-are tree root [] id typed).placed [] rest leaf.0 row.0 leaf.1 tt inside leaf.2 leaf.3 row.1 in
       let member = lie two k leaf.0 rest leaf.1 n range.0 rest_at leaf.2 leaf.3 n_at range.1 in
-      let among = among-values (values_at (rows_of tree) row.0) range.0 (row-among tree (rows_under (rows_of tree) root []) ranges leaf.0 row.0 range.0 both.1 row.1 range.1) in
+      let among = among-values (values_at (rows_of tree) row.0) range.0
+      (row-among tree (rows_under (rows_of tree) root []) ranges leaf.0 row.0 range.0 both.1 row.1 range.1) in
       let found = row-is tree row.0 rest of_row in
       let root_is = (rows-are tree root [] id typed).root_is row.0 (has-contains (rows_under (rows_of tree) root []) row.0 (leaf.0, row.1)) in
       let e : 0 + found.leaf.root ≡ found.leaf.root = omega arith in

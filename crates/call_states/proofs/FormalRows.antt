@@ -188,7 +188,8 @@ module _ (tree : Tree) (env callee : Environment) (formal root : ℕ) (selectors
       → (other : List Step) × (steps ≡ other ++ []) × Matches selectors other
   ordinal-steps ordinal own steps inside of_row =
       let lies = (rows-are tree root selectors id at.actual_type).lies own steps inside of_row in
-      let one = subst (λ (all : List (List Step)). Has all lies.1) (ordinal_component tree.types id ordinal) (contains-has (components_of tree.types id) lies.1 lies.4) in
+      let one = subst (λ (all : List (List Step)). Has all lies.1) (ordinal_component tree.types id ordinal)
+      (contains-has (components_of tree.types id) lies.1 lies.4) in
       (lies.0, lies.2 ∙ ap (λ (s : List Step). lies.0 ++ s) (sym (only one.0 lies.1 one.1)), lies.3)
     where
       only : (k : ℕ) (rest : List Step) → slice_get ([] ∷ []) k ≡ Some rest → [] ≡ rest

@@ -45,7 +45,8 @@ use Rattle.component_states.specs.States.{State, all_of_row, gives_reached, is_d
 use Rattle.component_states.proofs.Bounds.{at_most-holds, moved-is, value-is}
 use Rattle.component_states.proofs.Listed.{any-of, each-of}
 use Rattle.structured_states.specs.Loops.{all_limits, component_claims, component_facts, names_entire, plain, plain_facts, rows_named}
-use Rattle.call_states.specs.Actuals.{Actual, Bearer, Binding, Components, OfRows, OfValue, OfVariable, Passed, Variable, actual_of, are_of_types, bearers_named}
+use Rattle.call_states.specs.Actuals.{Actual, Bearer, Binding, Components, OfRows, OfValue, OfVariable, Passed, Variable, actual_of, are_of_types}
+use Rattle.call_states.specs.Actuals.{bearers_named}
 use Rattle.call_states.specs.Actuals.{bearers_at, bearers_for, bearers_of, bound_to}
 use Rattle.call_states.specs.Entry.{Limit, are_borne_between, are_given, are_ordered, are_reached, forms_at_most, has_between, is_at_most, is_borne_between}
 use Rattle.call_states.specs.Entry.{is_defined_borne, is_given, limit_moved, limit_of, limit_of_actual, limit_of_bound, limit_of_variable, range_borne}
@@ -168,7 +169,8 @@ module _ (tree : Tree) (pairs : List (ℕ × ℕ)) (number : ℕ) (block : Block
   IsBorneHere bearer root steps = IsBorne tree pairs number block arguments caller activations from call store begun actuals are typed bearer root steps
 
   abbrev IsReachedHere : ℕ → Reach → ℕ → List Step → Type 0
-  IsReachedHere row reach root steps = IsReached tree pairs number block arguments caller activations from call store begun actuals are typed row reach root steps
+  IsReachedHere row reach root steps = IsReached tree pairs number block arguments caller activations from call store begun actuals are typed row reach root
+      steps
 
   abbrev BorneBy : Path → List Step → Type 0
   BorneBy path steps =
@@ -219,7 +221,8 @@ module _ (tree : Tree) (pairs : List (ℕ × ℕ)) (number : ℕ) (block : Block
   reached-between : (first last : Limit) (low high index : ℤ) → is-limit first low → is-limit last high → low ≤ℤ index → index ≤ℤ high → (row : ℕ)
       (reach : Reach) (root : ℕ) (steps : List Step) → first_index steps ≡ Some index → IsReachedHere row reach root steps
       → are_reached tree state first last row reach ≡ true → HasValue inner root steps
-  reached-between first last low high index low_is high_is above below row (At own) root steps first_is borne is = component-has row (At own) root steps borne is
+  reached-between first last low high index low_is high_is above below row (At own) root steps first_is borne is = component-has row (At own) root steps borne
+      is
   reached-between first last low high index low_is high_is above below row (Inside own) root steps first_is borne is =
       component-has row (Inside own) root steps borne is
   reached-between first last low high index low_is high_is above below row Entire root steps first_is borne is =
@@ -230,13 +233,15 @@ module _ (tree : Tree) (pairs : List (ℕ × ℕ)) (number : ℕ) (block : Block
       let found = any-of P test state.components.stretches (each-of P state.components.stretches knows.components.stretches) any in
       let held = found.0 in
       let one = and_parts (nat_eq held.row row)
-      (is_at_most state.variables (limit_of state.variables held.first) first && is_at_most state.variables last (limit_of state.variables held.last)) found.2 in
+      (is_at_most state.variables (limit_of state.variables held.first) first && is_at_most state.variables last (limit_of state.variables held.last))
+      found.2 in
       let two = and_parts (is_at_most state.variables (limit_of state.variables held.first) first)
       (is_at_most state.variables last (limit_of state.variables held.last)) one.1 in
       let stretch = found.1 in
       let from_is = limit-is total caller store state.variables knows.variables held.first stretch.0 stretch.2 in
       let to_is = limit-is total caller store state.variables knows.variables held.last stretch.1 stretch.3 in
-      let before = limits-hold total caller store state.variables knows.variables (limit_of state.variables held.first) first stretch.0 low from_is low_is two.0 in
+      let before = limits-hold total caller store state.variables knows.variables
+      (limit_of state.variables held.first) first stretch.0 low from_is low_is two.0 in
       let after = limits-hold total caller store state.variables knows.variables last (limit_of state.variables held.last) high stretch.1 high_is to_is two.1 in
       let own_first = first-behind_fields borne.selectors borne.way steps borne.reached borne.matches ∙ first_is in
       let of_row : IsOf tree held.row (borne.way ++ steps) =
@@ -246,7 +251,8 @@ module _ (tree : Tree) (pairs : List (ℕ × ℕ)) (number : ℕ) (block : Block
         borne.same
             ∙ ap (λ (r : ℕ). value_at outer (slice_index_or (all_parts tree) r no_parts).root (borne.way ++ steps)) (sym (eqb-true held.row row one.0)) ∙ has.1,
       ))
-      (or_cases (gives_reached state Entire (index_at (rows_of tree) row) row) (list_any (has_between state.variables row first last) state.components.stretches) is)
+      (or_cases (gives_reached state Entire (index_at (rows_of tree) row) row)
+      (list_any (has_between state.variables row first last) state.components.stretches) is)
 
   between-given : (first last : Limit) (low high index : ℤ) → is-limit first low → is-limit last high → low ≤ℤ index → index ≤ℤ high → (bearer : Bearer)
       (root : ℕ) (steps : List Step) → first_index steps ≡ Some index → IsBorneHere bearer root steps → is_borne_between tree state first last bearer ≡ true
@@ -329,7 +335,8 @@ module _ (tree : Tree) (pairs : List (ℕ × ℕ)) (number : ℕ) (block : Block
           ∙ ap (λ (b : Bool). cond b (bearers_of tree (OfVariable other selectors reach))
           (bearers_at (rows_named tree (entire root)) (rows_under (rows_of tree) root []) (bearers_of tree (OfVariable other selectors reach)))) entire_root in
           alone-limit root (bearers_of tree (OfVariable other selectors reach)) limit
-          (subst (λ (all : List Bearer). IsBorneBy tree pairs number block arguments caller activations from call store begun actuals are typed all root []) bearers
+          (subst (λ (all : List Bearer). IsBorneBy tree pairs number block arguments caller activations from call store begun actuals are typed all root [])
+          bearers
           borne)
           limit_is has
       by false ordinal =
@@ -345,7 +352,8 @@ module _ (tree : Tree) (pairs : List (ℕ × ℕ)) (number : ℕ) (block : Block
       let ordinal : is_ordinal tree.types variable.type_id ≡ true = ap is_some lies.1 in
       let got = subst (λ (a : Argument). Received tree activations activations callee root variable a behind) argument_is
       (value-received tree pairs number block arguments caller activations from call store begun actuals are typed root variable is p value) in
-      let has = got.has [] (subst (λ (all : List (List Step)). Contains all []) (sym (ordinal_component tree.types variable.type_id ordinal)) (0, omega arith, refl)) in
+      let has = got.has [] (subst (λ (all : List (List Step)). Contains all []) (sym (ordinal_component tree.types variable.type_id ordinal))
+      (0, omega arith, refl)) in
       let same = (got.gets [] has.0 has.1).1 in
       let block_is = parameter-block tree pairs number block arguments caller activations from call store actuals are typed root variable is p in
       let home = value-home tree pairs number block arguments caller activations from call root variable is block_is value in
@@ -543,10 +551,12 @@ module _ (tree : Tree) (pairs : List (ℕ × ℕ)) (number : ℕ) (block : Block
       (limit_of_bound tree state.variables bindings first) (limit_of_bound tree state.variables bindings last) (are_borne_between tree state bearers)
       (λ a b. refl) (λ b. refl) (λ a. refl) is in
       let low = bound-limit first found.0
-      (λ r inside. outward r (contains-more path.root (bound_roots first ++ bound_roots last) r (Contains-append_left (bound_roots first) (bound_roots last) r inside)))
+      (λ r inside. outward r (contains-more path.root (bound_roots first ++ bound_roots last) r
+      (Contains-append_left (bound_roots first) (bound_roots last) r inside)))
       found.2 found.4 in
       let high = bound-limit last found.1
-      (λ r inside. outward r (contains-more path.root (bound_roots first ++ bound_roots last) r (Contains-append_right (bound_roots first) (bound_roots last) r inside)))
+      (λ r inside. outward r (contains-more path.root (bound_roots first ++ bound_roots last) r
+      (Contains-append_right (bound_roots first) (bound_roots last) r inside)))
       found.3 found.5 in
       each-row (rows_named tree path) (λ row. components.Stretched (record { row = row; first = first; last = last }))
       (λ row inside. (
@@ -565,7 +575,8 @@ module _ (tree : Tree) (pairs : List (ℕ × ℕ)) (number : ℕ) (block : Block
             in-root path row steps inside
             (between-given found.0 found.1 low.n high.n index low.is_limit high.is_limit above below borne.bearer path.root steps first_is borne.borne
             (all-bearers (is_borne_between tree state found.0 found.1) bearers borne.bearer each borne.inside)))
-            (or_cases (is_at_most state.variables (limit_moved (pos 1) found.1) found.0) (list_all (is_borne_between tree state found.0 found.1) bearers) found.6),
+            (or_cases (is_at_most state.variables (limit_moved (pos 1) found.1) found.0)
+            (list_all (is_borne_between tree state found.0 found.1) bearers) found.6),
       ))
   components-given (Order root other k) outward is = All-nil HoldsHere
 

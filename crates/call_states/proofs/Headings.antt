@@ -7,7 +7,8 @@ use Rattle.std.specs.Prelude.{nat_lt, slice_get}
 use Rattle.std.proofs.lemmas.Bool.{and_parts, eq-eqb, eqb-true, false≢true, ltb-true, or_cases, or_left, or_right}
 use Rattle.std.proofs.lemmas.List.Folds.{list_any-append}
 use Rattle.std.proofs.lemmas.Option.{same_Some, slice_get-map}
-use Rattle.typed_tree.specs.WellFormed.{IsWellFormed, Outline, declarer, encloses, heading_of, is_declared_by, is_heading, is_one_of, is_placed, is_round, of_one}
+use Rattle.typed_tree.specs.WellFormed.{IsWellFormed, Outline, declarer, encloses, heading_of, is_declared_by, is_heading, is_one_of, is_placed, is_round}
+use Rattle.typed_tree.specs.WellFormed.{of_one}
 use Rattle.typed_tree.specs.WellFormed.{are_all, are_few_cells, is_parameter_kind, is_result_kind, is_result_or_none, is_well_formed_block, is_well_formed_stmt}
 use Rattle.typed_tree.specs.WellFormed.{most_blocks, outline_of, result_roots}
 use Rattle.typed_tree.specs.declared.tree.Block.{Block}

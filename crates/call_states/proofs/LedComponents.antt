@@ -57,7 +57,8 @@ module _ (types : List Form) where
           and_from (int_eq e.range.first e.range.first) (int_eq e.range.last e.range.last) (int_eq_equiv.refl e.range.first) (int_eq_equiv.refl e.range.last) in
           let leads : selected types (Element (record { site = 0; range = e.range }) e.cells) id ≡ Some next =
           ap (element_type e.range e.cells) found
-          ∙ ap (λ (b : Bool). cond b (Some e.type_id) None) (and_from (are_values_of e.range e.range) (nat_eq e.cells e.cells) same (eq-eqb e.cells e.cells refl))
+          ∙ ap (λ (b : Bool). cond b (Some e.type_id) None) (and_from (are_values_of e.range e.range) (nat_eq e.cells e.cells) same
+          (eq-eqb e.cells e.cells refl))
           ∙ ap Some within.1 in
           covered (Element (record { site = 0; range = e.range }) e.cells) (step.Element index) id next rest leads (lies.0, lies.1, tt) has
   step-covers (step.Field position) id next rest is has = by (field_at types id position) refl is

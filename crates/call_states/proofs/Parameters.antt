@@ -46,7 +46,8 @@ module _ (tree : Tree) (env : Environment) (store : Store) (activations : ℕ) w
   parameter-at [] actuals arguments are fit typed root variable is inside = absurd (omega (arith, inside.1))
   parameter-at (first ∷ roots) [] arguments are fit typed root variable is inside = absurd are
   parameter-at (first ∷ roots) (actual ∷ actuals) [] are fit typed root variable is inside = absurd are
-  parameter-at (first ∷ roots) (actual ∷ actuals) (argument ∷ arguments) (formal, formal_is, own, others) (fitting, fitting_is, fits, fit) typed root variable is
+  parameter-at (first ∷ roots) (actual ∷ actuals) (argument ∷ arguments) (formal, formal_is, own, others)
+      (fitting, fitting_is, fits, fit) typed root variable is
       inside =
       by (nat_eq first root) refl inside
       (λ later.

@@ -112,7 +112,8 @@ module _ (tree : Tree) (env : Environment) (store : Store) where
         (ap (is_actual_separate pairs tree around others one) (sym first.is) ∙ tested) in
         let binding : Binding = record { root = other; actual = OfVariable last.root last.selectors last.reach } in
         let test = λ (b : Binding). is_listed_with pairs one first.root first.selectors b ≡ true in
-        let listed = All-contains test others binding (AllPass-from_list_all (is_listed_with pairs one first.root first.selectors) others tests.1) last.inside in
+        let listed = All-contains test others binding (AllPass-from_list_all (is_listed_with pairs one first.root first.selectors) others tests.1)
+        last.inside in
         let may = may-overlap pairs env separate first.root first.selectors first.leads.way last.root last.selectors last.leads.way p q first.leads.matches
         last.leads.matches (sym first.leads.place_is) (sym last.leads.place_is) over in
         ⊎_elim (λ never. absurd (both_ways (not (may_overlap pairs first.root first.selectors last.root last.selectors)) (not_from_true _ may) never))
@@ -181,7 +182,8 @@ module _ (tree : Tree) (env : Environment) (store : Store) where
     passed-outer [] actuals arguments are tested one outer variable p q p_is is among q_is over = absurd (none-some p p_is)
     passed-outer (root ∷ roots) [] arguments are tested one outer variable p q p_is is among q_is over = absurd are
     passed-outer (root ∷ roots) (actual ∷ actuals) [] are tested one outer variable p q p_is is among q_is over = absurd are
-    passed-outer (root ∷ roots) (actual ∷ actuals) (argument ∷ arguments) (formal, formal_is, own, others) tested one outer variable p q p_is is among q_is over =
+    passed-outer (root ∷ roots) (actual ∷ actuals) (argument ∷ arguments) (formal, formal_is, own, others) tested one outer variable p q p_is is among q_is
+        over =
         let bindings = bound_to roots actuals in
         let tests = and_parts (is_actual_separate pairs tree around bindings root actual) (are_separate pairs tree around bindings) tested in
         ⊎_elim
@@ -236,7 +238,8 @@ module _ (tree : Tree) (pairs : List (ℕ × ℕ)) (number : ℕ) (block : Block
           other_at over
       by v w v_is w_is (Outer other around at) (PassedTo other_own other_kind other_at) =
           pair-back pairs b a
-          (passed-outer tree caller store pairs call.proper.separate block.heading.around.items roots actuals arguments are tested b a v q p other_at v_is around
+          (passed-outer tree caller store pairs call.proper.separate block.heading.around.items roots actuals arguments are tested b a v q p other_at v_is
+          around
           at (overlap-back p q over))
       by v w v_is w_is (Outer one_other one_around at) (Outer other around other_at) = call.proper.separate a b p q at other_at differ over
 

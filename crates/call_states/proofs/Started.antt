@@ -142,7 +142,8 @@ module _ (tree : Tree) (pairs : List (ℕ × ℕ)) (number activations : ℕ) (v
   -- ---- rows
 
   -- what is known of a row that has a component
-  row-state : (row : ℕ) (steps : List Step) (is : IsRow tree row steps) → row_at (components_start tree number) row ≡ row_start tree number is.row (Some is.leaf.variable)
+  row-state : (row : ℕ) (steps : List Step) (is : IsRow tree row steps)
+      → row_at (components_start tree number) row ≡ row_start tree number is.row (Some is.leaf.variable)
   row-state row steps is =
       let own = λ (r : Row). row_start tree number r (slice_get declared r.root) in
       let e : 0 + is.leaf.root ≡ is.leaf.root = omega arith in
@@ -256,7 +257,8 @@ module _ (tree : Tree) (pairs : List (ℕ × ℕ)) (number : ℕ) (block : Block
       let parts = and_parts (nat_eq variable.block number) (is_value_kind variable.kind) passed in
       let own = eqb-true variable.block number parts.0 in
       let listed = contains-has block.heading.parameters.items root
-      (parameter-listed tree call.well number block call.block_is root variable is own (or_left (is_value_kind variable.kind) (is_variable_kind variable.kind) parts.1))
+      (parameter-listed tree call.well number block call.block_is root variable is own
+      (or_left (is_value_kind variable.kind) (is_variable_kind variable.kind) parts.1))
       in
       let argument = argument-at tree activations block.heading.parameters.items arguments call.fit listed.0 root listed.1 in
       let got = callee-received store begun listed.0 root argument.0 variable listed.1 argument.1 is parts.1 in
@@ -371,7 +373,8 @@ module _ (tree : Tree) (pairs : List (ℕ × ℕ)) (well : IsWellFormed tree) (b
       (λ root variable rest v is own at. none-some v (sym (nothing-there root rest) ∙ at))
       (λ root variable rest is passed inside.
       let parts = and_parts (nat_eq variable.block 0) (is_value_kind variable.kind) passed in
-      absurd (no-parameter root variable is (eqb-true variable.block 0 parts.0) (or_left (is_value_kind variable.kind) (is_variable_kind variable.kind) parts.1)))
+      absurd (no-parameter root variable is (eqb-true variable.block 0 parts.0)
+      (or_left (is_value_kind variable.kind) (is_variable_kind variable.kind) parts.1)))
       facts hold
     where
       nothing-there : (root : ℕ) (rest : List Step) → value_at (moment main []) root rest ≡ None
