@@ -136,10 +136,10 @@ none-some v is = cc
 -- ---- parts of variables
 
 -- what a part of a variable has is stored at its place
-stored-at : (s : Store) (found : Option Place) (steps : List Step) (v : Value) → part_of s found steps ≡ Some v
+pub stored-of : (s : Store) (found : Option Place) (steps : List Step) (v : Value) → part_of s found steps ≡ Some v
     → (home : Place) × (found ≡ Some home) × (stored s (part home steps) ≡ Some v)
-stored-at s None steps v is = absurd (none-some v is)
-stored-at s (Some home) steps v is = (home, refl, is)
+stored-of s None steps v is = absurd (none-some v is)
+stored-of s (Some home) steps v is = (home, refl, is)
 
 -- what is defined of a variable stays so
 defined-at : (before after : Store) → ((place : Place) (v : Value) → stored before place ≡ Some v → (w : Value) × (stored after place ≡ Some w))
@@ -165,7 +165,7 @@ module _ (env : Environment) (aliases : List ℕ) (root : ℕ) (pairs : Pairs) (
       ⊎ ((pair : List Step × ℤ) × Contains pairs pair × (store.part (env.variables root) pair.0 ≡ store.part (env.variables other) steps)
       × (v ≡ Number pair.1))
   value-came other steps v is =
-      let at = stored-at after (env.variables other) steps v is in
+      let at = stored-of after (env.variables other) steps v is in
       ⊎_elim (λ was. inl (ap (λ (found : Option Place). part_of before found steps) at.1 ∙ was))
       (λ (own : (pair : List Step × ℤ) × Contains pairs pair × (store.part (env.variables root) pair.0 ≡ Some (part at.0 steps)) × (v ≡ Number pair.1)).
       inr (own.0, own.1, own.2 ∙ sym (ap (λ (found : Option Place). store.part found steps) at.1), own.3))

@@ -10,7 +10,7 @@ use Rattle.std.specs.Prelude.{slice_get, slice_index_or}
 use Rattle.std.proofs.lemmas.Bool.{both_ways, cases_Bool, eqb-true, false_from_ne_true}
 use Rattle.std.proofs.lemmas.List.{get_or-map}
 use Rattle.std.proofs.lemmas.List.Folds.{list_any-append}
-use Rattle.std.proofs.lemmas.Option.{get_or_from_slice_get, none-some, same_Some, slice_get_within, slice_get_past}
+use Rattle.std.proofs.lemmas.Option.{get_or_from_slice_get, same_Some, slice_get_within, slice_get_past}
 use Rattle.types.specs.Forms.{Form}
 use Rattle.types.specs.Types.{range_of}
 use Rattle.types.specs.declared.form.OrdinalRange.{OrdinalRange}
@@ -39,6 +39,7 @@ use Rattle.call_states.specs.Aliases.{Stored, same_values, variable_values}
 use Rattle.call_states.specs.Environments.{Begun, LiesIn, Proper, Typed, place_type, type_led}
 use Rattle.call_states.proofs.Aliased.{AreAliased}
 use Rattle.call_states.proofs.AliasedStores.{AreWritten, Pairs, all-pass, or-true, value-came}
+pub use Rattle.call_states.proofs.AliasedStores.{stored-of}
 use Rattle.call_states.proofs.PlaceTypes.{leaf-typed, part-typed}
 
 -- ---- what is visible
@@ -118,12 +119,6 @@ pub record InTypes (tree : Tree) (env : Environment) (store : Store) : Type 0 wh
   pub components : (row : ℕ) (steps : List Step) (v : Value) → IsOfRow (all_parts tree) row steps
       → component_at (all_parts tree) (moment env store) row steps ≡ Some v → IsIn (row_limits (rows_of tree) row) v
   pub integers : (root : ℕ) (steps : List Step) (v : Value) → value_at (moment env store) root steps ≡ Some v → IsIn integer v
-
--- what a part of a variable has is stored at its place
-pub stored-of : (s : Store) (found : Option Place) (steps : List Step) (v : Value) → part_of s found steps ≡ Some v
-    → (home : Place) × (found ≡ Some home) × (stored s (part home steps) ≡ Some v)
-stored-of s None steps v is = absurd (none-some v is)
-stored-of s (Some home) steps v is = (home, refl, is)
 
 -- a value of an ordinal type is an integer
 pub type-integer : (types : List Form) (id : TypeId) (v : Value) → LiesIn types id v → IsIn integer v

@@ -109,8 +109,8 @@ module _ (types : List Form) where
       of-form (Array packed indexes element) is rows leaves =
           let found = in-element (components_at (laid_before types id) element) (values_at (laid_before types id) indexes) rows.0 whole rows.1 in
           let same = same-element index found.0 steps found.1 found.2 in
-          let own = mapped-at (behind_elements (range_at (leafed_before types id) indexes))
-          (leaves_at (leafed_before types id) element) leaves.0 leaf leaves.1 in
+          let behind = behind_elements (range_at (leafed_before types id) indexes) in
+          let own = mapped-at behind (leaves_at (leafed_before types id) element) leaves.0 leaf leaves.1 in
           let known : own.0.values ≡ Some range = ap (λ (l : Leaf). l.values) own.2 ∙ values in
           let less = part-before id element own.0 range (leaves.0, own.1) known in
           let component : Has (components_of types element) steps =

@@ -130,7 +130,8 @@ module _ (tree : Tree) (block : ℕ) where
       (and_parts (all_hold (map well_stmt (map (λ (s : Proved). s.0) statements.items))) (well_expr condition) well).0
   layer (For number loop_number place control first first_fits direction last last_fits body) well =
       let is_test = is_well_formed_test (outline_of tree) block in
-      let one = and_parts (is_control (outline_of tree) block control) (well_expr first && (is_test first_fits && (well_expr last && (is_test last_fits && well_stmt body.value.0)))) well in
+      let one = and_parts (is_control (outline_of tree) block control)
+      (well_expr first && (is_test first_fits && (well_expr last && (is_test last_fits && well_stmt body.value.0)))) well in
       let two = and_parts (well_expr first) (is_test first_fits && (well_expr last && (is_test last_fits && well_stmt body.value.0))) one.1 in
       let three = and_parts (is_test first_fits) (well_expr last && (is_test last_fits && well_stmt body.value.0)) two.1 in
       let four = and_parts (well_expr last) (is_test last_fits && well_stmt body.value.0) three.1 in
@@ -138,7 +139,8 @@ module _ (tree : Tree) (block : ℕ) where
       one-ordinal tree control (inside_of body.value.0).controls (control-ordinal tree block control one.0) (body.value.1 five.1)
   layer (Case number site index constants arms) well =
       let inner = map (λ (s : Proved). s.0) arms.items in
-      let one = and_parts (nat_lt site (length tree.sites.items)) (well_expr index && (list_all are_whole constants.items && all_hold (map well_stmt inner))) well in
+      let one = and_parts (nat_lt site (length tree.sites.items))
+      (well_expr index && (list_all are_whole constants.items && all_hold (map well_stmt inner))) well in
       let two = and_parts (well_expr index) (list_all are_whole constants.items && all_hold (map well_stmt inner)) one.1 in
       all-proved arms.items (and_parts (list_all are_whole constants.items) (all_hold (map well_stmt inner)) two.1).1
 

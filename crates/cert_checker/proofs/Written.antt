@@ -1,5 +1,6 @@
 -- What a run leaves that stores a value, or the numbers of components one after another; and that the walk over such stores foretells it.
-use Rattle.std.proofs.Common.{arith, ◌≡◌, ⊎_elim, ◌⊎◌, ◌∙◌, sym, ap, refl, subst, ℕ, ◌<◌, ◌≤◌, ℤ, Bool, true, false, ◌&&◌, ◌||◌, length, List, [], ◌∷◌, ◌++◌, Option, Some}
+use Rattle.std.proofs.Common.{arith, ◌≡◌, ⊎_elim, ◌∙◌, sym, ap, refl, subst, ℕ, ◌≤◌, ℤ, Bool, true, false, ◌&&◌, ◌||◌, length, List, [], ◌∷◌}
+use Rattle.std.proofs.Common.{◌++◌, Option, Some}
 use Rattle.std.specs.List.{Contains, list_all}
 use Rattle.std.specs.Prelude.{is_some, map, slice_get}
 use Rattle.std.proofs.lemmas.Bool.{and_parts}
@@ -30,14 +31,15 @@ use Rattle.call_states.specs.Actuals.{lies_among}
 use Rattle.call_states.specs.Aliases.{reach_unless_alias, unless_alias, variable_values, with_aliases_stored}
 use Rattle.call_states.specs.Starts.{is_own}
 use Rattle.call_states.specs.Environments.{Fine, Proper}
-use Rattle.call_states.proofs.AliasedStores.{AreWritten, Pairs, aliases-apart, at-head, head-or_tail, in-tail, none-written, one-kept, one-written, written-then}
+use Rattle.call_states.proofs.AliasedStores.{AreWritten, Pairs, aliases-apart, at-head, head-or_tail, in-tail, none-written}
+use Rattle.call_states.proofs.AliasedStores.{one-kept, one-written, written-then}
 use Rattle.call_states.proofs.AliasedTypes.{AreTyped, IsClosedIn, control-keeps, listed-keeps, written-begun, written-typed}
 use Rattle.expression_checker.specs.declared.fault.Rule.{Rule}
 use Rattle.expression_checker.specs.declared.fault.Rule.TheVariants.{Changes}
 use Rattle.expression_checker.specs.Walk.{Context, Walked, breach_unless, followed}
 use Rattle.expression_checker.specs.Walk as flow
 use Rattle.expression_checker.proofs.Keeping.{Keeps}
-use Rattle.expression_checker.proofs.Sound.{Any_value, Behind, Goes, Good, Here, IsForetold, World, good-give, good-then, good-weaker, nothing-new, parts_in}
+use Rattle.expression_checker.proofs.Sound.{Any_value, Good, Here, IsForetold, World, good-give, good-then, good-weaker, nothing-new, parts_in}
 use Rattle.expression_checker.proofs.Sound.{types_in, unbroken-left, variables_in}
 use Rattle.expression_checker.proofs.SoundAccesses.{part-then}
 use Rattle.expression_checker.proofs.SoundRows.{IsReachedBy, Matches, RowsAre}
