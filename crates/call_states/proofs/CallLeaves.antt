@@ -347,7 +347,7 @@ module _ (tree : Tree) (pairs : List (ℕ × ℕ)) (number : ℕ) (block : Block
   }
 
   -- where a variable parameter lies
-  passed-lies_at : (root : ℕ) (variable : DeclaredVariable) → slice_get tree.variables.items root ≡ Some variable → (p : ParameterHere root variable)
+  pub passed-lies_at : (root : ℕ) (variable : DeclaredVariable) → slice_get tree.variables.items root ≡ Some variable → (p : ParameterHere root variable)
       → (other : ℕ) (selectors : List Selector) (reach : Reach) (place : Place)
       → place_for root block.heading.parameters.items arguments ≡ Some place
       → IsArgument tree caller store variable (OfVariable other selectors reach) (meaning.OfPlace (Some place))

@@ -102,7 +102,7 @@ place-for_there tree activations (first ∷ roots) (argument ∷ arguments) root
     by false same (suc k, within, at) more = more k (omega (arith, within)) at
 
 -- the roots of the variables of which a test holds
-in-roots : (test : Variable → Bool) (first : ℕ) (variables : List Variable) (k : ℕ) (variable : Variable) → slice_get variables k ≡ Some variable
+pub in-roots : (test : Variable → Bool) (first : ℕ) (variables : List Variable) (k : ℕ) (variable : Variable) → slice_get variables k ≡ Some variable
     → test variable ≡ true → Contains (roots_where test first variables) (first + k)
 in-roots test first [] k variable is passes = absurd (none-some variable is)
 in-roots test first (v ∷ variables) zero variable is passes =

@@ -4,6 +4,8 @@ pub mod PlaceTypes
 pub mod AliasedStores
 pub mod AliasedTypes
 pub mod Bearers
+pub mod Behind
+pub mod BehindExits
 pub mod Borne
 pub mod CallChanges
 pub mod CallLeaves

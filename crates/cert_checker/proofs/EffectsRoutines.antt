@@ -36,10 +36,10 @@ use Rattle.cert_checker.proofs.EffectsStatements.{statement-kept}
 -- ---- the walk over a program
 
 -- the statement of a block is walked in a context of the block
-record BodyYields (tree : Tree) (blocks : List BlockClaims) (number : ℕ) (block : Block) : Type 0 where
-  inner : Context
-  stands : StandsIn tree blocks number inner
-  yields : Yields inner (statement_walk block.body) tt
+pub record BodyYields (tree : Tree) (blocks : List BlockClaims) (number : ℕ) (block : Block) : Type 0 where
+  pub inner : Context
+  pub stands : StandsIn tree blocks number inner
+  pub yields : Yields inner (statement_walk block.body) tt
 
 body-yields : (context : Context) (number : ℕ) (block : Block) → Yields context (block_walk number block) tt
     → BodyYields context.tree context.blocks number block
@@ -85,7 +85,7 @@ module _ (tree : Tree) (well : IsWellFormed tree) (certificate : Certificate) (u
   abbrev blocks : List BlockClaims
   blocks = all_block_claims tree certificate
 
-  body-here : (number : ℕ) (block : Block) → slice_get tree.blocks.items number ≡ Some block → BodyYields tree blocks number block
+  pub body-here : (number : ℕ) (block : Block) → slice_get tree.blocks.items number ≡ Some block → BodyYields tree blocks number block
   body-here number block is =
       subst (λ (n : ℕ). BodyYields tree blocks n block) (zero-add number)
       (bodies-yield (first_context tree certificate) 0 tree.blocks.items (record { state = dead; unbroken = unbroken; value_is = refl }) number block is)
@@ -161,7 +161,7 @@ module _ (tree : Tree) (well : IsWellFormed tree) (certificate : Certificate) (u
         (environment_of tree (activation_from number block arguments caller s)) s.store after.store
     call-leaves =
         subst (λ (claims : BlockClaims). Leaves s.activations claims.changes (environment_of tree (activation_from number block arguments caller s))
-        s.store after.store) (claims-are number block is) left.leaves
+        s.store after.store) (claims-are number block is) (record { values = left.leaves.values; defined = left.leaves.defined })
 
   pub calls-change-what-they-list : CallsChangeWhatTheyList tree certificate
   calls-change-what-they-list depth number block arguments caller s place is changed =

@@ -283,8 +283,7 @@ module _ (tree : Tree) (blocks : List BlockClaims) (declares : DeclareTheirs tre
           (slice_get tree.variables.items control) in
       let local = (and_parts declared (leads_to_ordinal (outline_of tree) block control [] 0) is).0 in
       let (variable, found, own) = declared-local (slice_get tree.variables.items control) local in
-      let number_is = grounds.own control variable place found own seen in
-      omega (arith, number_is)
+      grounds.own control variable place found own seen
 
   keeps-between : (control : ℕ) (first_fits : RangeTest) (direction : Direction) (last_fits : RangeTest) (execution : Execution)
       → IsOwn at (at.visible.variables control) → Keeps at (execution here) → (first last : Value)

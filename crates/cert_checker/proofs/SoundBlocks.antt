@@ -28,7 +28,7 @@ use Rattle.meaning.specs.Effect.{Reply, Visit}
 use Rattle.meaning.specs.Laws.{state_after}
 use Rattle.meaning.specs.Meaning as meaning
 use Rattle.meaning.specs.Meaning.{Argument, Calls, activated, assign_all, calls_of, effect_of, environment_of, executed, result_of}
-use Rattle.meaning.specs.Store.{Environment, Place, Store, stored}
+use Rattle.meaning.specs.Store.{Environment, Place, Store, held, stored}
 use Rattle.abstract_state.specs.Holds as entire
 use Rattle.abstract_state.specs.Holds.{IsIn, is_named, value_at}
 use Rattle.abstract_state.specs.Knows.{moment}
@@ -40,7 +40,7 @@ use Rattle.component_states.specs.Holds.{Knows}
 use Rattle.component_states.specs.States.{State, dead, over_variables}
 use Rattle.structured_states.specs.Loops.{all_limits, gives_claims, is_ordinal_variable, limits_at, limits_or_integer, names_entire, plain, plain_facts}
 use Rattle.call_states.specs.Aliases.{variable_values}
-use Rattle.call_states.specs.Environments.{Fine, Leaves, Proper}
+use Rattle.call_states.specs.Environments.{Fine, Leaves, LeavesPassed, Proper}
 use Rattle.call_states.specs.Exit.{claimed_of_variable, exit_range, result_range}
 use Rattle.call_states.specs.Sections.{BlockClaims, all_block_claims, all_pairs, block_claims_at}
 use Rattle.call_states.specs.Starts.{block_start}
@@ -63,6 +63,8 @@ use Rattle.cert_checker.specs.Walk as walk
 use Rattle.cert_checker.specs.Walk.{begin, block_walk, blocks_walk, facts_given, first_context, program_walk, result_use, statement_walk}
 use Rattle.cert_checker.proofs.EffectsParameters.{well-block, well-body}
 use Rattle.cert_checker.proofs.EffectsRoutines.{calls-leave}
+use Rattle.cert_checker.proofs.PassedLeft.{passed-left}
+use Rattle.expression_checker.proofs.EffectsCalls.{CallsLeave}
 use Rattle.cert_checker.proofs.SoundForms.{statement-sound}
 use Rattle.cert_checker.proofs.SoundLoops.{here-as}
 use Rattle.cert_checker.proofs.Written.{Foretold, kept-rule}
@@ -153,6 +155,22 @@ good-since world P s t (effect.Stops e u) same grown good = record {
   new = λ visit inside. ⊎_elim (λ old. inl (subst (λ (visits : List Visit). Contains visits visit) same old)) (λ meets. inr meets) (good.new visit inside);
   gives = tt;
 }
+
+-- what value parameters get
+ready-store : (tree : Tree) (visible : Environment) (roots : List ℕ) (arguments : List Argument) (begun ready : effect.State)
+    → assign_all tree visible roots arguments begun ≡ effect.Gives tt ready → ready.store ≡ all_assigned tree visible roots arguments begun.store
+ready-store tree visible roots arguments begun ready gives =
+    sym (ap (λ (reply : Reply (Unit {0})). (state_after reply).store) (sym (assigns-all tree visible roots arguments begun) ∙ gives))
+
+-- the result is fetched, and the store is as it was
+result-leaves : (found : Option FunctionResult) (visible : Environment) (s t : effect.State) (v : Value) → result_of found visible s ≡ effect.Gives v t
+    → t.store ≡ s.store
+result-leaves None visible s t v is = let same : s ≡ t = cc in ap (λ (u : effect.State). u.store) (sym same)
+result-leaves (Some result) visible s t v is = by (held s.store (visible.variables result.root)) is
+  where
+    by : (found : Option Value) → effect.fetched found result.defined s ≡ effect.Gives v t → t.store ≡ s.store
+    by None gives = absurd (cc)
+    by (Some w) gives = let same : s ≡ t = cc in ap (λ (u : effect.State). u.store) (sym same)
 
 -- ---- a program
 
@@ -354,15 +372,23 @@ module _ (tree : Tree) (certificate : Certificate) (unbroken : (program_walk tre
   -- ---- calls
 
   module _ (calls : Calls) (sound : SoundCalls world calls) (number : ℕ) (block : Block) (arguments : List Argument) (caller : Environment)
-      (s : effect.State) (called : Called world number block arguments caller s) (fine : Fine tree s) where
+      (s : effect.State) (called : Called world number block arguments caller s) (fine : Fine tree s)
+      (leave : CallsLeave tree world.blocks calls) where
     abbrev callee : Environment
     callee = environment_of tree (activation_of number block arguments caller s)
 
     abbrev roots : List ℕ
     roots = block.heading.parameters.items
 
+    -- what its value parameters get
+    abbrev received : Store
+    received = all_assigned tree callee roots arguments s.store
+
+    -- what holds at its end
     abbrev AtEnd : Value → Store → Type 0
-    AtEnd = Ends calls sound number block called.block_is callee
+    AtEnd v store =
+        Ends calls sound number block called.block_is callee v store
+        × LeavesPassed tree s.activations number (claims_on number).changes received store
 
     is_called : IsCalled tree world.pairs number block arguments caller s.activations called.from
     is_called = record { well = well; block_is = called.block_is; proper = called.proper; callable = called.callable; fit = called.fit }
@@ -401,13 +427,18 @@ module _ (tree : Tree) (certificate : Certificate) (unbroken : (program_walk tre
         (effect_of block.body (record { visible = callee; calls = calls }) ready) (λ done. result_of block.heading.result callee)
         (body-good calls sound number block called.block_is callee ready (ready-fine left) proper-here (known-here left))
         (λ done t is told.
-        result-good calls sound number block called.block_is callee t
+        let passed = passed-left tree well certificate unbroken world.pairs calls leave number block arguments caller s called.from is_called ready t done refl is in
+        good-weaker world (Ends calls sound number block called.block_is callee) AtEnd t (result_of block.heading.result callee t)
+        (λ v u gives ends.
+        let same = result-leaves block.heading.result callee t u v gives in
+        (ends.so, subst (λ (store : Store). LeavesPassed tree s.activations number (claims_on number).changes received store) (sym same) passed))
+        (result-good calls sound number block called.block_is callee t
         (record {
           block_is = refl;
           fine = told.fine;
           proper = proper-grown world number ready.activations t.activations callee told.grown proper-here;
           stands = told.so.stands;
-        }))
+        })))
 
     executed-good : (left : ℕ) → Good world AtEnd (begun_with left) (executed tree calls block (activation_of number block arguments caller s) (begun_with left))
     executed-good left =
@@ -453,14 +484,23 @@ module _ (tree : Tree) (certificate : Certificate) (unbroken : (program_walk tre
   sound-calls (suc depth) number block arguments caller s called fine =
       let calls = calls_of tree depth in
       let sound = sound-calls depth in
-      let AtEnd = Ends calls sound number block called.block_is (environment_of tree (activation_of number block arguments caller s)) in
+      let leave = calls-leave tree well certificate unbroken depth in
+      let visible = environment_of tree (activation_of number block arguments caller s) in
+      let received = all_assigned tree visible block.heading.parameters.items arguments s.store in
+      let P = AtEnd calls sound number block arguments caller s called fine leave in
       let left = (calls-leave tree well certificate unbroken (suc depth)).known number block arguments caller s called.block_is in
-      good-weaker world AtEnd (Returned world number block arguments caller s) s (calls_of tree (suc depth) number arguments caller s)
+      good-weaker world P (Returned world number block arguments caller s) s (calls_of tree (suc depth) number arguments caller s)
       (λ v t is behind. record {
         leaves = subst (λ (u : effect.State). Leaves s.activations (claims_on number).changes
-            (environment_of tree (activation_of number block arguments caller s)) s.store u.store) (ap state_after is) left.leaves;
-        result = behind.so.0;
-        exit = behind.so.1;
+            (environment_of tree (activation_of number block arguments caller s)) s.store u.store) (ap state_after is)
+            (record { values = left.leaves.values; defined = left.leaves.defined });
+        passed = λ begun ready same gives.
+            let ready_is : ready.store ≡ received =
+            ready-store tree visible block.heading.parameters.items arguments begun ready gives
+            ∙ ap (all_assigned tree visible block.heading.parameters.items arguments) same in
+            subst (λ (store : Store). LeavesPassed tree s.activations number (claims_on number).changes store t.store) (sym ready_is) behind.so.1;
+        result = behind.so.0.0;
+        exit = behind.so.0.1;
       })
-      (subst (λ (found : Option Block). Good world AtEnd s (activated tree calls number found arguments caller s)) (sym called.block_is)
-      (activated-good calls sound number block arguments caller s called fine))
+      (subst (λ (found : Option Block). Good world P s (activated tree calls number found arguments caller s)) (sym called.block_is)
+      (activated-good calls sound number block arguments caller s called fine leave))
