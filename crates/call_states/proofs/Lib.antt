@@ -7,6 +7,7 @@ pub mod Bearers
 pub mod Behind
 pub mod BehindExits
 pub mod Borne
+pub mod BorneLimits
 pub mod CallChanges
 pub mod CallLeaves
 pub mod Callee
@@ -23,3 +24,8 @@ pub mod Places
 pub mod Reached
 pub mod Separated
 pub mod Started
+pub mod Bound
+pub mod Commons
+pub mod Mapped
+pub mod Rows
+pub mod Sectioned

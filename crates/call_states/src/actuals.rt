@@ -8,7 +8,7 @@ ghost use Rattle.structured_states.specs.Loops.{is_ordinal_variable};
 ghost use Rattle.call_states.specs.Actuals.{Components, Passed, Variable, actual_of, after_call, all_of_rows};
 ghost use Rattle.call_states.specs.Actuals.{bearers_at, bearers_for, bearers_named};
 ghost use Rattle.call_states.specs.Actuals.{bearers_of, borne_by, settled, unknown_reach};
-ghost use Rattle.call_states.specs.View.{said_actual, said_bearer, said_bindings, said_found};
+ghost use Rattle.call_states.specs.View.{is_entire, said_actual, said_bearer, said_bindings, said_found};
 
 use certificate::Path;
 use component_states::{Index, Reach};
@@ -17,7 +17,7 @@ use domain::interval::Interval;
 use leaf_rows::{Rows, Span};
 use std::alloc::{AllocError, Global};
 use structured_states::kept_claims::{is_ordinal_variable, names_entire, rows_named};
-use typed_tree::tree::Selector;
+use typed_tree::tree::{Selector, Tree};
 
 /// What is passed to a formal parameter (ISO 7185:1990, 6.6.3).
 #[derive(Drop)]
@@ -123,7 +123,13 @@ pub(crate) fn bearers_of(
 {
     match actual {
         Actual::Value { range, .. } => alone(alloc, Bearer::Passed(*range)),
-        Actual::Rows(ranges) => passed_rows(alloc, ranges),
+        Actual::Rows(ranges) => {
+            let mut bearers = Vec::with_capacity(alloc, ranges.len())?;
+            for range in ranges {
+                bearers.push(Bearer::Passed(*range))?;
+            }
+            Ok(bearers)
+        }
         Actual::Variable {
             root,
             selectors,
@@ -138,16 +144,6 @@ fn alone(alloc: Global, bearer: Bearer) -> Result<Vec<Bearer>, AllocError>
     Vec::from_slice(alloc, &[bearer])
 }
 
-/// Those of a copy.
-fn passed_rows(alloc: Global, ranges: &[Interval]) -> Result<Vec<Bearer>, AllocError>
-    ensures { IfOk result (λ bearers. map said_bearer bearers.items ≡ map Passed ranges.now) }
-{
-    ranges
-        .iter()
-        .map(|range| Bearer::Passed(*range))
-        .collect(alloc)
-}
-
 /// Those of what an access leads to: an entire ordinal variable, or components.
 pub(crate) fn borne_by(
     alloc: Global,
@@ -159,10 +155,17 @@ pub(crate) fn borne_by(
     ensures { IfOk result
         (λ bearers. map said_bearer bearers.items ≡ borne_by rows.now root selectors.now (said_reach reach)) }
 {
-    if selectors.is_empty() && is_ordinal_variable(rows.tree(), root) {
+    if is_entire(rows.tree(), root, selectors) {
         return alone(alloc, Bearer::Variable(root));
     }
     in_rows(alloc, rows.accessed(root, selectors), &reach)
+}
+
+/// Whether an access leads to an entire ordinal variable.
+pub(crate) fn is_entire(tree: &Tree, root: u32, selectors: &[Selector]) -> bool
+    ensures { result ≡ is_entire tree.now root selectors.now }
+{
+    selectors.is_empty() && is_ordinal_variable(tree, root)
 }
 
 /// What is reached in some rows.

@@ -9,3 +9,4 @@ pub mod exit;
 mod limits;
 pub mod overlaps;
 pub mod sections;
+pub mod starts;
