@@ -46,13 +46,13 @@ impl<'a> Actual<'a> {
         match self {
             Actual::Value { form, .. } => *form = None,
             Actual::Rows(_) => {}
-            Actual::Variable { reach, .. } => *reach = unknown(*reach),
+            Actual::Variable { reach, .. } => *reach = unknown_reach(*reach),
         }
     }
 }
 
 /// What is reached by an index of which nothing is known.
-fn unknown(reach: Reach) -> Reach
+pub fn unknown_reach(reach: Reach) -> Reach
     ensures { said_reach result ≡ unknown_reach (said_reach reach) }
 {
     let index = Index {
