@@ -1,8 +1,7 @@
 pub mod Aliased
-pub mod Assigned
-pub mod PlaceTypes
 pub mod AliasedStores
 pub mod AliasedTypes
+pub mod Assigned
 pub mod Bearers
 pub mod Behind
 pub mod BehindExits
@@ -14,12 +13,14 @@ pub mod Callee
 pub mod Claimed
 pub mod ComponentTypes
 pub mod Entered
+pub mod Fitting
 pub mod FormalRows
 pub mod Given
 pub mod Headings
 pub mod LedComponents
 pub mod Parameters
 pub mod Passed
+pub mod PlaceTypes
 pub mod Places
 pub mod Reached
 pub mod Separated
