@@ -1,5 +1,5 @@
 -- The values of all changes of just one thing, one change more.
-use Rattle.std.proofs.Common.{◌≡◌, ◌∙◌, sym, ap, refl, ℕ, ◌+◌, ◌<◌, Bool, true, false, cond, List, [], ◌∷◌, ◌++◌, length, map, take, get_or, Option, Some, None}
+use Rattle.std.proofs.Common.{◌≡◌, ◌∙◌, sym, ap, refl, ℕ, ◌+◌, ◌<◌, Bool, true, false, cond, List, [], ◌∷◌, ◌++◌, length, map, take, get_or, Option, Some}
 use Rattle.std.specs.Prelude.{filter}
 use Rattle.domain.specs.Interval.{Interval, common}
 use Rattle.structured_states.proofs.Claims.{mapped-more}

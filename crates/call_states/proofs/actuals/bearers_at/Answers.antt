@@ -1,4 +1,4 @@
-use Rattle.std.proofs.Common.{arith, ◌∙◌, ◌≡◌, ◌+◌, ◌-◌, ◌++◌, ◌∷◌, [], true, false, ap, sym, map, append_assoc, List}
+use Rattle.std.proofs.Common.{arith, ◌∙◌, ◌≡◌, ◌+◌, ◌-◌, ◌++◌, ◌∷◌, [], true, false, ap, sym, map, append_assoc}
 use Rattle.std.proofs.lemmas.List.{map-append}
 use Rattle.leaf_rows.specs.View.{numbers}
 use Rattle.structured_states.proofs.Rowed.{rows_to}

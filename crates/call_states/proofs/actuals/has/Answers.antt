@@ -1,4 +1,4 @@
-use Rattle.std.proofs.Common.{arith, ◌∙◌, ◌≡◌, sym, ◌≤◌, ◌<◌, ◌+◌, Bool, true, false, nat_le, nat_lt, inl, inr, ap, subst}
+use Rattle.std.proofs.Common.{arith, ◌∙◌, ◌≡◌, sym, ◌<◌, true, false, nat_le, nat_lt, inl, inr}
 use Rattle.std.proofs.lemmas.Bool.{cases_lt}
 use Rattle.call_states.proofs.Rows.{among-below, among-in, among-past}
 use Rattle.call_states.proofs.actuals.has.Goals as goal

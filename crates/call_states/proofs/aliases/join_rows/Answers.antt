@@ -1,6 +1,5 @@
-use Rattle.std.proofs.Common.{◌∙◌, ◌≡◌, ap, sym, cond}
+use Rattle.std.proofs.Common.{◌∙◌, ap, sym, cond}
 use Rattle.domain.specs.Interval.{joined}
-use Rattle.leaf_rows.specs.Rows.{rows_of, values_at}
 use Rattle.component_states.specs.Components.{with_joined, with_range}
 use Rattle.component_states.specs.States.{over_components}
 use Rattle.component_states.specs.View.{viewed}

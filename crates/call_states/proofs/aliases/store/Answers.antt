@@ -1,9 +1,9 @@
-use Rattle.std.proofs.Common.{◌∙◌, ◌≡◌, ◌+◌, ◌<◌, ap, sym, refl, ℕ, List, [], ◌∷◌, length, map, drop, get_or, rules, arith}
+use Rattle.std.proofs.Common.{◌∙◌, ◌≡◌, ◌+◌, ap, sym, refl, List, [], ◌∷◌, length, map, drop, rules, arith}
 use Rattle.std.proofs.lemmas.List.{drop_more}
 use Rattle.typed_tree.specs.declared.tree.Tree.{Tree}
 use Rattle.component_states.specs.States.{State}
 use Rattle.component_states.specs.View.{viewed}
-use Rattle.call_states.specs.Aliases.{Stored, aliases_joined, all_joined_to, with_aliases_stored}
+use Rattle.call_states.specs.Aliases.{Stored, all_joined_to, with_aliases_stored}
 use Rattle.call_states.specs.View.{said_stored}
 use Rattle.call_states.proofs.aliases.store.Goals as goal
 

@@ -1,9 +1,9 @@
-use Rattle.std.proofs.Common.{arith, ◌∙◌, ◌≡◌, ◌+◌, ◌-◌, ◌++◌, ◌∷◌, [], ap, sym, map, append_assoc, List}
+use Rattle.std.proofs.Common.{arith, ◌∙◌, ◌≡◌, ◌+◌, ◌-◌, ◌++◌, ◌∷◌, [], ap, sym, map, append_assoc}
 use Rattle.std.proofs.lemmas.List.{map-append}
 use Rattle.certificate.specs.Contents.{said_fact}
 use Rattle.structured_states.proofs.Rowed.{rows_to}
 use Rattle.call_states.specs.Exit.{rows_changed}
-use Rattle.call_states.specs.View.{said_bearer, said_change}
+use Rattle.call_states.specs.View.{said_change}
 use Rattle.call_states.proofs.Rows.{bearers_from, changed-next, changed-past}
 use Rattle.call_states.proofs.changes.add_rows.Goals.{in-Some+in_ok-push, in_default}
 use Rattle.call_states.proofs.changes.add_rows.Goals as goal

@@ -1,6 +1,5 @@
 use Rattle.std.proofs.Common.{◌∙◌, ap, map, pos}
 use Rattle.std.specs.List.{list_all}
-use Rattle.abstract_state.specs.View as variables
 use Rattle.component_states.specs.View.{viewed}
 use Rattle.call_states.specs.Entry.{is_at_most, is_borne_between, limit_moved}
 use Rattle.call_states.specs.View.{said_bearer, said_limit}

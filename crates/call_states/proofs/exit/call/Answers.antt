@@ -1,4 +1,4 @@
-use Rattle.std.proofs.Common.{◌∙◌, ◌≡◌, ap, ap₂, map, ℕ, List}
+use Rattle.std.proofs.Common.{◌∙◌, ap, ap₂, map, ℕ, List}
 use Rattle.std.specs.Prelude.{flat_map}
 use Rattle.std.proofs.lemmas.Result.{IfOk-equal}
 use Rattle.certificate.specs.Contents.{said_fact}

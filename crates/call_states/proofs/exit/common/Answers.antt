@@ -1,5 +1,5 @@
 use Rattle.std.proofs.Common.{◌∙◌, ap, sym, true, false, Some}
-use Rattle.call_states.specs.View.{met, said_bearer}
+use Rattle.call_states.specs.View.{said_bearer}
 use Rattle.call_states.proofs.Commons.{common-next}
 use Rattle.call_states.proofs.exit.common.Goals.{then-is_of, else-is_of}
 use Rattle.call_states.proofs.exit.common.Goals as goal

@@ -2,7 +2,7 @@ use Rattle.std.proofs.Common.{◌∙◌, ap, sym, Some}
 use Rattle.component_states.specs.View.{said_reach}
 use Rattle.call_states.specs.Exit.{exit_bound_of}
 use Rattle.call_states.specs.View.{said_actual, said_touches}
-use Rattle.call_states.proofs.BorneLimits.{steady-parts}
+use Rattle.call_states.proofs.Entire.{steady-parts}
 use Rattle.call_states.proofs.exit.exit_bound_by.Goals as goal
 
 pub returns-else-is_entire : goal.returns-else-is_entire

@@ -1,5 +1,4 @@
 use Rattle.std.proofs.Common.{◌∙◌, ap, map}
-use Rattle.domain.specs.Interval.{Interval}
 use Rattle.component_states.specs.Components.{Reach}
 use Rattle.component_states.specs.Components as components
 use Rattle.component_states.specs.View.{viewed}

@@ -1,7 +1,7 @@
 use Rattle.std.proofs.Common.{rules, ◌≡◌, ◌∙◌, ap, of_z, to_z, w32}
 use Rattle.call_states.specs.Entry.{limit_moved}
 use Rattle.call_states.specs.View.{said_limit}
-use Rattle.call_states.proofs.BorneLimits.{limit-moved}
+use Rattle.call_states.proofs.Entire.{limit-moved}
 use Rattle.call_states.proofs.limits.limit_above.Goals as goal
 
 pub returns : goal.returns

@@ -3,7 +3,7 @@ use Rattle.abstract_state.specs.View.{viewed}
 use Rattle.component_states.specs.View.{said_reach}
 use Rattle.call_states.specs.Entry.{limit_of_actual}
 use Rattle.call_states.specs.View.{AreNear, IsLimit, said_actual}
-use Rattle.call_states.proofs.BorneLimits.{limit-parts}
+use Rattle.call_states.proofs.Entire.{limit-parts}
 use Rattle.call_states.proofs.limits.limit_of_actual.Goals as goal
 
 pub returns-else-is_entire : goal.returns-else-is_entire

@@ -1,4 +1,4 @@
-use Rattle.std.proofs.Common.{◌∙◌, ap, sym}
+use Rattle.std.proofs.Common.{◌∙◌, ap}
 use Rattle.std.specs.List.{list_all}
 use Rattle.call_states.specs.Overlaps.{is_listed_with}
 use Rattle.call_states.proofs.Bound.{bound-end}

@@ -1,4 +1,4 @@
-use Rattle.std.proofs.Common.{◌∙◌, ap, sym}
+use Rattle.std.proofs.Common.{◌∙◌, ap}
 use Rattle.call_states.specs.Overlaps.{are_separate}
 use Rattle.call_states.proofs.Bound.{bound-end}
 use Rattle.call_states.proofs.overlaps.are_separate.Goals as goal

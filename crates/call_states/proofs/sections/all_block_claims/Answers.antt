@@ -1,4 +1,4 @@
-use Rattle.std.proofs.Common.{rules, ◌∙◌, ◌≡◌, ℕ, ◌+◌, [], ◌∷◌, List, Option, None, ap, length, replicate, subst, sym, take}
+use Rattle.std.proofs.Common.{rules, ◌∙◌, ◌≡◌, ◌+◌, [], ◌∷◌, List, None, ap, length, replicate, subst, sym, take}
 use Rattle.std.proofs.lemmas.List.{take_all, with_items_is}
 use Rattle.certificate.specs.declared.Section.{Section as KeptSection}
 use Rattle.structured_states.proofs.Claims.{none-cloned}

@@ -1,5 +1,4 @@
-use Rattle.std.proofs.Common.{◌∙◌, ◌≡◌, false, nat_eq, get_or, rules}
-use Rattle.call_states.specs.Actuals.{actual_of, bound_to}
+use Rattle.std.proofs.Common.{◌≡◌, false, nat_eq, get_or, rules}
 use Rattle.call_states.proofs.Bound.{actual-next}
 use Rattle.call_states.proofs.actuals.Bindings.actual.Goals as goal
 

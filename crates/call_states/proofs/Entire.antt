@@ -1,16 +1,14 @@
 -- What has the values of an access: an entire variable, or components alone.
-use Rattle.std.proofs.Common.{◌≡◌, ◌∙◌, sym, ap, refl, ℕ, ℤ, Bool, true, false, cond, List, [], ◌∷◌, map, Option, Some, None, pos, subst}
-use Rattle.std.proofs.lemmas.Bool.{cond_both}
+use Rattle.std.proofs.Common.{◌≡◌, ◌∙◌, sym, ap, refl, ℕ, ℤ, true, false, cond, List, [], ◌∷◌, map, Option, Some, None, pos}
 use Rattle.std.specs.Option.{option_and_then}
 use Rattle.typed_tree.specs.declared.tree.Selector.{Selector}
 use Rattle.typed_tree.specs.declared.tree.Tree.{Tree}
-use Rattle.domain.specs.Facts.{Bound, Plus}
+use Rattle.domain.specs.Facts.{Plus}
 use Rattle.abstract_state.specs.State as variables
 use Rattle.component_states.specs.Components.{Reach}
 use Rattle.leaf_rows.specs.Rows.{rows_accessed, rows_of}
-use Rattle.structured_states.specs.Loops.{is_ordinal_variable}
 use Rattle.call_states.specs.declared.limits.Limit.{Limit as KeptLimit}
-use Rattle.call_states.specs.Actuals.{Bearer, Components, Variable, borne_by}
+use Rattle.call_states.specs.Actuals.{Components, Variable, borne_by}
 use Rattle.call_states.specs.Entry.{Limit, limit_moved, limit_of, limit_of_variable}
 use Rattle.call_states.specs.Exit.{Touches, steady_bound}
 use Rattle.call_states.specs.View.{AreBounded, AreNear, IsLimit, is_entire, said_limit, steady_at}
