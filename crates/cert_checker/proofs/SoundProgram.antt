@@ -36,7 +36,7 @@ use Rattle.component_states.specs.Holds.{StateHolds}
 use Rattle.expression_checker.proofs.Sound.{ErrsWithin, Meets, New, World, parts_in, sites_in}
 use Rattle.expression_checker.proofs.CallLaws.{call-laws}
 use Rattle.expression_checker.proofs.SoundCalls.{CallLaws}
-use Rattle.cert_checker.specs.Names.{block_is_known, claims_are_known, is_known, is_of_loops, section_is_known}
+use Rattle.certificate_names.specs.Names.{block_is_known, claims_are_known, is_known, is_of_loops, section_is_known}
 use Rattle.cert_checker.specs.Promise.{open_in, ClosedNeverErr, HoldsAt, StatesHold}
 use Rattle.cert_checker.specs.Walk.{program_walk}
 use Rattle.cert_checker.proofs.ClaimsKnown.{are-claims}
