@@ -1,6 +1,6 @@
 -- The facts that hold where a called block begins, as they are given where it is called (ISO 7185:1990, 6.6.3): each
 -- formal parameter stands for its actual one. It does not say what the block goes by then.
-use Rattle.std.specs.Prelude.{ℕ, ℤ, pos, ◌+ℤ◌, Bool, true, false, ◌&&◌, ◌||◌, List, [], ◌∷◌, Option, Some, None, nat_eq}
+use Rattle.std.specs.Prelude.{ℕ, ℤ, pos, Bool, true, false, ◌&&◌, ◌||◌, List, [], ◌∷◌, Option, Some, None, nat_eq}
 use Rattle.std.specs.List.{list_all, list_any}
 use Rattle.std.specs.Option.{option_and_then}
 use Rattle.typed_tree.specs.declared.tree.Tree.{Tree}

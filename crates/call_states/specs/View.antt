@@ -1,9 +1,17 @@
 -- Calls of the program as the definitions see them: what is passed, what is claimed of blocks, what calls change. It
 -- does not say what is known of them.
-use Rattle.std.specs.Prelude.{ℕ, ℤ, neg_ℤ, pos, ◌≡◌, ◌<◌, ◌≤ℤ◌, Bool, false, List, [], ◌∷◌, ◌++◌, Option, Some, None, get_or}
-use Rattle.std.specs.Prelude.{if◌then◌else◌, filter, length, map, nat_eq}
+use Rattle.std.specs.Prelude.{ℕ, suc, ◌⊎◌, ◌≤◌, ℤ, neg_ℤ, pos, ◌≡◌, ◌<◌, ◌≤ℤ◌, Bool, false, List, [], ◌∷◌, ◌++◌, Option, Some, None, get_or}
+use Rattle.std.specs.Prelude.{if◌then◌else◌, filter, length, map, nat_eq, slice_get}
 use Rattle.types.specs.declared.form.OrdinalRange.{OrdinalRange}
 use denote.Ref.{Bor}
+use Rattle.typed_tree.specs.declared.tree.Selector.{Selector}
+use Rattle.typed_tree.specs.declared.tree.Tree.{Tree}
+use Rattle.typed_tree.specs.declared.tree.Variable.{Variable}
+use Rattle.abstract_state.specs.State as variables
+use Rattle.leaf_rows.specs.Rows.{Row, rows_of}
+use Rattle.component_states.specs.Components.{RowState, no_row, undefined_row}
+use Rattle.call_states.specs.Starts.{row_start, variable_start}
+use Rattle.structured_states.specs.Loops.{is_ordinal_variable}
 use Rattle.certificate.specs.declared.Section.{Section as KeptSection}
 use Rattle.certificate.specs.Contents.{said_fact}
 use Rattle.domain.specs.Interval.{Interval, common}
@@ -21,11 +29,13 @@ use Rattle.call_states.specs.declared.exit.Touches.{Touches as KeptTouches}
 use Rattle.call_states.specs.declared.limits.Limit.{Limit as KeptLimit}
 use Rattle.call_states.specs.Sections.{BlockClaims, no_block_claims}
 use Rattle.call_states.specs.Aliases.{Stored}
-use Rattle.call_states.specs.Actuals.{Actual, Bearer, Binding, OfRows, OfValue, OfVariable, Passed, Variable, Components}
+use Rattle.call_states.specs.Actuals.{Actual, Bearer, Binding, OfRows, OfValue, OfVariable, Passed, Components}
+use Rattle.call_states.specs.Actuals as actuals
 use Rattle.call_states.specs.Actuals.{bound_to}
 use Rattle.call_states.specs.Entry.{Limit}
 use Rattle.call_states.specs.Exit.{Change, Touches, all_common, is_row, is_steady, is_variable, range_behind}
-use Rattle.call_states.specs.Exit.{roots_changed}
+use Rattle.call_states.specs.Exit.{roots_changed, touched_behind, with_exits}
+use Rattle.component_states.specs.States.{State}
 use Rattle.structured_states.specs.Pairs.{all_aliases}
 
 -- ---- what is claimed of a block
@@ -66,6 +76,44 @@ pub record AreFound (old new : List (Option (Bor KeptSection))) (found : ℕ →
   pub each : (number : ℕ) → number < length old
       → found_as (get_or new number None) ≡ or_else (found_as (get_or old number None)) (found number)
 
+-- ---- where a block begins
+
+-- variables, of which the first has this root, have their ranges
+abbrev pub with_starts : Tree → ℕ → ℕ → List Variable → variables.State → variables.State
+with_starts tree block root [] state = state
+with_starts tree block root (variable ∷ declared) state =
+    with_starts tree block (suc root) declared (variables.with_range root (variable_start tree block variable) state)
+
+-- the row of a number in a program, where there is one; what is known of it where nothing has a value, and where a
+-- block begins
+abbrev pub no_leaf : Row
+no_leaf = record { root = 0; leaf = record { steps = []; values = None; index = None } }
+
+abbrev pub numbered : Tree → ℕ → Row
+numbered tree number = get_or (rows_of tree) number no_leaf
+
+abbrev pub begun_row : Tree → ℕ → ℕ → RowState
+begun_row tree block number =
+    row_start tree block (numbered tree number) (slice_get tree.variables.items (numbered tree number).root)
+
+-- of each row it is known what is where a block begins, or it is still to come and has no value
+pub record AreBegun (tree : Tree) (block : ℕ) (IsToCome : ℕ → Type 0) (rows : List RowState) : Type 0 where
+  pub count : length rows ≡ length (rows_of tree)
+  pub each : (number : ℕ) → number < length (rows_of tree)
+      → (get_or rows number no_row ≡ begun_row tree block number)
+      ⊎ ((get_or rows number no_row ≡ undefined_row (numbered tree number).leaf.index) × IsToCome number)
+
+-- the rows of a variable and of those behind it are still to come
+abbrev pub ComeFrom : Tree → ℕ → ℕ → Type 0
+ComeFrom tree root number = root ≤ (numbered tree number).root
+
+-- the rows of a variable begin
+pub record RowsBegin (tree : Tree) (block root : ℕ) (old new : State) : Type 0 where
+  pub variables_are : new.variables ≡ old.variables
+  pub stretches_are : new.components.stretches ≡ old.components.stretches
+  pub rows_are : AreBegun tree block (ComeFrom tree root) old.components.rows
+      → AreBegun tree block (ComeFrom tree (suc root)) new.components.rows
+
 -- ---- what is passed
 
 abbrev pub said_actual : KeptActual → Actual
@@ -73,13 +121,18 @@ said_actual (kept.Value range form) = OfValue range (said_form form)
 said_actual (kept.Rows ranges) = OfRows ranges.items
 said_actual (kept.Variable root selectors reach) = OfVariable root selectors.now (said_reach reach)
 
+-- an access leads to an entire ordinal variable
+abbrev pub is_entire : Tree → ℕ → List Selector → Bool
+is_entire tree root [] = is_ordinal_variable tree root
+is_entire tree root (selector ∷ selectors) = false
+
 abbrev pub said_found : Option (Bor KeptActual) → Option Actual
 said_found None = None
 said_found (Some actual) = Some (said_actual actual.now)
 
 abbrev pub said_bearer : KeptBearer → Bearer
 said_bearer (borne.Passed range) = Passed range
-said_bearer (borne.Variable root) = Variable root
+said_bearer (borne.Variable root) = actuals.Variable root
 said_bearer (borne.Components row reach) = Components row (said_reach reach)
 
 abbrev pub said_bindings : Bindings → List Binding
@@ -102,9 +155,14 @@ touched_by pairs bindings changes =
 abbrev pub said_touches : KeptTouches → Touches
 said_touches touches = record { touched = touches.touched.now; changes = map said_change touches.changes.now }
 
+-- what is known behind a call that touches this, and of whose end these facts are claimed
+abbrev pub left_behind : Tree → ℕ → List Binding → Touches → List Fact → State → State
+left_behind tree block bindings touches facts state =
+    with_exits tree block bindings touches facts (touched_behind tree touches.changes touches.touched state)
+
 -- a bearer is all of an entire ordinal variable, or all of a row
 abbrev pub is_of : Bearer → Bearer → Bool
-is_of (Variable root) bearer = is_variable root bearer
+is_of (actuals.Variable root) bearer = is_variable root bearer
 is_of (Components row reach) bearer = is_row row bearer
 is_of (Passed range) bearer = false
 

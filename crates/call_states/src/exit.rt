@@ -12,9 +12,10 @@ ghost use Rattle.call_states.specs.Exit.{exit_bound_of, is_own_path, is_steady, 
 ghost use Rattle.call_states.specs.Exit.{stretch_defined, stretches_defined, touched_behind, untouched_form};
 ghost use Rattle.call_states.specs.Exit.{variables_behind, with_exit, with_exits};
 ghost use Rattle.call_states.specs.View.{behind, common_of, is_of, met, said_actual, said_bearer, said_bindings};
-ghost use Rattle.call_states.specs.View.{said_change, said_claims, said_touches, steady_at, touched_by};
+ghost use Rattle.call_states.specs.View.{left_behind, said_change, said_claims, said_found, said_touches, steady_at};
+ghost use Rattle.call_states.specs.View.{touched_by};
 
-use crate::actuals::{Actual, Bearer, Bindings, bearers_named};
+use crate::actuals::{Actual, Bearer, Bindings, bearers_named, is_entire};
 use crate::aliases::{drop_all, is_among, is_same, variable_values};
 use crate::changes::{Change, all_changes, exit_range, roots_changed};
 use crate::sections;
@@ -25,7 +26,6 @@ use domain::facts::Bound;
 use domain::interval::Interval;
 use leaf_rows::{Rows, Span};
 use std::alloc::{AllocError, Global};
-use structured_states::kept_claims::is_ordinal_variable;
 use structured_states::pairs::Pairs;
 use structured_states::rounds::limits_or_integer;
 use typed_tree::tree::Tree;
@@ -57,11 +57,27 @@ pub fn call(
     let exit = sections::exit(claims);
     let changes = all_changes(alloc, rows, bindings, listed, exit)?;
     let touched = touched(alloc, pairs, bindings, listed)?;
-    touch(state, rows, &changes, &touched);
     let touches = Touches {
         touched: &touched,
         changes: &changes,
     };
+    go_behind(alloc, state, rows, block, bindings, &touches, exit)
+}
+
+/// The same by what the call touches, and by the facts that are claimed of the block's end.
+fn go_behind(
+    alloc: Global,
+    state: &mut State,
+    rows: &Rows,
+    block: u32,
+    bindings: Bindings,
+    touches: &Touches,
+    exit: &[Claim],
+) -> Result<(), AllocError>
+    ensures { IfOk result (λ _. viewed state.new ≡ left_behind rows.now block (said_bindings bindings.entry)
+        (said_touches touches.now) (map said_fact exit.now) (viewed state.old)) }
+{
+    touch(state, rows, touches.changes, touches.touched);
     add_exits(alloc, state, rows, block, bindings, touches, exit)
 }
 
@@ -208,11 +224,11 @@ fn add_exits(
     rows: &Rows,
     block: u32,
     bindings: Bindings,
-    touches: Touches,
+    touches: &Touches,
     exit: &[Claim],
 ) -> Result<(), AllocError>
     ensures { IfOk result (λ _. viewed state.new ≡ with_exits rows.now block (said_bindings bindings.entry)
-        (said_touches touches.entry) (map said_fact exit.now) (viewed state.old)) }
+        (said_touches touches.now) (map said_fact exit.now) (viewed state.old)) }
 {
     for claim in exit {
         add_exit(alloc, state, rows, block, bindings, touches, claim)?;
@@ -226,11 +242,11 @@ fn add_exit(
     rows: &Rows,
     block: u32,
     bindings: Bindings,
-    touches: Touches,
+    touches: &Touches,
     claim: &Claim,
 ) -> Result<(), AllocError>
     ensures { IfOk result (λ _. viewed state.new ≡ with_exit rows.now block (said_bindings bindings.entry)
-        (said_touches touches.entry) (said_fact claim.now) (viewed state.old)) }
+        (said_touches touches.now) (said_fact claim.now) (viewed state.old)) }
 {
     let tree = rows.tree();
     match claim {
@@ -359,23 +375,51 @@ fn variable(root: u32, number: i32) -> Bound
 }
 
 /// A bound of the callee at its end, where it is called: it says nothing where that isn't known.
-fn exit_bound(tree: &Tree, bindings: Bindings, touches: Touches, bound: Bound) -> Option<Bound>
+fn exit_bound(tree: &Tree, bindings: Bindings, touches: &Touches, bound: Bound) -> Option<Bound>
     ensures { said_form result
-        ≡ exit_bound tree.now (said_bindings bindings.entry) (said_touches touches.entry) (said_bound bound) }
+        ≡ exit_bound tree.now (said_bindings bindings.entry) (said_touches touches.now) (said_bound bound) }
 {
     match bound {
         Bound::Number(_) => Some(bound),
-        Bound::Plus { root, number } => match bindings.actual(root) {
-            None => steady(touches, root, number),
-            Some(actual) => exit_bound_of(tree, touches, number, actual),
-        },
+        Bound::Plus { root, number } => exit_root(tree, bindings, touches, root, number),
     }
 }
 
-/// The same of a formal parameter with a number more.
-fn exit_bound_of(tree: &Tree, touches: Touches, number: i32, actual: &Actual) -> Option<Bound>
+/// The same of a variable with a number more.
+fn exit_root(
+    tree: &Tree,
+    bindings: Bindings,
+    touches: &Touches,
+    root: u32,
+    number: i32,
+) -> Option<Bound>
+    ensures { said_form result
+        ≡ exit_bound tree.now (said_bindings bindings.entry) (said_touches touches.now) (Plus root number) }
+{
+    exit_bound_of(tree, touches, root, number, bindings.actual(root))
+}
+
+/// The same of a variable that perhaps is a formal parameter.
+fn exit_bound_of(
+    tree: &Tree,
+    touches: &Touches,
+    root: u32,
+    number: i32,
+    actual: Option<&Actual>,
+) -> Option<Bound>
+    ensures { said_form result
+        ≡ exit_bound_of tree.now (said_touches touches.now) root number (said_found actual.entry) }
+{
+    match actual {
+        None => steady(touches, root, number),
+        Some(actual) => exit_bound_by(tree, touches, number, actual),
+    }
+}
+
+/// The same of a formal parameter.
+fn exit_bound_by(tree: &Tree, touches: &Touches, number: i32, actual: &Actual) -> Option<Bound>
     ensures { (root : ℕ) → said_form result
-        ≡ exit_bound_of tree.now (said_touches touches.entry) root number (Some (said_actual actual.now)) }
+        ≡ exit_bound_of tree.now (said_touches touches.now) root number (Some (said_actual actual.now)) }
 {
     match actual {
         Actual::Value { form, .. } => untouched(touches, number, *form),
@@ -385,7 +429,7 @@ fn exit_bound_of(tree: &Tree, touches: Touches, number: i32, actual: &Actual) ->
             selectors,
             ..
         } => {
-            if selectors.is_empty() && is_ordinal_variable(tree, *other) {
+            if is_entire(tree, *other, selectors) {
                 steady(touches, *other, number)
             } else {
                 None
@@ -395,8 +439,8 @@ fn exit_bound_of(tree: &Tree, touches: Touches, number: i32, actual: &Actual) ->
 }
 
 /// A bound of an actual parameter with a number more, if its variable is untouched.
-fn untouched(touches: Touches, number: i32, form: Option<Bound>) -> Option<Bound>
-    ensures { said_form result ≡ untouched_form (said_touches touches.entry) number (said_form form) }
+fn untouched(touches: &Touches, number: i32, form: Option<Bound>) -> Option<Bound>
+    ensures { said_form result ≡ untouched_form (said_touches touches.now) number (said_form form) }
 {
     match form {
         None => None,
@@ -406,8 +450,8 @@ fn untouched(touches: Touches, number: i32, form: Option<Bound>) -> Option<Bound
 }
 
 /// A variable with a number more, if it is untouched, or changed just as it is.
-fn steady(touches: Touches, root: u32, number: i32) -> Option<Bound>
-    ensures { said_form result ≡ steady_at (said_touches touches.entry) root number }
+fn steady(touches: &Touches, root: u32, number: i32) -> Option<Bound>
+    ensures { said_form result ≡ steady_at (said_touches touches.now) root number }
 {
     if is_steady(touches, root) {
         Some(variable(root, number))
@@ -416,8 +460,8 @@ fn steady(touches: Touches, root: u32, number: i32) -> Option<Bound>
     }
 }
 
-fn is_steady(touches: Touches, root: u32) -> bool
-    ensures { result ≡ is_steady (said_touches touches.entry) root }
+fn is_steady(touches: &Touches, root: u32) -> bool
+    ensures { result ≡ is_steady (said_touches touches.now) root }
 {
     !is_among(touches.touched, root) || is_changed(touches.changes, root)
 }

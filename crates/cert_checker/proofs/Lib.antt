@@ -4,6 +4,7 @@ pub mod Controls
 pub mod Entered
 pub mod Heads
 pub mod Keeping
+pub mod PassedLeft
 pub mod Rounds
 pub mod SoundAssignments
 pub mod SoundBlocks
@@ -23,3 +24,4 @@ pub mod Written
 pub mod EffectsStatements
 pub mod EffectsParameters
 pub mod EffectsRoutines
+pub mod ClaimsKnown

@@ -1,17 +1,14 @@
 -- The walk over each block of a program is sound, and so are calls, by the depth of activations in one another.
-use Rattle.std.proofs.Common.{arith, ◌≡◌, ◌≢◌, ⊎_elim, inl, inr, ◌∙◌, sym, ap, refl, subst, ℕ, zero, suc, ◌+◌, ◌<◌, Bool, true, false, cond, ◌&&◌, nat_eq}
-use Rattle.std.proofs.Common.{zero-add, ◌||◌, pos, List, [], ◌∷◌, ◌++◌, map, Option, Some, None, length}
+use Rattle.std.proofs.Common.{arith, ◌≡◌, ⊎_elim, inl, inr, ◌∙◌, sym, ap, refl, subst, ℕ, zero, suc, ◌+◌, ◌<◌, Bool, true, false, cond, ◌&&◌, nat_eq}
+use Rattle.std.proofs.Common.{zero-add, ◌||◌, pos, List, [], ◌∷◌, ◌++◌, Option, Some, None}
 use Rattle.std.specs.Prelude.{◌≤◌, nat_lt, slice_get}
-use Rattle.std.specs.List.{All, Contains, cons_option, filter_map}
-use Rattle.std.specs.Option.{option_and_then}
+use Rattle.std.specs.List.{All, Contains, cons_option}
 use Rattle.std.proofs.lemmas.Bool.{and_parts, eqb-true, ltb-true}
 use Rattle.std.proofs.lemmas.List.Elements.{All-contains, All-tail}
 use Rattle.std.proofs.lemmas.Option.{none-some}
 use Rattle.certificate.specs.declared.Certificate.{Certificate}
-use Rattle.types.specs.Types.{is_ordinal, range_of}
-use Rattle.typed_tree.specs.Accesses.{accessed, is_type, led}
 use Rattle.typed_tree.specs.Loops.{AreLoops, loops_of_block}
-use Rattle.typed_tree.specs.WellFormed.{IsWellFormed, are_all, declarer, is_parameter_kind, is_placed, is_result, is_result_kind, is_result_or_none}
+use Rattle.typed_tree.specs.WellFormed.{IsWellFormed, are_all, is_parameter_kind, is_placed, is_result, is_result_kind, is_result_or_none}
 use Rattle.typed_tree.specs.WellFormed.{encloses, is_one_of, is_round, is_visible, of_one, outline_of, result_roots, roots_where}
 use Rattle.typed_tree.specs.declared.tree.Block.{Block}
 use Rattle.typed_tree.specs.declared.tree.FunctionResult.{FunctionResult}
@@ -20,15 +17,13 @@ use Rattle.typed_tree.specs.declared.tree.Variable.{Variable}
 use Rattle.typed_tree.proofs.Blocks.{are_loops_at}
 use Rattle.domain.specs.Facts.{Fact, Path, Range, Defined, Stretch, Order}
 use Rattle.domain.specs.Interval.{Interval, common}
-use Rattle.meaning.specs.declared.outcome.Ending.TheVariants.{More}
 use Rattle.meaning.specs.declared.store.Value.{Value}
 use Rattle.meaning.specs.declared.store.Value.TheVariants.{Number}
 use Rattle.meaning.specs.Effect as effect
 use Rattle.meaning.specs.Effect.{Reply, Visit}
 use Rattle.meaning.specs.Laws.{state_after}
-use Rattle.meaning.specs.Meaning as meaning
 use Rattle.meaning.specs.Meaning.{Argument, Calls, activated, assign_all, calls_of, effect_of, environment_of, executed, result_of}
-use Rattle.meaning.specs.Store.{Environment, Place, Store, stored}
+use Rattle.meaning.specs.Store.{Environment, Place, Store, held, stored}
 use Rattle.abstract_state.specs.Holds as entire
 use Rattle.abstract_state.specs.Holds.{IsIn, is_named, value_at}
 use Rattle.abstract_state.specs.Knows.{moment}
@@ -37,10 +32,10 @@ use Rattle.abstract_state.specs.State as variables
 use Rattle.abstract_state.proofs.Knows.{defined-stored, entire-value, nonempty-known, read-in}
 use Rattle.abstract_state.proofs.Ranged.{common-in}
 use Rattle.component_states.specs.Holds.{Knows}
-use Rattle.component_states.specs.States.{State, dead, over_variables}
-use Rattle.structured_states.specs.Loops.{all_limits, gives_claims, is_ordinal_variable, limits_at, limits_or_integer, names_entire, plain, plain_facts}
+use Rattle.component_states.specs.States.{State, dead}
+use Rattle.structured_states.specs.Loops.{all_limits, gives_claims, is_ordinal_variable, limits_or_integer, names_entire, plain, plain_facts}
 use Rattle.call_states.specs.Aliases.{variable_values}
-use Rattle.call_states.specs.Environments.{Fine, Leaves, Proper}
+use Rattle.call_states.specs.Environments.{Fine, Leaves, LeavesPassed, Proper}
 use Rattle.call_states.specs.Exit.{claimed_of_variable, exit_range, result_range}
 use Rattle.call_states.specs.Sections.{BlockClaims, all_block_claims, all_pairs, block_claims_at}
 use Rattle.call_states.specs.Starts.{block_start}
@@ -52,19 +47,17 @@ use Rattle.call_states.proofs.Entered.{begun-behind, roots-are, typed-behind}
 use Rattle.call_states.proofs.Headings.{heading-at, same-numbers, well-heading}
 use Rattle.call_states.proofs.Started.{called-start}
 use Rattle.expression_checker.specs.declared.fault.Rule.TheVariants.{Exit}
-use Rattle.expression_checker.specs.Visits.{visits_of}
-use Rattle.expression_checker.specs.Walk as flow
 use Rattle.expression_checker.specs.Walk.{Context, Walked, followed}
-use Rattle.expression_checker.proofs.Sound.{Any_value, Behind, Called, Good, Goes, Here, IsForetold, IsPartOf, LiesInResult, Returned, SoundCalls, Stands, World}
-use Rattle.expression_checker.proofs.Sound.{activation_of, errs-here, good-give, good-then, good-weaker, here-behind, nothing-new, open-here, over-known}
-use Rattle.expression_checker.proofs.Sound.{part-left, part-right, parts_in, proper-grown, sites_in, stands-as, types_in, unbroken-left, unbroken-right, variables_in}
+use Rattle.expression_checker.proofs.Sound.{Called, Good, Goes, Here, IsPartOf, LiesInResult, Returned, SoundCalls, World}
+use Rattle.expression_checker.proofs.Sound.{activation_of, errs-here, good-give, good-then, good-weaker, nothing-new, open-here, over-known}
+use Rattle.expression_checker.proofs.Sound.{part-left, part-right, parts_in, proper-grown, sites_in, unbroken-left, unbroken-right, variables_in}
 use Rattle.expression_checker.proofs.SoundCalls.{CallLaws}
-use Rattle.cert_checker.specs.Walk as walk
 use Rattle.cert_checker.specs.Walk.{begin, block_walk, blocks_walk, facts_given, first_context, program_walk, result_use, statement_walk}
-use Rattle.cert_checker.proofs.EffectsParameters.{well-block, well-body}
+use Rattle.cert_checker.proofs.EffectsParameters.{well-body}
 use Rattle.cert_checker.proofs.EffectsRoutines.{calls-leave}
+use Rattle.cert_checker.proofs.PassedLeft.{passed-left}
+use Rattle.expression_checker.proofs.EffectsCalls.{CallsLeave}
 use Rattle.cert_checker.proofs.SoundForms.{statement-sound}
-use Rattle.cert_checker.proofs.SoundLoops.{here-as}
 use Rattle.cert_checker.proofs.Written.{Foretold, kept-rule}
 
 -- ---- the walk over each block
@@ -153,6 +146,22 @@ good-since world P s t (effect.Stops e u) same grown good = record {
   new = λ visit inside. ⊎_elim (λ old. inl (subst (λ (visits : List Visit). Contains visits visit) same old)) (λ meets. inr meets) (good.new visit inside);
   gives = tt;
 }
+
+-- what value parameters get
+ready-store : (tree : Tree) (visible : Environment) (roots : List ℕ) (arguments : List Argument) (begun ready : effect.State)
+    → assign_all tree visible roots arguments begun ≡ effect.Gives tt ready → ready.store ≡ all_assigned tree visible roots arguments begun.store
+ready-store tree visible roots arguments begun ready gives =
+    sym (ap (λ (reply : Reply (Unit {0})). (state_after reply).store) (sym (assigns-all tree visible roots arguments begun) ∙ gives))
+
+-- the result is fetched, and the store is as it was
+result-leaves : (found : Option FunctionResult) (visible : Environment) (s t : effect.State) (v : Value) → result_of found visible s ≡ effect.Gives v t
+    → t.store ≡ s.store
+result-leaves None visible s t v is = let same : s ≡ t = cc in ap (λ (u : effect.State). u.store) (sym same)
+result-leaves (Some result) visible s t v is = by (held s.store (visible.variables result.root)) is
+  where
+    by : (found : Option Value) → effect.fetched found result.defined s ≡ effect.Gives v t → t.store ≡ s.store
+    by None gives = absurd (cc)
+    by (Some w) gives = let same : s ≡ t = cc in ap (λ (u : effect.State). u.store) (sym same)
 
 -- ---- a program
 
@@ -327,8 +336,7 @@ module _ (tree : Tree) (certificate : Certificate) (unbroken : (program_walk tre
           (subst (λ (list : List ℕ). Contains list result.root) roots (0, omega arith, refl)) in
           let at : found.0 ≡ result.root = let root_is = found.2 in omega (arith, root_is) in
           let there : slice_get tree.variables.items result.root ≡ Some found.1 = ap (slice_get tree.variables.items) (sym at) ∙ found.3 in
-          let of_block = (and_parts (nat_eq found.1.block number) (is_result_kind found.1.kind) found.4).0 in
-          (
+          let of_block = (and_parts (nat_eq found.1.block number) (is_result_kind found.1.kind) found.4).0 in (
             ltb-true result.defined (sites_in world) (and_parts (nat_lt result.defined (sites_in world)) _ own).0,
             ap (of_one (λ (v : Variable). is_round outline number v.block)) there
                 ∙ ap (of_one (encloses found.1.block number)) (heading-at tree number block block_is)
@@ -354,15 +362,23 @@ module _ (tree : Tree) (certificate : Certificate) (unbroken : (program_walk tre
   -- ---- calls
 
   module _ (calls : Calls) (sound : SoundCalls world calls) (number : ℕ) (block : Block) (arguments : List Argument) (caller : Environment)
-      (s : effect.State) (called : Called world number block arguments caller s) (fine : Fine tree s) where
+      (s : effect.State) (called : Called world number block arguments caller s) (fine : Fine tree s)
+      (leave : CallsLeave tree world.blocks calls) where
     abbrev callee : Environment
     callee = environment_of tree (activation_of number block arguments caller s)
 
     abbrev roots : List ℕ
     roots = block.heading.parameters.items
 
+    -- what its value parameters get
+    abbrev received : Store
+    received = all_assigned tree callee roots arguments s.store
+
+    -- what holds at its end
     abbrev AtEnd : Value → Store → Type 0
-    AtEnd = Ends calls sound number block called.block_is callee
+    AtEnd v store =
+        Ends calls sound number block called.block_is callee v store
+        × LeavesPassed tree s.activations number (claims_on number).changes received store
 
     is_called : IsCalled tree world.pairs number block arguments caller s.activations called.from
     is_called = record { well = well; block_is = called.block_is; proper = called.proper; callable = called.callable; fit = called.fit }
@@ -401,15 +417,22 @@ module _ (tree : Tree) (certificate : Certificate) (unbroken : (program_walk tre
         (effect_of block.body (record { visible = callee; calls = calls }) ready) (λ done. result_of block.heading.result callee)
         (body-good calls sound number block called.block_is callee ready (ready-fine left) proper-here (known-here left))
         (λ done t is told.
-        result-good calls sound number block called.block_is callee t
+        let passed = passed-left tree well certificate unbroken world.pairs calls leave number block arguments caller s called.from is_called ready t done
+        refl is in
+        good-weaker world (Ends calls sound number block called.block_is callee) AtEnd t (result_of block.heading.result callee t)
+        (λ v u gives ends.
+        let same = result-leaves block.heading.result callee t u v gives in
+        (ends.so, subst (λ (store : Store). LeavesPassed tree s.activations number (claims_on number).changes received store) (sym same) passed))
+        (result-good calls sound number block called.block_is callee t
         (record {
           block_is = refl;
           fine = told.fine;
           proper = proper-grown world number ready.activations t.activations callee told.grown proper-here;
           stands = told.so.stands;
-        }))
+        })))
 
-    executed-good : (left : ℕ) → Good world AtEnd (begun_with left) (executed tree calls block (activation_of number block arguments caller s) (begun_with left))
+    executed-good : (left : ℕ)
+        → Good world AtEnd (begun_with left) (executed tree calls block (activation_of number block arguments caller s) (begun_with left))
     executed-good left =
         let begun = begun_with left in
         subst (λ (reply : Reply (Unit {0})). Good world AtEnd begun (effect.and_then reply (λ done. execution)))
@@ -453,14 +476,23 @@ module _ (tree : Tree) (certificate : Certificate) (unbroken : (program_walk tre
   sound-calls (suc depth) number block arguments caller s called fine =
       let calls = calls_of tree depth in
       let sound = sound-calls depth in
-      let AtEnd = Ends calls sound number block called.block_is (environment_of tree (activation_of number block arguments caller s)) in
+      let leave = calls-leave tree well certificate unbroken depth in
+      let visible = environment_of tree (activation_of number block arguments caller s) in
+      let received = all_assigned tree visible block.heading.parameters.items arguments s.store in
+      let P = AtEnd calls sound number block arguments caller s called fine leave in
       let left = (calls-leave tree well certificate unbroken (suc depth)).known number block arguments caller s called.block_is in
-      good-weaker world AtEnd (Returned world number block arguments caller s) s (calls_of tree (suc depth) number arguments caller s)
+      good-weaker world P (Returned world number block arguments caller s) s (calls_of tree (suc depth) number arguments caller s)
       (λ v t is behind. record {
         leaves = subst (λ (u : effect.State). Leaves s.activations (claims_on number).changes
-            (environment_of tree (activation_of number block arguments caller s)) s.store u.store) (ap state_after is) left.leaves;
-        result = behind.so.0;
-        exit = behind.so.1;
+            (environment_of tree (activation_of number block arguments caller s)) s.store u.store) (ap state_after is)
+            (record { values = left.leaves.values; defined = left.leaves.defined });
+        passed = λ begun ready same gives.
+            let ready_is : ready.store ≡ received =
+            ready-store tree visible block.heading.parameters.items arguments begun ready gives
+            ∙ ap (all_assigned tree visible block.heading.parameters.items arguments) same in
+            subst (λ (store : Store). LeavesPassed tree s.activations number (claims_on number).changes store t.store) (sym ready_is) behind.so.1;
+        result = behind.so.0.0;
+        exit = behind.so.0.1;
       })
-      (subst (λ (found : Option Block). Good world AtEnd s (activated tree calls number found arguments caller s)) (sym called.block_is)
-      (activated-good calls sound number block arguments caller s called fine))
+      (subst (λ (found : Option Block). Good world P s (activated tree calls number found arguments caller s)) (sym called.block_is)
+      (activated-good calls sound number block arguments caller s called fine leave))
