@@ -104,6 +104,12 @@ count_grows test (x ∷ xs) (suc i) (suc j) le =
     let second : count_by test (x ∷ take j xs) ≡ one + count_by test (take j xs) = sum_by-cons (λ y. if test y then 1 else 0) x (take j xs) in
     subst (λ n. n ≤ count_by test (x ∷ take j xs)) (sym first) (subst (λ n. one + count_by test (take i xs) ≤ n) (sym second) (omega (arith, rest)))
 
+pub take_short : {A : Type 0} (n : ℕ) (xs : List A) → length (take n xs) ≤ length xs
+take_short zero [] = omega arith
+take_short zero (x ∷ xs) = omega arith
+take_short (suc n) [] = omega arith
+take_short (suc n) (x ∷ xs) = omega (arith, take_short n xs)
+
 -- ---- turns for each instruction
 
 -- the most repeats in one another that are in these blocks

@@ -45,7 +45,7 @@ use Rattle.code_generator.proofs.Acts.{framed}
 use Rattle.code_generator.proofs.Calling.{enters, full}
 use Rattle.code_generator.proofs.Calls.{calls_run}
 use Rattle.code_generator.proofs.Cells.{small_block}
-use Rattle.code_generator.proofs.Closing.{Closes, closing, count_grows, first_block, more_behind, most_repeats, repeats_within}
+use Rattle.code_generator.proofs.Closing.{Closes, closing, count_grows, first_block, more_behind, most_repeats, repeats_within, take_short}
 use Rattle.code_generator.proofs.Explained.{BeginsMeaning, Leads, as_much, as_much_more, end_over, explained_done, explained_full, explained_more, leads_before}
 use Rattle.code_generator.proofs.Explained.{leads_to, stops_end}
 use Rattle.code_generator.proofs.Nesting.{well_block}
@@ -346,3 +346,146 @@ module _ (tree : Tree) (well : IsWellFormed tree) (short : is_too_large tree ≡
         complete = λ input cells turns small. subst (λ (g : ℕ → Outcome). ((budget : ℕ) × DoesAsMuch tree (meaning tree input turns) (g budget))
             ⊎ ((budget : ℕ) × ((g budget).stop ≡ stop.StoreFull))) (sym (λ i budget. same input cells budget i)) (complete f.0 f.1 f.2 input cells small turns);
       }
+
+-- ---- the full code, and the code without the checks of some sites
+
+-- where no place moves, each instruction stays as it is
+unmoved : (i : Instr) → moved (λ place. place) i ≡ i
+unmoved (instr.Jump target) = refl
+unmoved (instr.JumpIfFalse target) = refl
+unmoved (instr.CallProcedure n target) = refl
+unmoved i = refl
+
+all_open : (site : Option ℕ) → option_map_or (λ (_ : ℕ). true) site true ≡ true
+all_open None = refl
+all_open (Some site) = refl
+
+-- a turn of each repeat of a block, and one for its call
+abbrev rate_of : Tree → ℕ
+rate_of tree = suc (most_repeats tree.blocks.items)
+
+-- the full code as it stands
+abbrev as_it_is : ℕ → List Plain → List Instr → Target
+as_it_is most sites code =
+    record { sites = sites; code = code; whole = code; to = λ place. place; is_open = λ _. true; rate = suc most; one_at_least = omega arith }
+
+stands_itself : (most : ℕ) (sites : List Plain) (is before : List Instr) → Stands (as_it_is most sites (before ++ is)) (length before) is
+stands_itself most sites [] before = tt
+stands_itself most sites (i ∷ is) before =
+    let t = as_it_is most sites (before ++ i ∷ is) in
+    let within : length before < length (before ++ i ∷ is) = omega (arith, length-append before (i ∷ is)) in
+    let here = slice_get-get_or (before ++ i ∷ is) (length before) i within ∙ ap Some (get_or-append_seam before i is i) in
+    let n : length (before ++ i ∷ []) ≡ length before + 1 = omega (arith, length-append before (i ∷ [])) in
+    let rest = stands_itself most sites is (before ++ i ∷ []) in
+    let rest' = subst (λ l. Stands (as_it_is most sites l) (length (before ++ i ∷ [])) is) (append_assoc before (i ∷ []) is) rest in (
+      subst (StandsAt t (length before) i) (sym (all_open (check_site i))) (here ∙ ap Some (sym (unmoved i)), refl),
+      subst (λ m. Stands t m is) n rest',
+      here,
+    )
+
+module _ (tree : Tree) (well : IsWellFormed tree) (short : is_too_large tree ≡ false) where
+  whole_short : length (program_code tree) ≤ 1000000
+  whole_short = ltb-false 1000000 (length (program_code tree)) (or_parts (nat_lt 1000000 (length (program_code tree))) _ short).0
+
+  few_repeats : (number : ℕ) (block : Block) → slice_get tree.blocks.items number ≡ Some block → suc (repeats block.body) ≤ rate_of tree
+  few_repeats number block at = omega (arith, repeats_within tree.blocks.items number block at)
+
+  -- behind a call another instruction follows
+  call_within : (place n routine : ℕ) → slice_get (program_code tree) place ≡ Some (instr.CallProcedure n routine)
+      → (place + 1 < length (program_code tree)) × (place + 1 ≤ 1000000)
+  call_within place n routine at =
+      let m = more_behind (program_code tree) place n routine (closing tree well.a_block) at in
+      let long = ap length m.2 ∙ length-append m.0 (m.1 ∷ []) in
+      (omega (arith, m.4, long), omega (arith, m.4, long, whole_short))
+
+-- the code of a well formed tree follows its program
+pub follows : (code : Code) (tree : Tree) → code.instructions.items ≡ program_code tree → code.sites.items ≡ site_table tree.sites.items
+    → is_too_large tree ≡ false → IsWellFormed tree → Follows code tree
+follows code tree is sites_are short well =
+    let most = most_repeats tree.blocks.items in
+    let sites = site_table tree.sites.items in
+    follows_there tree well short (as_it_is most sites (program_code tree)) refl (stands_itself most sites (program_code tree) []) refl
+    (call_within tree well short) (few_repeats tree well short) (λ input turns site errs closed. cc) code is sites_are
+
+-- the code as a remover of checks leaves it
+abbrev without : ℕ → List Plain → List Plain → List Instr → List Instr → Target
+without most sites open_sites whole code =
+    record {
+      sites = sites;
+      code = code;
+      whole = whole;
+      to = moved_place (is_among open_sites) whole;
+      is_open = is_among open_sites;
+      rate = suc most;
+      one_at_least = omega arith;
+    }
+
+module _ (most : ℕ) (sites open_sites : List Plain) (whole code : List Instr) (keeps : KeepsInstructions open_sites whole code) where
+  abbrev stays_there : Instr → Bool
+  stays_there = stays (is_among open_sites)
+
+  abbrev goes_to : ℕ → ℕ
+  goes_to = moved_place (is_among open_sites) whole
+
+  one_further : (place : ℕ) (i : Instr) → stays_there i ≡ true → slice_get whole place ≡ Some i → goes_to (place + 1) ≡ goes_to place + 1
+  one_further place i stayed here =
+      let same = get_or_from_slice_get whole place i i here in
+      count_by_more_yes stays_there whole place i (slice_get_within whole place i here) (ap stays_there same ∙ stayed)
+
+  stood_by : (place : ℕ) (i : Instr) (stayed : Bool) → stays_there i ≡ stayed → slice_get whole place ≡ Some i
+      → StandsAt (without most sites open_sites whole code) place i stayed
+  stood_by place i true stayed here = (keeps place i here stayed, one_further place i stayed here)
+  stood_by place i false stayed here =
+      let same = get_or_from_slice_get whole place i i here in
+      count_by_more_no stays_there whole place i (slice_get_within whole place i here) (ap stays_there same ∙ stayed)
+
+  stands_without : (is before : List Instr) → before ++ is ≡ whole → Stands (without most sites open_sites whole code) (length before) is
+  stands_without [] before split = tt
+  stands_without (i ∷ is) before split =
+      let within : length before < length (before ++ i ∷ is) = omega (arith, length-append before (i ∷ is)) in
+      let here = slice_get-get_or (before ++ i ∷ is) (length before) i within ∙ ap Some (get_or-append_seam before i is i) in
+      let there = subst (λ l. slice_get l (length before) ≡ Some i) split here in
+      let n : length (before ++ i ∷ []) ≡ length before + 1 = omega (arith, length-append before (i ∷ [])) in
+      let rest = stands_without is (before ++ i ∷ []) (append_assoc before (i ∷ []) is ∙ split) in (
+        stood_by (length before) i (stays_there i) refl there,
+        subst (λ m. Stands (without most sites open_sites whole code) m is) n rest,
+        there,
+      )
+
+  -- what closes the code stays
+  closing_stays : (i : Instr) → Closes i → stays_there i ≡ true
+  closing_stays instr.Stop closes = refl
+  closing_stays (instr.Return results) closes = refl
+  closing_stays i closes = absurd closes
+
+  -- behind a call an instruction follows there too
+  kept_within : (place n routine : ℕ) → slice_get whole place ≡ Some (instr.CallProcedure n routine) → (front : List Instr) (last : Instr)
+      → whole ≡ front ++ last ∷ [] → Closes last → place < length front → length whole ≤ 1000000
+      → (goes_to place + 1 < length code) × (goes_to place + 1 ≤ 1000000)
+  kept_within place n routine at front last split closes low few =
+      let further = one_further place (instr.CallProcedure n routine) refl at in
+      let grows = count_grows stays_there whole (place + 1) (length front) (omega (arith, low)) in
+      let within : length front < length (front ++ last ∷ []) = omega (arith, length-append front (last ∷ [])) in
+      let here = ap (λ l. slice_get l (length front)) split
+      ∙ slice_get-get_or (front ++ last ∷ []) (length front) last within ∙ ap Some (get_or-append_seam front last [] last) in
+      let kept = keeps (length front) last here (closing_stays last closes) in
+      let inside = slice_get_within code (goes_to (length front)) _ kept in
+      let fewer = count_by-le-length stays_there (take (place + 1) whole) in
+      (omega (arith, further, grows, inside), omega (arith, further, fewer, few, take_short (place + 1) whole))
+
+is_false : (b : Bool) → b ≡ true → b ≡ false → ⊥
+is_false b is isnt = cc
+
+-- the code without the checks of sites at which the program never errs follows it too
+pub stripped_follows : StrippedFollows
+stripped_follows tree open_sites code well short sites_are keeps never =
+    let whole = program_code tree in
+    let sites = site_table tree.sites.items in
+    let most = most_repeats tree.blocks.items in
+    follows_there tree well short (without most sites open_sites whole code.instructions.items) refl
+    (stands_without most sites open_sites whole code.instructions.items keeps whole [] refl) refl
+    (λ place n routine at.
+    let m = more_behind whole place n routine (closing tree well.a_block) at in
+    kept_within most sites open_sites whole code.instructions.items keeps place n routine at m.0 m.1 m.2 m.3 m.4 (whole_short tree well short))
+    (few_repeats tree well short)
+    (λ input turns site errs closed. is_false (is_among open_sites site) (never input turns site errs) closed) code refl sites_are
