@@ -495,74 +495,74 @@ module _ (g : Setting) where
   reached_there level start owner (x ∷ rest) indexes l = refl
 
   module _ (access : Access) (wanted : TypeId → Bool) (count : ℕ) (indexes : List (List Instr)) (l : LeadsTo wanted access.root access.selectors.items count)
-      where
-    abbrev home : Home
-    home = variable_home g.scope access.root
+    where
+      abbrev home : Home
+      home = variable_home g.scope access.root
 
-    abbrev level : ℕ
-    level = links_to g.scope home.level
+      abbrev level : ℕ
+      level = links_to g.scope home.level
 
-    abbrev selectors : List Selector
-    selectors = access.selectors.items
+      abbrev selectors : List Selector
+      selectors = access.selectors.items
 
-    abbrev shown : Shown g.tree g.world g.fixed g.below g.frame g.scope g.environment access.root l.variable
-    shown = g.shows access.root l.variable l.declared l.visible
+      abbrev shown : Shown g.tree g.world g.fixed g.below g.frame g.scope g.environment access.root l.variable
+      shown = g.shows access.root l.variable l.declared l.visible
 
-    entry_meant : (evaluations : List Evaluation) → meaning.accessed access evaluations (around g)
-        ≡ (λ s. selected selectors evaluations (around g) (Some shown.place) (entered access.number s))
-    entry_meant evaluations = ap {B = Action (Option Place)} (λ (o : Option Place) (s : effect.State). selected selectors evaluations (around g) o (entered access.number s)) shown.place_is
+      entry_meant : (evaluations : List Evaluation) → meaning.accessed access evaluations (around g)
+          ≡ (λ s. selected selectors evaluations (around g) (Some shown.place) (entered access.number s))
+      entry_meant evaluations = ap {B = Action (Option Place)} (λ (o : Option Place) (s : effect.State). selected selectors evaluations (around g) o (entered access.number s)) shown.place_is
 
-    begins_by : (way : Way) → Reaches g.tree g.world g.fixed g.below shown.place l.variable (shown.owner + home.start) home.refers way
-        → Begins access l.last indexes
-    begins_by Direct r =
-        let whole = r.1 in
-        let near = g.near access.root l.variable l.declared r.0 in
-        let start = shown.owner + home.start in
-        let close = part_up_to g.tree.types g.world g.below shown.place l.variable.type_id start whole in
-        let all = ahead (start + cells_of g.tree.types l.variable.type_id) selectors shown.place l.variable.type_id start l.last l.well l.ends close in
-        let within = all.part.within in
-        let inside = whole.within in
-        let at : start + fields_offset selectors ≡ shown.owner + access_offset g.scope access = omega arith in
-        let part = part_later g.tree.types g.world (start + cells_of g.tree.types l.variable.type_id) g.below all.there all.its (start + fields_offset selectors)
-        (omega arith) all.part in
-        record {
-          rest = behind_fields selectors;
-          there = all.there;
-          its = all.its;
-          cell = shown.owner + access_offset g.scope access;
-          part = subst (PartAt all.there all.its) at part;
-          ends = all.ends;
-          counts = all.counts;
-          well = all.well;
-          meant = λ evaluations. entry_meant evaluations
-              ∙ ap {B = Action (Option Place)} (λ (action : Action (Option Place)) (s : effect.State). action (entered access.number s)) (all.meant evaluations);
-          first = instr.LoadAddress level (access_offset g.scope access);
-          pushes = address_pushed level (access_offset g.scope access) shown.owner shown.leads (omega arith);
-          way = reached_from level (access_offset g.scope access) (behind_fields selectors) indexes;
-          way_is = ap (λ b. if b then By (instr.Load level home.start ∷ selectors_code selectors indexes)
-              else reached_from level (access_offset g.scope access) (behind_fields selectors) indexes) r.0;
-          reaches = reached_there level (access_offset g.scope access) shown.owner (behind_fields selectors) indexes shown.leads;
-        }
-    begins_by (ByAddress address) r = record {
-      rest = selectors;
-      there = shown.place;
-      its = l.variable.type_id;
-      cell = address;
-      part = r.2;
-      ends = l.ends;
-      counts = refl;
-      well = l.well;
-      meant = entry_meant;
-      first = instr.Load level home.start;
-      pushes = reference_pushed level home.start shown.owner address shown.leads r.1;
-      way = By (instr.Load level home.start ∷ selectors_code selectors indexes);
-      way_is = ap (λ b. if b then By (instr.Load level home.start ∷ selectors_code selectors indexes)
-          else reached_from level (access_offset g.scope access) (behind_fields selectors) indexes) r.0;
-      reaches = refl;
-    }
+      begins_by : (way : Way) → Reaches g.tree g.world g.fixed g.below shown.place l.variable (shown.owner + home.start) home.refers way
+          → Begins access l.last indexes
+      begins_by Direct r =
+          let whole = r.1 in
+          let near = g.near access.root l.variable l.declared r.0 in
+          let start = shown.owner + home.start in
+          let close = part_up_to g.tree.types g.world g.below shown.place l.variable.type_id start whole in
+          let all = ahead (start + cells_of g.tree.types l.variable.type_id) selectors shown.place l.variable.type_id start l.last l.well l.ends close in
+          let within = all.part.within in
+          let inside = whole.within in
+          let at : start + fields_offset selectors ≡ shown.owner + access_offset g.scope access = omega arith in
+          let part = part_later g.tree.types g.world (start + cells_of g.tree.types l.variable.type_id) g.below all.there all.its (start + fields_offset selectors)
+          (omega arith) all.part in
+          record {
+            rest = behind_fields selectors;
+            there = all.there;
+            its = all.its;
+            cell = shown.owner + access_offset g.scope access;
+            part = subst (PartAt all.there all.its) at part;
+            ends = all.ends;
+            counts = all.counts;
+            well = all.well;
+            meant = λ evaluations. entry_meant evaluations
+                ∙ ap {B = Action (Option Place)} (λ (action : Action (Option Place)) (s : effect.State). action (entered access.number s)) (all.meant evaluations);
+            first = instr.LoadAddress level (access_offset g.scope access);
+            pushes = address_pushed level (access_offset g.scope access) shown.owner shown.leads (omega arith);
+            way = reached_from level (access_offset g.scope access) (behind_fields selectors) indexes;
+            way_is = ap (λ b. if b then By (instr.Load level home.start ∷ selectors_code selectors indexes)
+                else reached_from level (access_offset g.scope access) (behind_fields selectors) indexes) r.0;
+            reaches = reached_there level (access_offset g.scope access) shown.owner (behind_fields selectors) indexes shown.leads;
+          }
+      begins_by (ByAddress address) r = record {
+        rest = selectors;
+        there = shown.place;
+        its = l.variable.type_id;
+        cell = address;
+        part = r.2;
+        ends = l.ends;
+        counts = refl;
+        well = l.well;
+        meant = entry_meant;
+        first = instr.Load level home.start;
+        pushes = reference_pushed level home.start shown.owner address shown.leads r.1;
+        way = By (instr.Load level home.start ∷ selectors_code selectors indexes);
+        way_is = ap (λ b. if b then By (instr.Load level home.start ∷ selectors_code selectors indexes)
+            else reached_from level (access_offset g.scope access) (behind_fields selectors) indexes) r.0;
+        reaches = refl;
+      }
 
-    pub begins : Begins access l.last indexes
-    begins = begins_by shown.way shown.reaches
+      pub begins : Begins access l.last indexes
+      begins = begins_by shown.way shown.reaches
 
   module _ (access : Access) (indexes : Indexes) (last : TypeId) (start : Begins access last (codes indexes))
       (good : are_well_formed_indexes indexes ≡ true) (counts : length (expressions indexes) ≡ index_count access.selectors.items) where

@@ -1,10 +1,9 @@
 -- The code of an assignment, to an ordinal or of a whole value: the target is accessed first, then comes the value, and the
 -- components of the target get it; or it stops as the assignment does.
-use Rattle.std.proofs.Common.{◌≡◌, ℕ, ◌+◌, ◌<◌, ◌≤◌, max, List, [], ◌∷◌, ◌++◌, length, map, Option, Some, None, Ok, inr, refl, sym, ap, ◌∙◌, subst, arith}
+use Rattle.std.proofs.Common.{◌≡◌, ℕ, ◌+◌, ◌<◌, ◌≤◌, max, List, [], ◌∷◌, ◌++◌, length, map, Option, Some, Ok, inr, refl, sym, ap, ◌∙◌, subst, arith}
 use Rattle.std.proofs.Common.{length-append, Bool, true, false}
-use Rattle.std.specs.Prelude.{slice_set, ℤ, pos, int_le, nat_eq, nat_lt, not, ◌&&◌}
+use Rattle.std.specs.Prelude.{slice_set, ℤ, pos, int_le, nat_lt, not, ◌&&◌}
 use Rattle.std.proofs.lemmas.Bool.{and_parts, eqb-true, ltb-true}
-use Rattle.std.proofs.lemmas.Option.{same_Some}
 use Rattle.pcode_assembler.specs.declared.instr.Instr.{Instr}
 use Rattle.pcode_assembler.specs.declared.instr.Instr.TheVariants as instr
 use Rattle.types.specs.Forms.{Form}

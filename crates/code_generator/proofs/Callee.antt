@@ -8,15 +8,14 @@ use Rattle.std.proofs.lemmas.Bool.{and_parts, eqb-true, false≢true, false_from
 use Rattle.std.proofs.lemmas.List.{length-map}
 use Rattle.std.proofs.lemmas.List.Sums.{sum_by-cons}
 use Rattle.std.proofs.lemmas.Option.{none-some, same_Some, slice_get_within}
-use Rattle.types.specs.Components.{Steps, components_of}
+use Rattle.types.specs.Components.{components_of}
 use Rattle.types.specs.Types.{cells_of}
 use Rattle.types.proofs.Laid.{length_components}
 use Rattle.typed_tree.specs.declared.tree.Block.{Block}
-use Rattle.typed_tree.specs.declared.tree.Tree.{Tree}
 use Rattle.typed_tree.specs.declared.tree.Variable.{Variable}
 use Rattle.typed_tree.specs.declared.tree.VariableKind.{VariableKind}
 use Rattle.typed_tree.specs.declared.tree.VariableKind.TheVariants as kinds
-use Rattle.typed_tree.specs.WellFormed.{encloses, heading_of, is_one_of, is_parameter_kind, is_round, is_value_kind, is_variable_kind, is_visible, of_one}
+use Rattle.typed_tree.specs.WellFormed.{encloses, heading_of, is_one_of, is_parameter_kind, is_round, is_variable_kind, is_visible, of_one}
 use Rattle.typed_tree.specs.WellFormed.{outline_of, roots_where}
 use Rattle.meaning.specs.declared.store.Value.TheVariants as value
 use Rattle.meaning.specs.Store.{Environment, Place, place_eq}
@@ -32,14 +31,14 @@ use Rattle.code_scheme.specs.Need.{block_need, living_need}
 use Rattle.code_scheme.specs.Scopes.{Scope, block_level, block_scope, called_routine, cells_where, count, home_of, is_other_of, is_parameter_of, level_of, links}
 use Rattle.code_scheme.specs.Scopes.{links_to, offset, other_cells, parameter_cells, routine_or_none, slot_cells, start_of, variable_home}
 use Rattle.code_scheme.proofs.Depths.{block_within}
-use Rattle.code_scheme.proofs.Routines.{Standing, block_stands}
+use Rattle.code_scheme.proofs.Routines.{block_stands}
 use Rattle.code_generator.proofs.Alike.{Activation, World, Lives, Fixed, Lies, LiesIn, IsApart, Leads, leads_above, leads_once, leads_split, leads_within}
 use Rattle.code_generator.proofs.Alike.{slice_get-front}
 use Rattle.code_generator.proofs.Cells.{Owned, home_is, lies_inside, other_ends, others_few, own_scalars, owned, owned_back, owned_in, parameter_ends}
-use Rattle.code_generator.proofs.Cells.{slot_of, small_block, start_near, starts_as_other, starts_as_parameter, variable_ends, where_within}
-use Rattle.code_generator.proofs.Laying.{Found, Laid, fitted_length, found, marked, marked_long, no_reference}
-use Rattle.code_generator.proofs.Nesting.{Callable, Declared, WellBlock, heading_at, one_there, shallow, well_block}
-use Rattle.code_generator.proofs.Parts.{IsPart, inner, part_above}
+use Rattle.code_generator.proofs.Cells.{slot_of, small_block, start_near, starts_as_other, starts_as_parameter, variable_ends}
+use Rattle.code_generator.proofs.Laying.{Laid, fitted_length, found, marked, marked_long, no_reference}
+use Rattle.code_generator.proofs.Nesting.{Callable, heading_at, shallow, well_block}
+use Rattle.code_generator.proofs.Parts.{IsPart, part_above}
 use Rattle.code_generator.proofs.Passing.{Fitted}
 use Rattle.code_generator.proofs.Places.{place_apart}
 use Rattle.code_generator.proofs.Repeats.{repeats}
@@ -249,8 +248,15 @@ module _ (g : Setting) (number : ℕ) (block : Block) (block_is : slice_get g.tr
             slice_behind front (row ++ replicate others fill) (length f.marks_front + l.inward) c
             (omega (arith, front_long, cell, start, begins, mine, f.front_is, f.marks_front_is))
             ∙ slice_before row (replicate others fill) (length f.marks_front + l.inward)
-            (omega (arith, ap length f.marks, length-append f.marks_front (map (mark o.variable) f.first ++ f.marks_behind),
-            length-append (map (mark o.variable) f.first) f.marks_behind, length-map f.first (mark o.variable), long, inward))
+            (omega (
+              arith,
+              ap length f.marks,
+              length-append f.marks_front (map (mark o.variable) f.first ++ f.marks_behind),
+              length-append (map (mark o.variable) f.first) f.marks_behind,
+              length-map f.first (mark o.variable),
+              long,
+              inward,
+            ))
             ∙ ap (λ l'. slice_get l' (length f.marks_front + l.inward)) f.marks
             ∙ slice_behind f.marks_front (map (mark o.variable) f.first ++ f.marks_behind) l.inward (length f.marks_front + l.inward) refl
             ∙ slice_get-front (map (mark o.variable) f.first) f.marks_behind l.inward fill
@@ -484,8 +490,14 @@ module _ (g : Setting) (number : ℕ) (block : Block) (block_is : slice_get g.tr
         inside_at (length f.marks_front + 0) (new_frame + (variable_home new_scope root).start)
         (omega (arith, its_start, begins, mine, f.front_is, f.marks_front_is))
         ∙ slice_before shape (replicate others None) (length f.marks_front + 0)
-        (omega (arith, ap length f.marks, length-append f.marks_front (map (fixed_mark v) f.first ++ f.marks_behind),
-        length-append (map (fixed_mark v) f.first) f.marks_behind, length-map f.first (fixed_mark v), ap length r.3))
+        (omega (
+          arith,
+          ap length f.marks,
+          length-append f.marks_front (map (fixed_mark v) f.first ++ f.marks_behind),
+          length-append (map (fixed_mark v) f.first) f.marks_behind,
+          length-map f.first (fixed_mark v),
+          ap length r.3,
+        ))
         ∙ ap (λ l. slice_get l (length f.marks_front + 0)) f.marks
         ∙ slice_behind f.marks_front (map (fixed_mark v) f.first ++ f.marks_behind) 0 (length f.marks_front + 0) refl
         ∙ ap (λ first. slice_get (map (fixed_mark v) first ++ f.marks_behind) 0) r.3
@@ -496,8 +508,11 @@ module _ (g : Setting) (number : ℕ) (block : Block) (block_is : slice_get g.tr
           owner = new_frame;
           leads = its_leads;
           way = ByAddress r.1;
-          reaches = (its_refers ∙ refers, fixed,
-              part_above g.tree.types new_activation g.world g.below new_below r.0 v.type_id r.1 (omega arith) r.4);
+          reaches = (
+            its_refers ∙ refers,
+            fixed,
+            part_above g.tree.types new_activation g.world g.below new_below r.0 v.type_id r.1 (omega arith) r.4,
+          );
         }
 
     shown_own : (kind : VariableKind) → v.kind ≡ kind → NewShown root v
@@ -560,9 +575,11 @@ module _ (g : Setting) (number : ℕ) (block : Block) (block_is : slice_get g.tr
         → Reaches g.tree new_world new_fixed new_below x.place v (x.owner + (variable_home g.scope root).start) (variable_home g.scope root).refers way
     reaches_outside Direct r =
         (r.0, part_above g.tree.types new_activation g.world g.below new_below x.place v.type_id (x.owner + (variable_home g.scope root).start) (omega arith) r.1)
-    reaches_outside (ByAddress address) r =
-        (r.0, outer_fixed (x.owner + (variable_home g.scope root).start) (Some (Number (pos address))) r.1,
-        part_above g.tree.types new_activation g.world g.below new_below x.place v.type_id address (omega arith) r.2)
+    reaches_outside (ByAddress address) r = (
+      r.0,
+      outer_fixed (x.owner + (variable_home g.scope root).start) (Some (Number (pos address))) r.1,
+      part_above g.tree.types new_activation g.world g.below new_below x.place v.type_id address (omega arith) r.2,
+    )
 
     shown_outside : NewShown root v
     shown_outside = record {

@@ -21,7 +21,7 @@ use Rattle.meaning.specs.Counting.{value_behind}
 use Rattle.meaning.specs.Store.{Environment, Place, part}
 use Rattle.meaning.specs.Effect.{enter, fetch_all, is_in, number_of, require, store, use_turn}
 use Rattle.meaning.specs.Laws.{UsesTurnsExactly}
-use Rattle.meaning.specs.Meaning.{Evaluation, Passing, Surroundings, accessed, all_of, all_passed, combined, effect_of, link_step, passing_of, selected, value_of}
+use Rattle.meaning.specs.Meaning.{Evaluation, Surroundings, accessed, all_of, all_passed, effect_of, link_step, passing_of, selected, value_of}
 use Rattle.meaning.specs.Meaning.{call_of, for_round, for_rounds, is_so, parameter_of, repeat_round, while_round, whole_of, width_of}
 use Rattle.meaning.proofs.Used.{Exact, ExactCalls, exact_closed, exact_give, exact_then, exact_turn, exact_turn_if, exact_value}
 use Rattle.meaning.proofs.Walks.{of_access, of_called, of_combined, of_effect, of_fetch_all, of_for_rounds, of_parameters, of_passing, of_require}

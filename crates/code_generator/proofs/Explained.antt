@@ -1,5 +1,5 @@
 -- What is known of a run of the machine, where one knows how a longer one ends.
-use Rattle.std.proofs.Common.{◌≡◌, ℕ, ◌+◌, ◌<◌, ◌≤◌, ◌⊎◌, inl, inr, ⊎_elim, List, [], ◌∷◌, ◌++◌, append_assoc, refl, sym, ap, ◌∙◌, subst, arith}
+use Rattle.std.proofs.Common.{◌≡◌, ℕ, ◌<◌, ◌≤◌, ◌⊎◌, ⊎_elim, List, ◌++◌, append_assoc, sym, ap, ◌∙◌, subst, arith}
 use Rattle.std.proofs.lemmas.Bool.{cases_lt}
 use Rattle.pcode_assembler.specs.declared.code.Site.{Site as Plain}
 use Rattle.pcode_assembler.specs.declared.instr.Instr.{Instr}
@@ -12,7 +12,6 @@ use Rattle.stack_machine.specs.declared.stop.Stop.TheVariants as stop
 use Rattle.stack_machine.specs.Machine.{State}
 use Rattle.stack_machine.specs.Run.{Outcome, steps}
 use Rattle.stack_machine.proofs.Growing.{begins_itself}
-use Rattle.code_scheme.specs.Need.{block_need}
 use Rattle.code_generator.specs.Follows.{BeginsWith, StopsAs, DoesAll, DoesAsMuch, IsExplained, IsFullAtStart, IsFullAtCall}
 use Rattle.code_generator.proofs.Reach.{IsOver, longer, one_end, grows_to}
 

@@ -587,8 +587,17 @@ module _ (g : Setting) where
       let parts' = and_parts _ _ parts.1 in
       let passed = passes g (range_check fits) ((base ++ held) ++ Number n ∷ []) place fits.site s.output _ refl refl stands
       (is_in_range g.frame g.limit g.size (base ++ held) (linked g s base held based) fits.range.first fits.range.last n ∙ ap Ok holds) in
-      inr (base, based, Number n ∷ [], formal, is, (parts.0, parts'.0, fit, refl), refl, comes_less g.target (s.turns - s.turns) 0 _ _ (omega arith) passed,
-      omega arith)
+      inr (
+        base,
+        based,
+        Number n ∷ [],
+        formal,
+        is,
+        (parts.0, parts'.0, fit, refl),
+        refl,
+        comes_less g.target (s.turns - s.turns) 0 _ _ (omega arith) passed,
+        omega arith,
+      )
   tested_passes false fits callee position place base held n s formal holds stands within is takes based fit =
       inr (fails g (range_check fits) ((base ++ held) ++ Number n ∷ []) place fits.site s.output _ refl refl s.turns stands within
       (is_in_range g.frame g.limit g.size (base ++ held) (linked g s base held based) fits.range.first fits.range.last n ∙ ap Ok holds))
@@ -638,8 +647,17 @@ module _ (g : Setting) where
       (λ ns. give (OfRow ns)) s (exact_whole (around g) (exact_around g) v (expressions g indexes))
       (whole_runs g v indexes place base held s stands one.0 well based deep)
       (λ base2 ns t based2 long fits.
-      inr (base2, based2, cells_of ns, formal.0, formal.1, (takes.0, long ∙ sym many, fits, refl), length-cells_of ns ∙ long,
-      comes_less g.target (t.turns - t.turns) 0 _ _ (omega arith) (stays_here g.target _), omega arith))
+      inr (
+        base2,
+        based2,
+        cells_of ns,
+        formal.0,
+        formal.1,
+        (takes.0, long ∙ sym many, fits, refl),
+        length-cells_of ns ∙ long,
+        comes_less g.target (t.turns - t.turns) 0 _ _ (omega arith) (stays_here g.target _),
+        omega arith,
+      ))
 
   reference_is_passed : (type_id : TypeId) (access : Access) (indexes : Indexes g)
       → PassesAs g (address_code g.scope access (codes g indexes)) (record { depth = access_depth (depths g indexes); cells = 1 })
@@ -666,8 +684,17 @@ module _ (g : Setting) where
       (exact_found g access indexes led_to.last start one.0 led_to.counts)
       (address_runs g access indexes led_to.last start one.0 led_to.counts place base held (entered g access.number s) stands based deep)
       (λ base2 d p t based2 part.
-      inr (base2, based2, Number (pos d) ∷ [], formal.0, formal.1, (d, takes.0, subst (λ u. PartAt g p u d) its part, refl), refl,
-      comes_less g.target (t.turns - t.turns) 0 _ _ (omega arith) (stays_here g.target _), omega arith)))
+      inr (
+        base2,
+        based2,
+        Number (pos d) ∷ [],
+        formal.0,
+        formal.1,
+        (d, takes.0, subst (λ u. PartAt g p u d) its part, refl),
+        refl,
+        comes_less g.target (t.turns - t.turns) 0 _ _ (omega arith) (stays_here g.target _),
+        omega arith,
+      )))
 
   -- ---- a call
 
@@ -714,11 +741,18 @@ module _ (g : Setting) where
       (actuals_pass actuals callee (suc position) below (height + d.cells) (place + length c) base2 above t (omega (arith, high, taller, long))
       (stands_back g.target place c rest stands) parts.1 based2 (omega arith))
       (λ base3 arguments cells3 u based3 fitted3 room many.
-      inr (base3, based3, cells ++ cells3, (formal, is, cells, cells3, refl, fitted, fitted3), omega (arith, room, taller, length-append cells cells3),
-      ap suc many,
-      subst (λ stack. Comes g.target (u.turns - u.turns) (on g ((base3 ++ above) ++ cells3) end u.output) (on g stack end u.output))
-      (ap (λ l. l ++ cells3) (sym (append_assoc base3 held cells)) ∙ append_assoc (base3 ++ held) cells cells3)
-      (comes_less g.target (u.turns - u.turns) 0 _ _ (omega arith) (stays_here g.target _)), omega arith)))))
+      inr (
+        base3,
+        based3,
+        cells ++ cells3,
+        (formal, is, cells, cells3, refl, fitted, fitted3),
+        omega (arith, room, taller, length-append cells cells3),
+        ap suc many,
+        subst (λ stack. Comes g.target (u.turns - u.turns) (on g ((base3 ++ above) ++ cells3) end u.output) (on g stack end u.output))
+            (ap (λ l. l ++ cells3) (sym (append_assoc base3 held cells)) ∙ append_assoc (base3 ++ held) cells cells3)
+            (comes_less g.target (u.turns - u.turns) 0 _ _ (omega arith) (stays_here g.target _)),
+        omega arith,
+      )))))
 
   -- the mark of a new frame, whose static link leads to this frame
   marked_runs : (level outer place : ℕ) (base held : List Cell) (s : effect.State) → Leads g.fixed level g.frame outer → Here g place (instr.MarkStack level)

@@ -75,9 +75,9 @@ errors_come tree code input turns id cells follows errs small enough =
       | inr full ↦
           let at_start = enough.at_start in
           ⊎_elim
-              (λ (first : cells < block_need tree 0). absurd (omega (arith, first, at_start)))
-              (λ (call : (turns : ℕ) × (cells < living_need tree (starved_in tree input turns))).
-              let at_call = enough.at_calls call.0 in
-              absurd (omega (arith, call.1, at_call)))
-              (full_has_fewer tree code input cells full.0 follows small full.1)
+          (λ (first : cells < block_need tree 0). absurd (omega (arith, first, at_start)))
+          (λ (call : (turns : ℕ) × (cells < living_need tree (starved_in tree input turns))).
+          let at_call = enough.at_calls call.0 in
+          absurd (omega (arith, call.1, at_call)))
+          (full_has_fewer tree code input cells full.0 follows small full.1)
     ]

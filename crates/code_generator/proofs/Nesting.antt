@@ -2,9 +2,8 @@
 -- called in it.
 use Rattle.std.proofs.Common.{◌≡◌, ℕ, zero, suc, ◌+◌, ◌<◌, ◌≤◌, ◌⊎◌, inl, inr, ⊎_elim, List, [], ◌∷◌, ◌++◌, length, map, Option, Some, None, refl, sym, ap, ◌∙◌}
 use Rattle.std.proofs.Common.{subst, arith, Bool, true, false, length-append, eq-eqb}
-use Rattle.std.specs.Prelude.{slice_get, nat_eq, nat_le, nat_lt, sum_by, ◌&&◌, ◌||◌}
+use Rattle.std.specs.Prelude.{slice_get, nat_eq, sum_by, ◌&&◌, ◌||◌}
 use Rattle.std.specs.Cmp.Lexicographic.{pointwise}
-use Rattle.std.specs.List.{list_any}
 use Rattle.std.proofs.lemmas.Bool.{and_parts, eqb-true, false≢true, ltb-true, leb-true}
 use Rattle.std.proofs.lemmas.Bool.Decides.{Decides-eqb}
 use Rattle.std.proofs.lemmas.List.Folds.{list_any-append}
@@ -16,7 +15,7 @@ use Rattle.typed_tree.specs.declared.tree.Heading.{Heading}
 use Rattle.typed_tree.specs.declared.tree.Tree.{Tree}
 use Rattle.typed_tree.specs.declared.tree.Variable.{Variable}
 use Rattle.typed_tree.specs.WellFormed.{IsWellFormed, Outline, are_all, are_few_cells, are_well_formed_blocks, declarer, encloses, heading_of, is_callable}
-use Rattle.typed_tree.specs.WellFormed.{is_declared_by, is_heading, is_kind_of, is_one_of, is_parameter_kind, is_placed, is_result_kind, is_result_or_none}
+use Rattle.typed_tree.specs.WellFormed.{is_declared_by, is_heading, is_one_of, is_parameter_kind, is_placed, is_result_kind, is_result_or_none}
 use Rattle.typed_tree.specs.WellFormed.{is_round, is_well_formed_block, is_well_formed_stmt, of_one, outline_of, result_roots, roots_where, variables_of}
 
 -- the same numbers

@@ -1,5 +1,5 @@
 -- The code of a well formed tree follows its program, in full and without the checks of sites at which it never errs.
-use Rattle.std.proofs.Common.{◌≡◌, ℕ, suc, ◌+◌, ◌-◌, ◌*◌, ◌<◌, ◌≤◌, ◌⊎◌, inl, inr, ⊎_elim, List, [], ◌∷◌, ◌++◌, length, Option, Some, None, Ok, Err, refl}
+use Rattle.std.proofs.Common.{◌≡◌, ℕ, suc, ◌+◌, ◌-◌, ◌*◌, ◌<◌, ◌≤◌, ◌⊎◌, inl, inr, ⊎_elim, List, [], ◌∷◌, ◌++◌, length, Option, Some, None, refl}
 use Rattle.std.proofs.Common.{sym, ap, ◌∙◌, subst, arith, length-append, append_assoc, append-nil, Bool, true, false, replicate}
 use Rattle.std.specs.Prelude.{nat_lt, slice_get, if◌then◌else◌, pos, take}
 use Rattle.std.specs.Option.{option_map_or}
@@ -26,18 +26,18 @@ use Rattle.meaning.proofs.Depths.{deep_effect}
 use Rattle.stack_machine.specs.declared.cell.Cell.{Cell}
 use Rattle.stack_machine.specs.declared.cell.Cell.TheVariants.{Undefined, Number}
 use Rattle.stack_machine.specs.declared.stop.Stop.TheVariants as stop
-use Rattle.stack_machine.specs.Frames.{entered, first_frames}
+use Rattle.stack_machine.specs.Frames.{entered}
 use Rattle.stack_machine.specs.Machine.{State, with_frame}
 use Rattle.stack_machine.specs.Run as runs
 use Rattle.stack_machine.specs.Run.{Outcome, machine, steps}
 use Rattle.stack_machine.proofs.Growing.{begins_itself}
 use Rattle.check_remover.specs.Strip.{check_site, is_among, stays, moved, moved_place, KeepsInstructions}
-use Rattle.code_scheme.specs.Code.{block_code, blocks_code, end_code, program_code, routines_of, stmt_code}
+use Rattle.code_scheme.specs.Code.{block_code, blocks_code, program_code, routines_of, stmt_code}
 use Rattle.code_scheme.specs.Depth.{block_depth}
 use Rattle.code_scheme.specs.Need.{block_need, living_need}
 use Rattle.code_scheme.specs.Scopes.{Scope, block_scope, count, other_cells, parameter_cells}
 use Rattle.code_scheme.proofs.Depths.{block_within}
-use Rattle.code_generator.specs.Follows.{BeginsWith, StopsAs, DoesAll, DoesAsMuch, IsExplained, IsFullAtStart, IsFullAtCall, Follows, most_cells}
+use Rattle.code_generator.specs.Follows.{BeginsWith, StopsAs, DoesAll, DoesAsMuch, IsExplained, IsFullAtCall, Follows, most_cells}
 use Rattle.code_generator.specs.Large.{is_too_large}
 use Rattle.code_generator.specs.Laws.{StrippedFollows}
 use Rattle.code_generator.specs.Tables.{site_table}
@@ -46,14 +46,14 @@ use Rattle.code_generator.proofs.Calling.{enters, full}
 use Rattle.code_generator.proofs.Calls.{calls_run}
 use Rattle.code_generator.proofs.Cells.{small_block}
 use Rattle.code_generator.proofs.Closing.{Closes, closing, count_grows, first_block, more_behind, most_repeats, repeats_within, take_short}
-use Rattle.code_generator.proofs.Explained.{BeginsMeaning, Leads, as_much, as_much_more, end_over, explained_done, explained_full, explained_more, leads_before}
+use Rattle.code_generator.proofs.Explained.{as_much, as_much_more, end_over, explained_done, explained_full, explained_more, leads_before}
 use Rattle.code_generator.proofs.Explained.{leads_to, stops_end}
 use Rattle.code_generator.proofs.Nesting.{well_block}
 use Rattle.code_generator.proofs.ProgramStart as started
-use Rattle.code_generator.proofs.Reach.{Target, StandsAt, Stands, stands_front, stands_back, Comes, IsOver, Stops, comes_by, comes_on, comes_less, stays_here}
+use Rattle.code_generator.proofs.Reach.{Target, StandsAt, Stands, stands_front, stands_back, Comes, IsOver, Stops, comes_by, comes_on, comes_less}
 use Rattle.code_generator.proofs.Reach.{stops_on, stops_by}
 use Rattle.code_generator.proofs.Repeats.{repeats}
-use Rattle.code_generator.proofs.Setting.{Setting, on, around, Based, Halts, Ends, Executed, Executes, Starves, done}
+use Rattle.code_generator.proofs.Setting.{Setting, on, around, Halts, Ends, Executed, Executes, Starves}
 use Rattle.code_generator.proofs.Stmts.{stmt_runs}
 
 -- a program whose code stands in the machine's code, with the checks of some sites left out at which it never errs
@@ -259,9 +259,11 @@ module _ (tree : Tree) (well : IsWellFormed tree) (short : is_too_large tree ≡
           let at_end : x.0 + 0 ≡ x.0 = omega arith in
           let there = ap made (sym at_end) ∙ x.2 in
           explained_more tree input cells (made budget) (made x.0) (leads_before target.sites target.code budget x.0 start (omega (arith, less)))
-          (ap (λ (o : Outcome). o.stop) there)
-          (enough budget, subst (BeginsWith (meaning tree input (enough budget)).output) (sym (ap (λ (o : Outcome). o.output) there ∙ more.3))
-          (begins_itself (meaning tree input (enough budget)).output)) (made budget).stop refl
+          (ap (λ (o : Outcome). o.stop) there) (
+            enough budget,
+            subst (BeginsWith (meaning tree input (enough budget)).output) (sym (ap (λ (o : Outcome). o.output) there ∙ more.3))
+                (begins_itself (meaning tree input (enough budget)).output),
+          ) (made budget).stop refl
       explained_large budget (inr (inr f)) =
           explained_full tree input cells (made budget) (made f.0)
           (leads_to target.sites target.code budget f.0 start (subst IsOver (sym f.1) tt)) f.1 (inr (f.2, f.3))

@@ -1,9 +1,8 @@
 -- The program's block as it runs: its activation is the only one, its frame the first, and nothing of it is defined.
-use Rattle.std.proofs.Common.{◌≡◌, ℕ, zero, suc, ◌+◌, ◌-◌, ◌<◌, ◌≤◌, ◌⊎◌, inl, inr, ⊎_elim, List, [], ◌∷◌, ◌++◌, length, map, Option, Some, None}
-use Rattle.std.proofs.Common.{refl, sym, ap, ◌∙◌, subst, arith, Bool, true, false, length-append, replicate, eq-eqb}
+use Rattle.std.proofs.Common.{◌≡◌, ℕ, zero, suc, ◌+◌, ◌-◌, ◌<◌, ◌≤◌, inl, ⊎_elim, List, [], ◌∷◌, ◌++◌, length, map, Option, Some, None}
+use Rattle.std.proofs.Common.{refl, sym, ap, ◌∙◌, subst, arith, Bool, true, false, replicate, eq-eqb}
 use Rattle.std.specs.Prelude.{if◌then◌else◌, nat_eq, slice_get, pos, ◌&&◌, ◌||◌}
 use Rattle.std.proofs.lemmas.Bool.{and_parts, or_parts, eqb-true, false≢true, ltb-true}
-use Rattle.std.proofs.lemmas.List.{length-map}
 use Rattle.std.proofs.lemmas.Option.{none-some, same_Some}
 use Rattle.pcode_assembler.specs.declared.instr.Instr.TheVariants as instr
 use Rattle.types.specs.Components.{components_of}
@@ -17,20 +16,20 @@ use Rattle.typed_tree.specs.declared.tree.VariableKind.{VariableKind}
 use Rattle.typed_tree.specs.declared.tree.VariableKind.TheVariants as kinds
 use Rattle.typed_tree.specs.WellFormed.{IsWellFormed, encloses, heading_of, is_one_of, is_parameter_kind, is_value_kind, is_variable_kind, is_visible, of_one}
 use Rattle.typed_tree.specs.WellFormed.{is_round, outline_of, roots_where}
-use Rattle.meaning.specs.Store.{Environment, Place, place_eq}
+use Rattle.meaning.specs.Store.{Environment, Place}
 use Rattle.meaning.specs.Meaning.{Activation as Begun, environment_of, first_state, home_of as home_in, own_place, program_activation, seen_from}
 use Rattle.stack_machine.specs.declared.cell.Cell.{Cell}
 use Rattle.stack_machine.specs.declared.cell.Cell.TheVariants.{Undefined, Number}
 use Rattle.code_scheme.specs.declared.home.Home.{Home}
 use Rattle.code_scheme.specs.Code.{program_code, routines_of}
 use Rattle.code_scheme.specs.Depth.{block_depth}
-use Rattle.code_scheme.specs.Scopes.{Scope, block_level, block_scope, cells_where, count, home_of, is_parameter_of, level_of, links, links_to, offset}
+use Rattle.code_scheme.specs.Scopes.{Scope, block_level, block_scope, cells_where, home_of, is_parameter_of, level_of, links_to, offset}
 use Rattle.code_scheme.specs.Scopes.{other_cells, parameter_cells, slot_cells, start_of, variable_home}
 use Rattle.code_generator.specs.Large.{is_too_large}
 use Rattle.code_generator.specs.Tables.{site_table}
-use Rattle.code_generator.proofs.Alike.{Activation, World, Fixed, Lies, LiesIn, Lives, IsApart, Alike, Keeps, Leads}
+use Rattle.code_generator.proofs.Alike.{Activation, World, Fixed, Lies, LiesIn, IsApart, Leads}
 use Rattle.code_generator.proofs.Callee.{all_at, length_replicate, slice_behind, slice_replicate, slice_there}
-use Rattle.code_generator.proofs.Cells.{home_is, lies_inside, others_few, own_scalars, owned_back, owned_in, slot_of, small_block, start_near, variable_ends}
+use Rattle.code_generator.proofs.Cells.{home_is, lies_inside, others_few, own_scalars, owned_back, owned_in, slot_of, small_block, start_near}
 use Rattle.code_generator.proofs.Cells.{other_ends, starts_as_other, where_cons}
 use Rattle.code_generator.proofs.Nesting.{heading_at, nothing_round_program, same_numbers, well_block}
 use Rattle.code_generator.proofs.Parts.{IsPart}

@@ -10,8 +10,6 @@ use Rattle.std.specs.Fmt.{signed_decimal}
 use Rattle.std.proofs.lemmas.Bool.{ltb-true, and_parts}
 use Rattle.pcode_assembler.specs.declared.instr.Instr.{Instr}
 use Rattle.pcode_assembler.specs.declared.instr.Instr.TheVariants as instr
-use Rattle.std.specs.declared.alloc.Global.{Global}
-use Rattle.std.specs.declared.boxed.Box.{Box}
 use Rattle.typed_tree.specs.declared.tree.Call.{Call}
 use Rattle.typed_tree.specs.declared.tree.Passed.{Passed}
 use Rattle.typed_tree.specs.declared.tree.RangeTest.{RangeTest}
@@ -121,7 +119,6 @@ placed_flat code_of scope [] place = refl
 placed_flat code_of scope (x ∷ xs) place = ap (λ rest. code_of scope x ++ rest) (placed_flat code_of scope xs (place + length (code_of scope x)))
 
 module _ (g : Setting) (known : CallsAt g) where
-
   -- a value and its width give way to a text
   text_runs : (write : Instr) (text : List ℕ) (place : ℕ) (cells after : List Cell) (output : List ℕ) (attempt : Attempt (frames.Frames × List ℕ))
       → Here g place write → obeys g.target write (fetched_at g cells place output) ≡ machine.and_then attempt

@@ -46,7 +46,7 @@ use Rattle.stack_machine.specs.Addresses.{store_many}
 use Rattle.code_generator.proofs.Evaluating.{sites}
 use Rattle.code_generator.proofs.Held.{set_front, scalar_kept}
 use Rattle.code_generator.proofs.Reach.{Stands, StandsAt, stands_front, stands_back, Comes, comes_less, comes_on, stays_here}
-use Rattle.code_generator.proofs.Setting.{Setting, outline, around, exact_around, on, Based, linked, acts, passes, fails, Ends, ends_on, Starves, starves_on}
+use Rattle.code_generator.proofs.Setting.{Setting, outline, around, on, Based, linked, acts, passes, fails, Ends, ends_on, Starves, starves_on}
 use Rattle.code_generator.proofs.Setting.{starves_first, starves_behind, Valued, Evaluates, evaluates_behind, Executed, Executes, executes_behind}
 use Rattle.code_generator.proofs.Alike.{LiesIn, cell_of, HasFit, alike_above}
 use Rattle.code_generator.proofs.Numbers.{Fits, fits_by_abs}
