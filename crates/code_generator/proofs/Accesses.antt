@@ -247,7 +247,8 @@ module _ (g : Setting) where
       → are_well_formed_indexes indexes ≡ true → are_selectors selectors ≡ true → length (expressions indexes) ≡ index_count selectors
       → led g.tree.types selectors t ≡ Some last → PartAt p t d → Based g s base
       → g.below + length held + fold max depth (map (λ i. i + 1) (depths indexes)) ≤ g.limit → g.below + length held < g.limit
-      → Addresses (on g ((base ++ held) ++ Number (pos d) ∷ []) place s.output) held (place + length (selectors_code selectors (codes indexes))) last (selected selectors (map value_of (expressions indexes)) (around g) (Some p)) s
+      → Addresses (on g ((base ++ held) ++ Number (pos d) ∷ []) place s.output) held (place + length (selectors_code selectors (codes indexes))) last
+      (selected selectors (map value_of (expressions indexes)) (around g) (Some p)) s
 
   -- an index that was evaluated: its test, the address of the element, and what is selected from there
   indexed_by : (good : Bool) (fits : RangeTest) (cells : ℕ) (selectors : List Selector) (indexes : Indexes) (depth place d : ℕ) (base held : List Cell) (n : ℤ)
@@ -258,7 +259,9 @@ module _ (g : Setting) where
       → led g.tree.types selectors part ≡ Some last
       → PartAt p t d → Based g s base → g.below + length held + fold max depth (map (λ i. i + 1) (depths indexes)) ≤ g.limit
       → g.below + length held < g.limit → Fits n
-      → Addresses (on g (((base ++ held) ++ Number (pos d) ∷ []) ++ Number n ∷ []) place s.output) held (place + 1 + 1 + length (selectors_code selectors (codes indexes))) last (require good fits.site >>= (λ _. selected selectors (map value_of (expressions indexes)) (around g)
+      → Addresses (on g (((base ++ held) ++ Number (pos d) ∷ []) ++ Number n ∷ []) place s.output) held
+      (place + 1 + 1 + length (selectors_code selectors (codes indexes))) last
+      (require good fits.site >>= (λ _. selected selectors (map value_of (expressions indexes)) (around g)
       (Some (inner p (step.Element n ∷ []))))) s
   indexed_by true fits cells selectors indexes depth place d base held n p t part last s holds runs stands wells test well counts is ends whole based deep
       room fit =
@@ -288,7 +291,8 @@ module _ (g : Setting) where
       let rest = runs depth (place + 1 + 1) (d + far.0 * cells) base held (inner p (step.Element n ∷ [])) part last s stands.1.1 wells well counts ends
       lies.0 based
       deep room in
-      addresses_from 1 _ _ held (place + 1 + 1 + length (selectors_code selectors (codes indexes))) last (selected selectors (map value_of (expressions indexes)) (around g) (Some (inner p (step.Element n ∷ [])))) s
+      addresses_from 1 _ _ held (place + 1 + 1 + length (selectors_code selectors (codes indexes))) last
+      (selected selectors (map value_of (expressions indexes)) (around g) (Some (inner p (step.Element n ∷ [])))) s
       (comes_on g.target 0 1 _ _ _ passed reached) rest
   indexed_by false fits cells selectors indexes depth place d base held n p t part last s holds runs stands wells test well counts is ends whole based deep
       room fit =
@@ -319,8 +323,10 @@ module _ (g : Setting) where
       let runs = selectors_run selectors indexes depth (place + length c) (d + before) base held q on_led.0 last s
       (stands_back g.target place c rest stands) wells
       well counts on_led.2 inside based deep room in
-      subst (λ there. Addresses (on g ((base ++ held) ++ Number (pos d) ∷ []) place s.output) held there last (selected selectors (map value_of (expressions indexes)) (around g) (Some q)) s) e
-      (addresses_from 0 _ _ held (place + length c + length rest) last (selected selectors (map value_of (expressions indexes)) (around g) (Some q)) s stepped runs)
+      subst (λ there. Addresses (on g ((base ++ held) ++ Number (pos d) ∷ []) place s.output) held there last
+      (selected selectors (map value_of (expressions indexes)) (around g) (Some q)) s) e
+      (addresses_from 0 _ _ held (place + length c + length rest) last (selected selectors (map value_of (expressions indexes)) (around g) (Some q)) s stepped
+      runs)
   selectors_run (Element fits cells ∷ selectors) [] depth place d base held p t last s stands wells well counts ends whole based deep room =
       absurd (omega arith)
   selectors_run (Element fits cells ∷ selectors) (index ∷ indexes) depth place d base held p t last s stands wells well counts ends whole based deep room =
@@ -346,7 +352,8 @@ module _ (g : Setting) where
       (λ base2 n s2 based2 fit2 room2.
       subst (λ cs. Addresses (on g (cs ++ Number n ∷ []) (place + length c) s2.output) held end last (next (value.Number n)) s2)
       (sym (one_held g base2 held (pos d)))
-      (subst (λ test. Addresses (on g (((base2 ++ held) ++ Number (pos d) ∷ []) ++ Number n ∷ []) (place + length c) s2.output) held end last (require test fits.site >>= (λ _. selected selectors (map value_of (expressions indexes)) (around g)
+      (subst (λ test. Addresses (on g (((base2 ++ held) ++ Number (pos d) ∷ []) ++ Number n ∷ []) (place + length c) s2.output) held end last
+      (require test fits.site >>= (λ _. selected selectors (map value_of (expressions indexes)) (around g)
       (Some (inner p (step.Element n ∷ []))))) s2) (sym (same_range fits.range n fit2))
       (indexed_by _ fits cells selectors indexes (max depth (expr_depth index.0 + 1)) (place + length c) d base2 held n p t on_led.0 last s2 refl
       (selectors_run selectors indexes) (stands_back g.target place c rest stands) parts.1 selector_parts.0 selector_parts.1
@@ -404,10 +411,26 @@ module _ (g : Setting) where
       → led g.tree.types selectors t ≡ Some last → IsPart g.tree.types g.world end p t d → Ahead end selectors p d last
   ahead end [] p t d last well ends whole =
       let same : d ≡ d + 0 = omega arith in
-      record { there = p; its = t; part = subst (IsPart g.tree.types g.world end p t) same whole; ends = ends; counts = refl; well = well; meant = λ evaluations. refl }
+      record {
+        there = p;
+        its = t;
+        part = subst (IsPart g.tree.types g.world end p t) same whole;
+        ends = ends;
+        counts = refl;
+        well = well;
+        meant = λ evaluations. refl;
+      }
   ahead end (Element fits cells ∷ selectors) p t d last well ends whole =
       let same : d ≡ d + 0 = omega arith in
-      record { there = p; its = t; part = subst (IsPart g.tree.types g.world end p t) same whole; ends = ends; counts = refl; well = well; meant = λ evaluations. refl }
+      record {
+        there = p;
+        its = t;
+        part = subst (IsPart g.tree.types g.world end p t) same whole;
+        ends = ends;
+        counts = refl;
+        well = well;
+        meant = λ evaluations. refl;
+      }
   ahead end (Field position before ∷ selectors) p t d last well ends whole =
       let on_led = led_on g.tree.types (Field position before) selectors t last ends in
       let rest = ahead end selectors (inner p (step.Field position ∷ [])) on_led.0 (d + before) last well on_led.2
@@ -478,7 +501,8 @@ module _ (g : Setting) where
       (loads_address g.frame g.limit g.size (base ++ held) level start owner (omega arith) (frame_found level owner base held s based l) (omega arith))
 
   -- the address that a cell in a frame holds
-  reference_pushed : (level start owner address : ℕ) → Leads g.fixed level g.frame owner → slice_get g.fixed (owner + start) ≡ Some (Some (Number (pos address)))
+  reference_pushed : (level start owner address : ℕ) → Leads g.fixed level g.frame owner → slice_get g.fixed (owner + start)
+      ≡ Some (Some (Number (pos address)))
       → PushesAddress (instr.Load level start) address
   reference_pushed level start owner address l at place base held s stands based room =
       let full = based.full in
@@ -510,7 +534,8 @@ module _ (g : Setting) where
 
       entry_meant : (evaluations : List Evaluation) → meaning.accessed access evaluations (around g)
           ≡ (λ s. selected selectors evaluations (around g) (Some shown.place) (entered access.number s))
-      entry_meant evaluations = ap {B = Action (Option Place)} (λ (o : Option Place) (s : effect.State). selected selectors evaluations (around g) o (entered access.number s)) shown.place_is
+      entry_meant evaluations = ap {B = Action (Option Place)} (λ (o : Option Place) (s : effect.State). selected selectors evaluations (around g) o
+          (entered access.number s)) shown.place_is
 
       begins_by : (way : Way) → Reaches g.tree g.world g.fixed g.below shown.place l.variable (shown.owner + home.start) home.refers way
           → Begins access l.last indexes
@@ -523,7 +548,8 @@ module _ (g : Setting) where
           let within = all.part.within in
           let inside = whole.within in
           let at : start + fields_offset selectors ≡ shown.owner + access_offset g.scope access = omega arith in
-          let part = part_later g.tree.types g.world (start + cells_of g.tree.types l.variable.type_id) g.below all.there all.its (start + fields_offset selectors)
+          let part = part_later g.tree.types g.world (start + cells_of g.tree.types l.variable.type_id) g.below all.there all.its
+          (start + fields_offset selectors)
           (omega arith) all.part in
           record {
             rest = behind_fields selectors;
@@ -535,7 +561,8 @@ module _ (g : Setting) where
             counts = all.counts;
             well = all.well;
             meant = λ evaluations. entry_meant evaluations
-                ∙ ap {B = Action (Option Place)} (λ (action : Action (Option Place)) (s : effect.State). action (entered access.number s)) (all.meant evaluations);
+                ∙ ap {B = Action (Option Place)} (λ (action : Action (Option Place)) (s : effect.State). action (entered access.number s))
+                (all.meant evaluations);
             first = instr.LoadAddress level (access_offset g.scope access);
             pushes = address_pushed level (access_offset g.scope access) shown.owner shown.leads (omega arith);
             way = reached_from level (access_offset g.scope access) (behind_fields selectors) indexes;

@@ -19,7 +19,8 @@ use Rattle.typed_tree.specs.WellFormed.{encloses, heading_of, is_one_of, is_para
 use Rattle.typed_tree.specs.WellFormed.{outline_of, roots_where}
 use Rattle.meaning.specs.declared.store.Value.TheVariants as value
 use Rattle.meaning.specs.Store.{Environment, Place, place_eq}
-use Rattle.meaning.specs.Meaning.{Activation as Begun, Argument, OfValue, OfRow, OfPlace, environment_of, home_of as home_in, own_place, place_for, place_passed}
+use Rattle.meaning.specs.Meaning.{Activation as Begun, Argument, OfValue, OfRow, OfPlace, environment_of, home_of as home_in, own_place, place_for}
+use Rattle.meaning.specs.Meaning.{place_passed}
 use Rattle.meaning.specs.Meaning.{seen_from}
 use Rattle.stack_machine.specs.declared.cell.Cell.{Cell}
 use Rattle.stack_machine.specs.declared.cell.Cell.TheVariants.{Undefined, Number}
@@ -28,7 +29,8 @@ use Rattle.code_scheme.specs.declared.routine.Routine.{Routine}
 use Rattle.code_scheme.specs.Code.{routine_at, routines_of}
 use Rattle.code_scheme.specs.Depth.{block_depth}
 use Rattle.code_scheme.specs.Need.{block_need, living_need}
-use Rattle.code_scheme.specs.Scopes.{Scope, block_level, block_scope, called_routine, cells_where, count, home_of, is_other_of, is_parameter_of, level_of, links}
+use Rattle.code_scheme.specs.Scopes.{Scope, block_level, block_scope, called_routine, cells_where, count, home_of, is_other_of, is_parameter_of, level_of}
+use Rattle.code_scheme.specs.Scopes.{links}
 use Rattle.code_scheme.specs.Scopes.{links_to, offset, other_cells, parameter_cells, routine_or_none, slot_cells, start_of, variable_home}
 use Rattle.code_scheme.proofs.Depths.{block_within}
 use Rattle.code_scheme.proofs.Routines.{block_stands}
@@ -311,7 +313,8 @@ module _ (g : Setting) (number : ℕ) (block : Block) (block_is : slice_get g.tr
   routine_of = routine_at g.tree number (0 + length (block_stands g.tree number block block_is).before)
 
   pub routine_is : called_routine g.scope number ≡ routine_of
-  routine_is = ap (λ (rs : List Routine). routine_or_none (slice_get rs number)) g.routines_are ∙ ap routine_or_none (block_stands g.tree number block block_is).known
+  routine_is = ap (λ (rs : List Routine). routine_or_none (slice_get rs number)) g.routines_are
+      ∙ ap routine_or_none (block_stands g.tree number block block_is).known
 
   routine_level : (called_routine g.scope number).level ≡ outer_level
   routine_level =
@@ -436,7 +439,8 @@ module _ (g : Setting) (number : ℕ) (block : Block) (block_is : slice_get g.tr
           few = few_of v at own plain;
         }
       where
-        few_of : (v : Variable) → slice_get variables root ≡ Some v → v.block ≡ number → is_variable_kind v.kind ≡ false → cells_of g.tree.types v.type_id ≤ 65536
+        few_of : (v : Variable) → slice_get variables root ≡ Some v → v.block ≡ number → is_variable_kind v.kind ≡ false
+            → cells_of g.tree.types v.type_id ≤ 65536
         few_of v at own plain = by (is_parameter_kind v.kind) refl
           where
             by : (kind : Bool) → is_parameter_kind v.kind ≡ kind → cells_of g.tree.types v.type_id ≤ 65536
@@ -539,7 +543,8 @@ module _ (g : Setting) (number : ℕ) (block : Block) (block_is : slice_get g.tr
     -- its block, whose level isn't greater than the declarer's
     its_block : (b : Block) × (slice_get g.tree.blocks.items v.block ≡ Some b)
     its_block = slice_there g.tree.blocks.items v.block
-        (ltb-true v.block (length g.tree.blocks.items) (all_at (λ (w : Variable). nat_lt w.block (length g.tree.blocks.items)) variables root v g.well.declared at))
+        (ltb-true v.block (length g.tree.blocks.items) (all_at (λ (w : Variable). nat_lt w.block (length g.tree.blocks.items)) variables root v g.well.declared
+        at))
 
     abbrev far : ℕ
     far = length its_block.0.heading.around.items
@@ -573,8 +578,11 @@ module _ (g : Setting) (number : ℕ) (block : Block) (block_is : slice_get g.tr
     reaches_outside : (way : Way) → Reaches g.tree g.world g.fixed g.below x.place v (x.owner + (variable_home g.scope root).start)
         (variable_home g.scope root).refers way
         → Reaches g.tree new_world new_fixed new_below x.place v (x.owner + (variable_home g.scope root).start) (variable_home g.scope root).refers way
-    reaches_outside Direct r =
-        (r.0, part_above g.tree.types new_activation g.world g.below new_below x.place v.type_id (x.owner + (variable_home g.scope root).start) (omega arith) r.1)
+    reaches_outside Direct r = (
+      r.0,
+      part_above g.tree.types new_activation g.world g.below new_below x.place v.type_id (x.owner + (variable_home g.scope root).start) (omega arith)
+          r.1,
+    )
     reaches_outside (ByAddress address) r = (
       r.0,
       outer_fixed (x.owner + (variable_home g.scope root).start) (Some (Number (pos address))) r.1,
@@ -611,7 +619,8 @@ module _ (g : Setting) (number : ℕ) (block : Block) (block_is : slice_get g.tr
       → (variable_home new_scope root).start + cells_of g.tree.types v.type_id ≤ 16777215
   new_near root v at plain =
       let b = slice_there g.tree.blocks.items v.block
-      (ltb-true v.block (length g.tree.blocks.items) (all_at (λ (w : Variable). nat_lt w.block (length g.tree.blocks.items)) variables root v g.well.declared at)) in
+      (ltb-true v.block (length g.tree.blocks.items) (all_at (λ (w : Variable). nat_lt w.block (length g.tree.blocks.items)) variables root v g.well.declared
+      at)) in
       let near = start_near g.tree g.well g.short v.block b.0 b.1 root v at refl in
       let refers : is_variable_kind v.kind ≡ false = sym (ap (λ (h : Home). h.refers) (its_home root v at)) ∙ plain in
       let start : (variable_home new_scope root).start ≡ offset (start_of g.tree root v) = ap (λ (h : Home). h.start) (its_home root v at) in

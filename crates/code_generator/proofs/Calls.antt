@@ -320,7 +320,8 @@ module _ (g : Setting) (depth : ℕ) (known : CallsRun depth) (depth_is : g.dept
     abbrev call_place : State
     call_place = on g ((base ++ (held ++ links_of g outer)) ++ cells) place s.output
 
-    returned : (r : Reply Value) → Returned its left arrived [] (back_place g number block block_is callable outer way base held cells arguments s based return depth
+    returned : (r : Reply Value) → Returned its left arrived [] (back_place g number block block_is callable outer way base held cells arguments s based return
+        depth
         depth_is room laid fits is_function behind_body) is_function r
         → Returned g s.turns call_place held (place + 1) is_function (effect.and_then r ends_so)
     returned (Gives (value.Number n) t) e =

@@ -330,7 +330,8 @@ module _ (tree : Tree) where
         let inside' = slice_get_within m.extent.components m.inward q.steps m.reached in
         let start : start_of tree p.variable first.variable ≡ l.extent.start = ap (λ (e : Extent). e.start) first.extent_is in
         let start' : start_of tree q.variable second.variable ≡ m.extent.start = ap (λ (e : Extent). e.start) second.extent_is in
-        let long : length (components_of tree.types first.variable.type_id) ≡ length l.extent.components = ap (λ (e : Extent). length e.components) first.extent_is in
+        let long : length (components_of tree.types first.variable.type_id)
+        ≡ length l.extent.components = ap (λ (e : Extent). length e.components) first.extent_is in
         let long' : length (components_of tree.types second.variable.type_id) ≡ length m.extent.components =
         ap (λ (e : Extent). length e.components) second.extent_is in
         let slot = slot_of first.variable first.no_reference in

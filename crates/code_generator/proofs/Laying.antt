@@ -114,17 +114,21 @@ module _ (g : Setting) (number : ℕ) where
 
       by : LaidFrom (suc k) variables → (b : Bool) → test v ≡ b
           → ((i : ℕ) → formal_of (outline g) number (position + i)
-          ≡ option_and_then (λ root. slice_get g.tree.variables.items root) (slice_get (if test v then k ∷ roots_where test (suc k) variables else roots_where test (suc k) variables) i))
-          → length arguments ≡ length (if test v then k ∷ roots_where test (suc k) variables else roots_where test (suc k) variables) → Takes (test v) v arguments cells (Laid variables)
+          ≡ option_and_then (λ root. slice_get g.tree.variables.items root)
+          (slice_get (if test v then k ∷ roots_where test (suc k) variables else roots_where test (suc k) variables) i))
+          → length arguments ≡ length (if test v then k ∷ roots_where test (suc k) variables else roots_where test (suc k) variables)
+          → Takes (test v) v arguments cells (Laid variables)
       by recur true is formals long =
           subst (λ b. Takes b v arguments cells (Laid variables)) (sym is)
           (taken recur arguments fitted
-          (λ i. formals i ∙ ap (λ b. option_and_then (λ root. slice_get g.tree.variables.items root) (slice_get (if b then k ∷ roots_where test (suc k) variables else roots_where test (suc k) variables) i)) is)
+          (λ i. formals i ∙ ap (λ b. option_and_then (λ root. slice_get g.tree.variables.items root)
+          (slice_get (if b then k ∷ roots_where test (suc k) variables else roots_where test (suc k) variables) i)) is)
           (long ∙ ap (λ b. length (if b then k ∷ roots_where test (suc k) variables else roots_where test (suc k) variables)) is))
       by recur false is formals long =
           subst (λ b. Takes b v arguments cells (Laid variables)) (sym is)
           (recur position arguments cells next_there
-          (λ i. formals i ∙ ap (λ b. option_and_then (λ root. slice_get g.tree.variables.items root) (slice_get (if b then k ∷ roots_where test (suc k) variables else roots_where test (suc k) variables) i)) is)
+          (λ i. formals i ∙ ap (λ b. option_and_then (λ root. slice_get g.tree.variables.items root)
+          (slice_get (if b then k ∷ roots_where test (suc k) variables else roots_where test (suc k) variables) i)) is)
           (long ∙ ap (λ b. length (if b then k ∷ roots_where test (suc k) variables else roots_where test (suc k) variables)) is) fitted)
 
   -- ---- what is told of each cell of a parameter
@@ -239,7 +243,8 @@ module _ (g : Setting) (number : ℕ) where
       further : k + suc i ≡ suc k + i
       further = omega arith
 
-      by : ((rest : List Argument) (behind : List Cell) → Laid variables rest behind → Found mark (suc k) variables rest behind i v) → (b : Bool) → test w ≡ b → Takes (test w) w arguments cells (Laid variables) → Found mark k (w ∷ variables) arguments cells (suc i) v
+      by : ((rest : List Argument) (behind : List Cell) → Laid variables rest behind → Found mark (suc k) variables rest behind i v) → (b : Bool) → test w ≡ b
+          → Takes (test w) w arguments cells (Laid variables) → Found mark k (w ∷ variables) arguments cells (suc i) v
       by recur true is l =
           let t = subst (λ b. Takes b w arguments cells (Laid variables)) is l in
           let r = recur t.1 t.3 t.7 in

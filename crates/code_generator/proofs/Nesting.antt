@@ -266,7 +266,8 @@ module _ (tree : Tree) (well : IsWellFormed tree) where
               let further = r.further in
               omega (arith, levels))
               (λ (same : d.its ≡ n).
-              let levels = ap (λ (b : Block). length (around_of b)) (same_Some d.its_block other (sym d.its_is ∙ ap (slice_get tree.blocks.items) same ∙ at')) in
+              let levels = ap (λ (b : Block). length (around_of b)) (same_Some d.its_block other
+              (sym d.its_is ∙ ap (slice_get tree.blocks.items) same ∙ at')) in
               omega (arith, levels))
               (split n inside);
         }

@@ -29,7 +29,8 @@ use Rattle.code_generator.proofs.Alike.{Leads}
 use Rattle.code_generator.proofs.Numbers.{Fits}
 use Rattle.code_generator.proofs.Reach.{Stands, StandsAt, Comes, comes_on, comes_less}
 use Rattle.code_generator.proofs.Rows.{cells_of as number_cells}
-use Rattle.code_generator.proofs.Setting.{Setting, outline, around, on, Based, Ends, ends_on, Starves, starves_on, starves_first, starves_behind, Evaluates, Valued}
+use Rattle.code_generator.proofs.Setting.{Setting, outline, around, on, Based, Ends, ends_on, Starves, starves_on, starves_first, starves_behind, Evaluates}
+use Rattle.code_generator.proofs.Setting.{Valued}
 use Rattle.code_generator.proofs.Setting.{Executes, Executed}
 use Rattle.code_generator.proofs.Wholes.{AllFit, Pushed, Pushes}
 
@@ -252,7 +253,8 @@ module _ (g : Setting) where
       → Comes g.target least a b → Returns b held place is_function action s → Returns a held place is_function action s
   returns_from least a b held place is_function action s l (inl x) = inl (starves_on g least a b action s l x)
   returns_from least a b held place is_function action s l (inr e) =
-      inr (returned_on s.turns s.turns a b held place is_function (action s) (omega arith) (comes_less g.target (s.turns - s.turns) least a b (omega arith) l) e)
+      inr (returned_on s.turns s.turns a b held place is_function (action s) (omega arith) (comes_less g.target (s.turns - s.turns) least a b (omega arith) l)
+      e)
 
   -- a call behind its actual parameters
   pub then_returns : (m : State) (held held' : List Cell) (place place' callee position total : ℕ) (is_function : Bool) (first : Action (List Argument))

@@ -58,7 +58,8 @@ no_cells : (types : List Form) (test : Variable → Bool) (root : ℕ) (vs : Lis
 no_cells types test root [] none = refl
 no_cells types test root (w ∷ vs) none = by (λ rest. no_cells types test (suc root) vs rest) (test w) refl none
   where
-    by : (roots_where test (suc root) vs ≡ [] → cells_where types test vs ≡ 0) → (b : Bool) → test w ≡ b → (if b then root ∷ roots_where test (suc root) vs else roots_where test (suc root) vs) ≡ []
+    by : (roots_where test (suc root) vs ≡ [] → cells_where types test vs ≡ 0) → (b : Bool) → test w ≡ b
+        → (if b then root ∷ roots_where test (suc root) vs else roots_where test (suc root) vs) ≡ []
         → cells_where types test (w ∷ vs) ≡ 0
     by known true is none = cc
     by known false is none =
@@ -93,7 +94,8 @@ module _ (tree : Tree) (well : IsWellFormed tree) (short : is_too_large tree ≡
 
   none_of : (root : ℕ) (v : Variable) → slice_get variables root ≡ Some v → v.block ≡ 0 → is_parameter_kind v.kind ≡ false
   none_of root v at own =
-      ap (λ b. b && is_parameter_kind v.kind) (sym (eq-eqb v.block 0 own)) ∙ none_is (is_parameter_of 0) 0 variables root v (no_roots tree well block block_is) at
+      ap (λ b. b && is_parameter_kind v.kind) (sym (eq-eqb v.block 0 own))
+      ∙ none_is (is_parameter_of 0) 0 variables root v (no_roots tree well block block_is) at
 
   plain_of : (root : ℕ) (v : Variable) → slice_get variables root ≡ Some v → v.block ≡ 0 → is_variable_kind v.kind ≡ false
   plain_of root v at own = (or_parts (is_value_kind v.kind) (is_variable_kind v.kind) (none_of root v at own)).1

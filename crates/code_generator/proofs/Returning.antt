@@ -247,7 +247,8 @@ module _ (g : Setting) (number : ℕ) (block : Block) (block_is : slice_get g.tr
 
     place_is : its.environment.variables result.root ≡ Some (own_place s.activations result.root)
     place_is =
-        seen g number block block_is callable outer way held cells arguments s.activations return depth based.old room laid fits result.root variable declared own
+        seen g number block block_is callable outer way held cells arguments s.activations return depth based.old room laid fits result.root variable declared
+        own
         ∙ home variable.kind kind_is
 
     good : (nat_lt result.defined (sites g) ≡ true)
@@ -263,7 +264,8 @@ module _ (g : Setting) (number : ℕ) (block : Block) (block_is : slice_get g.tr
     lies =
         ordinal_part g.tree.types its.world its.below (own_place s.activations result.root) variable.type_id
         (its.frame + (variable_home its.scope result.root).start) ordinal
-        (own_part g number block block_is callable outer way held cells arguments s.activations return depth based.old room laid fits result.root variable declared own
+        (own_part g number block block_is callable outer way held cells arguments s.activations return depth based.old room laid fits result.root variable
+        declared own
         (plain variable.kind kind_is))
 
     -- it is pushed, and has to be defined
@@ -297,7 +299,8 @@ module _ (g : Setting) (number : ℕ) (block : Block) (block_is : slice_get g.tr
       × StandsAt its.target (back_place is_function place) (instr.Return (count_of is_function)) true
   finishes None false is kind place last t after stands deep =
       let none = comes_less g.target (t.turns - t.turns) 0 _ _ (omega arith)
-      (subst (λ cs. Comes g.target 0 (on its (last ++ []) place t.output) (on its cs place t.output)) (sym (append-nil (last ++ []))) (stays_here g.target _)) in
+      (subst (λ cs. Comes g.target 0 (on its (last ++ []) place t.output) (on its cs place t.output)) (sym (append-nil (last ++ [])))
+      (stays_here g.target _)) in
       (inr (last, after, none, record { is = refl }, omega arith), stands.0)
   finishes None true is kind place last t after stands deep = absurd (false≢true kind)
   finishes (Some result) false is kind place last t after stands deep = absurd (false≢true kind)

@@ -296,7 +296,8 @@ module _ (g : Setting) (number : ℕ) (block : Block) (block_is : slice_get g.tr
 
       part_at : (d : ℕ) → d ≡ h.frame + 4 + cells_where types test (take k variables) → IsPart types h.world h.below own_home v.type_id d
       part_at d is =
-          let start = its_start g number block block_is callable outer way held cells arguments s.activations return depth based.old room laid fits k v at own in
+          let start = its_start g number block block_is callable outer way held cells arguments s.activations return depth based.old room laid fits k v at
+          own in
           let begins = starts_as_parameter g.tree k v is_kind in
           let mine = ap (λ n. cells_where types (is_parameter_of n) (take k variables)) own in
           let same : h.frame + (variable_home h.scope k).start ≡ d = omega (arith, is, start, begins, mine) in
@@ -377,7 +378,8 @@ module _ (g : Setting) (number : ℕ) (block : Block) (block_is : slice_get g.tr
           ap (λ b. marked_by g number blank_mark b v cs (marked g number blank_mark vs)) is
           ∙ ap (λ l'. marked_by g number blank_mark true v l' (marked g number blank_mark vs)) a.5
           ∙ marked_first g number blank_mark v (marked g number blank_mark vs) a.0 a.2 a.3 a.6 in
-          let before = subst (λ l'. Based h t (pre ++ l')) (ap (λ l'. l' ++ unset) shape ∙ append_assoc (map (blank_mark v) a.2) (marked g number blank_mark vs a.3) unset)
+          let before = subst (λ l'. Based h t (pre ++ l')) (ap (λ l'. l' ++ unset) shape ∙ append_assoc (map (blank_mark v) a.2)
+          (marked g number blank_mark vs a.3) unset)
           based' in
           let one = one_assigned k v here is a.0 pre a.2 post t a.6 long before in
           let further = where_next number types variables k v here in
@@ -390,7 +392,8 @@ module _ (g : Setting) (number : ℕ) (block : Block) (block_is : slice_get g.tr
             rest.0,
             ap (λ b. assign_all g.tree h.environment (if b then k ∷ roots_where test (suc k) vs else roots_where test (suc k) vs) given t) is
                 ∙ ap (λ given'. assign_all g.tree h.environment (k ∷ roots_where test (suc k) vs) given' t) a.4
-                ∙ ap (λ o. effect.and_then (assign types (h.environment.variables k) o a.0 t) (λ _. assign_all g.tree h.environment (roots_where test (suc k) vs) a.1))
+                ∙ ap (λ o. effect.and_then (assign types (h.environment.variables k) o a.0 t)
+                (λ _. assign_all g.tree h.environment (roots_where test (suc k) vs) a.1))
                 here
                 ∙ ap (λ r. effect.and_then r (λ _. assign_all g.tree h.environment (roots_where test (suc k) vs) a.1)) one.1
                 ∙ rest.1,

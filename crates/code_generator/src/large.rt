@@ -40,8 +40,8 @@ fn is_large_block(tree: &Tree, all: u32, number: usize, block: &Block) -> bool
     has_many_parameters(tree, all, number)
 }
 
-// Whether its frame is so large: mostly all variables are too few for that, and those of the block are summed only where
-// they are not.
+// Whether its frame is so large: mostly all variables are too few for that, and those of the block are summed only
+// where they are not.
 fn is_large_frame(tree: &Tree, all: u32, number: usize, block: &Block) -> bool
     ensures { all ≡ capped (sum_by (cells_of_slot tree.now.types) tree.now.variables.items)
         → result ≡ nat_lt 16777216 (frame_cells tree.now number block.now) }
