@@ -651,9 +651,6 @@ module _ (g : Setting) where
           let same : start.its ≡ last = same_Some start.its last (ap (λ rest. led g.tree.types rest start.its) (sym none) ∙ start.ends) in
           ordinal_part g.tree.types g.world g.below start.there last start.cell ordinal (subst (λ u. PartAt start.there u start.cell) same start.part)
 
-      found_there : start.rest ≡ [] → (s : effect.State) → found s ≡ Gives (Some start.there) s
-      found_there none s = ap (λ rest. selected rest (map value_of (expressions indexes)) (around g) (Some start.there) s) none
-
       fetch_by : (way : Reached) → reached g.scope access (codes indexes) ≡ way → IsReached way start.cell start.first start.rest (codes indexes)
           → (defined place : ℕ) (base held : List Cell) (s : effect.State) → defined < sites g
           → Stands g.target place (fetch_code way ++ (instr.CheckDefined defined 1 ∷ [])) → Based g s base
