@@ -20,8 +20,8 @@ returns-clause-headline c =
     let open_sites = c.in_ok-verdict.verdict.open_sites.items in
     let well = c.in_ok-tree.ensures.well_formed in
     let never = c.in_ok-verdict.ensures.closed_never_err well c.in_ok-tree.ensures.in_order in
-    let few : is_too_large (program_code tree) ≡ false =
-    false_from_ne_true (is_too_large (program_code tree)) (λ more. absurd (cc (c.in_ok-full.was, c.generate.ensures.too_large.1 more))) in
+    let few : is_too_large tree ≡ false =
+    false_from_ne_true (is_too_large tree) (λ more. absurd (cc (c.in_ok-full.was, c.generate.ensures.too_large.1 more))) in
     let listed = c.deref.ensures.value ∙ c.in_ok-open_sites.ensures in
     let keeps = subst (λ sites. KeepsInstructions sites (program_code tree) stripped.instructions.items) listed
     (subst (λ code. KeepsInstructions c.deref.result.now code stripped.instructions.items) c.in_ok-full.ensures.instructions c.in_ok-stripped.ensures.kept) in
