@@ -67,9 +67,9 @@ impl Scopes {
 
     /// Begins a region with the names of parameters, as they are defined, and beside them with all names that its block
     /// will define, each once. Without memory none begins.
-    pub fn open_beside(&mut self, parameters: &Region, names: &[Vec<u8>]) -> Result<(), ScopeFault>
+    pub fn open_beside(&mut self, parameters: Region, names: &[Vec<u8>]) -> Result<(), ScopeFault>
         ensures opened { OnOk result
-            (self.new ≡ opened_beside (region_of parameters.now) (map (λ name. name.items) names.now) ∷ self.old) }
+            (self.new ≡ opened_beside (region_of parameters) (map (λ name. name.items) names.now) ∷ self.old) }
         ensures refused { IfErr result (λ fault. fault ≡ Memory) }
         ensures unchanged { OnErr result (self.new ≡ self.old) }
     {
@@ -131,6 +131,13 @@ impl Scopes {
     }
 }
 
+/// A region with the same names, which say the same.
+pub fn copied(names: &Region) -> Result<Region, ScopeFault>
+    ensures { MatchResult result (λ region. region_of region ≡ region_of names.now) (λ fault. fault ≡ Memory) }
+{
+    Ok(names.clone()?)
+}
+
 // The region of a block that defines these names.
 fn region(alloc: Global, names: &[Vec<u8>]) -> Result<Region, ScopeFault>
     ensures { MatchResult result
@@ -145,23 +152,16 @@ fn region(alloc: Global, names: &[Vec<u8>]) -> Result<Region, ScopeFault>
 }
 
 // The region of a block that defines these names beside parameters.
-fn region_beside(parameters: &Region, names: &[Vec<u8>]) -> Result<Region, ScopeFault>
+fn region_beside(parameters: Region, names: &[Vec<u8>]) -> Result<Region, ScopeFault>
     ensures { MatchResult result
-        (λ region. region_of region ≡ opened_beside (region_of parameters.now) (map (λ name. name.items) names.now))
+        (λ region. region_of region ≡ opened_beside (region_of parameters) (map (λ name. name.items) names.now))
         (λ fault. fault ≡ Memory) }
 {
-    let mut region = copy(parameters)?;
+    let mut region = parameters;
     for name in names {
         list(&mut region, name)?;
     }
     Ok(region)
-}
-
-// A region with the same names, which say the same.
-fn copy(names: &Region) -> Result<Region, ScopeFault>
-    ensures { MatchResult result (λ region. region_of region ≡ region_of names.now) (λ fault. fault ≡ Memory) }
-{
-    Ok(names.clone()?)
 }
 
 // Lists a name too.

@@ -1,6 +1,6 @@
 use Rattle.std.proofs.lemmas.List.Elements.{same_from_all_zip}
 use Rattle.scopes.proofs.Inserts.{same_entries, same_option}
-use Rattle.scopes.proofs.regions.copy.Goals as goal
+use Rattle.scopes.proofs.regions.copied.Goals as goal
 
 -- its entries are alike
 pub returns : goal.returns
