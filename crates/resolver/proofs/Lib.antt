@@ -2,6 +2,7 @@ mod Branches
 mod CaseArms
 mod Files
 mod MadeRows
-mod Programs
 mod Tables
 mod Targets
+mod BlockForms
+mod Programs
