@@ -1,23 +1,27 @@
 -- Blocks and routines, as they are made: how their typing goes on behind their parts.
-use Rattle.std.proofs.Common.{◌≡◌, ℕ, ◌+◌, ◌<◌, ◌≤◌, List, [], ◌∷◌, ◌++◌, length, drop, get_or, map, Option, Some, None, Ok, Err, inl, inr, refl, sym, ap, subst, ◌∙◌, append-nil}
+use Rattle.std.proofs.Common.{◌≡◌, ℕ, ◌+◌, ◌<◌, ◌≤◌, List, [], ◌∷◌, ◌++◌, length, drop, get_or, map, Option, Some, None, Result, Ok, Err, inl, inr, refl, sym, ap, ap₂, subst, ◌∙◌, append-nil}
 use Rattle.std.proofs.Common.{append_assoc}
 use Rattle.std.specs.Prelude.{flat_map, option_map}
 use Rattle.std.proofs.lemmas.Grind.{flat_map-append}
 use Rattle.std.proofs.lemmas.List.{drop_more, at_drop_all}
 use Rattle.place.specs.declared.Place.{Place}
 use Rattle.syntax_tree.specs.declared.Block.{Block as SyntaxBlock}
+use Rattle.syntax_tree.specs.declared.Block.TheFolds.{map-Routine}
 use Rattle.syntax_tree.specs.declared.Block.TheViews.{out-Block, out-Routine}
+use Rattle.syntax_tree.specs.declared.Heading.{Heading as SyntaxHeading}
 use Rattle.syntax_tree.specs.declared.Name.{Name}
 use Rattle.syntax_tree.specs.declared.Program.{Program}
 use Rattle.syntax_tree.specs.declared.Routine.{Routine}
 use Rattle.typed_tree.specs.declared.fault.TypeFault.{TypeFault}
 use Rattle.typed_tree.specs.declared.tree.FunctionResult.{FunctionResult}
-use Rattle.typed_tree.specs.Look.{Look, BlockEnds, look_block}
+use Rattle.typed_tree.specs.declared.tree.Heading.{Heading}
+use Rattle.typed_tree.specs.declared.tree.Stmt.{Stmt}
+use Rattle.typed_tree.specs.Look.{Look, BlockEnds, look_block, look_stmt}
 use Rattle.typing.specs.Blocks.{block_begins, block_ends}
 use Rattle.typing.specs.Names.{all_folded}
 use Rattle.typing.specs.Outcomes.{IsFault}
 use Rattle.typing.specs.Passing.{Headed, Enclosing, Passed, Checked, After, Passing, after, and_then, behind_marks, each, mark, ◌>>=◌, ◌>>◌}
-use Rattle.typing.specs.Routines.{Begun, TypedBlock, TypedRoutine, all_came, block_end, definition, group, headed, heading_name, result_at_end, routine_block}
+use Rattle.typing.specs.Routines.{Begun, TypedBlock, TypedRoutine, all_came, block_end, definition, group, headed, heading_name, result_at_end, routine_block, routine_step}
 use Rattle.typing.specs.Routines.{routine_body, type_definition, typed_block, typed_routine}
 use Rattle.typing.specs.Statements.{compound, statement}
 use Rattle.typing.specs.Steps.{close_block, enclosing_now, heading_at, open_beside, program_heading, with_enclosing}
@@ -25,7 +29,7 @@ use Rattle.typing.specs.Typing.{program_typing, typing}
 use Rattle.typing.proofs.Rows.{behind_nothing, behind_both, then_assoc}
 use Rattle.typing.proofs.Written.{typing_block, typing_routine}
 use Rattle.declarations.specs.Parts.{block_declarations, declared}
-use Rattle.resolver.specs.Made.{look_made}
+use Rattle.resolver.specs.Made.{MakesBody, MakesStmt, look_made}
 use Rattle.resolver.specs.declared.typed.MadeBlock.{MadeBlock}
 
 -- blocks and others behind them
@@ -176,13 +180,14 @@ module _ (r : Routine) (old : Passed) where
       (option_map typed_block (out-Routine r).block) a.passed))
 
   routine_is : (typed_routine r).typing old ≡ behind_heading (headed (out-Routine r).heading old)
-  routine_is = ap (λ (t : TypedRoutine). t.typing old) (typing_routine r) ∙ by (out-Routine r).block
+  routine_is =
+      ap (λ (t : TypedRoutine). t.typing old) (typing_routine r) ∙ by (out-Routine r).heading (out-Routine r).block
     where
-      by : (b : Option SyntaxBlock)
-          → and_then (headed (out-Routine r).heading old) (λ a. behind_marks a.look (routine_body a.answer (heading_name (out-Routine r).heading) (option_map typed_block b) a.passed))
-          ≡ and_then (headed (out-Routine r).heading old)
-          (λ a. behind_marks a.look (routine_body a.answer (heading_name (out-Routine r).heading) (option_map typed_block b) a.passed))
-      by b = refl
+      by : (h : SyntaxHeading) (b : Option SyntaxBlock)
+          → (routine_step (map-Routine SyntaxBlock Routine TypedBlock TypedRoutine typed_block typed_routine (record { heading = h; block = b }))).typing old
+          ≡ and_then (headed h old) (λ a. behind_marks a.look (routine_body a.answer (heading_name h) (option_map typed_block b) a.passed))
+      by h None = refl
+      by h (Some b) = refl
 
   -- its heading stops
   pub heading_stops : (why : TypeFault) → IsFault (headed (out-Routine r).heading old) why → IsFault ((typed_routine r).typing old) why
@@ -286,3 +291,58 @@ module _ (program : Program) where
 -- the last `end` of a block
 pub end_is : (b : SyntaxBlock) → (typed_block b).end ≡ (out-Block b).end
 end_is b = ap (λ (t : TypedBlock). t.end) (typing_block b)
+
+-- ---- as they are made
+
+-- the statements of a block
+pub body_answers : (b : SyntaxBlock) (old now there last : Passed) (before behind own : List MadeBlock) → behind ≡ before ++ own
+    → block_declarations b old ≡ Ok (after tt [] now)
+    → each (λ (r : TypedRoutine). r.typing) (map typed_routine (out-Block b).routines.items) now ≡ Ok (after tt (look_made own) there)
+    → all_came there ≡ Ok (after tt [] there) → (answer : Result Stmt TypeFault)
+    → MakesStmt (compound (map statement (out-Block b).statements.items) there) answer last
+    → MakesBody before behind ((typed_block b).typing old) answer last
+body_answers b old now there last before behind own are declares routines came (Ok made) ends =
+    (own, are, body_ends b old now declares (look_made own) there routines came (look_stmt made) last ends)
+body_answers b old now there last before behind own are declares routines came (Err why) stops =
+    statements_stop b old now declares (look_made own) there routines came why stops
+
+-- a block never stops where it begins
+pub begun_stops : (number : ℕ) (name : Name) (b : TypedBlock) (old : Passed) (why : TypeFault)
+    → IsFault (block_begins number (all_folded b.names) old) why → IsFault (routine_block number name b old) why
+unfolding block_begins enclosing_now heading_at with_enclosing open_beside
+begun_stops number name b old why (inl memory) = inl memory
+begun_stops number name b old why (inr stops) = absurd cc
+
+-- the block of a routine
+pub block_ended : (number : ℕ) (name : Name) (b : SyntaxBlock) (old now there later last : Passed) (round : Enclosing) (heading : Headed)
+    → block_begins number (all_folded (typed_block b).names) old ≡ Ok (after (round, heading) [] now) → (own : List MadeBlock) (body : Stmt)
+    → (typed_block b).typing now ≡ Ok (after tt (look_made own ++ look_stmt body) there) → (made : Heading)
+    → result_at_end name.place (out-Block b).end heading.result there ≡ Ok (after made.result [] later) → block_ends round later ≡ Ok (after tt [] last)
+    → heading.around ≡ made.around.items → heading.parameters ≡ made.parameters.items
+    → routine_block number name (typed_block b) old
+    ≡ Ok (after tt (look_made (own ++ record { number = number; block = record { heading = made; body = body; end = (out-Block b).end } } ∷ [])) last)
+block_ended number name b old now there later last round heading begins own body typed made tests ends around parameters =
+    block_is_made number name (typed_block b) old now round heading begins (look_made own ++ look_stmt body) there typed made.result later last
+    (ap (λ end. result_at_end name.place end heading.result there) (end_is b) ∙ tests) ends
+    ∙ ap (λ l. Ok (after tt l last))
+    (append_assoc (look_made own) (look_stmt body) (BlockEnds number heading.around heading.parameters made.result (typed_block b).end ∷ [])
+    ∙ ap (λ end. look_made own ++ (look_stmt body ++ (BlockEnds number heading.around heading.parameters made.result end ∷ []))) (end_is b)
+    ∙ ap₂ (λ one two. look_made own ++ (look_stmt body ++ (BlockEnds number one two made.result (out-Block b).end ∷ []))) around parameters
+    ∙ ap (λ l. look_made own ++ l) (sym (append-nil (look_block number (record { heading = made; body = body; end = (out-Block b).end }))))
+    ∙ sym (look_both own (record { number = number; block = record { heading = made; body = body; end = (out-Block b).end } } ∷ [])))
+
+-- the program
+pub program_made : (program : Program) (now last : Passed) → declared program ≡ Ok (after tt [] now) → (own : List MadeBlock) (body : Stmt)
+    → (typed_block program.block).typing now ≡ Ok (after tt (look_made own ++ look_stmt body) last) → (made : Heading)
+    → made.around.items ≡ [] → made.parameters.items ≡ [] → made.result ≡ None
+    → typing program
+    ≡ Ok (after tt (look_made (own ++ record { number = 0; block = record { heading = made; body = body; end = (out-Block program.block).end } } ∷ [])) last)
+program_made program now last declares own body typed made around parameters result =
+    let end = (out-Block program.block).end in
+    program_ends program now declares (look_made own ++ look_stmt body) last typed
+    ∙ ap (λ l. Ok (after tt l last))
+    (append_assoc (look_made own) (look_stmt body) (BlockEnds 0 [] [] None end ∷ [])
+    ∙ ap₂ (λ one two. look_made own ++ (look_stmt body ++ (BlockEnds 0 one two None end ∷ []))) (sym around) (sym parameters)
+    ∙ ap (λ r. look_made own ++ (look_stmt body ++ (BlockEnds 0 made.around.items made.parameters.items r end ∷ []))) (sym result)
+    ∙ ap (λ l. look_made own ++ l) (sym (append-nil (look_block 0 (record { heading = made; body = body; end = end }))))
+    ∙ sym (look_both own (record { number = 0; block = record { heading = made; body = body; end = end } } ∷ [])))

@@ -1,3 +1,4 @@
+mod Arranged
 mod Branches
 mod CaseArms
 mod Files

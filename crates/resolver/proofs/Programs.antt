@@ -1,4 +1,119 @@
--- Programs: what the typed tree of one has by the laws of typing.
-use Rattle.std.proofs.Common.{refl}
+-- Programs: the typed tree of one that is made of its blocks, and what it has by the laws of typing.
+use Rattle.std.proofs.Common.{◌≡◌, ℕ, ◌≤◌, List, [], ◌∷◌, ◌++◌, length, map, slice_get, Ok, refl, sym, ap, ap₂, subst, ◌∙◌}
+use Rattle.std.specs.Prelude.{IsPermutation, flat_map}
+use Rattle.std.specs.List.{range_with_len}
+use Rattle.std.proofs.lemmas.Grind.{flat_map-append}
+use Rattle.place.specs.Place.{ArePlacesInOrder}
+use Rattle.syntax_tree.specs.declared.Program.{Program}
+use Rattle.syntax_tree.specs.Places.{program_places}
+use Rattle.typed_tree.specs.declared.tree.Block.{Block}
+use Rattle.typed_tree.specs.declared.tree.Tree.{Tree}
+use Rattle.typed_tree.specs.Entries.{AreNumbered, of_block}
+use Rattle.typed_tree.specs.Ids.{AreInOrder, AreByPlace}
+use Rattle.typed_tree.specs.Look.{Look, blocks_of_look, heading_look, look_block, look_stmt, mark_blocks, tree_look}
+use Rattle.typed_tree.specs.Loops.{loops_of}
+use Rattle.typed_tree.specs.WellFormed.{IsWellFormed}
+use Rattle.typed_tree.proofs.Quiet.{inner_stmt}
+use Rattle.typing.specs.Passing.{Passed, after}
+use Rattle.typing.specs.Sound.{IsLeft, IsTyped, rows_of_block, stands}
+use Rattle.typing.specs.Typing.{typing}
+use Rattle.typing_laws.specs.Lawful.{BeginWithRequired, Lawful}
+use Rattle.typing_laws.proofs.Programs.{typing_is_lawful}
+use Rattle.typing_laws.proofs.Trees as Trees
+use Rattle.resolver.specs.Made.{AreArranged, IsResolved, look_made}
+use Rattle.resolver.specs.Table.{IsTableOf}
+use Rattle.resolver.specs.declared.typed.MadeBlock.{MadeBlock}
+use Rattle.resolver.proofs.Arranged.{AreThere, are_there, as_many_blocks, in_text_is, number_of}
 
-pub ruleset has_it_all = (refl)
+-- the blocks that end in how some blocks look
+numbers_told : (made : List MadeBlock) → blocks_of_look (look_made made) ≡ map number_of made
+numbers_told [] = refl
+numbers_told (one ∷ others) =
+    let end = heading_look one.number one.block.heading one.block.end in
+    flat_map-append mark_blocks (look_block one.number one.block) (look_made others)
+    ∙ ap₂ (λ l m. l ++ m)
+    (flat_map-append mark_blocks (look_stmt one.block.body) (end ∷ []) ∙ ap (λ l. l ++ one.number ∷ []) (inner_stmt one.block.body))
+    (numbers_told others)
+
+-- ---- a tree that is made of blocks
+
+module _ (program : Program) (made : List MadeBlock) (last : Passed) (typed : typing program ≡ Ok (after tt (look_made made) last)) (tree : Tree)
+    (arranged : AreArranged made tree.blocks.items) (bodies : tree.bodies.items ≡ map (λ one. one.number) made) (table : IsTableOf made tree.loops.items)
+    (left : IsLeft last tree) where
+  all_numbers : IsPermutation (range_with_len 0 (length last.headings)) (map number_of made)
+  all_numbers =
+      let lawful : Lawful program (after tt (look_made made) last) = typing_is_lawful program (after tt (look_made made) last) typed in
+      subst (IsPermutation (range_with_len 0 (length last.headings))) (numbers_told made) lawful.blocks
+
+  there : AreThere tree.blocks.items made
+  there = are_there made tree.blocks.items arranged (length last.headings) all_numbers
+
+  as_numbers : tree.bodies.items ≡ map number_of made
+  as_numbers = bodies
+
+  looks : tree_look tree ≡ look_made made
+  looks =
+      ap (flat_map (λ number. of_block look_block number (slice_get tree.blocks.items number))) as_numbers
+      ∙ in_text_is look_block tree.blocks.items made there
+
+  pub is_resolved : IsResolved program tree
+  is_resolved = record {
+    is_typed = record {
+      left = last;
+      typed = typed ∙ ap (λ look. Ok (after tt look last)) (sym looks);
+      is_left = left;
+      has_loops =
+          table
+              ∙ sym (ap (flat_map (λ number. of_block rows_of_block number (slice_get tree.blocks.items number))) as_numbers
+              ∙ in_text_is rows_of_block tree.blocks.items made there);
+    };
+    count = as_many_blocks made tree.blocks.items arranged (length last.headings) all_numbers;
+    bodies = as_numbers ∙ sym (ap blocks_of_look looks ∙ numbers_told made);
+  }
+
+-- ---- what the tree of a program has
+
+module _ (program : Program) (tree : Tree) (resolved : IsResolved program tree) where
+  lawful : Lawful program (after tt (tree_look tree) resolved.is_typed.left)
+  lawful = typing_is_lawful program (after tt (tree_look tree) resolved.is_typed.left) resolved.is_typed.typed
+
+  pub is_typed : IsTyped program tree
+  is_typed = resolved.is_typed
+
+  pub ids_in_order : AreInOrder tree.sites.items
+  ids_in_order = resolved.is_typed.is_left.ids
+
+  pub has_no_points : tree.points.items ≡ []
+  has_no_points = resolved.is_typed.is_left.points
+
+  pub has_types : BeginWithRequired tree.types
+  has_types =
+      Trees.has_types program (after tt (tree_look tree) resolved.is_typed.left) tree lawful refl resolved.is_typed.is_left resolved.count resolved.bodies
+
+  pub has_few_sites : length tree.sites.items ≤ 1000000
+  has_few_sites =
+      subst (λ n. n ≤ 1000000)
+      (sym (Trees.as_many_sites program (after tt (tree_look tree) resolved.is_typed.left) tree lawful refl resolved.is_typed.is_left resolved.count
+      resolved.bodies))
+      lawful.few_sites
+
+  pub is_numbered : AreNumbered tree
+  is_numbered =
+      Trees.is_numbered program (after tt (tree_look tree) resolved.is_typed.left) tree lawful refl resolved.is_typed.is_left resolved.count resolved.bodies
+
+  pub loops_are_numbered : map (λ l. l.0) (loops_of tree) ≡ range_with_len 0 (length (loops_of tree))
+  loops_are_numbered =
+      Trees.loops_are_numbered program (after tt (tree_look tree) resolved.is_typed.left) tree lawful refl resolved.is_typed.is_left resolved.count
+      resolved.bodies
+
+  pub sites_by_place : ArePlacesInOrder (program_places program) → AreByPlace (map stands tree.sites.items)
+  sites_by_place order = subst AreByPlace (sym resolved.is_typed.is_left.sites) (lawful.by_place order)
+
+  pub is_well_formed : IsWellFormed tree
+  is_well_formed =
+      Trees.is_well_formed program (after tt (tree_look tree) resolved.is_typed.left) tree lawful refl resolved.is_typed.is_left resolved.count
+      resolved.bodies resolved.is_typed.has_loops
+
+-- all of these
+pub ruleset has_it_all =
+    (is_typed, ids_in_order, has_no_points, has_types, has_few_sites, is_numbered, loops_are_numbered, sites_by_place, is_well_formed)

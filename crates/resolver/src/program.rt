@@ -8,7 +8,10 @@ ghost use Rattle.typed_tree.specs.Loops.{loops_of};
 ghost use Rattle.typed_tree.specs.WellFormed.{IsWellFormed};
 ghost use Rattle.typing.specs.Outcomes.{IsFault};
 ghost use Rattle.typing.specs.Sound.{IsTyped, stands};
+ghost use Rattle.typing.specs.Routines.{typed_block};
 ghost use Rattle.typing.specs.Typing.{typing};
+ghost use Rattle.declarations.specs.Known.{AreKnown};
+ghost use Rattle.declarations.specs.Parts.{declared};
 ghost use Rattle.typing.specs.declared.typer.TheConstants.{MOST_SITES};
 ghost use Rattle.typing_laws.specs.Lawful.{BeginWithRequired};
 ghost use Rattle.typing.specs.Passing.{after};
@@ -61,8 +64,9 @@ pub fn resolve(alloc: Global, program: &Program) -> Result<Tree, TypeFault>
 fn typed_program(alloc: Global, program: &Program) -> Result<Tree, TypeFault>
     ensures { MatchResult result (IsResolved program.now) (IsFault (typing program.now)) }
 {
+    let mut typer = begin_program(alloc, program)?;
     let mut made = Vec::new(alloc);
-    let typer = program_blocks(alloc, program, &mut made)?;
+    program_blocks(&mut typer, &mut made, program)?;
     let loops = table_of(alloc, &made)?;
     let bodies = numbers_of(alloc, &made)?;
     let blocks = arranged(alloc, made)?;
@@ -73,7 +77,11 @@ fn typed_program(alloc: Global, program: &Program) -> Result<Tree, TypeFault>
 fn numbers_of(alloc: Global, made: &[MadeBlock]) -> Result<Vec<u32>, TypeFault>
     ensures { MatchResult result (λ numbers. numbers.items ≡ map (λ one. one.number) made.now) (λ why. why ≡ Memory) }
 {
-    Ok(made.iter().map(|one| one.number).collect(alloc)?)
+    let mut numbers = Vec::with_capacity(alloc, made.len())?;
+    for one in made {
+        numbers.push(one.number)?;
+    }
+    Ok(numbers)
 }
 
 // Blocks by their numbers.
@@ -96,21 +104,22 @@ fn blocks_of(alloc: Global, made: Vec<MadeBlock>) -> Result<Vec<Block>, TypeFaul
     Ok(blocks)
 }
 
-// What is known behind a program, and its blocks in the order of the text, its own last.
+// Passes the block of a program, behind its parameters, and makes its blocks in the order of the text, its own last.
 fn program_blocks(
-    alloc: Global,
-    program: &Program,
+    typer: &mut Typer,
     made: &mut Vec<MadeBlock>,
-) -> Result<Typer, TypeFault>
+    program: &Program,
+) -> Result<(), TypeFault>
     requires none { made.old.items ≡ [] }
-    ensures { MatchResult result (λ typer. typing program.now ≡ Ok (after tt (look_made made.new.items) typer))
+    requires begun { declared program.now ≡ Ok (after tt [] typer.old) }
+    requires known { AreKnown (typed_block program.now.block).names typer.old.regions }
+    ensures { MatchResult result (λ _. typing program.now ≡ Ok (after tt (look_made made.new.items) typer.new))
         (IsFault (typing program.now)) }
 {
-    let mut typer = begin_program(alloc, program)?;
-    let body = body(&mut typer, made, &program.block)?;
+    let body = body(typer, made, &program.block)?;
     let heading = Heading {
-        around: Vec::new(alloc),
-        parameters: Vec::new(alloc),
+        around: Vec::new(typer.alloc),
+        parameters: Vec::new(typer.alloc),
         result: None,
     };
     let block = Block {
@@ -119,5 +128,5 @@ fn program_blocks(
         end: program.block.end,
     };
     made.push(MadeBlock { number: 0, block })?;
-    Ok(typer)
+    Ok(())
 }
