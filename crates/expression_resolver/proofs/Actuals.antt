@@ -31,7 +31,7 @@ look_more : (callee : ℕ) (made : List PassedOne) (one : PassedOne)
 look_more callee made one =
     ap (λ looks. joined (placed callee 0 looks)) (map-append look_passed made (one ∷ []))
     ∙ ap joined (placed_more callee 0 (map look_passed made) (look_passed one))
-    ∙ ap (λ n. joined (placed callee 0 (map look_passed made) ++ look_passed one callee n ∷ [])) (length-map made look_passed)
+    ∙ ap (λ n. joined (placed callee 0 (map look_passed made) ++ look_passed one callee n ∷ [])) (omega (arith, length-map made look_passed))
     ∙ flat_map-append (λ (row : Look). row) (placed callee 0 (map look_passed made)) (look_passed one callee (length made) ∷ [])
     ∙ ap (λ look. look_actuals callee made ++ look) (append-nil (look_passed one callee (length made)))
 
@@ -60,7 +60,7 @@ module _ (roots : List ℕ) (actuals : List Actual) (old : Passed) where
     goes : (callee : ℕ) → left callee i now ≡ next callee (actual (written_actual one) root callee i now)
     goes callee =
         ap (λ rs. actuals_for rs (map written_actual (drop i actuals)) callee i now) (drop_more roots i root rooted)
-        ∙ ap (λ as. actuals_for (get_or roots i root ∷ drop (i + 1) roots) (map written_actual as) callee i now) (drop_more actuals i one within)
+        ∙ ap (λ ones. actuals_for (get_or roots i root ∷ drop (i + 1) roots) (map written_actual ones) callee i now) (drop_more actuals i one within)
         ∙ ap (λ r. actuals_for (r ∷ drop (i + 1) roots) (map written_actual (get_or actuals i one ∷ drop (i + 1) actuals)) callee i now) (sym root_is)
         ∙ ap (λ a. actuals_for (root ∷ drop (i + 1) roots) (map written_actual (a ∷ drop (i + 1) actuals)) callee i now) (sym one_is)
 
@@ -77,15 +77,16 @@ module _ (roots : List ℕ) (actuals : List Actual) (old : Passed) where
           ∙ ap (λ look. behind_marks look (left callee (i + 1) there)) (sym (look_more callee made new)),
     )
 
+    fault_of : (why : TypeFault) (callee : ℕ) → IsFault (actual (written_actual one) root callee i now) why
+        → IsFault (actuals_for roots (map written_actual actuals) callee 0 old) why
+    fault_of why callee (inl memory) = inl memory
+    fault_of why callee (inr is) = inr (
+        so_far.1 callee ∙ ap (behind_marks (look_actuals callee made)) (goes callee ∙ ap (next callee) is))
+
     -- it is refused
     pub one_stops : (why : TypeFault) → ((callee position : ℕ) → IsFault (actual (written_actual one) root callee position now) why)
         → (callee : ℕ) → IsFault (actuals_for roots (map written_actual actuals) callee 0 old) why
-    one_stops why stops callee = fault-of (stops callee i)
-    where
-      fault-of : IsFault (actual (written_actual one) root callee i now) why → IsFault (actuals_for roots (map written_actual actuals) callee 0 old) why
-      fault-of (inl memory) = inl memory
-      fault-of (inr is) = inr (
-          so_far.1 callee ∙ ap (behind_marks (look_actuals callee made)) (goes callee ∙ ap (next callee) is))
+    one_stops why stops callee = fault_of why callee (stops callee i)
 
   -- all are made
   pub all_passed : (i : ℕ) (made : List PassedOne) (now : Passed) → ArePassedFrom i made now → length actuals ≤ i → length actuals ≡ length roots
