@@ -1,3 +1,5 @@
+mod Actuals
 mod Chains
 mod Operands
+mod Results
 mod Selecting
