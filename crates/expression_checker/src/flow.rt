@@ -22,7 +22,7 @@ use crate::visits::Visits;
 use abstract_state::{Known, bound_form, limits};
 use call_states::actuals::{Actual, Bindings, settle};
 use call_states::entry::are_given;
-use call_states::exit;
+use exit_states::exit;
 use call_states::sections::{block_claims_at, changes, entry};
 use component_states::{Index, Reach, State};
 use domain::Domain;
