@@ -22,7 +22,7 @@ use Rattle.abstract_state.specs.Loops.{is_among}
 use Rattle.call_states.specs.Environments.{IsListed, LeavesPassed}
 use Rattle.call_states.specs.Sections.{BlockClaims, all_block_claims, block_claims_at}
 use Rattle.call_states.specs.Starts.{is_own, is_passed_value}
-use Rattle.call_states.proofs.Bearers.{contains-among}
+use Rattle.call_states.proofs.Lists.{contains-among}
 use Rattle.call_states.proofs.Callee.{IsCalled, Outer, Own, PassedTo, Seen, activation_of, place-for_fits, seen-as}
 use Rattle.call_states.proofs.Entered.{roots-are}
 use Rattle.cert_checker.specs.Walk.{program_walk}
