@@ -111,7 +111,7 @@ impl<'a> Walk<'a> {
         visits: &mut Visits,
     ) -> Result<(), CheckFault>
         ensures { Goes (copying becomes target.now (index_pieces indexes.now) type_id value.now
-            (index_pieces value_indexes.now)) self.old visits.old result self.new visits.new }
+            value_indexes.now) self.old visits.old result self.new visits.new }
     {
         let reach = self.access(target, indexes, visits)?;
         let ranges = self.whole_value(value, value_indexes, visits)?;
