@@ -3,6 +3,9 @@
 
 pub mod actuals;
 pub mod aliases;
+<<<<<<< HEAD
+=======
+>>>>>>> origin/wip-cert
 pub mod entry;
 mod limits;
 pub mod overlaps;
