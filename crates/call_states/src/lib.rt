@@ -3,9 +3,6 @@
 
 pub mod actuals;
 pub mod aliases;
-<<<<<<< HEAD
-=======
->>>>>>> origin/wip-cert
 pub mod entry;
 mod limits;
 pub mod overlaps;

@@ -37,9 +37,9 @@ use Rattle.call_states.proofs.Given as given
 use Rattle.call_states.proofs.Headings.{one-there}
 use Rattle.call_states.proofs.LedComponents.{path-ordinal}
 use Rattle.call_states.proofs.Parameters.{IsOutward}
-use Rattle.certificate_names.specs.Names.{block_is_known, bound_roots, exit_is_known, fact_is_known, fact_is_on, fact_roots, has_elements, is_array}
-use Rattle.certificate_names.specs.Names.{is_changed_value}
-use Rattle.certificate_names.specs.Names.{is_known, is_lasting, is_named, is_of_loops, is_outward, is_own_result, names, section_is_known}
+use Rattle.cert_checker.specs.Names.{block_is_known, bound_roots, exit_is_known, fact_is_known, fact_is_on, fact_roots, has_elements, is_array}
+use Rattle.cert_checker.specs.Names.{is_changed_value}
+use Rattle.cert_checker.specs.Names.{is_known, is_lasting, is_named, is_of_loops, is_outward, is_own_result, names, section_is_known}
 use Rattle.expression_checker.proofs.Sound.{World}
 use Rattle.expression_checker.proofs.CallLaws.{AreClaims}
 
@@ -62,13 +62,8 @@ neither false a b one other = refl
 outward-known : (tree : Tree) (block root : ℕ) → is_outward tree block root ≡ true → IsOutward tree block root
 outward-known tree block root is =
     let outline = outline_of tree in
-<<<<<<< HEAD
     let parts = and_parts (is_visible outline block root)
     (not (is_declared outline block is_local_kind root || is_declared outline block is_result_kind root)) is in
-=======
-    let parts = and_parts (is_visible outline block root) (not (is_declared outline block is_local_kind root || is_declared outline block is_result_kind root))
-    is in
->>>>>>> origin/wip-cert
     let found = one-there (λ (v : Variable). is_round outline block v.block) (slice_get tree.variables.items root) parts.0 in
     let v = found.0 in
     let none = or_parts (is_declared outline block is_local_kind root) (is_declared outline block is_result_kind root)

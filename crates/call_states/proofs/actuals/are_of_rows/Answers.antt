@@ -1,8 +1,4 @@
-<<<<<<< HEAD
 use Rattle.std.proofs.Common.{arith, ◌≡◌, ◌∙◌, ◌&&◌, ◌+◌, ◌-◌, ◌<◌, ap, sym, drop, length, true, false}
-=======
-use Rattle.std.proofs.Common.{arith, ◌≡◌, ◌∙◌, ◌&&◌, ◌+◌, ◌-◌, ◌<◌, ap, sym, drop, length, Bool, true, false}
->>>>>>> origin/wip-cert
 use Rattle.std.specs.List.{range_with_len}
 use Rattle.leaf_rows.specs.View.{numbers}
 use Rattle.leaf_rows.specs.Rows.{rows_of, values_at}

@@ -1,8 +1,4 @@
-<<<<<<< HEAD
 use Rattle.std.proofs.Common.{◌∙◌, ap, sym}
-=======
-use Rattle.std.proofs.Common.{◌≡◌, ◌∙◌, ap, sym}
->>>>>>> origin/wip-cert
 use Rattle.std.specs.List.{list_all}
 use Rattle.call_states.specs.Actuals.{is_of_type}
 use Rattle.call_states.proofs.Bound.{bound-past}
