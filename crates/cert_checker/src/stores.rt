@@ -22,7 +22,7 @@ ghost use Rattle.cert_checker.specs.Walk.{stores_made};
 
 use crate::walk::Walk;
 use abstract_state::{Known, bound_form, limits};
-use call_states::actuals::unknown_reach;
+use call_states::actuals::{lies_among, unknown_reach};
 use call_states::aliases;
 use call_states::aliases::{Stored, form_unless_alias, reach_unless_alias, variable_values};
 use component_states::{Reach, State};
@@ -166,14 +166,15 @@ impl<'a> Walk<'a> {
         ensures { (visits : Visits)
             → Goes (stores_made root (said_reach reach) stores.now) self.old visits result self.new visits }
     {
-        let grounds = &self.flow.grounds;
-        let aliases = grounds.pairs.aliases(root);
-        let stored = stored_in_rows(self.alloc, grounds.rows, stores)?;
-        aliases::store(&mut self.flow.state, grounds.rows, aliases, &stored);
+        let flow = &mut self.flow;
+        let rows = flow.grounds.rows;
+        let aliases = flow.grounds.pairs.aliases(root);
+        let stored = stored_in_rows(self.alloc, rows, stores)?;
+        aliases::store(&mut flow.state, rows, aliases, &stored);
         let reach = reach_unless_alias(aliases, reach);
-        store_all(self.alloc, &mut self.flow.state, &reach, stores)?;
-        let values = limits_at(&grounds.limits, root);
-        self.flow.state.variables.touch(root, values);
+        store_all(self.alloc, &mut flow.state, &reach, stores)?;
+        let values = limits_at(&flow.grounds.limits, root);
+        flow.state.variables.touch(root, values);
         Ok(())
     }
 
@@ -195,15 +196,16 @@ impl<'a> Walk<'a> {
         ensures { (visits : Visits)
             → Goes (assign root (said_form form) (Ordinal range)) self.old visits result self.new visits }
     {
-        let grounds = &self.flow.grounds;
-        let aliases = grounds.pairs.aliases(root);
+        let flow = &mut self.flow;
+        let rows = flow.grounds.rows;
+        let aliases = flow.grounds.pairs.aliases(root);
         let stored = Stored {
-            values: variable_values(grounds.rows.tree(), root),
+            values: variable_values(rows.tree(), root),
             range,
         };
-        aliases::store(&mut self.flow.state, grounds.rows, aliases, &[stored]);
+        aliases::store(&mut flow.state, rows, aliases, &[stored]);
         let form = form_unless_alias(aliases, form);
-        self.flow.state.assign(root, range, form)?;
+        flow.state.assign(root, range, form)?;
         Ok(())
     }
 }
@@ -308,10 +310,7 @@ fn is_typed(rows: &Rows, store: &(u32, Interval)) -> bool
     ensures { result ≡ lies_among (values_at (rows_of rows.now) store.now.0) store.now.1 }
 {
     let (row, range) = *store;
-    match rows.values(row) {
-        None => false,
-        Some(values) => range.leq(&limits(values)),
-    }
+    lies_among(rows.values(row), range)
 }
 
 /// The same range for each of some rows.

@@ -531,7 +531,7 @@ impl<'a> Flow<'a> {
     /// A copy of a whole value for a parameter of a type: one that may not be copied has no ranges.
     fn copied<'b>(&self, type_id: TypeId, value: &Whole, ranges: Vec<Interval>) -> Actual<'b>
         ensures { said_actual result ≡ OfRows (if fits_whole self.now.grounds.rows.now.types type_id value.now
-            then ranges.items else []) }
+            then ranges.entry.items else []) }
     {
         let mut ranges = ranges;
         if !self.grounds.may_copy(type_id, value) {

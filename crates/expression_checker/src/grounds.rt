@@ -1,10 +1,8 @@
-ghost use Rattle.std.specs.Prelude.{◌≡◌, ◌&&◌, ◌||◌, IfOk, List, Some, length, map, nat_eq, slice_get};
+ghost use Rattle.std.specs.Prelude.{◌≡◌, ◌&&◌, ◌||◌, IfOk, Some, [], length, slice_get};
 ghost use Rattle.std.specs.List.{list_all};
 ghost use Rattle.typed_tree.specs.WellFormed.{is_local_kind, is_result_kind, of_one};
 ghost use Rattle.types.specs.Types.{have_one_length, is_same, string_length};
 ghost use Rattle.leaf_rows.specs.Rows.{is_structured};
-ghost use Rattle.structured_states.specs.Loops.{Claims, all_list};
-ghost use Rattle.structured_states.specs.View.{kept_round};
 ghost use Rattle.call_states.specs.Actuals.{are_of_types};
 ghost use Rattle.exit_states.specs.Exit.{roots_changed};
 ghost use Rattle.call_states.specs.Overlaps.{are_separate};
@@ -28,7 +26,7 @@ use structured_states::rounds::{Round, all_list};
 use typed_tree::tree::{Block, Call, Whole};
 use types::{TypeId, TypeTable};
 
-/// What a walk goes by.
+/// What a walk goes by. What is claimed of loops stands beside it: nothing here depends on that.
 #[derive(Drop)]
 pub struct Grounds<'a> {
     /// The rows of the program's components.
@@ -49,7 +47,7 @@ impl<'a> Grounds<'a> {
     /// Whether a variable may be changed: each loop round the walk lists it, and so does the block, unless it is a
     /// variable of its variable declaration part, or its result.
     pub fn may_change(&self, root: u32) -> bool
-        ensures { (claims : List Claims) → result ≡ may_change (context_of self.now claims) root }
+        ensures { result ≡ may_change (context_of self.now []) root }
     {
         all_list(&self.rounds, root) && (self.is_own(root) || self.lists(root))
     }
@@ -66,7 +64,7 @@ impl<'a> Grounds<'a> {
 
     /// Whether the block lists a variable among those that it changes.
     fn lists(&self, root: u32) -> bool
-        ensures { (claims : List Claims) → result ≡ block_lists (context_of self.now claims) root }
+        ensures { result ≡ block_lists (context_of self.now []) root }
     {
         changes(block_claims_at(&self.sections, self.block)).contains(&root)
     }
@@ -113,18 +111,24 @@ impl<'a> Grounds<'a> {
         bindings: Bindings,
         listed: &[u32],
     ) -> Result<bool, AllocError>
-        ensures { (claims : List Claims) → IfOk result (λ may. may
-            ≡ (list_all (may_change (context_of self.now claims)) (roots_changed (said_bindings bindings.entry) listed.now)
+        ensures { IfOk result (λ may. may
+            ≡ (list_all (may_change (context_of self.now [])) (roots_changed (said_bindings bindings.entry) listed.now)
             && are_of_types self.now.rows.now self.now.limits.items (said_bindings bindings.entry))) }
     {
         let roots = roots_changed(alloc, bindings, listed)?;
-        let may = roots.iter().all(|root| self.may_change(*root));
-        Ok(may && are_of_types(self.rows, &self.limits, bindings))
+        Ok(self.may_change_all(&roots) && are_of_types(self.rows, &self.limits, bindings))
+    }
+
+    /// Whether each of some variables may be changed.
+    fn may_change_all(&self, roots: &[u32]) -> bool
+        ensures { result ≡ list_all (may_change (context_of self.now [])) roots.now }
+    {
+        roots.iter().all(|root| self.may_change(*root))
     }
 
     /// Where the value of a function lies.
     pub(crate) fn result_range(&self, call: Call) -> Interval
-        ensures { (claims : List Claims) → result ≡ call_range (context_of self.now claims) call }
+        ensures { result ≡ call_range (context_of self.now []) call }
     {
         let result = match self.called(call) {
             None => None,
