@@ -31,7 +31,7 @@ use Rattle.leaf_rows.specs.Rows.{Named, part_named, variable_named}
 use Rattle.structured_states.specs.Loops.{has_ordinals, is_ordinal_variable}
 use Rattle.call_states.specs.Sections.{BlockClaims, all_block_claims, block_claims_at, block_claims_in, no_block_claims}
 use Rattle.call_states.proofs.Bearers.{of-map}
-use Rattle.call_states.proofs.BehindExits.{FitsOrdinals, IsOwnResult, IsResultOf, MayEnd}
+use Rattle.exit_states.proofs.BehindExits.{FitsOrdinals, IsOwnResult, IsResultOf, MayEnd}
 use Rattle.call_states.proofs.Given.{AreOutward}
 use Rattle.call_states.proofs.Given as given
 use Rattle.call_states.proofs.Headings.{one-there}

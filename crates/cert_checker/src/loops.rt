@@ -1,4 +1,4 @@
-ghost use Rattle.std.specs.Prelude.{◌≡◌, ◌&&◌, None, map, not, true, false};
+ghost use Rattle.std.specs.Prelude.{◌≡◌, ◌&&◌, None, not, true, false};
 ghost use Rattle.std.specs.List.{list_all};
 ghost use Rattle.domain.specs.Interval.{is_included};
 ghost use Rattle.typed_tree.specs.WellFormed.{is_visible, outline_of};
@@ -8,7 +8,8 @@ ghost use Rattle.abstract_state.specs.State.{limits_of};
 ghost use Rattle.abstract_state.specs.View.{said_form};
 ghost use Rattle.component_states.specs.States.{joined_states, over_bound, over_change, over_variables};
 ghost use Rattle.component_states.specs.View.{viewed};
-ghost use Rattle.structured_states.specs.Loops.{limits_at};
+ghost use Rattle.structured_states.specs.Loops.{all_control, limits_at};
+ghost use Rattle.structured_states.specs.Pairs.{aliases_of};
 ghost use Rattle.structured_states.specs.View.{said_way};
 ghost use Rattle.structured_states.specs.Ways.{next, turn_begun, turn_ended, way_out, where_counts};
 ghost use Rattle.expression_checker.specs.Visits.{Visits};
@@ -17,9 +18,9 @@ ghost use Rattle.cert_checker.specs.View.{AreLoops, EntersLoop, Goes, IsLoop, Le
 ghost use Rattle.cert_checker.specs.View.{context_of, said_tested};
 ghost use Rattle.cert_checker.specs.Walk.{are_hidden, assign, control_change, may_control, steady_in, tested_way};
 
-use crate::visible::is_visible;
 use crate::walk::Walk;
 use abstract_state::limits;
+use certificate_names::visible::is_visible;
 use component_states::State;
 use domain::Domain;
 use domain::interval::Interval;
@@ -42,16 +43,12 @@ impl<'a> Walk<'a> {
         ensures { EntersLoop number place control self.old result self.new }
     {
         let round = self.round(number, control);
-        let rows = self.flow.grounds.rows;
-        let given = round.is_given(&self.flow.state, rows);
+        let flow = &mut self.flow;
+        let rows = flow.grounds.rows;
+        let given = round.is_given(&flow.state, rows);
         asked(given, Rule::LoopEntry, place)?;
-        round.head(
-            self.alloc,
-            &mut self.flow.state,
-            rows,
-            &self.flow.grounds.limits,
-        )?;
-        self.flow.grounds.rounds.push(round)?;
+        round.head(self.alloc, &mut flow.state, rows, &flow.grounds.limits)?;
+        flow.grounds.rounds.push(round)?;
         Ok(())
     }
 
@@ -144,14 +141,26 @@ impl<'a> Walk<'a> {
         ensures { result ≡ may_control (context_of self.now) way.now.control way.now.first.fits.range
             way.now.last.fits.range }
     {
+        self.is_in_control(way.control) && self.has_hidden_aliases(way.control) && self.fits(way)
+    }
+
+    /// Whether in each loop round the walk is a for statement that a variable controls.
+    fn is_in_control(&self, root: u32) -> bool
+        ensures { result ≡ all_control root (context_of self.now).rounds }
+    {
+        all_control(&self.flow.grounds.rounds, root)
+    }
+
+    /// Whether none of a variable's aliases is visible in the block.
+    fn has_hidden_aliases(&self, root: u32) -> bool
+        ensures { result ≡ are_hidden (context_of self.now) (aliases_of (context_of self.now).pairs root) }
+    {
         let grounds = &self.flow.grounds;
-        all_control(&grounds.rounds, way.control)
-            && are_hidden(
-                grounds.rows.tree(),
-                grounds.block,
-                grounds.pairs.aliases(way.control),
-            )
-            && self.fits(way)
+        are_hidden(
+            grounds.rows.tree(),
+            grounds.block,
+            grounds.pairs.aliases(root),
+        )
     }
 
     /// Whether both bounds are tested for the control variable's type.

@@ -22,7 +22,7 @@ ghost use Rattle.cert_checker.specs.Walk.{stores_made};
 
 use crate::walk::Walk;
 use abstract_state::{Known, bound_form, limits};
-use call_states::actuals::unknown_reach;
+use call_states::actuals::{lies_among, unknown_reach};
 use call_states::aliases;
 use call_states::aliases::{Stored, form_unless_alias, reach_unless_alias, variable_values};
 use component_states::{Reach, State};
@@ -31,6 +31,7 @@ use domain::facts::Bound;
 use domain::interval::Interval;
 use expression_checker::fault::{CheckFault, Rule};
 use expression_checker::flow::asked;
+use expression_checker::grounds::Grounds;
 use expression_checker::visits::Visits;
 use leaf_rows::{Rows, Span};
 use place::Place;
@@ -111,7 +112,7 @@ impl<'a> Walk<'a> {
         visits: &mut Visits,
     ) -> Result<(), CheckFault>
         ensures { Goes (copying becomes target.now (index_pieces indexes.now) type_id value.now
-            (index_pieces value_indexes.now)) self.old visits.old result self.new visits.new }
+            value_indexes.now) self.old visits.old result self.new visits.new }
     {
         let reach = self.access(target, indexes, visits)?;
         let ranges = self.whole_value(value, value_indexes, visits)?;
@@ -134,7 +135,7 @@ impl<'a> Walk<'a> {
     {
         let rows = self.flow.grounds.rows.accessed(target.root, &target.selectors);
         let stores = paired(self.alloc, rows, ranges)?;
-        let fits = self.flow.grounds.may_copy(type_id, value) && are_as_many(rows, ranges);
+        let fits = fits_rows(&self.flow.grounds, type_id, value, rows, ranges);
         self.store_to(becomes, target.root, reach, fits, &stores)
     }
 
@@ -165,14 +166,15 @@ impl<'a> Walk<'a> {
         ensures { (visits : Visits)
             → Goes (stores_made root (said_reach reach) stores.now) self.old visits result self.new visits }
     {
-        let grounds = &self.flow.grounds;
-        let aliases = grounds.pairs.aliases(root);
-        let stored = stored_in_rows(self.alloc, grounds.rows, stores)?;
-        aliases::store(&mut self.flow.state, grounds.rows, aliases, &stored);
+        let flow = &mut self.flow;
+        let rows = flow.grounds.rows;
+        let aliases = flow.grounds.pairs.aliases(root);
+        let stored = stored_in_rows(self.alloc, rows, stores)?;
+        aliases::store(&mut flow.state, rows, aliases, &stored);
         let reach = reach_unless_alias(aliases, reach);
-        store_all(self.alloc, &mut self.flow.state, &reach, stores)?;
-        let values = limits_at(&grounds.limits, root);
-        self.flow.state.variables.touch(root, values);
+        store_all(self.alloc, &mut flow.state, &reach, stores)?;
+        let values = limits_at(&flow.grounds.limits, root);
+        flow.state.variables.touch(root, values);
         Ok(())
     }
 
@@ -194,15 +196,16 @@ impl<'a> Walk<'a> {
         ensures { (visits : Visits)
             → Goes (assign root (said_form form) (Ordinal range)) self.old visits result self.new visits }
     {
-        let grounds = &self.flow.grounds;
-        let aliases = grounds.pairs.aliases(root);
+        let flow = &mut self.flow;
+        let rows = flow.grounds.rows;
+        let aliases = flow.grounds.pairs.aliases(root);
         let stored = Stored {
-            values: variable_values(grounds.rows.tree(), root),
+            values: variable_values(rows.tree(), root),
             range,
         };
-        aliases::store(&mut self.flow.state, grounds.rows, aliases, &[stored]);
+        aliases::store(&mut flow.state, rows, aliases, &[stored]);
         let form = form_unless_alias(aliases, form);
-        self.flow.state.assign(root, range, form)?;
+        flow.state.assign(root, range, form)?;
         Ok(())
     }
 }
@@ -307,10 +310,7 @@ fn is_typed(rows: &Rows, store: &(u32, Interval)) -> bool
     ensures { result ≡ lies_among (values_at (rows_of rows.now) store.now.0) store.now.1 }
 {
     let (row, range) = *store;
-    match rows.values(row) {
-        None => false,
-        Some(values) => range.leq(&limits(values)),
-    }
+    lies_among(rows.values(row), range)
 }
 
 /// The same range for each of some rows.
@@ -347,9 +347,16 @@ fn range_at(ranges: &[Interval], place: u32) -> Option<Interval>
     ranges.get(place as usize).copied()
 }
 
-/// Whether there are as many ranges as rows.
-fn are_as_many(rows: Span, ranges: &[Interval]) -> bool
-    ensures { result ≡ nat_eq (length (numbers rows)) (length ranges.now) }
+/// Whether a whole value, with the ranges of its components, may be copied to rows of a type.
+fn fits_rows(
+    grounds: &Grounds,
+    target: TypeId,
+    value: &Whole,
+    span: Span,
+    ranges: &[Interval],
+) -> bool
+    ensures { result ≡ (fits_whole grounds.now.rows.now.types target value.now
+        && nat_eq (length (numbers span)) (length ranges.now)) }
 {
-    rows.count as usize == ranges.len()
+    grounds.may_copy(target, value) && span.count as usize == ranges.len()
 }
