@@ -356,7 +356,7 @@ module _ (tree : Tree) (pairs : List (ℕ × ℕ)) (number : ℕ) (block : Block
   all = changes tree pairs number block arguments caller activations from store actuals claims after back
 
   abbrev roots : List ℕ
-  roots = touched tree pairs number block arguments caller activations from store actuals claims after back
+  roots = touched tree pairs number block arguments caller activations from store actuals claims after back.left
 
   abbrev outer : Moment
   outer = moment caller after
@@ -367,8 +367,8 @@ module _ (tree : Tree) (pairs : List (ℕ × ℕ)) (number : ℕ) (block : Block
   -- what the call touches, and nothing else, may have changed
   pub call-kept : IsKept caller roots [] store after
   call-kept = record {
-    values = λ root apart steps. untouched-kept tree pairs number block arguments caller activations from store actuals claims after back root apart steps;
-    defined = λ root among steps has. defined-kept tree pairs number block arguments caller activations from store actuals claims after back root steps has;
+    values = λ root apart steps. untouched-kept tree pairs number block arguments caller activations from store actuals claims after back.left root apart steps;
+    defined = λ root among steps has. defined-kept tree pairs number block arguments caller activations from store actuals claims after back.left root steps has;
   }
 
   integers : (root : ℕ) (steps : List Step) (v : Value) → value_at outer root steps ≡ Some v → IsIn integer v
@@ -391,7 +391,7 @@ module _ (tree : Tree) (pairs : List (ℕ × ℕ)) (number : ℕ) (block : Block
       (back.call.proper.begun root home at.1) changed_so at.2 own.1 own.2 in
       let equal : values ≡ told.change.values = values_are home own.0 at.1 own.1 ∙ sym told.values_are in
       inr (told.change, told.inside, subst (λ (r : Option OrdinalRange). same_values values r ≡ true) equal (same-itself values), told.in_range))
-      (same-or_changed tree pairs number block arguments caller activations from store actuals claims after back place (back.call.proper.begun root home at.1))
+      (same-or_changed tree pairs number block arguments caller activations from store actuals claims after back.left place (back.call.proper.begun root home at.1))
 
   abbrev Exact : Bearer → Interval → Type 0
   Exact bearer range = IsExact tree pairs number block arguments caller activations from store actuals claims after back bearer range
@@ -447,7 +447,7 @@ module _ (tree : Tree) (pairs : List (ℕ × ℕ)) (number : ℕ) (block : Block
       (⊎_elim (λ among. inl among)
       (λ apart.
       inr (dropped-in root v
-      (sym (untouched-kept tree pairs number block arguments caller activations from store actuals claims after back root apart []) ∙ is)))
+      (sym (untouched-kept tree pairs number block arguments caller activations from store actuals claims after back.left root apart []) ∙ is)))
       (cases_Bool (is_among root roots)))
 
   variables-behind_known : known.Knows total caller behind after
@@ -499,7 +499,7 @@ module _ (tree : Tree) (pairs : List (ℕ × ℕ)) (number : ℕ) (block : Block
       (λ home own home_is own_is. row-type tree pairs from activations caller back.call.proper row steps home own of_row home_is own_is) is))
       (⊎_elim (λ among. inl (contains-among rows row (rows-touched tree roots row within among)))
       (λ apart.
-      inr (before (sym (untouched-kept tree pairs number block arguments caller activations from store actuals claims after back root apart steps) ∙ is)))
+      inr (before (sym (untouched-kept tree pairs number block arguments caller activations from store actuals claims after back.left root apart steps) ∙ is)))
       (cases_Bool (is_among root roots)))
 
   components-behind_hold : ComponentsHold (all_parts tree) rows_known outer

@@ -163,7 +163,7 @@ module _ (tree : Tree) (pairs : List (ℕ × ℕ)) (number : ℕ) (block : Block
       → p.argument ≡ meaning.OfValue v → is_value_kind variable.kind ≡ true → is_among root claims.changes ≡ false → (m : ℤ)
       → HasNumber inner root m → v ≡ Number m
   value-kept root variable is p v argument_is value apart m has =
-      let own = parameter-block tree pairs number block arguments caller activations from store actuals claims after back root variable is p in
+      let own = parameter-block tree pairs number block arguments caller activations from store actuals claims after back.left root variable is p in
       let home = value-home tree pairs number block arguments caller activations from back.call root variable is own value in
       let kept = passed root variable [] is (and-true (nat_eq variable.block number) (is_value_kind variable.kind) (eq-eqb variable.block number own) value) apart in
       let got = subst (λ (a : Argument). Received tree activations activations callee root variable a
@@ -190,7 +190,7 @@ module _ (tree : Tree) (pairs : List (ℕ × ℕ)) (number : ℕ) (block : Block
       by true among is = absurd (none-some b is)
       by false apart is =
           let same = same-numbers n m (sym n_is ∙ v_is) in
-          let kept = untouched-kept tree pairs number block arguments caller activations from store actuals claims after back root apart [] in
+          let kept = untouched-kept tree pairs number block arguments caller activations from store actuals claims after back.left root apart [] in
           moved-is outer k (Plus root c) b m is (q, kept ∙ has, q_is ∙ same)
 
   no-steady : (k : ℤ) (rows : List ℕ) (reach : Reach) (b : Bound) → steady_bound touches k (map (λ row. Components row reach) rows) ≡ Some b → ⊥
@@ -230,7 +230,7 @@ module _ (tree : Tree) (pairs : List (ℕ × ℕ)) (number : ℕ) (block : Block
       → place_for root block.heading.parameters.items arguments ≡ place_passed argument → IsArgument tree caller store variable actual argument
       → Fits tree activations argument variable → exit_bound_of tree touches root k (Some actual) ≡ Some b → IsBound outer b n
   parameter-bound root variable is p lasting k m n has n_is b (OfValue range form) (meaning.OfValue v) argument_is place_is known fits bound_is =
-      let own = parameter-block tree pairs number block arguments caller activations from store actuals claims after back root variable is p in
+      let own = parameter-block tree pairs number block arguments caller activations from store actuals claims after back.left root variable is p in
       let passed_so : is_passed_value number variable ≡ true =
       ap (λ (b : Bool). b && is_value_kind variable.kind) (eq-eqb variable.block number own) ∙ fits.0 in
       let v_is = value-kept root variable is p v argument_is fits.0 (lasting passed_so) m has in
@@ -666,5 +666,5 @@ module _ (tree : Tree) (pairs : List (ℕ × ℕ)) (number : ℕ) (block : Block
   behind-known may state knows =
       exits-known claims.exit (λ one inside. inside) may
       (touched_behind tree (changes tree pairs number block arguments caller activations from store actuals claims after back)
-      (touched tree pairs number block arguments caller activations from store actuals claims after back) state)
+      (touched tree pairs number block arguments caller activations from store actuals claims after back.left) state)
       (touched-behind_known tree pairs number block arguments caller activations from store actuals claims after back state knows)

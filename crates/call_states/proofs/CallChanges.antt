@@ -71,8 +71,8 @@ aliases-among pairs roots x root among alias = in-flat_map (aliases_of pairs) ro
 
 -- ---- a call that returned
 
--- a call of a block returned, and its block keeps to what is claimed
-pub record HasReturned (tree : Tree) (pairs : List (ℕ × ℕ)) (number : ℕ) (block : Block) (arguments : List Argument) (caller : Environment)
+-- a call of a block returned, and changed what the block lists alone, which its caller may know
+pub record HasLeft (tree : Tree) (pairs : List (ℕ × ℕ)) (number : ℕ) (block : Block) (arguments : List Argument) (caller : Environment)
     (activations from : ℕ) (store : Store) (actuals : List Actual) (claims : BlockClaims) (after : Store) : Type 0 where
   pub call : IsCalled tree pairs number block arguments caller activations from
   pub begun : Begun activations store
@@ -80,13 +80,19 @@ pub record HasReturned (tree : Tree) (pairs : List (ℕ × ℕ)) (number : ℕ) 
   pub of_types : are_of_types tree (all_limits tree) (bound_to block.heading.parameters.items actuals) ≡ true
   pub proper : Proper tree pairs number (suc activations) (environment_of tree (activation_of number block arguments caller activations))
   pub leaves : Leaves activations claims.changes (environment_of tree (activation_of number block arguments caller activations)) store after
+  pub outward : (root : ℕ) → Contains claims.changes root → IsOutward tree number root
+
+-- what is claimed of its end holds there
+pub record HasReturned (tree : Tree) (pairs : List (ℕ × ℕ)) (number : ℕ) (block : Block) (arguments : List Argument) (caller : Environment)
+    (activations from : ℕ) (store : Store) (actuals : List Actual) (claims : BlockClaims) (after : Store) : Type 0 where
+  pub left : HasLeft tree pairs number block arguments caller activations from store actuals claims after
+  pub open left use *
   pub typed : Typed tree after
   pub exit : AllHold tree claims.exit (environment_of tree (activation_of number block arguments caller activations)) after
-  pub outward : (root : ℕ) → Contains claims.changes root → IsOutward tree number root
 
 module _ (tree : Tree) (pairs : List (ℕ × ℕ)) (number : ℕ) (block : Block) (arguments : List Argument) (caller : Environment) (activations from : ℕ)
     (store : Store) (actuals : List Actual) (claims : BlockClaims) (after : Store)
-    (back : HasReturned tree pairs number block arguments caller activations from store actuals claims after) where
+    (back : HasLeft tree pairs number block arguments caller activations from store actuals claims after) where
   abbrev pub callee : Environment
   callee = environment_of tree (activation_of number block arguments caller activations)
 

@@ -354,7 +354,7 @@ module _ (tree : Tree) (pairs : List (ℕ × ℕ)) (number : ℕ) (block : Block
       → Fits tree activations (meaning.OfPlace (Some place)) variable → Lies root variable other selectors reach
   passed-lies_at root variable is p other selectors reach place found known fits =
       lies-at tree pairs number block arguments caller activations from back.call store back.begun actuals back.are back.of_types root variable is fits.0
-      (parameter-block tree pairs number block arguments caller activations from store actuals claims after back root variable is p) place found other selectors
+      (parameter-block tree pairs number block arguments caller activations from store actuals claims after back.left root variable is p) place found other selectors
       reach known
 
   passed-change : (root : ℕ) (variable : DeclaredVariable) (home : Place) (rest : List Step) (own : TypeId) (v : Value)
@@ -378,18 +378,18 @@ module _ (tree : Tree) (pairs : List (ℕ × ℕ)) (number : ℕ) (block : Block
       absurd known
   passed-change root variable home rest own v is home_is older p actual (meaning.OfValue w) place_is known fits at leads lies =
       absurd
-      (own-older tree pairs number block arguments caller activations from store actuals claims after back root variable home is
-      (parameter-block tree pairs number block arguments caller activations from store actuals claims after back root variable is p) home_is older fits.0)
+      (own-older tree pairs number block arguments caller activations from store actuals claims after back.left root variable home is
+      (parameter-block tree pairs number block arguments caller activations from store actuals claims after back.left root variable is p) home_is older fits.0)
   passed-change root variable home rest own v is home_is older p actual (meaning.OfRow numbers) place_is known fits at leads lies =
       absurd
-      (own-older tree pairs number block arguments caller activations from store actuals claims after back root variable home is
-      (parameter-block tree pairs number block arguments caller activations from store actuals claims after back root variable is p) home_is older fits.0)
+      (own-older tree pairs number block arguments caller activations from store actuals claims after back.left root variable home is
+      (parameter-block tree pairs number block arguments caller activations from store actuals claims after back.left root variable is p) home_is older fits.0)
   passed-change root variable home rest own v is home_is older p (OfValue range form) (meaning.OfPlace place) place_is known fits at leads lies = absurd known
   passed-change root variable home rest own v is home_is older p (OfRows ranges) (meaning.OfPlace place) place_is known fits at leads lies = absurd known
 
   -- a value that the callee changed is told by a change of its type
   pub changed-told : (place : Place) (own : TypeId) (v : Value) → place.activation < activations
-      → IsChanged tree pairs number block arguments caller activations from store actuals claims after back place → stored after place ≡ Some v
+      → IsChanged tree pairs number block arguments caller activations from store actuals claims after back.left place → stored after place ≡ Some v
       → place_type tree place ≡ Some own → LiesIn tree.types own v → HasChange changes own v
   changed-told place own v older is at typed lies =
       let outward = back.outward is.root is.listed in

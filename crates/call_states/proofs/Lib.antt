@@ -16,6 +16,7 @@ pub mod Commons
 pub mod ComponentTypes
 pub mod Entered
 pub mod Entire
+pub mod Fitting
 pub mod FormalRows
 pub mod Given
 pub mod Headings

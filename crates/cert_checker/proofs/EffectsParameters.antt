@@ -139,12 +139,14 @@ pub declare-theirs : (tree : Tree) → IsWellFormed tree → DeclareTheirs tree
 declare-theirs tree well number block root is among =
     let test = declares_parameter number in
     let found = found-where test 0 tree.variables.items root
-        (subst (λ (roots : List ℕ). is_among root roots ≡ true) (parameters-are tree well number block is) among) in
+    (subst (λ (roots : List ℕ). is_among root roots ≡ true) (parameters-are tree well number block is) among) in
     let own = (and_parts (nat_eq found.variable.block number) (is_parameter_kind found.variable.kind) found.passes).0 in
     let root_is = found.root_is in
-    let position_is : found.position ≡ root = omega (arith, root_is) in
-    (found.variable, subst (λ (k : ℕ). slice_get tree.variables.items k ≡ Some found.variable) position_is found.there,
-    eqb-true found.variable.block number own)
+    let position_is : found.position ≡ root = omega (arith, root_is) in (
+      found.variable,
+      subst (λ (k : ℕ). slice_get tree.variables.items k ≡ Some found.variable) position_is found.there,
+      eqb-true found.variable.block number own,
+    )
 
 parameters-apart : (tree : Tree) → IsWellFormed tree → (number : ℕ) (block : Block) → slice_get tree.blocks.items number ≡ Some block
     → AreApart block.heading.parameters.items
@@ -207,7 +209,7 @@ keeps-assign_all at tree visible (root ∷ roots) [] apart placed = keeps-give a
 keeps-assign_all at tree visible (root ∷ roots) (argument ∷ arguments) apart placed =
     let found = visible.variables root in
     let first : IsPlaced at found (place_passed argument) =
-        subst (IsPlaced at found) (first-passed root roots argument arguments) (placed root (among-first root roots)) in
+    subst (IsPlaced at found) (first-passed root roots argument arguments) (placed root (among-first root roots)) in
     keeps-then at _ _ (keeps-assign at tree.types found (slice_get tree.variables.items root) argument first)
     (λ _. keeps-assign_all at tree visible roots arguments apart.1
     (λ other among.
@@ -294,8 +296,7 @@ module _ (tree : Tree) (blocks : List BlockClaims) (number : ℕ) (block : Block
     own = λ root variable home found owns seen.
         let parts = and_parts (nat_eq variable.block number) (is_local_kind variable.kind || is_result_kind variable.kind) owns in
         let at_home = own-home root home variable.kind parts.1 (sym (visible-home root variable found (eqb-true variable.block number parts.0)) ∙ seen) in
-        let here : 0 + root ≡ root = omega arith in
-        (
+        let here : 0 + root ≡ root = omega arith in (
           omega (arith, at_home),
           λ earlier. (
             root,

@@ -48,7 +48,7 @@ body-yields context number block yields =
     let claims = block_claims_at context.blocks number in
     let end = flow.◌>>=◌ (result_use block.heading.result) (λ _. facts_given Exit block.end claims.exit) in
     let one = yields-then inner (begin number claims.entry) (λ _. flow.◌>>=◌ (statement_walk block.body) (λ _. end)) tt
-        (record { state = yields.state; unbroken = yields.unbroken; value_is = yields.value_is }) in
+    (record { state = yields.state; unbroken = yields.unbroken; value_is = yields.value_is }) in
     let two = yields-then inner (statement_walk block.body) (λ _. end) tt one.2 in
     record { inner = inner; stands = record { tree_is = refl; blocks_are = refl; block_is = refl }; yields = two.1 }
 
@@ -115,7 +115,7 @@ module _ (tree : Tree) (well : IsWellFormed tree) (certificate : Certificate) (u
     begun-leaves (suc left) =
         let begun : State = record s { turns = left; activations = suc s.activations; living = number ∷ s.living } in
         let kept : Keeps at (inner s.activations) =
-            keeps-then at _ _ keeps-executed (λ v. keeps-then at _ _ (keeps-end at s.living) (λ _. keeps-give at v)) in
+        keeps-then at _ _ keeps-executed (λ v. keeps-then at _ _ (keeps-end at s.living) (λ _. keeps-give at v)) in
         leaves-then at s begun (state_after (inner s.activations begun)) (leaves-begun at s begun refl refl) (kept.left begun (omega arith))
 
     activated-leaves : Leaving at s (state_after (activated tree calls number (Some block) arguments caller s))

@@ -24,3 +24,4 @@ pub mod Written
 pub mod EffectsStatements
 pub mod EffectsParameters
 pub mod EffectsRoutines
+pub mod ClaimsKnown

@@ -1,6 +1,6 @@
 -- What was passed as a value and isn't listed by a block, the statement of the block leaves as it was.
-use Rattle.std.proofs.Common.{arith, ◌≡◌, ⊎_elim, ◌∙◌, sym, ap, refl, subst, ℕ, zero, suc, ◌<◌, Bool, true, false, ◌&&◌, ◌||◌, nat_eq, List, [], ◌∷◌, ◌++◌}
-use Rattle.std.proofs.Common.{Option, Some, None}
+use Rattle.std.proofs.Common.{arith, ◌≡◌, ⊎_elim, ◌∙◌, sym, ap, refl, subst, ℕ, zero, suc, Bool, true, false, ◌||◌, nat_eq, List, [], ◌∷◌, ◌++◌}
+use Rattle.std.proofs.Common.{Some}
 use Rattle.std.specs.Prelude.{slice_get}
 use Rattle.std.specs.List.{Contains}
 use Rattle.std.proofs.lemmas.Bool.{and_parts, both_ways, eq-eqb}
@@ -16,7 +16,7 @@ use Rattle.typed_tree.specs.declared.tree.VariableKind.{VariableKind}
 use Rattle.typed_tree.specs.declared.tree.VariableKind.TheVariants as kind
 use Rattle.meaning.specs.Effect as effect
 use Rattle.meaning.specs.Laws.{state_after}
-use Rattle.meaning.specs.Meaning.{Argument, Calls, effect_of, environment_of, own_place}
+use Rattle.meaning.specs.Meaning.{Argument, Calls, effect_of, environment_of}
 use Rattle.meaning.specs.Store.{Environment, Place}
 use Rattle.abstract_state.specs.Loops.{is_among}
 use Rattle.call_states.specs.Environments.{IsListed, LeavesPassed}

@@ -1,17 +1,16 @@
 -- What the turns of a loop change, the loop touches, and the aliases of that: at its head, and inside it as far as they are visible.
-use Rattle.std.proofs.Common.{◌≡◌, ⊎_elim, ◌∙◌, sym, ap, ap₂, refl, subst, ℕ, Bool, true, false, not, cond, ◌&&◌, ◌||◌, nat_eq, List, [], ◌∷◌, ◌++◌, Option, Some}
+use Rattle.std.proofs.Common.{◌≡◌, ⊎_elim, ◌∙◌, sym, ap, refl, subst, ℕ, Bool, true, false, not, cond, ◌&&◌, ◌||◌, nat_eq, List, [], ◌∷◌, ◌++◌, Some}
 use Rattle.std.proofs.Common.{None}
-use Rattle.std.specs.Prelude.{flat_map}
-use Rattle.std.specs.List.{Contains, list_all}
+use Rattle.std.specs.List.{list_all}
 use Rattle.std.proofs.lemmas.Bool.{and_parts, eqb-true, eq-eqb, or_cases}
 use Rattle.std.proofs.lemmas.List.Folds.{list_any-append}
 use Rattle.std.proofs.lemmas.List.Elements.{Contains-push_cases}
 use Rattle.typed_tree.specs.WellFormed.{is_visible, outline_of}
 use Rattle.abstract_state.specs.Loops.{is_among}
-use Rattle.structured_states.specs.Loops.{Round, all_but, round_of, touched, with_own, without_own}
+use Rattle.structured_states.specs.Loops.{Round, all_but, round_of, without_own}
 use Rattle.structured_states.specs.Pairs.{aliases_of, all_aliases, partner}
 use Rattle.structured_states.proofs.Touched.{among-but, inside-parts, touched_parts}
-use Rattle.expression_checker.specs.Walk.{Context, may_change}
+use Rattle.expression_checker.specs.Walk.{Context}
 use Rattle.expression_checker.proofs.Sound.{Goes, IsClosed, World, is_seen}
 use Rattle.cert_checker.specs.Walk.{are_hidden}
 

@@ -1,5 +1,5 @@
 -- Assignments are sound: the target is accessed, the value is evaluated and tested, and then it is stored.
-use Rattle.std.proofs.Common.{arith, ◌≡◌, ◌∙◌, sym, ap, refl, subst, ℕ, zero, suc, ◌<◌, ℤ, Bool, true, false, cond, ◌&&◌, ◌||◌, nat_lt, length, List, [], ◌∷◌}
+use Rattle.std.proofs.Common.{arith, ◌≡◌, ◌∙◌, sym, ap, refl, subst, ℕ, zero, suc, ◌<◌, ℤ, Bool, true, false, ◌&&◌, nat_lt, length, List, [], ◌∷◌}
 use Rattle.std.proofs.Common.{Option, Some, None}
 use Rattle.std.specs.List.{Contains, list_all}
 use Rattle.std.specs.Option.{option_and_then}
@@ -8,7 +8,6 @@ use Rattle.std.proofs.lemmas.Bool.{and_parts, ltb-true}
 use Rattle.types.proofs.Scalars.{ordinal_component}
 use Rattle.types.specs.Components.{components_of}
 use Rattle.types.specs.Types.{is_ordinal, range_of}
-use Rattle.types.specs.Forms.{Form}
 use Rattle.types.specs.declared.form.Step.{Step}
 use Rattle.types.specs.declared.form.TypeId.{TypeId}
 use Rattle.place.specs.declared.Place.{Place}
@@ -16,7 +15,7 @@ use Rattle.typed_tree.specs.Accesses as accesses
 use Rattle.typed_tree.specs.Accesses.{is_type, led}
 use Rattle.typed_tree.specs.Calls.{holds_call}
 use Rattle.typed_tree.specs.WellFormed.{Outline, are_well_formed, is_well_formed_expr, is_well_formed_selector, is_well_formed_test, is_whole, leads_to_ordinal}
-use Rattle.typed_tree.specs.WellFormed.{of_one, outline_of}
+use Rattle.typed_tree.specs.WellFormed.{outline_of}
 use Rattle.typed_tree.specs.declared.tree.Access.{Access}
 use Rattle.typed_tree.specs.declared.tree.Expr.{Expr}
 use Rattle.typed_tree.specs.declared.tree.RangeTest.{RangeTest}
@@ -27,7 +26,7 @@ use Rattle.domain.specs.Facts.{Bound}
 use Rattle.domain.specs.Interval.{HasMember, Interval, is_included}
 use Rattle.meaning.specs.declared.store.Value.{Value}
 use Rattle.meaning.specs.declared.store.Value.TheVariants.{Number}
-use Rattle.meaning.specs.Store.{Environment, Place as StorePlace, Store, part, written}
+use Rattle.meaning.specs.Store.{Environment, Place as StorePlace, Store, part}
 use Rattle.meaning.specs.Effect as effect
 use Rattle.meaning.specs.Effect.{is_in}
 use Rattle.meaning.specs.Meaning.{Surroundings, accessed, value_of, values_of}
@@ -39,20 +38,16 @@ use Rattle.abstract_state.specs.Knows.{IsOfForm, moment}
 use Rattle.abstract_state.specs.State.{limits_of}
 use Rattle.abstract_state.proofs.Ranged.{IsKnown, included-in, is_in-limits}
 use Rattle.abstract_state.proofs.Refined.{expression-kept, form-known}
-use Rattle.leaf_rows.specs.Rows.{first_index, rows_accessed, rows_of}
+use Rattle.leaf_rows.specs.Rows.{rows_accessed, rows_of}
 use Rattle.component_states.specs.Components.{Reach}
-use Rattle.component_states.specs.Holds.{Knows}
-use Rattle.component_states.specs.States.{State}
-use Rattle.structured_states.specs.Loops.{Round, all_limits, all_list, limits_at}
-use Rattle.structured_states.specs.Pairs.{aliases_of}
+use Rattle.structured_states.specs.Loops.{all_limits, all_list, limits_at}
 use Rattle.call_states.specs.Aliases.{variable_values}
-use Rattle.call_states.specs.Sections.{BlockClaims}
 use Rattle.call_states.proofs.Passed.{indexes-integer, reached-later}
 use Rattle.expression_checker.specs.declared.fault.Rule.TheVariants.{Changes}
 use Rattle.expression_checker.specs.Walk as flow
 use Rattle.expression_checker.specs.Walk.{Context, Walked, Walking, followed, may_change, value_walk}
-use Rattle.expression_checker.proofs.Sound.{Any_value, Behind, Good, Here, IsClosed, IsValue, SoundCalls, SoundFrom, World, declared_in, from-then, good-weaker}
-use Rattle.expression_checker.proofs.Sound.{is_seen, nothing-new, parts_in, sites_in, sound-anywhere, sound-here, types_in, unbroken-left, variables_in}
+use Rattle.expression_checker.proofs.Sound.{Any_value, Good, IsValue, SoundCalls, SoundFrom, World, declared_in, from-then, good-weaker}
+use Rattle.expression_checker.proofs.Sound.{is_seen, sites_in, sound-anywhere, sound-here, types_in, unbroken-left}
 use Rattle.expression_checker.proofs.SoundAccesses.{LeadsTo, leads-seen, leads-tests, leads-type, part-none, required-leaves, required-true, type-of}
 use Rattle.expression_checker.proofs.SoundCalls.{CallLaws}
 use Rattle.expression_checker.proofs.SoundExpressions.{SoundAction, access-sound, value-sound}
@@ -211,7 +206,8 @@ module _ (world : World) (limits_are : world.limits ≡ all_limits world.tree) (
 
     test-sound : (store : Store) → Leads visible target.root target.selectors.items store held place → (known : Known) (v : Value) → IsKnown known v
         → IsOfForm (moment visible store) (bound_form value) v
-        → SoundFrom {A = Unit {0}} {B = Unit {0}} world block visible store Any_value (tested-store place fits v) (walked-store becomes target fits value reach known)
+        → SoundFrom {A = Unit {0}} {B = Unit {0}} world block visible store Any_value (tested-store place fits v)
+        (walked-store becomes target fits value reach known)
     test-sound store leads known v inside of_form =
         let root = target.root in
         let selectors = target.selectors.items in

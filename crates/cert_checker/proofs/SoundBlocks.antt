@@ -1,17 +1,14 @@
 -- The walk over each block of a program is sound, and so are calls, by the depth of activations in one another.
-use Rattle.std.proofs.Common.{arith, ◌≡◌, ◌≢◌, ⊎_elim, inl, inr, ◌∙◌, sym, ap, refl, subst, ℕ, zero, suc, ◌+◌, ◌<◌, Bool, true, false, cond, ◌&&◌, nat_eq}
-use Rattle.std.proofs.Common.{zero-add, ◌||◌, pos, List, [], ◌∷◌, ◌++◌, map, Option, Some, None, length}
+use Rattle.std.proofs.Common.{arith, ◌≡◌, ⊎_elim, inl, inr, ◌∙◌, sym, ap, refl, subst, ℕ, zero, suc, ◌+◌, ◌<◌, Bool, true, false, cond, ◌&&◌, nat_eq}
+use Rattle.std.proofs.Common.{zero-add, ◌||◌, pos, List, [], ◌∷◌, ◌++◌, Option, Some, None}
 use Rattle.std.specs.Prelude.{◌≤◌, nat_lt, slice_get}
-use Rattle.std.specs.List.{All, Contains, cons_option, filter_map}
-use Rattle.std.specs.Option.{option_and_then}
+use Rattle.std.specs.List.{All, Contains, cons_option}
 use Rattle.std.proofs.lemmas.Bool.{and_parts, eqb-true, ltb-true}
 use Rattle.std.proofs.lemmas.List.Elements.{All-contains, All-tail}
 use Rattle.std.proofs.lemmas.Option.{none-some}
 use Rattle.certificate.specs.declared.Certificate.{Certificate}
-use Rattle.types.specs.Types.{is_ordinal, range_of}
-use Rattle.typed_tree.specs.Accesses.{accessed, is_type, led}
 use Rattle.typed_tree.specs.Loops.{AreLoops, loops_of_block}
-use Rattle.typed_tree.specs.WellFormed.{IsWellFormed, are_all, declarer, is_parameter_kind, is_placed, is_result, is_result_kind, is_result_or_none}
+use Rattle.typed_tree.specs.WellFormed.{IsWellFormed, are_all, is_parameter_kind, is_placed, is_result, is_result_kind, is_result_or_none}
 use Rattle.typed_tree.specs.WellFormed.{encloses, is_one_of, is_round, is_visible, of_one, outline_of, result_roots, roots_where}
 use Rattle.typed_tree.specs.declared.tree.Block.{Block}
 use Rattle.typed_tree.specs.declared.tree.FunctionResult.{FunctionResult}
@@ -20,13 +17,11 @@ use Rattle.typed_tree.specs.declared.tree.Variable.{Variable}
 use Rattle.typed_tree.proofs.Blocks.{are_loops_at}
 use Rattle.domain.specs.Facts.{Fact, Path, Range, Defined, Stretch, Order}
 use Rattle.domain.specs.Interval.{Interval, common}
-use Rattle.meaning.specs.declared.outcome.Ending.TheVariants.{More}
 use Rattle.meaning.specs.declared.store.Value.{Value}
 use Rattle.meaning.specs.declared.store.Value.TheVariants.{Number}
 use Rattle.meaning.specs.Effect as effect
 use Rattle.meaning.specs.Effect.{Reply, Visit}
 use Rattle.meaning.specs.Laws.{state_after}
-use Rattle.meaning.specs.Meaning as meaning
 use Rattle.meaning.specs.Meaning.{Argument, Calls, activated, assign_all, calls_of, effect_of, environment_of, executed, result_of}
 use Rattle.meaning.specs.Store.{Environment, Place, Store, held, stored}
 use Rattle.abstract_state.specs.Holds as entire
@@ -37,8 +32,8 @@ use Rattle.abstract_state.specs.State as variables
 use Rattle.abstract_state.proofs.Knows.{defined-stored, entire-value, nonempty-known, read-in}
 use Rattle.abstract_state.proofs.Ranged.{common-in}
 use Rattle.component_states.specs.Holds.{Knows}
-use Rattle.component_states.specs.States.{State, dead, over_variables}
-use Rattle.structured_states.specs.Loops.{all_limits, gives_claims, is_ordinal_variable, limits_at, limits_or_integer, names_entire, plain, plain_facts}
+use Rattle.component_states.specs.States.{State, dead}
+use Rattle.structured_states.specs.Loops.{all_limits, gives_claims, is_ordinal_variable, limits_or_integer, names_entire, plain, plain_facts}
 use Rattle.call_states.specs.Aliases.{variable_values}
 use Rattle.call_states.specs.Environments.{Fine, Leaves, LeavesPassed, Proper}
 use Rattle.call_states.specs.Exit.{claimed_of_variable, exit_range, result_range}
@@ -52,21 +47,17 @@ use Rattle.call_states.proofs.Entered.{begun-behind, roots-are, typed-behind}
 use Rattle.call_states.proofs.Headings.{heading-at, same-numbers, well-heading}
 use Rattle.call_states.proofs.Started.{called-start}
 use Rattle.expression_checker.specs.declared.fault.Rule.TheVariants.{Exit}
-use Rattle.expression_checker.specs.Visits.{visits_of}
-use Rattle.expression_checker.specs.Walk as flow
 use Rattle.expression_checker.specs.Walk.{Context, Walked, followed}
-use Rattle.expression_checker.proofs.Sound.{Any_value, Behind, Called, Good, Goes, Here, IsForetold, IsPartOf, LiesInResult, Returned, SoundCalls, Stands, World}
-use Rattle.expression_checker.proofs.Sound.{activation_of, errs-here, good-give, good-then, good-weaker, here-behind, nothing-new, open-here, over-known}
-use Rattle.expression_checker.proofs.Sound.{part-left, part-right, parts_in, proper-grown, sites_in, stands-as, types_in, unbroken-left, unbroken-right, variables_in}
+use Rattle.expression_checker.proofs.Sound.{Called, Good, Goes, Here, IsPartOf, LiesInResult, Returned, SoundCalls, World}
+use Rattle.expression_checker.proofs.Sound.{activation_of, errs-here, good-give, good-then, good-weaker, nothing-new, open-here, over-known}
+use Rattle.expression_checker.proofs.Sound.{part-left, part-right, parts_in, proper-grown, sites_in, unbroken-left, unbroken-right, variables_in}
 use Rattle.expression_checker.proofs.SoundCalls.{CallLaws}
-use Rattle.cert_checker.specs.Walk as walk
 use Rattle.cert_checker.specs.Walk.{begin, block_walk, blocks_walk, facts_given, first_context, program_walk, result_use, statement_walk}
-use Rattle.cert_checker.proofs.EffectsParameters.{well-block, well-body}
+use Rattle.cert_checker.proofs.EffectsParameters.{well-body}
 use Rattle.cert_checker.proofs.EffectsRoutines.{calls-leave}
 use Rattle.cert_checker.proofs.PassedLeft.{passed-left}
 use Rattle.expression_checker.proofs.EffectsCalls.{CallsLeave}
 use Rattle.cert_checker.proofs.SoundForms.{statement-sound}
-use Rattle.cert_checker.proofs.SoundLoops.{here-as}
 use Rattle.cert_checker.proofs.Written.{Foretold, kept-rule}
 
 -- ---- the walk over each block
@@ -345,8 +336,7 @@ module _ (tree : Tree) (certificate : Certificate) (unbroken : (program_walk tre
           (subst (λ (list : List ℕ). Contains list result.root) roots (0, omega arith, refl)) in
           let at : found.0 ≡ result.root = let root_is = found.2 in omega (arith, root_is) in
           let there : slice_get tree.variables.items result.root ≡ Some found.1 = ap (slice_get tree.variables.items) (sym at) ∙ found.3 in
-          let of_block = (and_parts (nat_eq found.1.block number) (is_result_kind found.1.kind) found.4).0 in
-          (
+          let of_block = (and_parts (nat_eq found.1.block number) (is_result_kind found.1.kind) found.4).0 in (
             ltb-true result.defined (sites_in world) (and_parts (nat_lt result.defined (sites_in world)) _ own).0,
             ap (of_one (λ (v : Variable). is_round outline number v.block)) there
                 ∙ ap (of_one (encloses found.1.block number)) (heading-at tree number block block_is)
@@ -427,7 +417,8 @@ module _ (tree : Tree) (certificate : Certificate) (unbroken : (program_walk tre
         (effect_of block.body (record { visible = callee; calls = calls }) ready) (λ done. result_of block.heading.result callee)
         (body-good calls sound number block called.block_is callee ready (ready-fine left) proper-here (known-here left))
         (λ done t is told.
-        let passed = passed-left tree well certificate unbroken world.pairs calls leave number block arguments caller s called.from is_called ready t done refl is in
+        let passed = passed-left tree well certificate unbroken world.pairs calls leave number block arguments caller s called.from is_called ready t done
+        refl is in
         good-weaker world (Ends calls sound number block called.block_is callee) AtEnd t (result_of block.heading.result callee t)
         (λ v u gives ends.
         let same = result-leaves block.heading.result callee t u v gives in
@@ -440,7 +431,8 @@ module _ (tree : Tree) (certificate : Certificate) (unbroken : (program_walk tre
           stands = told.so.stands;
         })))
 
-    executed-good : (left : ℕ) → Good world AtEnd (begun_with left) (executed tree calls block (activation_of number block arguments caller s) (begun_with left))
+    executed-good : (left : ℕ)
+        → Good world AtEnd (begun_with left) (executed tree calls block (activation_of number block arguments caller s) (begun_with left))
     executed-good left =
         let begun = begun_with left in
         subst (λ (reply : Reply (Unit {0})). Good world AtEnd begun (effect.and_then reply (λ done. execution)))

@@ -1,6 +1,5 @@
 -- Copies of whole values are sound: the target is accessed, and then come the components, which are stored side by side.
-use Rattle.std.proofs.Common.{◌≡◌, ◌∙◌, sym, ap, refl, subst, ℕ, ℤ, Bool, true, not, ◌&&◌, ◌||◌, nat_eq, length, List, Option, Some}
-use Rattle.std.specs.List.{list_all}
+use Rattle.std.proofs.Common.{◌≡◌, ◌∙◌, sym, ap, subst, ℕ, ℤ, Bool, true, not, ◌&&◌, ◌||◌, nat_eq, length, List, Option, Some}
 use Rattle.std.proofs.lemmas.Bool.{and_parts, eqb-true}
 use Rattle.types.specs.Components.{components_of}
 use Rattle.types.specs.Forms.{Form}
@@ -9,8 +8,8 @@ use Rattle.types.specs.declared.form.TypeId.{TypeId}
 use Rattle.place.specs.declared.Place.{Place}
 use Rattle.typed_tree.specs.Accesses as accesses
 use Rattle.typed_tree.specs.Calls.{whole_holds_call}
-use Rattle.typed_tree.specs.WellFormed.{Outline, are_well_formed, is_well_formed_selector, is_well_formed_value, is_well_formed_whole, leads_to_whole, length_of}
-use Rattle.typed_tree.specs.WellFormed.{may_copy, outline_of, whole_indexes}
+use Rattle.typed_tree.specs.WellFormed.{Outline, are_well_formed, is_well_formed_value, is_well_formed_whole, leads_to_whole, length_of}
+use Rattle.typed_tree.specs.WellFormed.{may_copy, outline_of}
 use Rattle.typed_tree.specs.declared.tree.Access.{Access}
 use Rattle.typed_tree.specs.declared.tree.Expr.{Expr}
 use Rattle.typed_tree.specs.declared.tree.Selector.{Selector}
@@ -30,7 +29,8 @@ use Rattle.structured_states.specs.Loops.{all_limits}
 use Rattle.expression_checker.specs.Walk as flow
 use Rattle.expression_checker.specs.Walk.{fits_whole}
 use Rattle.expression_checker.proofs.Fitting.{fits-lie, many-numbers, same-type}
-use Rattle.expression_checker.proofs.Sound.{Any_value, Good, SoundCalls, SoundFrom, World, declared_in, from-then, is_seen, sound-anywhere, sound-here, types_in}
+use Rattle.expression_checker.proofs.Sound.{Any_value, Good, SoundCalls, SoundFrom, World, declared_in, from-then, is_seen, sound-anywhere, sound-here}
+use Rattle.expression_checker.proofs.Sound.{types_in}
 use Rattle.expression_checker.proofs.SoundAccesses.{IsWholeIn, LeadsTo, leads-seen, leads-tests, leads-type, type-of}
 use Rattle.expression_checker.proofs.SoundCalls.{CallLaws}
 use Rattle.expression_checker.proofs.SoundExpressions.{SoundAction, access-sound, whole_value-sound}
@@ -41,7 +41,8 @@ use Rattle.cert_checker.proofs.SoundAssignments.{reached-then}
 use Rattle.cert_checker.proofs.Targets.{contains-at, paired-at, paired-targets}
 use Rattle.cert_checker.proofs.Written.{Fit, Foretold, stores-good}
 
-module _ (world : World) (limits_are : world.limits ≡ all_limits world.tree) (block : ℕ) (env : Surroundings) (laws : CallLaws world) (calls : SoundCalls world env.calls) where
+module _ (world : World) (limits_are : world.limits ≡ all_limits world.tree) (block : ℕ) (env : Surroundings) (laws : CallLaws world)
+    (calls : SoundCalls world env.calls) where
   abbrev visible : Environment
   visible = env.visible
 

@@ -1,11 +1,10 @@
 -- For statements are sound: in each turn the control variable lies on its way, and the body leaves it as it is.
-use Rattle.std.proofs.Common.{arith, ◌≡◌, ⊎_elim, ◌∙◌, sym, ap, refl, subst, ℕ, ◌<◌, ℤ, ◌+ℤ◌, Bool, true, false, cond, ◌&&◌, ◌||◌, List, [], ◌∷◌, ◌++◌}
-use Rattle.std.proofs.Common.{Option, Some, None, nat_eq, length}
-use Rattle.std.specs.List.{Contains}
+use Rattle.std.proofs.Common.{arith, ◌≡◌, ⊎_elim, ◌∙◌, sym, ap, refl, subst, ℕ, ◌<◌, ℤ, Bool, true, false, cond, ◌&&◌, ◌||◌, List, [], ◌∷◌, ◌++◌}
+use Rattle.std.proofs.Common.{Option, Some, None, nat_eq}
 use Rattle.std.specs.Ordering.{int_eq}
-use Rattle.std.specs.Prelude.{◌≤◌, is_some, slice_get}
+use Rattle.std.specs.Prelude.{◌≤◌, is_some}
 use Rattle.std.proofs.lemmas.Int.{ints}
-use Rattle.std.proofs.lemmas.Bool.{and_parts, and_from, both_ways, cases_Bool, eqb-true, false_from_ne_true}
+use Rattle.std.proofs.lemmas.Bool.{and_parts, and_from, both_ways, eqb-true, false_from_ne_true}
 use Rattle.std.proofs.lemmas.List.Folds.{list_all-append, list_any-append}
 use Rattle.std.proofs.lemmas.List.Elements.{Contains-push_cases}
 use Rattle.std.proofs.lemmas.Option.{slice_get_within}
@@ -47,17 +46,17 @@ use Rattle.expression_checker.specs.Walk as flow
 use Rattle.expression_checker.specs.Walk.{Context, Walked, Walking, followed}
 use Rattle.expression_checker.specs.declared.fault.Rule.TheVariants.{Changes}
 use Rattle.expression_checker.proofs.Keeping.{Keeps, keeps-itself, keeps-then}
-use Rattle.expression_checker.proofs.Sound.{Any_value, Behind, Good, Goes, Here, IsForetold, IsPartOf, Passes, Sound, Stands, World, good-give, good-then, good-weaker}
+use Rattle.expression_checker.proofs.Sound.{Any_value, Good, Goes, Here, IsForetold, IsPartOf, Passes, Sound, Stands, World, good-give, good-then, good-weaker}
 use Rattle.expression_checker.proofs.Sound.{here-behind, is_seen, nothing-new, over-known, part-left, part-right, parts_in, proper-grown, sites_in, stands-as}
 use Rattle.expression_checker.proofs.Sound.{unbroken-left, unbroken-right, variables_in}
-use Rattle.expression_checker.proofs.SoundCalls.{by-world, in_world}
+use Rattle.expression_checker.proofs.SoundCalls.{by-world}
 use Rattle.expression_checker.proofs.SoundOperations.{within-sound}
 use Rattle.cert_checker.specs.Walk as walk
 use Rattle.cert_checker.specs.Walk.{are_hidden, steady_in}
 use Rattle.cert_checker.proofs.Changes.{assigned-knows, bound-knows, ended-knows, gone-knows, whole, whole-has, whole-typed, whole-written}
 use Rattle.cert_checker.proofs.Keeping.{gone-alone, gone-begun, gone-changes, gone-keeps, gone-none, gone-typed}
 use Rattle.cert_checker.proofs.Rounds.{goes-inside, hidden-in, inside-closed}
-use Rattle.cert_checker.proofs.SoundLoops.{AreFine, RoundEnds, here-as, here-later, inner, loop-good, loop_begun, rounds-outer, rounds-own}
+use Rattle.cert_checker.proofs.SoundLoops.{AreFine, RoundEnds, here-as, inner, loop-good, loop_begun, rounds-outer, rounds-own}
 use Rattle.cert_checker.proofs.SoundLoops.{turn-then, ways-good, with_head}
 use Rattle.cert_checker.proofs.Written.{Foretold, kept-rule}
 
@@ -583,8 +582,8 @@ module _ (world : World) (ranges : world.limits ≡ all_limits world.tree) (bloc
           → Good world (Foretold world visible context whole_walked t.store) t
           (meaning.for_rounds way.control way.first.fits way.direction way.last.fits execution env x y t)
       turns-good t here forms in_first in_last =
-          good-then world (IsForetold world visible (Passes first_test (Number x)) context first t.store) (Foretold world visible context whole_walked t.store) t
-          (effect.require first_test way.first.fits.site t) (λ done. effect.◌>>=◌ (effect.require last_test way.last.fits.site) (λ done. rounds_action))
+          good-then world (IsForetold world visible (Passes first_test (Number x)) context first t.store)
+          (Foretold world visible context whole_walked t.store) t (effect.require first_test way.first.fits.site t) (λ done. effect.◌>>=◌ (effect.require last_test way.last.fits.site) (λ done. rounds_action))
           (within-sound world block visible (limits_of way.first.fits.range) way.first.fits.site (met way.first.form state.variables way.first.values)
           (Number x) first_test first_site
           (is_in-limits way.first.fits.range (Number x)) (limits-is_in way.first.fits.range (Number x))

@@ -53,7 +53,7 @@ use Rattle.structured_states.proofs.OnWay.{of-form_may}
 use Rattle.expression_checker.specs.Walk as flow
 use Rattle.expression_checker.specs.Walk.{Context, Walked, Walking, followed, parameter_walk, passed_piece_of, value_walk}
 use Rattle.expression_checker.proofs.Keeping.{keeps-then}
-use Rattle.expression_checker.proofs.Sound.{Any_value, Good, Here, IsForetold, IsPartOf, IsValue, SoundCalls, World, closed-passes, declared_in, errs-here}
+use Rattle.expression_checker.proofs.Sound.{Any_value, Good, Here, IsForetold, IsPartOf, IsValue, SoundCalls, World, closed-passes, errs-here}
 use Rattle.expression_checker.proofs.Sound.{good-then, good-weaker, here-behind, is_seen, nothing-new, open-here, over-known, part-left, part-right, parts_in}
 use Rattle.expression_checker.proofs.Sound.{sites_in, sound-enter, sound-give, sound-given, sound-then, sound-written, stands-as, types_in, unbroken-left}
 use Rattle.expression_checker.proofs.Sound.{unbroken-right, variables_in}
@@ -326,8 +326,8 @@ module _ (world : World) (limits_are : world.limits ≡ all_limits world.tree) (
       good-weaker world (Foretold world visible context rest t.store) (Foretold world visible context whole t.store) t
       (meaning.arm_of site rows (map effect_of (bodies arms)) n env t)
       (λ done u gives told. record { tie = tt; stands = told.so.stands; kept = told.so.kept })
-      (arms-good site test.after root n context t base_here (λ r is. entire-number (condition_of index).form (moment visible t.store) n r form is) rows arms dead
-      well loops (unbroken-right tested.broken rest.broken unbroken) (part-right world tested rest part)
+      (arms-good site test.after root n context t base_here (λ r is. entire-number (condition_of index).form (moment visible t.store) n r form is) rows arms
+      dead well loops (unbroken-right tested.broken rest.broken unbroken) (part-right world tested rest part)
       (subst (λ k. meaning.is_among (constants_before k rows) n ≡ true) same_length among)))
       (λ missing.
       let unclosed : (is_dead state || closed) ≡ true → ⊥ = λ is.
@@ -377,7 +377,8 @@ module _ (world : World) (limits_are : world.limits ≡ all_limits world.tree) (
   statement-layer : (y : Stmt-F ProvedStmt) → StmtLayer (map-Stmt ProvedStmt Stmt (λ s. s.0) y)
   statement-layer (Empty number) well loops = sound-enter world block visible number
   statement-layer (Assign number becomes target indexes fits value) well loops =
-      entered-sound {A = Unit {0}} {B = Unit {0}} world block visible Any_value number (assigned world limits_are block env laws calls target indexes.items fits value)
+      entered-sound {A = Unit {0}} {B = Unit {0}} world block visible Any_value number
+      (assigned world limits_are block env laws calls target indexes.items fits value)
       (walk.assignment becomes target (flow.index_pieces indexes.items) fits value)
       (assignment-sound world limits_are block env laws calls becomes target indexes.items fits value well)
   statement-layer (Copy number becomes target indexes type_id value value_indexes) well loops =
@@ -427,7 +428,8 @@ module _ (world : World) (limits_are : world.limits ≡ all_limits world.tree) (
       entered-sound {A = Unit {0}} {B = Unit {0}} world block visible Any_value number (effect.looped round tt) (walk.loop_walk loop_number place None walked)
       (sound-loop world limits_are block visible loop_number place round tt walked
       (inside-entire loop_number (all_inside (map inside_of inner)).controls (all-ordinal world.tree block inner parts.0) loops.0)
-      (λ a. sound-repeat world block env condition body bodies (all-sound statements.items parts.0 loops.1) (value-sound world block env laws calls condition parts.1)))
+      (λ a. sound-repeat world block env condition body bodies (all-sound statements.items parts.0 loops.1)
+      (value-sound world block env laws calls condition parts.1)))
   statement-layer (For number loop_number place control first first_fits direction last last_fits body) well loops =
       let is_test = is_well_formed_test outline block in
       let controls = is_control outline block control in

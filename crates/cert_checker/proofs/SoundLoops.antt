@@ -35,7 +35,7 @@ use Rattle.cert_checker.specs.Walk as walk
 use Rattle.expression_checker.specs.Walk.{Context, Walked, Walking, followed, value_walk}
 use Rattle.cert_checker.specs.Walk.{where_so}
 use Rattle.expression_checker.proofs.Keeping.{Keeps, keeps-itself, keeps-then}
-use Rattle.expression_checker.proofs.Sound.{Any_value, Behind, Good, Goes, Here, IsForetold, IsPartOf, IsValue, Sound, Stands, World, good-give, good-then, good-weaker}
+use Rattle.expression_checker.proofs.Sound.{Any_value, Good, Goes, Here, IsForetold, IsPartOf, IsValue, Sound, Stands, World, good-give, good-then, good-weaker}
 use Rattle.expression_checker.proofs.Sound.{here-behind, nothing-new, over-known, part-left, part-right, parts_in, proper-grown, stands-as, unbroken-left}
 use Rattle.expression_checker.proofs.Sound.{unbroken-right, variables_in}
 use Rattle.cert_checker.proofs.Heads.{head-of_known}

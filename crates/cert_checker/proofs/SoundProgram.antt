@@ -4,7 +4,7 @@ use Rattle.std.proofs.Common.{zero-add, List, [], ◌∷◌, ◌++◌, map, filt
 use Rattle.std.specs.Prelude.{◌+◌, ◌≤◌, nat_lt, slice_get}
 use Rattle.std.specs.List.{Contains, flat_map, list_any, list_all, range_with_len, sum_by}
 use Rattle.std.proofs.lemmas.Bool.{and_parts, eq-eqb, eqb-true}
-use Rattle.std.proofs.lemmas.List.{length-map, get_or-map, get_or_default}
+use Rattle.std.proofs.lemmas.List.{length-map, get_or-map}
 use Rattle.std.proofs.lemmas.Option.{none-some, slice_get_within}
 use Rattle.std.proofs.lemmas.List.Folds.{list_any_at}
 use Rattle.std.proofs.lemmas.List.Sorted.{sum_by-IsPermutation}
@@ -13,7 +13,7 @@ use Rattle.std.proofs.lemmas.List.Concat.{flat_map-cons}
 use Rattle.std.proofs.lemmas.List.FromFn.{get_or-map-range_with_len, length-range_with_len, get_or-range_with_len}
 use Rattle.certificate.specs.declared.Certificate.{Certificate}
 use Rattle.certificate.specs.declared.Section.{Section as KeptSection}
-use Rattle.certificate.specs.Contents.{Section, contents, is_empty, said_fact, section_of}
+use Rattle.certificate.specs.Contents.{contents, is_empty, said_fact, section_of}
 use Rattle.typed_tree.specs.declared.tree.Tree.{Tree}
 use Rattle.typed_tree.specs.declared.tree.Block.{Block}
 use Rattle.typed_tree.specs.declared.site.Site.{Site}
@@ -25,10 +25,8 @@ use Rattle.meaning.specs.declared.outcome.Ending.TheVariants.{Error}
 use Rattle.meaning.specs.Effect as effect
 use Rattle.meaning.specs.Effect.{Reply, Visit}
 use Rattle.meaning.specs.Meaning.{calls_of, ended, environment_of, first_state, program_activation, run, run_of}
-use Rattle.meaning.specs.Store.{Environment}
-use Rattle.abstract_state.specs.Holds.{Separate}
 use Rattle.call_states.specs.Environments.{Fine}
-use Rattle.call_states.specs.Sections.{BlockClaims, all_block_claims, all_pairs, block_claims_at, block_claims_in, no_block_claims}
+use Rattle.call_states.specs.Sections.{BlockClaims, all_block_claims, block_claims_at, block_claims_in, no_block_claims}
 use Rattle.call_states.proofs.AliasedStores.{head-or_tail}
 use Rattle.call_states.proofs.Claimed.{AllHold}
 use Rattle.call_states.proofs.Started.{no-claims, program-proper, program-start}
@@ -36,10 +34,12 @@ use Rattle.expression_checker.specs.Walk.{Linked, numbers_of}
 use Rattle.expression_checker.specs.Visits.{moment_of, visits_of}
 use Rattle.component_states.specs.Holds.{StateHolds}
 use Rattle.expression_checker.proofs.Sound.{ErrsWithin, Meets, New, World, parts_in, sites_in}
+use Rattle.expression_checker.proofs.CallLaws.{call-laws}
 use Rattle.expression_checker.proofs.SoundCalls.{CallLaws}
 use Rattle.cert_checker.specs.Names.{block_is_known, claims_are_known, is_known, is_of_loops, section_is_known}
 use Rattle.cert_checker.specs.Promise.{open_in, ClosedNeverErr, HoldsAt, StatesHold}
 use Rattle.cert_checker.specs.Walk.{program_walk}
+use Rattle.cert_checker.proofs.ClaimsKnown.{are-claims}
 use Rattle.cert_checker.proofs.SoundBlocks.{body-good, program_world, sound-calls}
 
 -- ---- what is claimed of the program's block
@@ -96,9 +96,12 @@ first-fine : (tree : Tree) (input : List ℕ) (turns : ℕ) → Fine tree (first
 first-fine tree input turns = record { typed = λ place v is. absurd (none-some v is); begun = λ place v is. absurd (none-some v is) }
 
 module _ (tree : Tree) (certificate : Certificate) (unbroken : (program_walk tree certificate).broken ≡ []) (known : is_known tree certificate ≡ true)
-    (well : IsWellFormed tree) (laws : CallLaws (program_world tree certificate)) (input : List ℕ) (turns : ℕ) where
+    (well : IsWellFormed tree) (input : List ℕ) (turns : ℕ) where
   abbrev world : World
   world = program_world tree certificate
+
+  laws : CallLaws world
+  laws = call-laws world well refl (are-claims world certificate refl known)
 
   block-foretold : (block : Block) → slice_get tree.blocks.items 0 ≡ Some block
       → Foretold world (run_of tree (suc turns) (Some block) (first_state input turns))
@@ -165,12 +168,13 @@ element-at (x ∷ xs) (suc k) within = element-at xs k (omega arith)
 
 -- each error of a run is at a site that the walk leaves open
 pub closed-never_err : (tree : Tree) (certificate : Certificate) (open_sites : List Site) → (program_walk tree certificate).broken ≡ []
-    → is_known tree certificate ≡ true → CallLaws (program_world tree certificate) → open_sites ≡ open_in (program_walk tree certificate).open_ids tree.sites.items → IsWellFormed tree → AreInOrder tree.sites.items
+    → is_known tree certificate ≡ true
+    → open_sites ≡ open_in (program_walk tree certificate).open_ids tree.sites.items → IsWellFormed tree → AreInOrder tree.sites.items
     → ClosedNeverErr tree open_sites
-closed-never_err tree certificate open_sites unbroken known laws open_are well in_order input turns id errs =
+closed-never_err tree certificate open_sites unbroken known open_are well in_order input turns id errs =
     let ids = (program_walk tree certificate).open_ids in
     let sites = tree.sites.items in
-    let told = program-foretold tree certificate unbroken known well laws input turns in
+    let told = program-foretold tree certificate unbroken known well input turns in
     let at = errs-within (program_world tree certificate) (run tree input turns) id told.errs errs in
     let found = element-at sites id at.1 in
     let id_is : found.0.id ≡ id = number-at (λ site. site.id) sites (length sites) in_order id found.0 at.1 found.1 in
@@ -301,9 +305,9 @@ holds-at world once visit meets = record {
 
 -- at each entry of a run the states that are linked to it hold
 pub states-hold : (tree : Tree) (certificate : Certificate) → (program_walk tree certificate).broken ≡ []
-    → is_known tree certificate ≡ true → CallLaws (program_world tree certificate) → numbers_of (program_walk tree certificate).linked ≡ entries_of tree
+    → is_known tree certificate ≡ true → numbers_of (program_walk tree certificate).linked ≡ entries_of tree
     → IsWellFormed tree → AreNumbered tree → StatesHold tree certificate
-states-hold tree certificate unbroken known laws numbers_are well numbered input turns visit inside =
+states-hold tree certificate unbroken known numbers_are well numbered input turns visit inside =
     let world = program_world tree certificate in
     let once = linked-once world.linked
     (λ n.
@@ -312,4 +316,4 @@ states-hold tree certificate unbroken known laws numbers_are well numbered input
     let few = once-from n 0 (length (entries_in_text tree)) in
     omega (arith, same, few)) in
     ⊎_elim (λ none. absurd (omega (arith, none.1))) (λ new. (holds-at world once visit new.0, new.1))
-    ((program-foretold tree certificate unbroken known well laws input turns).new visit inside)
+    ((program-foretold tree certificate unbroken known well input turns).new visit inside)
