@@ -1,14 +1,14 @@
 -- What is known behind a call, but for the facts that are claimed of its end, holds there.
-use Rattle.std.proofs.Common.{arith, ◌≡◌, ⊎_elim, ◌⊎◌, inl, inr, ◌∙◌, sym, ap, refl, subst, ℕ, zero, suc, ◌+◌, ◌<◌, ◌≤◌, Bool, true, false, cond, ◌&&◌, ◌||◌}
-use Rattle.std.proofs.Common.{filter, get_or, nat_eq, set, List, [], ◌∷◌, ◌++◌, length, map, Option, Some, None}
+use Rattle.std.proofs.Common.{arith, ◌≡◌, ⊎_elim, ◌⊎◌, inl, inr, ◌∙◌, sym, ap, refl, subst, ℕ, zero, suc, ◌<◌, ◌≤◌, Bool, true, false, cond}
+use Rattle.std.proofs.Common.{filter, get_or, nat_eq, List, [], ◌∷◌, ◌++◌, length, Option, Some, None}
 use Rattle.std.specs.Cmp.{int_eq_equiv}
-use Rattle.std.specs.List.{All, Contains, filter_map, flat_map}
+use Rattle.std.specs.List.{Contains, filter_map}
 use Rattle.std.specs.Ordering.{int_eq}
-use Rattle.std.specs.Prelude.{slice_get, slice_index_or}
+use Rattle.std.specs.Prelude.{slice_index_or}
 use Rattle.std.proofs.lemmas.Bool.{and_from, cases_Bool, eqb-true, eqb-false, false≢true, or_cases}
 use Rattle.std.proofs.lemmas.List.{get_or-set_other, get_or-set_same, length-set}
-use Rattle.std.proofs.lemmas.List.Elements.{All-contains, All-contains_itself, All-filter, All-nil, filter_passes}
-use Rattle.std.proofs.lemmas.Option.{none-some, same_Some, slice_get_within}
+use Rattle.std.proofs.lemmas.List.Elements.{All-nil}
+use Rattle.std.proofs.lemmas.Option.{slice_get_within}
 use Rattle.types.specs.Types.{range_of}
 use Rattle.types.specs.declared.form.OrdinalRange.{OrdinalRange}
 use Rattle.types.specs.declared.form.Step.{Step}
@@ -19,7 +19,7 @@ use Rattle.domain.specs.Facts.{Fact}
 use Rattle.domain.specs.Interval.{Interval, common, joined, vacant}
 use Rattle.meaning.specs.declared.store.Value.{Value}
 use Rattle.meaning.specs.Meaning.{Argument}
-use Rattle.meaning.specs.Store.{Environment, Place, Store, stored}
+use Rattle.meaning.specs.Store.{Environment, Place, Store}
 use Rattle.abstract_state.specs.Holds as holds
 use Rattle.abstract_state.specs.Holds.{IsIn, Moment, part_of, value_at}
 use Rattle.abstract_state.specs.Knows as known
@@ -45,20 +45,14 @@ use Rattle.component_states.proofs.Rows.{of_row-within, with_range-defined, with
 use Rattle.call_states.specs.Actuals.{Actual, Bearer, Passed, Variable, bound_to}
 use Rattle.call_states.specs.Actuals as bearing
 use Rattle.call_states.specs.Aliases.{all_dropped, same_values, variable_values}
-use Rattle.call_states.specs.Environments.{LiesIn, place_type}
+use Rattle.call_states.specs.Environments.{place_type}
 use Rattle.call_states.specs.Exit.{Change, all_common, all_joined, is_row, is_variable, range_behind, row_behind, rows_behind, touched_behind, variable_behind}
 use Rattle.call_states.specs.Exit.{variables_behind}
 use Rattle.call_states.specs.Sections.{BlockClaims}
 use Rattle.call_states.proofs.AliasedTypes.{in-types, row-type, seen, declared, shows, stored-of, whole-type}
-use Rattle.call_states.proofs.Bearers.{among-contains, contains-among, contains-more}
 use Rattle.call_states.proofs.CallChanges.{HasReturned, defined-kept, same-or_changed, touched, untouched-kept}
-use Rattle.call_states.proofs.CallLeaves.{IsExact, changed-told, changes, changes-exact, in-flat}
-
-filtered : {A : Type 0} (test : A → Bool) (items : List A) (item : A) → Contains (filter test items) item → Contains items item × (test item ≡ true)
-filtered test items item inside = (
-  All-contains (Contains items) (filter test items) item (All-filter test (Contains items) items (All-contains_itself items)) inside,
-  All-contains (λ (x : _). test x ≡ true) (filter test items) item (filter_passes test items) inside,
-)
+use Rattle.call_states.proofs.CallLeaves.{IsExact, changed-told, changes, changes-exact}
+use Rattle.call_states.proofs.Lists.{among-contains, contains-among, contains-more, filtered, in-flat}
 
 -- ---- ranges behind a call
 
@@ -312,7 +306,8 @@ module _ (tree : Tree) (all : List Change) where
       by false other more =
           let range = range_behind (values_at (rows_of tree) first) all (filter (λ change. is_row first change.bearer) all) (row_at known first).range in
           let same : row_at (row_behind tree all first known) row ≡ row_at known row =
-          get_or-set_other known.rows first row (record (row_at known first) { range = range }) no_row (λ (e : row ≡ first). eqb-false first row other (sym e)) in
+          get_or-set_other known.rows first row (record (row_at known first) { range = range }) no_row
+          (λ (e : row ≡ first). eqb-false first row other (sym e)) in
           more (⊎_elim (λ inside. inl (subst (λ (s : RowState). IsIn s.range v) (sym same) inside)) (λ told. inr told) so)
           (⊎_elim
           (λ among.
@@ -368,7 +363,8 @@ module _ (tree : Tree) (pairs : List (ℕ × ℕ)) (number : ℕ) (block : Block
   pub call-kept : IsKept caller roots [] store after
   call-kept = record {
     values = λ root apart steps. untouched-kept tree pairs number block arguments caller activations from store actuals claims after back.left root apart steps;
-    defined = λ root among steps has. defined-kept tree pairs number block arguments caller activations from store actuals claims after back.left root steps has;
+    defined = λ root among steps has. defined-kept tree pairs number block arguments caller activations from store actuals claims after back.left root steps
+        has;
   }
 
   integers : (root : ℕ) (steps : List Step) (v : Value) → value_at outer root steps ≡ Some v → IsIn integer v
@@ -391,7 +387,8 @@ module _ (tree : Tree) (pairs : List (ℕ × ℕ)) (number : ℕ) (block : Block
       (back.call.proper.begun root home at.1) changed_so at.2 own.1 own.2 in
       let equal : values ≡ told.change.values = values_are home own.0 at.1 own.1 ∙ sym told.values_are in
       inr (told.change, told.inside, subst (λ (r : Option OrdinalRange). same_values values r ≡ true) equal (same-itself values), told.in_range))
-      (same-or_changed tree pairs number block arguments caller activations from store actuals claims after back.left place (back.call.proper.begun root home at.1))
+      (same-or_changed tree pairs number block arguments caller activations from store actuals claims after back.left place
+      (back.call.proper.begun root home at.1))
 
   abbrev Exact : Bearer → Interval → Type 0
   Exact bearer range = IsExact tree pairs number block arguments caller activations from store actuals claims after back bearer range
@@ -425,7 +422,8 @@ module _ (tree : Tree) (pairs : List (ℕ × ℕ)) (number : ℕ) (block : Block
   dropped-in : (root : ℕ) (v : Value) → value_at (moment caller store) root [] ≡ Some v → IsIn (variables.range_of dropped.variables root) v
   dropped-in root v is =
       subst (λ (range : Interval). IsIn range v)
-      (range-is state.variables root ∙ ap (λ (own : List Interval). get_or own root vacant) (sym (dropped-ranges roots state)) ∙ sym (range-is dropped.variables root))
+      (range-is state.variables root ∙ ap (λ (own : List Interval). get_or own root vacant) (sym (dropped-ranges roots state)) ∙ sym
+      (range-is dropped.variables root))
       (known-in total caller state.variables store root v knows.variables is)
 
   range-behind : (root : ℕ) (v : Value) → value_at outer root [] ≡ Some v → IsIn (variables.range_of behind root) v

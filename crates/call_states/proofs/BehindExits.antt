@@ -1,9 +1,9 @@
 -- What is known behind a call holds there, with the facts that are claimed of the end of the callee's block.
-use Rattle.std.proofs.Common.{arith, ◌≡◌, ⊎_elim, ◌⊎◌, inl, inr, ◌∙◌, sym, ap, refl, subst, ℕ, zero, suc, ◌+◌, ◌<◌, Bool, true, false, cond, not, ◌&&◌}
-use Rattle.std.proofs.Common.{◌||◌, ℤ, pos, ◌+ℤ◌, ◌-ℤ◌, ◌≤ℤ◌, get_or, nat_eq, List, [], ◌∷◌, ◌++◌, length, map, Option, Some, None}
+use Rattle.std.proofs.Common.{arith, ◌≡◌, ⊎_elim, ◌⊎◌, inl, inr, ◌∙◌, sym, ap, refl, subst, ℕ, zero, suc, Bool, true, false, cond, not, ◌&&◌}
+use Rattle.std.proofs.Common.{ℤ, pos, ◌+ℤ◌, ◌-ℤ◌, ◌≤ℤ◌, nat_eq, List, [], ◌∷◌, ◌++◌, length, map, Option, Some, None}
 use Rattle.std.specs.List.{Contains}
-use Rattle.std.specs.Prelude.{slice_get, slice_index_or}
-use Rattle.std.proofs.lemmas.Bool.{and_parts, and_right, eq-eqb, eqb-true, eqb-false, false≢true}
+use Rattle.std.specs.Prelude.{slice_get}
+use Rattle.std.proofs.lemmas.Bool.{and_parts, eq-eqb, false≢true}
 use Rattle.std.proofs.lemmas.Int.{ints}
 use Rattle.std.proofs.lemmas.List.Elements.{Contains-append_left, Contains-append_right}
 use Rattle.std.proofs.lemmas.Option.{none-some, same_Some}
@@ -24,44 +24,44 @@ use Rattle.meaning.specs.declared.store.Value.TheVariants.{Number}
 use Rattle.meaning.specs.Meaning as meaning
 use Rattle.meaning.specs.Meaning.{Argument, environment_of, own_place, place_for, place_passed}
 use Rattle.meaning.specs.Store.{Environment, Place, Store, stored}
-use Rattle.abstract_state.specs.Changes.{ordered, with_some}
 use Rattle.abstract_state.specs.Holds as holds
 use Rattle.abstract_state.specs.Holds.{HasNumber, HasValue, IsBound, Moment, part_of, value_at}
 use Rattle.abstract_state.specs.Knows.{IsOfForm, moment}
 use Rattle.abstract_state.specs.Loops.{is_among}
-use Rattle.abstract_state.specs.State as variables
 use Rattle.abstract_state.specs.State.{is_entire}
 use Rattle.abstract_state.proofs.Changed.{ordered-known}
 use Rattle.abstract_state.proofs.Given.{entire-steps, named-entire}
 use Rattle.abstract_state.proofs.Knows.{defined-known}
-use Rattle.leaf_rows.specs.Rows.{all_parts, first_index, index_at, no_parts, rows_accessed, rows_of, rows_under}
+use Rattle.leaf_rows.specs.Rows.{all_parts, first_index, index_at, rows_accessed, rows_of, rows_under}
 use Rattle.leaf_rows.proofs.Accessed.{IsOf, has-contains, indexes-are, rows-are}
-use Rattle.leaf_rows.proofs.Selected.{Matches}
+use Rattle.leaf_rows.proofs.Components.{mapped-at}
 use Rattle.component_states.specs.Components as components
 use Rattle.component_states.specs.Components.{At, ComponentFact, Entire, Inside, Reach, moved_bound}
 use Rattle.component_states.specs.Holds.{HasComponent, Holds, Knows, component_at}
-use Rattle.component_states.specs.States.{State, all_of_row, over_components, over_variables}
+use Rattle.component_states.specs.States.{State, all_of_row, over_components}
 use Rattle.component_states.proofs.Bounds.{moved-is}
 use Rattle.component_states.proofs.Looped.{with_claim-holds}
-use Rattle.structured_states.specs.Loops.{all_limits, component_claims, is_ordinal_variable, names_entire, rows_named}
+use Rattle.structured_states.specs.Loops.{is_ordinal_variable, names_entire, rows_named}
 use Rattle.call_states.specs.Actuals.{Actual, Bearer, Binding, Components, OfRows, OfValue, OfVariable, Passed, Variable, actual_of, all_of_rows, bearers_at}
 use Rattle.call_states.specs.Actuals.{bearers_for, bearers_named, bearers_of, bound_to}
 use Rattle.call_states.specs.Environments.{LeavesPassed}
 use Rattle.call_states.specs.Exit.{Touches, bearer_defined, bearers_defined, behind_call, bounds_ordered, exit_bound, exit_bound_of, has_actual, is_own_path}
-use Rattle.call_states.specs.Exit.{is_steady, steady_bound, stretch_defined, stretches_defined, touched_behind, touches_of, untouched_form, with_exit, with_exits}
+use Rattle.call_states.specs.Exit.{is_steady, steady_bound, stretch_defined, stretches_defined, touched_behind, touches_of, untouched_form, with_exit}
+use Rattle.call_states.specs.Exit.{with_exits}
 use Rattle.call_states.specs.Sections.{BlockClaims}
 use Rattle.call_states.specs.Starts.{is_passed_value}
 use Rattle.call_states.proofs.Assigned.{Received}
-use Rattle.call_states.proofs.Bearers.{among-contains, bearer-from, borne-rows, borne-variable, contains-more, in-map, named-root, of-map, ordinal-variable, under-root}
+use Rattle.call_states.proofs.Bearers.{bearer-from, borne-rows, borne-variable, named-root, ordinal-variable, under-root}
 use Rattle.call_states.proofs.Behind.{touched-behind_known}
 use Rattle.call_states.proofs.Borne.{value-received}
-use Rattle.call_states.proofs.CallChanges.{HasReturned, parameter-block, touched, untouched-kept}
+use Rattle.call_states.proofs.CallChanges.{HasReturned, touched, untouched-kept}
 use Rattle.call_states.proofs.CallLeaves.{changes, component-holds, passed-lies_at, plain-holds}
 use Rattle.call_states.proofs.Callee.{activation_of}
 use Rattle.call_states.proofs.Entered.{behind_assignments, parameter-own}
-use Rattle.call_states.proofs.FormalRows.{LiesAt, actual-row, first-behind_fields, one-way, ordinal-steps, same-value}
+use Rattle.call_states.proofs.FormalRows.{LiesAt, actual-row, first-behind_fields, no-way, one-way, ordinal-steps, same-value}
 use Rattle.call_states.proofs.Given.{AreOutward, fact_roots}
-use Rattle.call_states.proofs.Parameters.{IsOuter, IsOutward, IsParameter, actual-of_parameter, outward-cases}
+use Rattle.call_states.proofs.Lists.{among-contains, contains-more, in-map, of-map}
+use Rattle.call_states.proofs.Parameters.{IsOuter, IsOutward, IsParameter, actual-of_parameter, outward-cases, parameter-block}
 use Rattle.call_states.proofs.Passed.{Fits, IsArgument, IsReachedBy}
 use Rattle.call_states.proofs.Started.{value-home}
 
@@ -138,7 +138,8 @@ module _ (tree : Tree) (pairs : List (ℕ × ℕ)) (number : ℕ) (block : Block
   cases : (root : ℕ) → (outward : IsOutward tree number root) → IsOuterHere root outward.0 ⊎ ParameterHere root outward.0
   cases root outward = outward-cases tree pairs number block arguments caller activations from back.call store actuals back.are back.of_types root outward
 
-  outer-same : (root : ℕ) (variable : DeclaredVariable) → IsOuterHere root variable → (steps : List Step) → value_at inner root steps ≡ value_at outer root steps
+  outer-same : (root : ℕ) (variable : DeclaredVariable) → IsOuterHere root variable → (steps : List Step)
+      → value_at inner root steps ≡ value_at outer root steps
   outer-same root variable here steps = ap (λ (found : Option Place). part_of after found steps) here.same
 
   lies-here : (root : ℕ) (variable : DeclaredVariable) → slice_get tree.variables.items root ≡ Some variable → (p : ParameterHere root variable) → (other : ℕ)
@@ -148,10 +149,6 @@ module _ (tree : Tree) (pairs : List (ℕ × ℕ)) (number : ℕ) (block : Block
   lies-here root variable is p other selectors reach place found known fits =
       passed-lies_at tree pairs number block arguments caller activations from store actuals claims after back root variable is p other selectors reach place
       found known fits
-
-  no-way : (way : List Step) → Matches [] way → way ++ [] ≡ []
-  no-way [] matches = refl
-  no-way (s ∷ way) matches = absurd matches
 
   -- ---- bounds
 
@@ -163,12 +160,14 @@ module _ (tree : Tree) (pairs : List (ℕ × ℕ)) (number : ℕ) (block : Block
       → p.argument ≡ meaning.OfValue v → is_value_kind variable.kind ≡ true → is_among root claims.changes ≡ false → (m : ℤ)
       → HasNumber inner root m → v ≡ Number m
   value-kept root variable is p v argument_is value apart m has =
-      let own = parameter-block tree pairs number block arguments caller activations from store actuals claims after back.left root variable is p in
+      let own = parameter-block tree pairs number block arguments caller activations from back.call store actuals back.are back.of_types root variable is p in
       let home = value-home tree pairs number block arguments caller activations from back.call root variable is own value in
-      let kept = passed root variable [] is (and-true (nat_eq variable.block number) (is_value_kind variable.kind) (eq-eqb variable.block number own) value) apart in
+      let kept = passed root variable [] is (and-true (nat_eq variable.block number) (is_value_kind variable.kind) (eq-eqb variable.block number own) value)
+      apart in
       let got = subst (λ (a : Argument). Received tree activations activations callee root variable a
       (behind_assignments tree pairs number block arguments caller activations from back.call store)) argument_is
-      (value-received tree pairs number block arguments caller activations from back.call store back.begun actuals back.are back.of_types root variable is p value) in
+      (value-received tree pairs number block arguments caller activations from back.call store back.begun actuals back.are back.of_types root variable is p
+      value) in
       let at : stored after (own_place activations root) ≡ Some (Number m) =
       sym (Rattle.abstract_state.proofs.Apart.entire-stored after (own_place activations root))
       ∙ sym (ap (λ (found : Option Place). part_of after found []) home) ∙ has in
@@ -212,9 +211,12 @@ module _ (tree : Tree) (pairs : List (ℕ × ℕ)) (number : ℕ) (block : Block
       whole [] lies ordinal bound_is =
           let bearers = borne-variable tree other reach variable.type_id lies.1.actual_type ordinal in
           let same = steady-is (is_steady touches other) (Plus other k) b (ap (steady_bound touches k) (sym bearers) ∙ bound_is) in
-          subst (λ (x : Bound). IsBound outer x n) same
-          (m, sym (same-value tree caller callee root other [] lies.0 variable.type_id lies.1 after []
-          ∙ ap (value_at outer other) (no-way lies.0 lies.1.matches)) ∙ has, n_is)
+          subst (λ (x : Bound). IsBound outer x n) same (
+            m,
+            sym (same-value tree caller callee root other [] lies.0 variable.type_id lies.1 after []
+                ∙ ap (value_at outer other) (no-way lies.0 lies.1.matches)) ∙ has,
+            n_is,
+          )
       whole (selector ∷ selectors) lies ordinal bound_is =
           absurd (no-steady k (rows_accessed (rows_of tree) other (selector ∷ selectors)) reach b bound_is)
 
@@ -230,23 +232,27 @@ module _ (tree : Tree) (pairs : List (ℕ × ℕ)) (number : ℕ) (block : Block
       → place_for root block.heading.parameters.items arguments ≡ place_passed argument → IsArgument tree caller store variable actual argument
       → Fits tree activations argument variable → exit_bound_of tree touches root k (Some actual) ≡ Some b → IsBound outer b n
   parameter-bound root variable is p lasting k m n has n_is b (OfValue range form) (meaning.OfValue v) argument_is place_is known fits bound_is =
-      let own = parameter-block tree pairs number block arguments caller activations from store actuals claims after back.left root variable is p in
+      let own = parameter-block tree pairs number block arguments caller activations from back.call store actuals back.are back.of_types root variable is p in
       let passed_so : is_passed_value number variable ≡ true =
       ap (λ (b : Bool). b && is_value_kind variable.kind) (eq-eqb variable.block number own) ∙ fits.0 in
       let v_is = value-kept root variable is p v argument_is fits.0 (lasting passed_so) m has in
       subst (IsBound outer b) n_is (form-bound k m form v v_is known.1 b bound_is)
-  parameter-bound root variable is p lasting k m n has n_is b (OfValue range form) (meaning.OfRow numbers) argument_is place_is known fits bound_is = absurd known
-  parameter-bound root variable is p lasting k m n has n_is b (OfValue range form) (meaning.OfPlace place) argument_is place_is known fits bound_is = absurd known
+  parameter-bound root variable is p lasting k m n has n_is b (OfValue range form) (meaning.OfRow numbers) argument_is place_is known fits bound_is = absurd
+      known
+  parameter-bound root variable is p lasting k m n has n_is b (OfValue range form) (meaning.OfPlace place) argument_is place_is known fits bound_is = absurd
+      known
   parameter-bound root variable is p lasting k m n has n_is b (OfRows ranges) argument argument_is place_is known fits bound_is = absurd (none-some b bound_is)
   parameter-bound root variable is p lasting k m n has n_is b (OfVariable other selectors reach) (meaning.OfValue v) argument_is place_is known fits bound_is =
       absurd known
   parameter-bound root variable is p lasting k m n has n_is b (OfVariable other selectors reach) (meaning.OfRow numbers) argument_is place_is known fits
       bound_is = absurd known
-  parameter-bound root variable is p lasting k m n has n_is b (OfVariable other selectors reach) (meaning.OfPlace None) argument_is place_is known fits bound_is =
+  parameter-bound root variable is p lasting k m n has n_is b (OfVariable other selectors reach) (meaning.OfPlace None) argument_is place_is known fits
+      bound_is =
       absurd fits
   parameter-bound root variable is p lasting k m n has n_is b (OfVariable other selectors reach) (meaning.OfPlace (Some place)) argument_is place_is known fits
       bound_is =
-      passed-bound root variable is other selectors reach (lies-here root variable is p other selectors reach place place_is known fits) k m n has n_is b bound_is
+      passed-bound root variable is other selectors reach (lies-here root variable is p other selectors reach place place_is known fits) k m n has n_is b
+      bound_is
 
   -- a bound of the callee at its end is its number for the caller
   bound-behind : (bound : Bound) (n : ℤ) → ((root : ℕ) → Contains (Rattle.call_states.proofs.Given.bound_roots bound) root → IsOutward tree number root)
@@ -309,12 +315,12 @@ module _ (tree : Tree) (pairs : List (ℕ × ℕ)) (number : ℕ) (block : Block
             row = found.0;
             named = found.1;
             each = λ steps of_row. (
-                  steps,
-                  of_row,
-                  ap (λ (r : ℕ). value_at outer r steps) root_is ∙ sym (outer-same path.root variable here steps)
-                      ∙ ap (λ (r : ℕ). value_at inner r steps) (sym root_is),
-                  refl,
-                );
+              steps,
+              of_row,
+              ap (λ (r : ℕ). value_at outer r steps) root_is ∙ sym (outer-same path.root variable here steps)
+                  ∙ ap (λ (r : ℕ). value_at inner r steps) (sym root_is),
+              refl,
+            );
           }))
 
   passed-seen : (path : Path) (ranges : List _) (bearer : Bearer) → Contains (map Passed ranges) bearer → IsSeen path bearer
@@ -327,9 +333,11 @@ module _ (tree : Tree) (pairs : List (ℕ × ℕ)) (number : ℕ) (block : Block
       → IsSeen path bearer
   ordinal-seen path variable is entire other [] reach lies ordinal bearer inside =
       alone-bearer path (Variable other) bearer
-      (subst (λ (all : List Bearer). Contains all bearer) (borne-variable tree other reach variable.type_id lies.1.actual_type ordinal) inside)
-      (entire, sym (same-value tree caller callee path.root other [] lies.0 variable.type_id lies.1 after []
-      ∙ ap (value_at outer other) (no-way lies.0 lies.1.matches)))
+      (subst (λ (all : List Bearer). Contains all bearer) (borne-variable tree other reach variable.type_id lies.1.actual_type ordinal) inside) (
+        entire,
+        sym (same-value tree caller callee path.root other [] lies.0 variable.type_id lies.1 after []
+            ∙ ap (value_at outer other) (no-way lies.0 lies.1.matches)),
+      )
   ordinal-seen path variable is entire other (selector ∷ selectors) reach lies ordinal bearer inside =
       let all = selector ∷ selectors in
       let found = of-map (λ r. Components r reach) (rows_accessed (rows_of tree) other all) bearer inside in
@@ -341,12 +349,15 @@ module _ (tree : Tree) (pairs : List (ℕ × ℕ)) (number : ℕ) (block : Block
       row-seen row inside (Inside index) lies = tt
       row-seen row inside Entire lies =
           let all = selector ∷ selectors in
-          inl (entire, λ steps of_row.
-          let one = ordinal-steps tree caller callee path.root other all lies.0 variable.type_id lies.1 ordinal row steps inside of_row in
-          let way : one.0 ≡ lies.0 = one-way all one.0 lies.0 lies.2 one.2 lies.1.matches in
-          let root_is = (rows-are tree other all variable.type_id lies.1.actual_type).root_is row inside in
-          ap (λ (r : ℕ). value_at outer r steps) root_is ∙ ap (value_at outer other) one.1 ∙ ap (λ (w : List Step). value_at outer other (w ++ [])) way
-          ∙ sym (same-value tree caller callee path.root other all lies.0 variable.type_id lies.1 after []))
+          inl (
+            entire,
+            λ steps of_row.
+                let one = ordinal-steps tree caller callee path.root other all lies.0 variable.type_id lies.1 ordinal row steps inside of_row in
+                let way : one.0 ≡ lies.0 = one-way all one.0 lies.0 lies.2 one.2 lies.1.matches in
+                let root_is = (rows-are tree other all variable.type_id lies.1.actual_type).root_is row inside in
+                ap (λ (r : ℕ). value_at outer r steps) root_is ∙ ap (value_at outer other) one.1 ∙ ap (λ (w : List Step). value_at outer other (w ++ [])) way
+                ∙ sym (same-value tree caller callee path.root other all lies.0 variable.type_id lies.1 after []),
+          )
 
   -- those of rows of a structured one
   rows-seen : (path : Path) (variable : DeclaredVariable) → slice_get tree.variables.items path.root ≡ Some variable → (other : ℕ) (selectors : List Selector)
@@ -366,8 +377,7 @@ module _ (tree : Tree) (pairs : List (ℕ × ℕ)) (number : ℕ) (block : Block
             let behind = rows.lies own steps inside of_row in
             let way : behind.0 ≡ lies.0 = one-way selectors behind.0 lies.0 lies.2 behind.3 lies.1.matches in
             let steps_are : steps ≡ lies.0 ++ behind.1 = behind.2 ∙ ap (λ (w : List Step). w ++ behind.1) way in
-            let of_own = subst (λ (s : List Step). IsOf tree own s) steps_are of_row in
-            (
+            let of_own = subst (λ (s : List Step). IsOf tree own s) steps_are of_row in (
               behind.1,
               actual-row tree caller callee path.root other selectors lies.0 variable.type_id lies.1 j row own behind.1 row_at own_at of_own,
               ap (λ (r : ℕ). value_at outer r steps) (rows.root_is own inside) ∙ ap (value_at outer other) steps_are
@@ -376,12 +386,6 @@ module _ (tree : Tree) (pairs : List (ℕ × ℕ)) (number : ℕ) (block : Block
               ap first_index steps_are ∙ first-behind_fields selectors lies.0 behind.1 lies.2 lies.1.matches,
             );
       })
-
-  mapped-from : {A B : Type 0} (f : A → B) (items : List A) (k : ℕ) (y : B) → slice_get (map f items) k ≡ Some y
-      → (x : A) × (slice_get items k ≡ Some x) × (f x ≡ y)
-  mapped-from f [] k y is = absurd (none-some y is)
-  mapped-from f (first ∷ items) zero y is = (first, refl, same_Some (f first) y is)
-  mapped-from f (first ∷ items) (suc k) y is = mapped-from f items k y is
 
   parameter-seen : (path : Path) (variable : DeclaredVariable) → slice_get tree.variables.items path.root ≡ Some variable
       → (is_ordinal_variable tree path.root ≡ true → names_entire tree path ≡ true) → (p : ParameterHere path.root variable) → (actual : Actual)
@@ -407,8 +411,9 @@ module _ (tree : Tree) (pairs : List (ℕ × ℕ)) (number : ℕ) (block : Block
           let lies = lies-here path.root variable is p other selectors reach place place_is known fits in
           let bearers = borne-rows tree other selectors reach variable.type_id lies.1.actual_type
           (λ none. sym (ordinal-variable tree path.root variable is) ∙ plain) in
-          let found = bearer-from (rows_named tree path) (rows_under (rows_of tree) path.root []) (bearers_of tree (OfVariable other selectors reach)) bearer inside in
-          let own = mapped-from (λ r. Components r reach) (rows_accessed (rows_of tree) other selectors) found.0 bearer
+          let found = bearer-from (rows_named tree path) (rows_under (rows_of tree) path.root [])
+          (bearers_of tree (OfVariable other selectors reach)) bearer inside in
+          let own = mapped-at (λ r. Components r reach) (rows_accessed (rows_of tree) other selectors) found.0 bearer
           (ap (λ (all : List Bearer). slice_get all found.0) (sym bearers) ∙ found.4) in
           subst (IsSeen path) own.2 (rows-seen path variable is other selectors found.0 found.1 own.0 found.2 found.3 own.1 reach lies)
 
@@ -422,7 +427,8 @@ module _ (tree : Tree) (pairs : List (ℕ × ℕ)) (number : ℕ) (block : Block
       whole-of (OfVariable other selectors reach) (meaning.OfPlace None) place_is known fits ordinal inside = absurd fits
       whole-of (OfVariable other selectors reach) (meaning.OfPlace (Some place)) place_is known fits ordinal inside =
           ordinal-seen path variable is (entire ordinal) other selectors reach
-          (lies-here path.root variable is p other selectors reach place place_is known fits) (sym (ordinal-variable tree path.root variable is) ∙ ordinal) bearer
+          (lies-here path.root variable is p other selectors reach place place_is known fits)
+          (sym (ordinal-variable tree path.root variable is) ∙ ordinal) bearer
           inside
 
       by : (ordinal : Bool) → is_ordinal_variable tree path.root ≡ ordinal
@@ -477,7 +483,8 @@ module _ (tree : Tree) (pairs : List (ℕ × ℕ)) (number : ℕ) (block : Block
   is-defined : (path : Path) → Contains claims.exit (fact.Defined path) → IsDefined path
   is-defined path listed = record {
     entire = λ named.
-        let claim = plain-holds tree pairs number block arguments caller activations from store actuals claims after back (fact.Defined path) (fact.Defined path)
+        let claim = plain-holds tree pairs number block arguments caller activations from store actuals claims after back (fact.Defined path)
+        (fact.Defined path)
         listed (ap (λ (b : Bool). cond b (Some (fact.Defined path)) None) named) in
         let whole = entire-steps path.steps (and_parts (is_entire path.steps) (is_ordinal_variable tree path.root) named).0 in
         let none = named-entire claim.0 (subst (λ (own : List fact.Step). holds.is_named own claim.0 ≡ true) whole claim.1) in
@@ -538,11 +545,16 @@ module _ (tree : Tree) (pairs : List (ℕ × ℕ)) (number : ℕ) (block : Block
       (λ (named : IsNamedRow path own).
       let claim = component-holds tree pairs number block arguments caller activations from store actuals claims after back (fact.Stretch path first last)
       (components.Stretched (record { row = named.row; first = first; last = last })) listed
-      (in-map (λ r. components.Stretched (record { row = r; first = first; last = last })) (rows_named tree path) named.row named.named) in
-      (claim.0, claim.1, low_is claim.0 claim.2 low refl, high_is claim.1 claim.3 high refl, λ steps index of_row first_is above below.
-      let at = named.each steps of_row in
-      let has = claim.4 at.0 index at.1 (sym at.3 ∙ first_is) above below in
-      (has.0, at.2 ∙ has.1))) seen) knows
+      (in-map (λ r. components.Stretched (record { row = r; first = first; last = last })) (rows_named tree path) named.row named.named) in (
+        claim.0,
+        claim.1,
+        low_is claim.0 claim.2 low refl,
+        high_is claim.1 claim.3 high refl,
+        λ steps index of_row first_is above below.
+            let at = named.each steps of_row in
+            let has = claim.4 at.0 index at.1 (sym at.3 ∙ first_is) above below in
+            (has.0, at.2 ∙ has.1),
+      )) seen) knows
 
   all-stretches : (path : Path) (first last : Bound) (low high : Option Bound) → Contains claims.exit (fact.Stretch path first last)
       → ((n : ℤ) → IsBound inner first n → (b : Bound) → low ≡ Some b → IsBound outer b n)
@@ -633,11 +645,13 @@ module _ (tree : Tree) (pairs : List (ℕ × ℕ)) (number : ℕ) (block : Block
       (λ root inside. contains-more path.root _ root
       (Contains-append_right (Rattle.call_states.proofs.Given.bound_roots first) (Rattle.call_states.proofs.Given.bound_roots last) root inside)))
       lasts.ordinals (bearers_named tree bindings path)
-      (bearers-seen path (lasts.outward path.root (0, omega arith, refl)) (λ ordinal. absurd (false≢true (sym lasts.ordinals ∙ ordinal)))) state knows) may) knows
+      (bearers-seen path (lasts.outward path.root (0, omega arith, refl)) (λ ordinal. absurd (false≢true (sym lasts.ordinals ∙ ordinal)))) state knows) may)
+      knows
   exit-known (Order root other k) listed may state knows =
       ⊎_elim (λ never. absurd never)
       (λ (lasts : IsLasting tree number claims.changes (Order root other k)).
-      let claim = plain-holds tree pairs number block arguments caller activations from store actuals claims after back (Order root other k) (Order root other k)
+      let claim = plain-holds tree pairs number block arguments caller activations from store actuals claims after back (Order root other k)
+      (Order root other k)
       listed refl in
       let m = claim.0 in
       let n = claim.1 in

@@ -1,21 +1,20 @@
 -- What a call changes for its caller: values of what the callee lists, and of what shares places with that; all else is as it was.
-use Rattle.std.proofs.Common.{arith, ◌≡◌, ◌≢◌, ⊎_elim, ◌⊎◌, inl, inr, ◌∙◌, sym, ap, refl, subst, ℕ, zero, suc, ◌+◌, ◌<◌, Bool, true, false, cond, ◌&&◌, ◌||◌}
-use Rattle.std.proofs.Common.{append-nil, append_assoc, get_or, nat_eq, List, [], ◌∷◌, ◌++◌, length, map, Option, Some, None}
-use Rattle.std.specs.List.{Contains, flat_map}
+use Rattle.std.proofs.Common.{arith, ◌≡◌, ⊎_elim, ◌⊎◌, inl, inr, ◌∙◌, sym, ap, refl, subst, ℕ, suc, ◌<◌, true, false}
+use Rattle.std.proofs.Common.{append-nil, append_assoc, nat_eq, List, [], ◌∷◌, ◌++◌, Option, Some, None}
+use Rattle.std.specs.List.{Contains}
 use Rattle.std.specs.Prelude.{slice_get}
-use Rattle.std.proofs.lemmas.Bool.{and_from, and_parts, both_ways, cases_eq, eq-eqb, eqb-true, or_left, or_right}
+use Rattle.std.proofs.lemmas.Bool.{and_from, and_parts, both_ways, cases_eq, eq-eqb, or_left, or_right}
 use Rattle.std.proofs.lemmas.List.Folds.{list_any-append}
-use Rattle.std.proofs.lemmas.Option.{get_or_from_slice_get, none-some, same_Some, slice_get_within}
+use Rattle.std.proofs.lemmas.Option.{none-some, same_Some}
 use Rattle.types.specs.declared.form.Step.{Step}
-use Rattle.types.specs.declared.form.Step.TheVariants as step
-use Rattle.typed_tree.specs.WellFormed.{is_value_kind, is_variable_kind}
+use Rattle.typed_tree.specs.WellFormed.{is_value_kind}
 use Rattle.typed_tree.specs.declared.tree.Block.{Block}
 use Rattle.typed_tree.specs.declared.tree.Tree.{Tree}
 use Rattle.typed_tree.specs.declared.tree.Variable.{Variable}
 use Rattle.meaning.specs.declared.store.Value.{Value}
 use Rattle.meaning.specs.Meaning as meaning
 use Rattle.meaning.specs.Meaning.{Argument, environment_of, home_of, own_place, place_for, place_passed}
-use Rattle.meaning.specs.Store.{Environment, Place, Store, is_beginning, overlap, part, step_eq, stored}
+use Rattle.meaning.specs.Store.{Environment, Place, Store, is_beginning, overlap, step_eq, stored}
 use Rattle.abstract_state.specs.Holds.{HasValue, part_of, value_at}
 use Rattle.abstract_state.specs.Knows.{moment}
 use Rattle.abstract_state.specs.Loops.{is_among}
@@ -26,11 +25,11 @@ use Rattle.call_states.specs.Environments.{Begun, Leaves, Proper, Typed}
 use Rattle.call_states.specs.Exit.{root_changed, roots_changed}
 use Rattle.call_states.specs.Sections.{BlockClaims}
 use Rattle.call_states.proofs.Assigned.{same-step}
-use Rattle.call_states.proofs.Bearers.{among-contains}
 use Rattle.call_states.proofs.Callee.{IsCalled, activation_of}
 use Rattle.call_states.proofs.Claimed.{AllHold}
-use Rattle.call_states.proofs.Entered.{own-home, own-where, parameter-own, passed-where, value-not_variable}
-use Rattle.call_states.proofs.Parameters.{IsOuter, IsOutward, IsParameter, outward-cases}
+use Rattle.call_states.proofs.Entered.{own-home, own-where, passed-where, value-not_variable}
+use Rattle.call_states.proofs.Lists.{among-contains, among-flat}
+use Rattle.call_states.proofs.Parameters.{IsOuter, IsOutward, IsParameter, outward-cases, parameter-block}
 use Rattle.call_states.proofs.Passed.{AreArguments, Fits, IsArgument}
 use Rattle.call_states.proofs.Places.{IsPair, begin-share, overlaps-so, pair-listed, part-there, step-itself}
 
@@ -49,15 +48,6 @@ beginning-rest (s ∷ first) (t ∷ whole) is =
     let more = beginning-rest first whole parts.1 in
     (more.0, ap (λ (x : Step). x ∷ whole) (sym (same-step s t parts.0)) ∙ ap (λ (all : List Step). s ∷ all) more.1)
 
-pub in-flat_map : (f : ℕ → List ℕ) (items : List ℕ) (item x : ℕ) → Contains items item → is_among x (f item) ≡ true → is_among x (flat_map f items) ≡ true
-in-flat_map f [] item x inside among = absurd (omega (arith, inside.1))
-in-flat_map f (first ∷ items) item x (zero, within, at) among =
-    list_any-append (λ (other : ℕ). nat_eq other x) (f first) (flat_map f items)
-    ∙ or_left (is_among x (f first)) (is_among x (flat_map f items)) (ap (λ (i : ℕ). is_among x (f i)) at ∙ among)
-in-flat_map f (first ∷ items) item x (suc k, within, at) among =
-    list_any-append (λ (other : ℕ). nat_eq other x) (f first) (flat_map f items)
-    ∙ or_right (is_among x (f first)) (is_among x (flat_map f items)) (in-flat_map f items item x (k, omega (arith, within), at) among)
-
 alone-among : (x : ℕ) → is_among x (x ∷ []) ≡ true
 alone-among x = or_left (nat_eq x x) false (eq-eqb x x refl)
 
@@ -67,7 +57,7 @@ among-alone roots x root among same = subst (λ (r : ℕ). is_among r roots ≡ 
 -- aliases of one of several are among the aliases of all
 aliases-among : (pairs : List (ℕ × ℕ)) (roots : List ℕ) (x root : ℕ) → is_among x roots ≡ true → is_among root (aliases_of pairs x) ≡ true
     → is_among root (all_aliases pairs roots) ≡ true
-aliases-among pairs roots x root among alias = in-flat_map (aliases_of pairs) roots x root (among-contains roots x among) alias
+aliases-among pairs roots x root among alias = among-flat (aliases_of pairs) roots x root (among-contains roots x among) alias
 
 -- ---- a call that returned
 
@@ -124,7 +114,7 @@ module _ (tree : Tree) (pairs : List (ℕ × ℕ)) (number : ℕ) (block : Block
   same-or_changed place older =
       ⊎_elim
       (λ (listed : (root : ℕ) × (home : Place) × Contains claims.changes root × (callee.variables root ≡ Some home)
-          × ((home.activation ≡ place.activation) × (home.variable ≡ place.variable) × (is_beginning home.steps place.steps ≡ true))).
+      × ((home.activation ≡ place.activation) × (home.variable ≡ place.variable) × (is_beginning home.steps place.steps ≡ true))).
       let home = listed.1 in
       let under = listed.4 in
       let rest = beginning-rest home.steps place.steps under.2 in
@@ -170,7 +160,7 @@ module _ (tree : Tree) (pairs : List (ℕ × ℕ)) (number : ℕ) (block : Block
       let there = part-there (caller.variables other) known.0.way home (sym known.0.place_is ∙ at) in
       record {
         root = other;
-        among = in-flat_map (λ r. root_changed r (actual_of bindings r)) claims.changes root other listed
+        among = among-flat (λ r. root_changed r (actual_of bindings r)) claims.changes root other listed
             (ap (λ (found : Option Actual). is_among other (root_changed root found)) actual_is ∙ alone-among other);
         whole = there.0;
         whole_is = there.1;
@@ -187,15 +177,6 @@ module _ (tree : Tree) (pairs : List (ℕ × ℕ)) (number : ℕ) (block : Block
   passed-lies root variable home is own listed home_is older (OfValue range form) (meaning.OfPlace place) actual_is place_is known fits = absurd known
   passed-lies root variable home is own listed home_is older (OfRows ranges) (meaning.OfPlace place) actual_is place_is known fits = absurd known
 
-  pub parameter-block : (root : ℕ) (variable : Variable) → slice_get tree.variables.items root ≡ Some variable → ParameterHere root variable
-      → variable.block ≡ number
-  parameter-block root variable is p =
-      let inside : Contains block.heading.parameters.items root =
-      (p.i, slice_get_within block.heading.parameters.items p.i root p.root_at,
-      get_or_from_slice_get block.heading.parameters.items p.i root root p.root_at) in
-      let own = parameter-own tree back.call.well number block back.call.block_is root inside in
-      subst (λ (v : Variable). v.block ≡ number) (same_Some own.0 variable (sym own.1 ∙ is)) own.2
-
   pub lies-in_caller : (root : ℕ) (home : Place) → Contains claims.changes root → callee.variables root ≡ Some home → home.activation < activations
       → LiesIn_caller home
   lies-in_caller root home listed home_is older =
@@ -204,7 +185,7 @@ module _ (tree : Tree) (pairs : List (ℕ × ℕ)) (number : ℕ) (block : Block
       (λ (here : IsOuterHere root outward.0).
       record {
         root = root;
-        among = in-flat_map (λ r. root_changed r (actual_of bindings r)) claims.changes root root listed
+        among = among-flat (λ r. root_changed r (actual_of bindings r)) claims.changes root root listed
             (ap (λ (found : Option Actual). is_among root (root_changed root found)) here.no_actual ∙ alone-among root);
         whole = home;
         whole_is = sym here.same ∙ home_is;
@@ -212,7 +193,8 @@ module _ (tree : Tree) (pairs : List (ℕ × ℕ)) (number : ℕ) (block : Block
         home_is = ap (λ (s : List Step). record home { steps = s }) (append-nil home.steps);
       })
       (λ (p : ParameterHere root outward.0).
-      passed-lies root outward.0 home outward.1 (parameter-block root outward.0 outward.1 p) listed home_is older p.actual p.argument p.actual_is p.place_is
+      passed-lies root outward.0 home outward.1 (parameter-block tree pairs number block arguments caller activations from back.call store actuals back.are
+      back.of_types root outward.0 outward.1 p) listed home_is older p.actual p.argument p.actual_is p.place_is
       p.known p.fits)
       (outward-cases tree pairs number block arguments caller activations from back.call store actuals back.are back.of_types root outward)
 

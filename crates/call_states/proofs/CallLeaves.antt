@@ -1,19 +1,17 @@
 -- The leaves that a call changes: each value that it changed for its caller lies in the range of a change of its type, and what is changed just as it is
 -- lies in that of its change.
-use Rattle.std.proofs.Common.{arith, ◌≡◌, ⊎_elim, ◌⊎◌, inl, inr, ◌∙◌, sym, ap, refl, subst, ℕ, zero, suc, ◌+◌, ◌<◌, Bool, true, false, cond, ◌&&◌, ◌||◌}
-use Rattle.std.proofs.Common.{get_or, nat_eq, List, [], ◌∷◌, ◌++◌, length, map, Option, Some, None}
-use Rattle.std.specs.List.{All, Contains, cons_option, filter_map, flat_map}
+use Rattle.std.proofs.Common.{arith, ◌≡◌, ⊎_elim, ◌∙◌, sym, ap, refl, subst, ℕ, zero, suc, ◌<◌, Bool, true, false, cond, ◌&&◌}
+use Rattle.std.proofs.Common.{nat_eq, List, [], ◌∷◌, ◌++◌, length, Option, Some, None}
+use Rattle.std.specs.List.{Contains, filter_map, flat_map}
 use Rattle.std.specs.Option.{option_and_then}
-use Rattle.std.specs.Prelude.{is_some, slice_get, slice_index_or}
-use Rattle.std.proofs.lemmas.Bool.{and_from, and_parts, eq-eqb, eqb-true, false≢true}
+use Rattle.std.specs.Prelude.{is_some, slice_get}
+use Rattle.std.proofs.lemmas.Bool.{and_parts, eqb-true, false≢true}
 use Rattle.std.proofs.lemmas.List.{length-map}
-use Rattle.std.proofs.lemmas.List.Elements.{All-contains, Contains-append_cases, Contains-append_left, Contains-append_right}
+use Rattle.std.proofs.lemmas.List.Elements.{All-contains}
 use Rattle.std.proofs.lemmas.Option.{none-some, same_Some, slice_get_within}
-use Rattle.types.specs.Components.{components_of}
 use Rattle.types.specs.Forms.{Form}
 use Rattle.types.specs.Types.{element_of, field_at, is_ordinal, range_of}
 use Rattle.types.specs.declared.form.ArrayElement.{ArrayElement}
-use Rattle.types.specs.declared.form.OrdinalRange.{OrdinalRange}
 use Rattle.types.specs.declared.form.RecordField.{RecordField}
 use Rattle.types.specs.declared.form.Step.{Step}
 use Rattle.types.specs.declared.form.Step.TheVariants as step
@@ -38,12 +36,13 @@ use Rattle.abstract_state.specs.Loops.{is_among}
 use Rattle.abstract_state.specs.State.{is_entire}
 use Rattle.abstract_state.proofs.Given.{entire-steps}
 use Rattle.abstract_state.proofs.Ranged.{common-in}
-use Rattle.leaf_rows.specs.Rows.{all_parts, has_components, is_structured, no_parts, rows_accessed, rows_of, rows_under, values_at}
+use Rattle.leaf_rows.specs.Rows.{all_parts, has_components, is_structured, rows_accessed, rows_of, rows_under, values_at}
 use Rattle.leaf_rows.proofs.Accessed.{IsOf, contains-has, has-contains, rows-are}
+use Rattle.leaf_rows.proofs.Components.{mapped-at}
 use Rattle.component_states.specs.Components as components
 use Rattle.component_states.specs.Components.{At, ComponentFact, Entire, Inside, Reach}
 use Rattle.component_states.specs.Holds.{Holds, component_at}
-use Rattle.structured_states.specs.Loops.{all_limits, component_claims, is_ordinal_variable, limits_or_integer, names_entire, plain, row_limits, rows_named}
+use Rattle.structured_states.specs.Loops.{component_claims, is_ordinal_variable, limits_or_integer, names_entire, plain, rows_named}
 use Rattle.call_states.specs.Actuals.{Actual, Bearer, Binding, Components, OfRows, OfValue, OfVariable, Passed, Variable, actual_of, all_of_rows, bearers_of}
 use Rattle.call_states.specs.Actuals.{bound_to}
 use Rattle.call_states.specs.Aliases.{variable_values}
@@ -52,55 +51,34 @@ use Rattle.call_states.specs.Exit.{Change, all_changes, changes_of, claimed_of_r
 use Rattle.call_states.specs.Exit.{row_change, row_exit_range, rows_changed, variable_change}
 use Rattle.call_states.specs.Sections.{BlockClaims}
 use Rattle.call_states.proofs.AliasedTypes.{InTypes, in-types, part-type, row-type, values-limits}
-use Rattle.call_states.proofs.Bearers.{among-contains, borne-rows, borne-variable, contains-more, in-map, of-map, ordinal-variable, under-root}
+use Rattle.call_states.proofs.Bearers.{borne-rows, borne-variable, ordinal-variable, under-root}
 use Rattle.call_states.proofs.Borne.{lies-at, own-type}
-use Rattle.call_states.proofs.CallChanges.{HasReturned, IsChanged, own-older, parameter-block}
+use Rattle.call_states.proofs.CallChanges.{HasReturned, IsChanged, own-older}
 use Rattle.call_states.proofs.Callee.{activation_of}
-use Rattle.call_states.proofs.FormalRows.{LiesAt, actual-row, not-both, one-way, ordinal-row, ordinal-steps, rows-alike, row-structured, same-value}
+use Rattle.call_states.proofs.FormalRows.{LiesAt, actual-row, no-way, not-both, one-way, ordinal-row, ordinal-steps, rows-alike, same-value}
 use Rattle.call_states.proofs.LedComponents.{led-component, led-ordinal}
-use Rattle.call_states.proofs.Parameters.{IsOuter, IsParameter, outward-cases}
+use Rattle.call_states.proofs.Lists.{among-contains, contains-more, in-filter_map, in-flat, in-map, of-flat, of-map, some-there}
+use Rattle.call_states.proofs.Parameters.{IsOuter, IsParameter, outward-cases, parameter-block}
 use Rattle.call_states.proofs.Passed.{Fits, IsArgument, IsReachedBy}
 use Rattle.call_states.proofs.PlaceTypes.{first-led}
 
 -- ---- lists
 
-pub in-flat : {A B : Type 0} (f : A → List B) (items : List A) (item : A) (y : B) → Contains items item → Contains (f item) y → Contains (flat_map f items) y
-in-flat f [] item y inside own = absurd (omega (arith, inside.1))
-in-flat f (first ∷ items) item y (zero, within, at) own =
-    Contains-append_left (f first) (flat_map f items) y (subst (λ i. Contains (f i) y) (sym at) own)
-in-flat f (first ∷ items) item y (suc k, within, at) own =
-    Contains-append_right (f first) (flat_map f items) y (in-flat f items item y (k, omega (arith, within), at) own)
-
-pub of-flat : {A B : Type 0} (f : A → List B) (items : List A) (y : B) → Contains (flat_map f items) y → (item : A) × Contains items item × Contains (f item) y
-of-flat f [] y inside = absurd (omega (arith, inside.1))
-of-flat f (first ∷ items) y inside =
-    ⊎_elim (λ here. (first, (0, omega arith, refl), here))
-    (λ there. let more = of-flat f items y there in (more.0, contains-more first items more.0 more.1, more.2))
-    (Contains-append_cases (f first) (flat_map f items) y inside)
-
-pub in-filter_map : {A B : Type 0} (f : A → Option B) (items : List A) (item : A) (y : B) → Contains items item → f item ≡ Some y
-    → Contains (filter_map f items) y
-in-filter_map f [] item y inside is = absurd (omega (arith, inside.1))
-in-filter_map f (first ∷ items) item y (zero, within, at) is =
-    subst (λ found. Contains (cons_option found (filter_map f items)) y) (sym (ap f at ∙ is)) (0, omega arith, refl)
-in-filter_map f (first ∷ items) item y (suc k, within, at) is = by (f first) (in-filter_map f items item y (k, omega (arith, within), at) is)
-  where
-    by : (found : Option _) → Contains (filter_map f items) y → Contains (cons_option found (filter_map f items)) y
-    by None later = later
-    by (Some x) later = contains-more x (filter_map f items) y later
-
 row-change_at : (tree : Tree) (facts : List Fact) (rows : List ℕ) (bearers : List Bearer) (j row : ℕ) (bearer : Bearer) → slice_get rows j ≡ Some row
     → slice_get bearers j ≡ Some bearer → Contains (rows_changed tree facts rows bearers) (row_change tree facts row bearer)
 row-change_at tree facts [] bearers j row bearer row_at bearer_at = absurd (none-some row row_at)
 row-change_at tree facts (first ∷ rows) [] j row bearer row_at bearer_at = absurd (none-some bearer bearer_at)
-row-change_at tree facts (first ∷ rows) (one ∷ bearers) zero row bearer row_at bearer_at =
-    (0, omega arith,
-    ap (λ (r : ℕ). row_change tree facts r one) (same_Some first row row_at) ∙ ap (row_change tree facts row) (same_Some one bearer bearer_at))
+row-change_at tree facts (first ∷ rows) (one ∷ bearers) zero row bearer row_at bearer_at = (
+  0,
+  omega arith,
+  ap (λ (r : ℕ). row_change tree facts r one) (same_Some first row row_at) ∙ ap (row_change tree facts row) (same_Some one bearer bearer_at),
+)
 row-change_at tree facts (first ∷ rows) (one ∷ bearers) (suc j) row bearer row_at bearer_at =
     contains-more (row_change tree facts first one) (rows_changed tree facts rows bearers) (row_change tree facts row bearer)
     (row-change_at tree facts rows bearers j row bearer row_at bearer_at)
 
-row-change_from : (tree : Tree) (facts : List Fact) (rows : List ℕ) (bearers : List Bearer) (change : Change) → Contains (rows_changed tree facts rows bearers) change
+row-change_from : (tree : Tree) (facts : List Fact) (rows : List ℕ) (bearers : List Bearer) (change : Change)
+    → Contains (rows_changed tree facts rows bearers) change
     → (j row : ℕ) × (bearer : Bearer) × (slice_get rows j ≡ Some row) × (slice_get bearers j ≡ Some bearer) × (row_change tree facts row bearer ≡ change)
 row-change_from tree facts [] bearers change inside = absurd (omega (arith, inside.1))
 row-change_from tree facts (first ∷ rows) [] change inside = absurd (omega (arith, inside.1))
@@ -108,17 +86,6 @@ row-change_from tree facts (first ∷ rows) (one ∷ bearers) change (zero, with
 row-change_from tree facts (first ∷ rows) (one ∷ bearers) change (suc k, within, at) =
     let more = row-change_from tree facts rows bearers change (k, omega (arith, within), at) in
     (suc more.0, more.1, more.2, more.3, more.4, more.5)
-
-some-there : {A : Type 0} (items : List A) (k : ℕ) → k < length items → (item : A) × (slice_get items k ≡ Some item)
-some-there [] k within = absurd (omega (arith, within))
-some-there (item ∷ items) zero within = (item, refl)
-some-there (item ∷ items) (suc k) within = some-there items k (omega (arith, within))
-
-mapped-from : {A B : Type 0} (f : A → B) (items : List A) (k : ℕ) (y : B) → slice_get (map f items) k ≡ Some y
-    → (x : A) × (slice_get items k ≡ Some x) × (f x ≡ y)
-mapped-from f [] k y is = absurd (none-some y is)
-mapped-from f (first ∷ items) zero y is = (first, refl, same_Some (f first) y is)
-mapped-from f (first ∷ items) (suc k) y is = mapped-from f items k y is
 
 -- what steps lead on from is structured
 led-structured : (types : List Form) (s : Step) (rest : List Step) (id own : TypeId) → type_led types (s ∷ rest) id ≡ Some own → is_structured types id ≡ true
@@ -192,7 +159,8 @@ module _ (tree : Tree) (pairs : List (ℕ × ℕ)) (number : ℕ) (block : Block
           claimed-in (names_entire tree path && nat_eq path.root root) known range v inside
           (λ both.
           let parts = and_parts (names_entire tree path) (nat_eq path.root root) both in
-          let claim = plain-holds (fact.Range path range) (fact.Range path range) listed (ap (λ (b : Bool). cond b (Some (fact.Range path range)) None) parts.0) in
+          let claim = plain-holds (fact.Range path range) (fact.Range path range) listed
+          (ap (λ (b : Bool). cond b (Some (fact.Range path range)) None) parts.0) in
           let whole = entire-steps path.steps (and_parts (is_entire path.steps) (is_ordinal_variable tree path.root) parts.0).0 in
           claim [] v (ap (λ (own_steps : List fact.Step). holds.is_named own_steps []) whole)
           (subst (λ (r : ℕ). value_at inner r [] ≡ Some v) (sym (eqb-true path.root root parts.1)) is))
@@ -230,7 +198,8 @@ module _ (tree : Tree) (pairs : List (ℕ × ℕ)) (number : ℕ) (block : Block
   component-exit : (row : ℕ) (steps : List Step) (v : Value) → IsOf tree row steps → component_at (all_parts tree) inner row steps ≡ Some v
       → (bearer : Bearer) → IsIn (row_change tree claims.exit row bearer).range v
   component-exit row steps v of_row at bearer =
-      row-exit row steps v of_row at claims.exit (λ one inside. inside) (limits_or_integer (values_at (rows_of tree) row)) (in_types.components row steps v of_row at)
+      row-exit row steps v of_row at claims.exit (λ one inside. inside) (limits_or_integer (values_at (rows_of tree) row))
+      (in_types.components row steps v of_row at)
 
   -- ---- a leaf that is changed
 
@@ -250,7 +219,8 @@ module _ (tree : Tree) (pairs : List (ℕ × ℕ)) (number : ℕ) (block : Block
   leaf-change root variable bearers home rest own v is home_is some many at leads lies = by (is_ordinal_variable tree root) refl
     where
       by : (ordinal : Bool) → is_ordinal_variable tree root ≡ ordinal
-          → HasChange (cond ordinal (ordinals_changed tree claims.exit root bearers) (rows_changed tree claims.exit (rows_under (rows_of tree) root []) bearers)) own v
+          → HasChange (cond ordinal (ordinals_changed tree claims.exit root bearers)
+          (rows_changed tree claims.exit (rows_under (rows_of tree) root []) bearers)) own v
       by true ordinal =
           let still = led-ordinal tree.types rest variable.type_id own (sym (ordinal-variable tree root variable is) ∙ ordinal) leads in
           let bearer = some ordinal in
@@ -291,9 +261,11 @@ module _ (tree : Tree) (pairs : List (ℕ × ℕ)) (number : ℕ) (block : Block
   own_bearers root = cond (is_ordinal_variable tree root) (Variable root ∷ []) (all_of_rows (rows_under (rows_of tree) root []))
 
   outer-bearer : (root : ℕ) → is_ordinal_variable tree root ≡ true → (bearer : Bearer) × Contains (own_bearers root) bearer
-  outer-bearer root ordinal =
-      (Variable root, subst (λ (b : Bool). Contains (cond b (Variable root ∷ []) (all_of_rows (rows_under (rows_of tree) root []))) (Variable root)) (sym ordinal)
-      (0, omega arith, refl))
+  outer-bearer root ordinal = (
+    Variable root,
+    subst (λ (b : Bool). Contains (cond b (Variable root ∷ []) (all_of_rows (rows_under (rows_of tree) root []))) (Variable root)) (sym ordinal)
+        (0, omega arith, refl),
+  )
 
   outer-many : (root : ℕ) (variable : DeclaredVariable) → slice_get tree.variables.items root ≡ Some variable
       → is_structured tree.types variable.type_id ≡ true → length (own_bearers root) ≡ length (rows_under (rows_of tree) root [])
@@ -312,9 +284,12 @@ module _ (tree : Tree) (pairs : List (ℕ × ℕ)) (number : ℕ) (block : Block
   passed-bearer : (root : ℕ) (variable : DeclaredVariable) (other : ℕ) (selectors : List Selector) (reach : Reach)
       → slice_get tree.variables.items root ≡ Some variable → Lies root variable other selectors reach → is_ordinal_variable tree root ≡ true
       → (bearer : Bearer) × Contains (bearers_of tree (OfVariable other selectors reach)) bearer
-  passed-bearer root variable other [] reach is lies ordinal =
-      (Variable other, subst (λ (all : List Bearer). Contains all (Variable other))
-      (sym (borne-variable tree other reach variable.type_id lies.1.actual_type (sym (ordinal-variable tree root variable is) ∙ ordinal))) (0, omega arith, refl))
+  passed-bearer root variable other [] reach is lies ordinal = (
+    Variable other,
+    subst (λ (all : List Bearer). Contains all (Variable other))
+        (sym (borne-variable tree other reach variable.type_id lies.1.actual_type (sym (ordinal-variable tree root variable is) ∙ ordinal)))
+        (0, omega arith, refl),
+  )
   passed-bearer root variable other (selector ∷ selectors) reach is lies ordinal =
       let row = ordinal-row tree caller callee root other (selector ∷ selectors) lies.0 variable.type_id lies.1
       (sym (ordinal-variable tree root variable is) ∙ ordinal) (λ none. absurd (cc)) in
@@ -354,7 +329,8 @@ module _ (tree : Tree) (pairs : List (ℕ × ℕ)) (number : ℕ) (block : Block
       → Fits tree activations (meaning.OfPlace (Some place)) variable → Lies root variable other selectors reach
   passed-lies_at root variable is p other selectors reach place found known fits =
       lies-at tree pairs number block arguments caller activations from back.call store back.begun actuals back.are back.of_types root variable is fits.0
-      (parameter-block tree pairs number block arguments caller activations from store actuals claims after back.left root variable is p) place found other selectors
+      (parameter-block tree pairs number block arguments caller activations from back.call store actuals back.are back.of_types root variable is p) place found
+      other selectors
       reach known
 
   passed-change : (root : ℕ) (variable : DeclaredVariable) (home : Place) (rest : List Step) (own : TypeId) (v : Value)
@@ -379,11 +355,13 @@ module _ (tree : Tree) (pairs : List (ℕ × ℕ)) (number : ℕ) (block : Block
   passed-change root variable home rest own v is home_is older p actual (meaning.OfValue w) place_is known fits at leads lies =
       absurd
       (own-older tree pairs number block arguments caller activations from store actuals claims after back.left root variable home is
-      (parameter-block tree pairs number block arguments caller activations from store actuals claims after back.left root variable is p) home_is older fits.0)
+      (parameter-block tree pairs number block arguments caller activations from back.call store actuals back.are back.of_types root variable is p) home_is
+      older fits.0)
   passed-change root variable home rest own v is home_is older p actual (meaning.OfRow numbers) place_is known fits at leads lies =
       absurd
       (own-older tree pairs number block arguments caller activations from store actuals claims after back.left root variable home is
-      (parameter-block tree pairs number block arguments caller activations from store actuals claims after back.left root variable is p) home_is older fits.0)
+      (parameter-block tree pairs number block arguments caller activations from back.call store actuals back.are back.of_types root variable is p) home_is
+      older fits.0)
   passed-change root variable home rest own v is home_is older p (OfValue range form) (meaning.OfPlace place) place_is known fits at leads lies = absurd known
   passed-change root variable home rest own v is home_is older p (OfRows ranges) (meaning.OfPlace place) place_is known fits at leads lies = absurd known
 
@@ -418,11 +396,13 @@ module _ (tree : Tree) (pairs : List (ℕ × ℕ)) (number : ℕ) (block : Block
   abbrev pub IsExact : Bearer → Interval → Type 0
   IsExact (Passed own) range = Unit {0}
   IsExact (Variable root) range = (v : Value) → value_at outer root [] ≡ Some v → IsIn range v
-  IsExact (Components row Entire) range = (steps : List Step) (v : Value) → IsOf tree row steps → component_at (all_parts tree) outer row steps ≡ Some v → IsIn range v
+  IsExact (Components row Entire) range = (steps : List Step) (v : Value) → IsOf tree row steps → component_at (all_parts tree) outer row steps ≡ Some v → IsIn
+      range v
   IsExact (Components row (At index)) range = Unit {0}
   IsExact (Components row (Inside index)) range = Unit {0}
 
-  outer-same : (root : ℕ) (variable : DeclaredVariable) → IsOuterHere root variable → (steps : List Step) → value_at inner root steps ≡ value_at outer root steps
+  outer-same : (root : ℕ) (variable : DeclaredVariable) → IsOuterHere root variable → (steps : List Step)
+      → value_at inner root steps ≡ value_at outer root steps
   outer-same root variable here steps = ap (λ (found : Option Place). part_of after found steps) here.same
 
   outer-exact : (root : ℕ) (variable : DeclaredVariable) → slice_get tree.variables.items root ≡ Some variable → IsOuterHere root variable → (change : Change)
@@ -448,7 +428,7 @@ module _ (tree : Tree) (pairs : List (ℕ × ℕ)) (number : ℕ) (block : Block
       by false inside =
           let rows = rows_under (rows_of tree) root [] in
           let found = row-change_from tree claims.exit rows (all_of_rows rows) change inside in
-          let bearer = mapped-from (λ r. Components r Entire) rows found.0 found.2 found.4 in
+          let bearer = mapped-at (λ r. Components r Entire) rows found.0 found.2 found.4 in
           let same : bearer.0 ≡ found.1 = same_Some bearer.0 found.1 (sym bearer.1 ∙ found.3) in
           let root_is = under-root tree root [] found.1 (has-contains rows found.1 (found.0, found.3)) in
           let own : IsExact (Components found.1 Entire) (row_change tree claims.exit found.1 found.2).range =
@@ -457,7 +437,8 @@ module _ (tree : Tree) (pairs : List (ℕ × ℕ)) (number : ℕ) (block : Block
           (ap (λ (r : ℕ). value_at inner r steps) root_is ∙ outer-same root variable here steps ∙ ap (λ (r : ℕ). value_at outer r steps) (sym root_is) ∙ at)
           found.2 in
           subst (λ (c : Change). IsExact c.bearer c.range) found.5
-          (subst (λ (b : Bearer). IsExact b (row_change tree claims.exit found.1 found.2).range) (ap (λ (r : ℕ). Components r Entire) (sym same) ∙ bearer.2) own)
+          (subst (λ (b : Bearer). IsExact b (row_change tree claims.exit found.1 found.2).range)
+          (ap (λ (r : ℕ). Components r Entire) (sym same) ∙ bearer.2) own)
 
   abbrev Way : ℕ → DeclaredVariable → ℕ → List Selector → Reach → Type 0
   Way root variable other selectors reach = Lies root variable other selectors reach
@@ -470,10 +451,6 @@ module _ (tree : Tree) (pairs : List (ℕ × ℕ)) (number : ℕ) (block : Block
   ordinal-exact root variable other [] reach is lies ordinal bearer inside =
       by bearer (subst (λ (all : List Bearer). Contains all bearer) (borne-variable tree other reach variable.type_id lies.1.actual_type ordinal) inside)
     where
-      no-way : (way : List Step) → Rattle.leaf_rows.proofs.Selected.Matches [] way → way ++ [] ≡ []
-      no-way [] matches = refl
-      no-way (s ∷ way) matches = absurd matches
-
       by : (bearer : Bearer) → Contains (Variable other ∷ []) bearer → IsExact bearer (variable_change tree claims.exit root bearer).range
       by bearer (suc k, within, at) = absurd (omega (arith, within))
       by bearer (zero, within, at) =
@@ -500,7 +477,8 @@ module _ (tree : Tree) (pairs : List (ℕ × ℕ)) (number : ℕ) (block : Block
           let value : value_at outer other (lies.0 ++ []) ≡ Some v =
           ap (λ (w : List Step). value_at outer other (w ++ [])) (sym way) ∙ ap (value_at outer other) (sym one.1)
           ∙ ap (λ (r : ℕ). value_at outer r steps) (sym root_is) ∙ at in
-          variable-exit root variable v is (same-value tree caller callee root other all lies.0 variable.type_id lies.1 after [] ∙ value) (Components row Entire)
+          variable-exit root variable v is (same-value tree caller callee root other all lies.0 variable.type_id lies.1 after [] ∙ value)
+          (Components row Entire)
 
   -- a row of a structured one
   structured-exact : (root : ℕ) (variable : DeclaredVariable) (other : ℕ) (selectors : List Selector) → (j row own : ℕ)
@@ -542,7 +520,7 @@ module _ (tree : Tree) (pairs : List (ℕ × ℕ)) (number : ℕ) (block : Block
           let bearers = borne-rows tree other selectors reach variable.type_id lies.1.actual_type
           (λ none. sym (ordinal-variable tree root variable is) ∙ plain_root) in
           let found = row-change_from tree claims.exit rows (bearers_of tree (OfVariable other selectors reach)) change inside in
-          let bearer = mapped-from (λ r. Components r reach) (rows_accessed (rows_of tree) other selectors) found.0 found.2
+          let bearer = mapped-at (λ r. Components r reach) (rows_accessed (rows_of tree) other selectors) found.0 found.2
           (ap (λ (all : List Bearer). slice_get all found.0) (sym bearers) ∙ found.4) in
           let own = structured-exact root variable other selectors found.0 found.1 bearer.0 found.3 bearer.1 reach lies found.2 in
           subst (λ (c : Change). IsExact c.bearer c.range) found.5

@@ -1,14 +1,12 @@
 -- What is passed fits its formal parameter, where the checker's tests of types hold.
-use Rattle.std.proofs.Common.{arith, ◌≡◌, ⊎_elim, ◌∙◌, sym, ap, refl, subst, ℕ, zero, suc, ◌+◌, ◌<◌, Bool, true, false, ◌&&◌, List, [], ◌∷◌, ◌++◌, length}
+use Rattle.std.proofs.Common.{arith, ◌≡◌, ◌∙◌, sym, ap, refl, subst, ℕ, zero, suc, ◌+◌, ◌<◌, true, List, [], ◌∷◌, length}
 use Rattle.std.proofs.Common.{Option, Some, None}
-use Rattle.std.specs.List.{Contains}
 use Rattle.std.specs.Option.{option_and_then}
-use Rattle.std.specs.Prelude.{slice_get, slice_index_or}
+use Rattle.std.specs.Prelude.{slice_get}
 use Rattle.std.proofs.lemmas.Bool.{and_parts, false≢true}
 use Rattle.std.proofs.lemmas.Option.{none-some, same_Some, slice_get_within}
 use Rattle.types.specs.Components.{components_of}
 use Rattle.types.specs.declared.form.OrdinalRange.{OrdinalRange}
-use Rattle.types.specs.declared.form.Step.{Step}
 use Rattle.types.specs.declared.form.TypeId.{TypeId}
 use Rattle.typed_tree.specs.Accesses.{accessed}
 use Rattle.typed_tree.specs.declared.tree.Selector.{Selector}
@@ -19,24 +17,20 @@ use Rattle.meaning.specs.declared.store.Value.TheVariants.{Number}
 use Rattle.meaning.specs.Store.{Environment, Place, Store}
 use Rattle.abstract_state.specs.State.{limits_of}
 use Rattle.abstract_state.proofs.Ranged.{included-in}
-use Rattle.leaf_rows.specs.Leaves.{Leaf, leaves_of}
+use Rattle.leaf_rows.specs.Leaves.{leaves_of}
 use Rattle.leaf_rows.specs.Rows.{Row, rows_of, rows_under, values_at}
-use Rattle.leaf_rows.proofs.Accessed.{has-contains, leaf-of_component, row-is, rows-are, rows-count}
+use Rattle.leaf_rows.proofs.Accessed.{has-contains, leaf-of_component, row-is, rows-are}
 use Rattle.component_states.specs.Components.{Reach}
 use Rattle.call_states.specs.Actuals.{are_of_rows, is_copy_for, lies_among}
-use Rattle.call_states.specs.Environments.{LiesIn, Proper, place_type}
+use Rattle.call_states.specs.Environments.{Proper, place_type}
 use Rattle.call_states.proofs.AliasedTypes.{part-type}
 use Rattle.call_states.proofs.Borne.{copy-count, copy-for, own-type}
 use Rattle.call_states.proofs.ComponentTypes.{component-typed}
 use Rattle.call_states.proofs.FormalRows.{variable-accessed}
+use Rattle.call_states.proofs.Lists.{some-there}
 use Rattle.call_states.proofs.Passed.{AreComponentsOf, Leads, LieIn}
 use Rattle.call_states.proofs.Places.{part-there}
 use Rattle.call_states.proofs.PlaceTypes.{way-typed}
-
-some-there : {A : Type 0} (items : List A) (k : ℕ) → k < length items → (item : A) × (slice_get items k ≡ Some item)
-some-there [] k within = absurd (omega (arith, within))
-some-there (item ∷ items) zero within = (item, refl)
-some-there (item ∷ items) (suc k) within = some-there items k (omega (arith, within))
 
 -- each range of a copy lies among the values of its row
 row-among : (tree : Tree) (rows : List ℕ) (ranges : List Interval) (j row : ℕ) (range : Interval) → are_of_rows tree rows ranges ≡ true
@@ -76,7 +70,8 @@ copy-fits tree root formal ranges numbers is copy count lie = record {
       let range = some-there ranges leaf.0 (omega (arith, two, within)) in
       let of_row = (rows-are tree root [] id typed).placed [] rest leaf.0 row.0 leaf.1 tt inside leaf.2 leaf.3 row.1 in
       let member = lie two k leaf.0 rest leaf.1 n range.0 rest_at leaf.2 leaf.3 n_at range.1 in
-      let among = among-values (values_at (rows_of tree) row.0) range.0 (row-among tree (rows_under (rows_of tree) root []) ranges leaf.0 row.0 range.0 both.1 row.1 range.1) in
+      let among = among-values (values_at (rows_of tree) row.0) range.0
+      (row-among tree (rows_under (rows_of tree) root []) ranges leaf.0 row.0 range.0 both.1 row.1 range.1) in
       let found = row-is tree row.0 rest of_row in
       let root_is = (rows-are tree root [] id typed).root_is row.0 (has-contains (rows_under (rows_of tree) root []) row.0 (leaf.0, row.1)) in
       let e : 0 + found.leaf.root ≡ found.leaf.root = omega arith in
@@ -98,6 +93,7 @@ pub place-fits : (tree : Tree) (pairs : List (ℕ × ℕ)) (block activations : 
 place-fits tree pairs block activations env proper store root selectors reach id place leads typed =
     let variable = variable-accessed tree root selectors id typed in
     let there = part-there (env.variables root) leads.way place (sym leads.place_is) in
-    let way = way-typed tree.types selectors leads.way variable.0.type_id id variable.2 leads.matches in
-    (ap (place_type tree) (sym there.2) ∙ part-type tree pairs block activations env proper root there.0 variable.0 leads.way there.1 variable.1 ∙ way,
-    subst (λ (p : Place). p.activation < activations) there.2 (proper.begun root there.0 there.1))
+    let way = way-typed tree.types selectors leads.way variable.0.type_id id variable.2 leads.matches in (
+      ap (place_type tree) (sym there.2) ∙ part-type tree pairs block activations env proper root there.0 variable.0 leads.way there.1 variable.1 ∙ way,
+      subst (λ (p : Place). p.activation < activations) there.2 (proper.begun root there.0 there.1),
+    )

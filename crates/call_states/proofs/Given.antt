@@ -1,15 +1,15 @@
 -- The facts that are given where a block is called hold where it begins.
-use Rattle.std.proofs.Common.{arith, ◌≡◌, ⊎_elim, ◌⊎◌, inl, inr, ◌∙◌, sym, ap, refl, subst, ℕ, zero, suc, ◌+◌, ◌<◌, Bool, true, false, cond, not, ◌&&◌}
+use Rattle.std.proofs.Common.{arith, ◌≡◌, ⊎_elim, ◌∙◌, sym, ap, refl, subst, ℕ, zero, suc, ◌<◌, Bool, true, false, cond, not, ◌&&◌}
 use Rattle.std.proofs.Common.{◌||◌, get_or, ℤ, pos, ◌+ℤ◌, ◌≤ℤ◌, int_le, nat_eq, List, [], ◌∷◌, ◌++◌, length, map, Option, Some, None}
-use Rattle.std.specs.List.{All, Contains, cons_option, filter_map, flat_map, list_all, list_any}
+use Rattle.std.specs.List.{All, Contains, cons_option, list_all, list_any}
 use Rattle.std.specs.Option.{option_and_then}
-use Rattle.std.specs.Prelude.{is_some, slice_get, slice_index_or}
+use Rattle.std.specs.Prelude.{is_some, slice_index_or}
 use Rattle.std.proofs.lemmas.Bool.{and_parts, eqb-true, false≢true, or_cases}
 use Rattle.std.proofs.lemmas.Int.{ints}
 use Rattle.std.proofs.lemmas.List.Elements.{All-append, All-cons, All-contains, All-contains_itself, All-map, All-nil, All-weaker}
 use Rattle.std.proofs.lemmas.List.Elements.{Contains-append_left, Contains-append_right}
 use Rattle.std.proofs.lemmas.List.Sums.{AllPass-from_list_all}
-use Rattle.std.proofs.lemmas.Option.{none-some, same_Some}
+use Rattle.std.proofs.lemmas.Option.{cond_some, none-some, same_Some}
 use Rattle.types.specs.Types.{is_ordinal}
 use Rattle.types.specs.declared.form.OrdinalRange.{OrdinalRange}
 use Rattle.types.specs.declared.form.Step.{Step}
@@ -37,8 +37,7 @@ use Rattle.abstract_state.specs.State.{at_most, bound_range, is_below, is_define
 use Rattle.abstract_state.proofs.Given.{bound-in, defined-number, entire-steps, named-entire}
 use Rattle.abstract_state.proofs.Ranged.{included-in}
 use Rattle.leaf_rows.specs.Rows.{all_parts, first_index, index_at, no_parts, rows_accessed, rows_of, rows_under}
-use Rattle.leaf_rows.proofs.Accessed.{IsOf, indexes-are}
-use Rattle.leaf_rows.proofs.Selected.{Matches}
+use Rattle.leaf_rows.proofs.Accessed.{IsOf}
 use Rattle.component_states.specs.Components as components
 use Rattle.component_states.specs.Components.{At, ComponentFact, Entire, Inside, Reach, has_value, moved_bound, row_at}
 use Rattle.component_states.specs.Holds.{HasComponent, Holds, Knows}
@@ -46,20 +45,22 @@ use Rattle.component_states.specs.States.{State, all_of_row, gives_reached, is_d
 use Rattle.component_states.proofs.Bounds.{at_most-holds, moved-is, value-is}
 use Rattle.component_states.proofs.Listed.{any-of, each-of}
 use Rattle.structured_states.specs.Loops.{all_limits, component_claims, component_facts, names_entire, plain, plain_facts, rows_named}
-use Rattle.call_states.specs.Actuals.{Actual, Bearer, Binding, Components, OfRows, OfValue, OfVariable, Passed, Variable, actual_of, are_of_types, bearers_named}
+use Rattle.call_states.specs.Actuals.{Actual, Bearer, Binding, Components, OfRows, OfValue, OfVariable, Passed, Variable, actual_of, are_of_types}
+use Rattle.call_states.specs.Actuals.{bearers_named}
 use Rattle.call_states.specs.Actuals.{bearers_at, bearers_for, bearers_of, bound_to}
 use Rattle.call_states.specs.Entry.{Limit, are_borne_between, are_given, are_ordered, are_reached, forms_at_most, has_between, is_at_most, is_borne_between}
 use Rattle.call_states.specs.Entry.{is_defined_borne, is_given, limit_moved, limit_of, limit_of_actual, limit_of_bound, limit_of_variable, range_borne}
 use Rattle.call_states.specs.Environments.{Begun, LiesIn}
 use Rattle.call_states.proofs.Assigned.{Received}
-use Rattle.call_states.proofs.Bearers.{borne-rows, contains-more, named-root, ordinal-variable}
-use Rattle.call_states.proofs.Borne.{IsBorne, IsBorneBy, IsReached, component-borne, entire-borne, outer-value, parameter-block, value-received}
+use Rattle.call_states.proofs.Bearers.{borne-rows, named-root, ordinal-variable}
+use Rattle.call_states.proofs.Borne.{IsBorne, IsBorneBy, IsReached, component-borne, entire-borne, outer-value, value-received}
 use Rattle.call_states.proofs.Callee.{IsCalled, activation_of}
 use Rattle.call_states.proofs.Claimed.{AllHold}
 use Rattle.call_states.proofs.Entered.{behind_assignments}
 use Rattle.call_states.proofs.FormalRows.{first-behind_fields}
-use Rattle.call_states.proofs.Parameters.{IsOuter, IsOutward, IsParameter, outward-cases}
-use Rattle.call_states.proofs.Passed.{AreArguments, Fits, IsArgument, IsReachedBy}
+use Rattle.call_states.proofs.Lists.{contains-more}
+use Rattle.call_states.proofs.Parameters.{IsOuter, IsOutward, IsParameter, outward-cases, parameter-block}
+use Rattle.call_states.proofs.Passed.{AreArguments, Fits, IsArgument}
 use Rattle.call_states.proofs.Reached.{alive, reached-has}
 use Rattle.call_states.proofs.Started.{value-home}
 
@@ -168,7 +169,8 @@ module _ (tree : Tree) (pairs : List (ℕ × ℕ)) (number : ℕ) (block : Block
   IsBorneHere bearer root steps = IsBorne tree pairs number block arguments caller activations from call store begun actuals are typed bearer root steps
 
   abbrev IsReachedHere : ℕ → Reach → ℕ → List Step → Type 0
-  IsReachedHere row reach root steps = IsReached tree pairs number block arguments caller activations from call store begun actuals are typed row reach root steps
+  IsReachedHere row reach root steps = IsReached tree pairs number block arguments caller activations from call store begun actuals are typed row reach root
+      steps
 
   abbrev BorneBy : Path → List Step → Type 0
   BorneBy path steps =
@@ -219,7 +221,8 @@ module _ (tree : Tree) (pairs : List (ℕ × ℕ)) (number : ℕ) (block : Block
   reached-between : (first last : Limit) (low high index : ℤ) → is-limit first low → is-limit last high → low ≤ℤ index → index ≤ℤ high → (row : ℕ)
       (reach : Reach) (root : ℕ) (steps : List Step) → first_index steps ≡ Some index → IsReachedHere row reach root steps
       → are_reached tree state first last row reach ≡ true → HasValue inner root steps
-  reached-between first last low high index low_is high_is above below row (At own) root steps first_is borne is = component-has row (At own) root steps borne is
+  reached-between first last low high index low_is high_is above below row (At own) root steps first_is borne is = component-has row (At own) root steps borne
+      is
   reached-between first last low high index low_is high_is above below row (Inside own) root steps first_is borne is =
       component-has row (Inside own) root steps borne is
   reached-between first last low high index low_is high_is above below row Entire root steps first_is borne is =
@@ -230,21 +233,26 @@ module _ (tree : Tree) (pairs : List (ℕ × ℕ)) (number : ℕ) (block : Block
       let found = any-of P test state.components.stretches (each-of P state.components.stretches knows.components.stretches) any in
       let held = found.0 in
       let one = and_parts (nat_eq held.row row)
-      (is_at_most state.variables (limit_of state.variables held.first) first && is_at_most state.variables last (limit_of state.variables held.last)) found.2 in
+      (is_at_most state.variables (limit_of state.variables held.first) first && is_at_most state.variables last (limit_of state.variables held.last))
+      found.2 in
       let two = and_parts (is_at_most state.variables (limit_of state.variables held.first) first)
       (is_at_most state.variables last (limit_of state.variables held.last)) one.1 in
       let stretch = found.1 in
       let from_is = limit-is total caller store state.variables knows.variables held.first stretch.0 stretch.2 in
       let to_is = limit-is total caller store state.variables knows.variables held.last stretch.1 stretch.3 in
-      let before = limits-hold total caller store state.variables knows.variables (limit_of state.variables held.first) first stretch.0 low from_is low_is two.0 in
+      let before = limits-hold total caller store state.variables knows.variables
+      (limit_of state.variables held.first) first stretch.0 low from_is low_is two.0 in
       let after = limits-hold total caller store state.variables knows.variables last (limit_of state.variables held.last) high stretch.1 high_is to_is two.1 in
       let own_first = first-behind_fields borne.selectors borne.way steps borne.reached borne.matches ∙ first_is in
       let of_row : IsOf tree held.row (borne.way ++ steps) =
       subst (λ (r : ℕ). IsOf tree r (borne.way ++ steps)) (sym (eqb-true held.row row one.0)) borne.of_row in
-      let has = stretch.4 (borne.way ++ steps) index of_row own_first (omega (arith, ints, before, above)) (omega (arith, ints, after, below)) in
-      (has.0, borne.same
-      ∙ ap (λ (r : ℕ). value_at outer (slice_index_or (all_parts tree) r no_parts).root (borne.way ++ steps)) (sym (eqb-true held.row row one.0)) ∙ has.1))
-      (or_cases (gives_reached state Entire (index_at (rows_of tree) row) row) (list_any (has_between state.variables row first last) state.components.stretches) is)
+      let has = stretch.4 (borne.way ++ steps) index of_row own_first (omega (arith, ints, before, above)) (omega (arith, ints, after, below)) in (
+        has.0,
+        borne.same
+            ∙ ap (λ (r : ℕ). value_at outer (slice_index_or (all_parts tree) r no_parts).root (borne.way ++ steps)) (sym (eqb-true held.row row one.0)) ∙ has.1,
+      ))
+      (or_cases (gives_reached state Entire (index_at (rows_of tree) row) row)
+      (list_any (has_between state.variables row first last) state.components.stretches) is)
 
   between-given : (first last : Limit) (low high index : ℤ) → is-limit first low → is-limit last high → low ≤ℤ index → index ≤ℤ high → (bearer : Bearer)
       (root : ℕ) (steps : List Step) → first_index steps ≡ Some index → IsBorneHere bearer root steps → is_borne_between tree state first last bearer ≡ true
@@ -271,10 +279,13 @@ module _ (tree : Tree) (pairs : List (ℕ × ℕ)) (number : ℕ) (block : Block
   variable-limit root other limit same is has =
       let own = value-is total caller store state.variables knows.variables (Plus other (pos 0)) (ap (λ (l : Limit). l.has_value) is ∙ has) in
       let m = own.1.0 in
-      let e : own.0 ≡ m = (let s = own.1.2 in omega (arith, ints, s)) in
-      (m, same ∙ own.1.1, subst (λ (l : Limit). IsLimit outer l m) is
-      (subst (λ (n : ℤ). IsLimit outer (limit_of state.variables (Plus other (pos 0))) n) e
-      (limit-is total caller store state.variables knows.variables (Plus other (pos 0)) own.0 own.1)))
+      let e : own.0 ≡ m = (let s = own.1.2 in omega (arith, ints, s)) in (
+        m,
+        same ∙ own.1.1,
+        subst (λ (l : Limit). IsLimit outer l m) is
+            (subst (λ (n : ℤ). IsLimit outer (limit_of state.variables (Plus other (pos 0))) n) e
+            (limit-is total caller store state.variables knows.variables (Plus other (pos 0)) own.0 own.1)),
+      )
 
   -- the one bearer of an ordinal variable of the callee
   alone-limit : (root : ℕ) (bearers : List Bearer) (limit : Limit)
@@ -324,7 +335,8 @@ module _ (tree : Tree) (pairs : List (ℕ × ℕ)) (number : ℕ) (block : Block
           ∙ ap (λ (b : Bool). cond b (bearers_of tree (OfVariable other selectors reach))
           (bearers_at (rows_named tree (entire root)) (rows_under (rows_of tree) root []) (bearers_of tree (OfVariable other selectors reach)))) entire_root in
           alone-limit root (bearers_of tree (OfVariable other selectors reach)) limit
-          (subst (λ (all : List Bearer). IsBorneBy tree pairs number block arguments caller activations from call store begun actuals are typed all root []) bearers
+          (subst (λ (all : List Bearer). IsBorneBy tree pairs number block arguments caller activations from call store begun actuals are typed all root [])
+          bearers
           borne)
           limit_is has
       by false ordinal =
@@ -340,19 +352,23 @@ module _ (tree : Tree) (pairs : List (ℕ × ℕ)) (number : ℕ) (block : Block
       let ordinal : is_ordinal tree.types variable.type_id ≡ true = ap is_some lies.1 in
       let got = subst (λ (a : Argument). Received tree activations activations callee root variable a behind) argument_is
       (value-received tree pairs number block arguments caller activations from call store begun actuals are typed root variable is p value) in
-      let has = got.has [] (subst (λ (all : List (List Step)). Contains all []) (sym (ordinal_component tree.types variable.type_id ordinal)) (0, omega arith, refl)) in
+      let has = got.has [] (subst (λ (all : List (List Step)). Contains all []) (sym (ordinal_component tree.types variable.type_id ordinal))
+      (0, omega arith, refl)) in
       let same = (got.gets [] has.0 has.1).1 in
-      let block_is = parameter-block tree pairs number block arguments caller activations from call store begun actuals are typed root variable is p in
+      let block_is = parameter-block tree pairs number block arguments caller activations from call store actuals are typed root variable is p in
       let home = value-home tree pairs number block arguments caller activations from call root variable is block_is value in
       let m = number-of v in
       let at : value_at inner root [] ≡ Some (Number m.0) =
-      ap (λ (found : Option Place). part_of behind found []) home ∙ has.1 ∙ ap Some same ∙ ap Some m.1 in
-      (m.0, at, record {
-        of_form = λ b form_is.
-            let formed = subst (λ (f : Option Bound). IsOfForm outer f v) form_is of_form in
-            subst (λ (n : ℤ). IsBound outer b n) (number-same formed.0 m.0 (sym formed.1 ∙ m.1)) formed.2;
-        in_range = subst (IsIn range) m.1 inside;
-      })
+      ap (λ (found : Option Place). part_of behind found []) home ∙ has.1 ∙ ap Some same ∙ ap Some m.1 in (
+        m.0,
+        at,
+        record {
+          of_form = λ b form_is.
+              let formed = subst (λ (f : Option Bound). IsOfForm outer f v) form_is of_form in
+              subst (λ (n : ℤ). IsBound outer b n) (number-same formed.0 m.0 (sym formed.1 ∙ m.1)) formed.2;
+          in_range = subst (IsIn range) m.1 inside;
+        },
+      )
     where
       number-same : (a b : ℤ) → Number a ≡ Number b → a ≡ b
       number-same a b is = cc
@@ -472,13 +488,9 @@ module _ (tree : Tree) (pairs : List (ℕ × ℕ)) (number : ℕ) (block : Block
           by zero within at = (1, omega arith, at)
           by (suc i) within at = absurd (omega (arith, within))
 
-  taken : (test : Bool) (one other : Fact) → cond test (Some one) None ≡ Some other → (test ≡ true) × (one ≡ other)
-  taken true one other is = (refl, same_Some one other is)
-  taken false one other is = absurd (none-some other is)
-
   plain-given : (one other : Fact) → Outward one → is_given_here one ≡ true → plain tree one ≡ Some other → holds.Holds other inner
   plain-given (fact.Range path range) other outward is plain_is =
-      let named = taken (names_entire tree path) (fact.Range path range) other plain_is in
+      let named = cond_some (names_entire tree path) (fact.Range path range) other plain_is in
       let at = outward path.root (0, omega arith, refl) in
       let borne = entire-at path at named.0 in
       let included = all-bearers (λ bearer. is_included (range_borne state bearer) range) (bearers_named tree bindings path) borne.bearer is borne.inside in
@@ -488,7 +500,7 @@ module _ (tree : Tree) (pairs : List (ℕ × ℕ)) (number : ℕ) (block : Block
       let none = named-entire steps (subst (λ (own : List fact.Step). holds.is_named own steps ≡ true) whole steps_named) in
       range-given borne.bearer path.root [] range v borne.borne included (subst (λ (s : List Step). value_at inner path.root s ≡ Some v) none there))
   plain-given (fact.Defined path) other outward is plain_is =
-      let named = taken (names_entire tree path) (fact.Defined path) other plain_is in
+      let named = cond_some (names_entire tree path) (fact.Defined path) other plain_is in
       let at = outward path.root (0, omega arith, refl) in
       let borne = entire-at path at named.0 in
       let defined = all-bearers (is_defined_borne tree state) (bearers_named tree bindings path) borne.bearer is borne.inside in
@@ -539,25 +551,33 @@ module _ (tree : Tree) (pairs : List (ℕ × ℕ)) (number : ℕ) (block : Block
       (limit_of_bound tree state.variables bindings first) (limit_of_bound tree state.variables bindings last) (are_borne_between tree state bearers)
       (λ a b. refl) (λ b. refl) (λ a. refl) is in
       let low = bound-limit first found.0
-      (λ r inside. outward r (contains-more path.root (bound_roots first ++ bound_roots last) r (Contains-append_left (bound_roots first) (bound_roots last) r inside)))
+      (λ r inside. outward r (contains-more path.root (bound_roots first ++ bound_roots last) r
+      (Contains-append_left (bound_roots first) (bound_roots last) r inside)))
       found.2 found.4 in
       let high = bound-limit last found.1
-      (λ r inside. outward r (contains-more path.root (bound_roots first ++ bound_roots last) r (Contains-append_right (bound_roots first) (bound_roots last) r inside)))
+      (λ r inside. outward r (contains-more path.root (bound_roots first ++ bound_roots last) r
+      (Contains-append_right (bound_roots first) (bound_roots last) r inside)))
       found.3 found.5 in
       each-row (rows_named tree path) (λ row. components.Stretched (record { row = row; first = first; last = last }))
-      (λ row inside.
-      (low.n, high.n, low.is_bound, high.is_bound, λ steps index of_row first_is above below.
-      ⊎_elim
-      (λ empty.
-      let less = limits-hold total caller store state.variables knows.variables (limit_moved (pos 1) found.1) found.0 (high.n +ℤ pos 1) low.n
-      (moved-limit total caller store state.variables knows.variables (pos 1) high.n found.1 high.is_limit) low.is_limit empty in
-      absurd (omega (arith, ints, less, above, below)))
-      (λ each.
-      let borne = component-at path (outward path.root (0, omega arith, refl)) row steps inside of_row in
-      in-root path row steps inside
-      (between-given found.0 found.1 low.n high.n index low.is_limit high.is_limit above below borne.bearer path.root steps first_is borne.borne
-      (all-bearers (is_borne_between tree state found.0 found.1) bearers borne.bearer each borne.inside)))
-      (or_cases (is_at_most state.variables (limit_moved (pos 1) found.1) found.0) (list_all (is_borne_between tree state found.0 found.1) bearers) found.6)))
+      (λ row inside. (
+        low.n,
+        high.n,
+        low.is_bound,
+        high.is_bound,
+        λ steps index of_row first_is above below.
+            ⊎_elim
+            (λ empty.
+            let less = limits-hold total caller store state.variables knows.variables (limit_moved (pos 1) found.1) found.0 (high.n +ℤ pos 1) low.n
+            (moved-limit total caller store state.variables knows.variables (pos 1) high.n found.1 high.is_limit) low.is_limit empty in
+            absurd (omega (arith, ints, less, above, below)))
+            (λ each.
+            let borne = component-at path (outward path.root (0, omega arith, refl)) row steps inside of_row in
+            in-root path row steps inside
+            (between-given found.0 found.1 low.n high.n index low.is_limit high.is_limit above below borne.bearer path.root steps first_is borne.borne
+            (all-bearers (is_borne_between tree state found.0 found.1) bearers borne.bearer each borne.inside)))
+            (or_cases (is_at_most state.variables (limit_moved (pos 1) found.1) found.0)
+            (list_all (is_borne_between tree state found.0 found.1) bearers) found.6),
+      ))
   components-given (Order root other k) outward is = All-nil HoldsHere
 
   all-given : (facts : List Fact) → ((one : Fact) → Contains facts one → Outward one) → list_all is_given_here facts ≡ true → AllHold tree facts callee behind

@@ -1,18 +1,17 @@
 -- Steps that lead to an ordinal lead to a component; none lead on from an ordinal.
-use Rattle.std.proofs.Common.{arith, ◌≡◌, ◌≤ℤ◌, ⊎_elim, ◌∙◌, sym, ap, refl, subst, ℕ, ℤ, Bool, true, false, cond, ◌&&◌, nat_eq, List, [], ◌∷◌, ◌++◌, Option, Some}
+use Rattle.std.proofs.Common.{arith, ◌≡◌, ◌∙◌, sym, ap, refl, subst, ℕ, Bool, true, cond, nat_eq, List, [], ◌∷◌, Option, Some}
 use Rattle.std.proofs.Common.{None}
 use Rattle.std.specs.Cmp.{int_eq_equiv}
 use Rattle.std.specs.List.{Contains}
 use Rattle.std.specs.Option.{option_and_then}
 use Rattle.std.specs.Ordering.{int_eq}
-use Rattle.std.specs.Prelude.{is_some, nat_lt, slice_get}
+use Rattle.std.specs.Prelude.{is_some, slice_get}
 use Rattle.std.proofs.lemmas.Bool.{and_from, eq-eqb, false≢true}
-use Rattle.std.proofs.lemmas.Option.{none-some, same_Some}
+use Rattle.std.proofs.lemmas.Option.{cond_some, none-some, same_Some}
 use Rattle.types.specs.Components.{components_of}
 use Rattle.types.specs.Forms.{Array, Boolean, Char, Enumeration, Form, Integer, Record, Subrange}
 use Rattle.types.specs.Types.{before, element_of, field_at, field_in, field_of, form_at, form_range, is_ordinal, own_field}
 use Rattle.types.specs.declared.form.ArrayElement.{ArrayElement}
-use Rattle.types.specs.declared.form.OrdinalRange.{OrdinalRange}
 use Rattle.types.specs.declared.form.RecordField.{RecordField}
 use Rattle.types.specs.declared.form.Step.{Step}
 use Rattle.types.specs.declared.form.Step.TheVariants as step
@@ -30,16 +29,12 @@ use Rattle.domain.specs.Facts.{Path}
 use Rattle.meaning.specs.Integers.{is_within}
 use Rattle.abstract_state.specs.State.{is_entire}
 use Rattle.abstract_state.proofs.Ranged.{is_within-has}
-use Rattle.leaf_rows.specs.Rows.{Named, behind_element, behind_name, next_named, part_named, steps_named, variable_named}
+use Rattle.leaf_rows.specs.Rows.{Named, behind_element, behind_name, part_named, steps_named, variable_named}
 use Rattle.leaf_rows.proofs.Accessed.{contains-has, has-contains}
 use Rattle.leaf_rows.proofs.Components.{Has}
 use Rattle.leaf_rows.proofs.Selected.{Matches, reaches}
 use Rattle.call_states.specs.Environments.{element_behind, field_behind, type_behind, type_led}
 use Rattle.call_states.proofs.PlaceTypes.{first-led}
-
-taken : {A : Type 0} (test : Bool) (one other : A) → cond test (Some one) None ≡ Some other → (test ≡ true) × (one ≡ other)
-taken true one other is = (refl, same_Some one other is)
-taken false one other is = absurd (none-some other is)
 
 module _ (types : List Form) where
   -- a component behind a selector that leads on
@@ -56,13 +51,14 @@ module _ (types : List Form) where
           → Has (components_of types id) (step.Element index ∷ rest)
       by None found is = absurd (none-some next is)
       by (Some e) found is =
-          let within = taken (is_within e.range.first e.range.last index) e.type_id next is in
+          let within = cond_some (is_within e.range.first e.range.last index) e.type_id next is in
           let lies = is_within-has e.range.first e.range.last index within.0 in
           let same : are_values_of e.range e.range ≡ true =
           and_from (int_eq e.range.first e.range.first) (int_eq e.range.last e.range.last) (int_eq_equiv.refl e.range.first) (int_eq_equiv.refl e.range.last) in
           let leads : selected types (Element (record { site = 0; range = e.range }) e.cells) id ≡ Some next =
           ap (element_type e.range e.cells) found
-          ∙ ap (λ (b : Bool). cond b (Some e.type_id) None) (and_from (are_values_of e.range e.range) (nat_eq e.cells e.cells) same (eq-eqb e.cells e.cells refl))
+          ∙ ap (λ (b : Bool). cond b (Some e.type_id) None) (and_from (are_values_of e.range e.range) (nat_eq e.cells e.cells) same
+          (eq-eqb e.cells e.cells refl))
           ∙ ap Some within.1 in
           covered (Element (record { site = 0; range = e.range }) e.cells) (step.Element index) id next rest leads (lies.0, lies.1, tt) has
   step-covers (step.Field position) id next rest is has = by (field_at types id position) refl is

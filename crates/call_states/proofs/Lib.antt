@@ -21,7 +21,9 @@ pub mod FormalRows
 pub mod Given
 pub mod Headings
 pub mod LedComponents
+pub mod Lists
 pub mod Mapped
+pub mod OfTypes
 pub mod Parameters
 pub mod Passed
 pub mod PlaceTypes

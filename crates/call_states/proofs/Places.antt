@@ -1,7 +1,7 @@
 -- Places that overlap, and pairs of variables that are listed.
-use Rattle.std.proofs.Common.{arith, ◌≡◌, ⊎_elim, ◌⊎◌, inl, inr, ◌≢◌, ◌∙◌, sym, ap, refl, subst, ℕ, zero, suc, ◌<◌, Bool, true, false, not, cond, ◌&&◌, ◌||◌}
-use Rattle.std.proofs.Common.{nat_eq, List, [], ◌∷◌, ◌++◌, length, Option, Some, None}
-use Rattle.std.specs.List.{Contains, list_all, list_any}
+use Rattle.std.proofs.Common.{arith, ◌≡◌, ⊎_elim, ◌⊎◌, inl, inr, ◌∙◌, sym, ap, refl, ℕ, zero, suc, Bool, true, false, not, cond, ◌&&◌, ◌||◌}
+use Rattle.std.proofs.Common.{nat_eq, List, [], ◌∷◌, ◌++◌, Option, Some, None}
+use Rattle.std.specs.List.{Contains}
 use Rattle.std.specs.Ordering.{int_eq}
 use Rattle.std.proofs.lemmas.Bool.{and_from, and_parts, cases_eq, eq-eqb, eqb-true, false≢true, or_cases, or_left, or_right}
 use Rattle.std.specs.Cmp.{int_eq_equiv}
@@ -179,6 +179,7 @@ partner-is first a b is = by (nat_eq first.0 a) (nat_eq first.1 a) refl refl is
   where
     alone : (x : ℕ) → (nat_eq x b || false) ≡ true → x ≡ b
     alone x is = ⊎_elim (λ same. eqb-true x b same) (λ none. absurd (false≢true none)) (or_cases (nat_eq x b) false is)
+
     by : (x y : Bool) → nat_eq first.0 a ≡ x → nat_eq first.1 a ≡ y → is_among b (cond x (first.1 ∷ []) (cond y (first.0 ∷ []) [])) ≡ true
         → (first ≡ (a, b)) ⊎ (first ≡ (b, a))
     by true y x_is y_is is = inl (λ i. (eqb-true first.0 a x_is i, alone first.1 is i))

@@ -3,7 +3,7 @@
 
 pub mod actuals;
 pub mod aliases;
-mod changes;
+pub mod changes;
 pub mod entry;
 pub mod exit;
 mod limits;

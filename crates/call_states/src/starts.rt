@@ -146,7 +146,7 @@ fn is_round(tree: &Tree, number: u32, block: u32) -> bool
 }
 
 /// Whether a block declares a variable as one of its own, or as its result.
-fn is_own(block: u32, variable: Variable) -> bool
+pub fn is_own(block: u32, variable: Variable) -> bool
     ensures { result ≡ is_own block variable }
 {
     match variable.kind {

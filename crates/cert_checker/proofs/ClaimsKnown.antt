@@ -1,49 +1,45 @@
 -- The claims of a certificate that names what the program has name what they may: what a caller may know, and at the end of a block its own result.
-use Rattle.std.proofs.Common.{arith, ◌≡◌, ⊎_elim, ◌⊎◌, inl, inr, ◌∙◌, sym, ap, refl, subst, ℕ, zero, suc, ◌+◌, ◌<◌, ◌≤◌, Bool, true, false, cond, not}
-use Rattle.std.proofs.Common.{◌&&◌, ◌||◌, get_or, nat_eq, List, [], ◌∷◌, ◌++◌, length, map, Option, Some, None}
+use Rattle.std.proofs.Common.{arith, ◌≡◌, ⊎_elim, inl, inr, ◌∙◌, sym, ap, refl, subst, ℕ, suc, Bool, true, false, cond, not}
+use Rattle.std.proofs.Common.{◌&&◌, ◌||◌, nat_eq, List, [], ◌∷◌, ◌++◌, length, map, Option, Some, None}
 use Rattle.std.specs.List.{Contains, list_all, range_with_len}
 use Rattle.std.specs.Option.{option_and_then}
 use Rattle.std.specs.Prelude.{nat_lt, slice_get}
-use Rattle.std.proofs.lemmas.Bool.{and_parts, cases_lt, eq-eqb, eqb-true, false≢true, not-true, or_cases, or_parts}
+use Rattle.std.proofs.lemmas.Bool.{and_parts, cases_lt, eqb-true, false≢true, not-true, or_cases, or_parts}
 use Rattle.std.proofs.lemmas.List.{get_or_past, length-map}
 use Rattle.std.proofs.lemmas.List.Elements.{All-contains}
 use Rattle.std.proofs.lemmas.List.FromFn.{get_or-map-range_with_len, length-range_with_len}
 use Rattle.std.proofs.lemmas.List.Sums.{AllPass-from_list_all}
-use Rattle.std.proofs.lemmas.Option.{none-some, same_Some}
+use Rattle.std.proofs.lemmas.Option.{same_Some}
 use Rattle.types.specs.Forms.{Array, Boolean, Char, Enumeration, Form, Integer, Record, Subrange}
 use Rattle.types.specs.Types.{form_at, form_range, is_ordinal}
 use Rattle.types.specs.declared.form.TypeId.{TypeId}
 use Rattle.typed_tree.specs.WellFormed.{is_declared, is_local_kind, is_result_kind, is_round, is_value_kind, is_visible, of_one, outline_of}
 use Rattle.typed_tree.specs.declared.tree.Tree.{Tree}
 use Rattle.typed_tree.specs.declared.tree.Variable.{Variable}
-use Rattle.typed_tree.specs.declared.tree.VariableKind.{VariableKind}
 use Rattle.certificate.specs.declared.Certificate.{Certificate}
 use Rattle.certificate.specs.declared.Section.{Section as KeptSection}
 use Rattle.certificate.specs.declared.facts.Fact.{Fact as KeptFact}
 use Rattle.certificate.specs.declared.facts.Fact.TheVariants as kept
-use Rattle.certificate.specs.declared.facts.Path.{Path as KeptPath}
 use Rattle.certificate.specs.Contents.{contents, is_empty, said_fact, said_path, section_of}
 use Rattle.domain.specs.declared.facts.Bound.{Bound as KeptBound}
 use Rattle.domain.specs.declared.facts.Bound.TheVariants as kept_bound
 use Rattle.domain.specs.Facts.{Fact, said_bound}
 use Rattle.domain.specs.Facts as fact
 use Rattle.abstract_state.specs.Loops.{is_among}
-use Rattle.abstract_state.specs.State.{is_entire}
 use Rattle.abstract_state.proofs.Given.{entire-steps}
-use Rattle.leaf_rows.specs.Rows.{Named, part_named, steps_named, variable_named}
-use Rattle.structured_states.specs.Loops.{all_limits, has_ordinals, is_ordinal_variable}
+use Rattle.leaf_rows.specs.Rows.{Named, part_named, variable_named}
+use Rattle.structured_states.specs.Loops.{has_ordinals, is_ordinal_variable}
 use Rattle.call_states.specs.Sections.{BlockClaims, all_block_claims, block_claims_at, block_claims_in, no_block_claims}
-use Rattle.call_states.specs.Starts.{is_own, is_passed_value}
-use Rattle.call_states.proofs.Bearers.{contains-among, of-map}
-use Rattle.call_states.proofs.BehindExits.{FitsOrdinals, IsLasting, IsOwnResult, IsResultOf, MayEnd}
+use Rattle.call_states.proofs.Bearers.{of-map}
+use Rattle.call_states.proofs.BehindExits.{FitsOrdinals, IsOwnResult, IsResultOf, MayEnd}
 use Rattle.call_states.proofs.Given.{AreOutward}
 use Rattle.call_states.proofs.Given as given
 use Rattle.call_states.proofs.Headings.{one-there}
 use Rattle.call_states.proofs.LedComponents.{path-ordinal}
 use Rattle.call_states.proofs.Parameters.{IsOutward}
-use Rattle.cert_checker.specs.Names.{block_is_known, bound_roots, exit_is_known, fact_is_known, fact_is_on, fact_roots, has_elements, is_array, is_changed_value}
+use Rattle.cert_checker.specs.Names.{block_is_known, bound_roots, exit_is_known, fact_is_known, fact_is_on, fact_roots, has_elements, is_array}
+use Rattle.cert_checker.specs.Names.{is_changed_value}
 use Rattle.cert_checker.specs.Names.{is_known, is_lasting, is_named, is_of_loops, is_outward, is_own_result, names, section_is_known}
-use Rattle.cert_checker.specs.Names as known
 use Rattle.expression_checker.proofs.Sound.{World}
 use Rattle.expression_checker.proofs.CallLaws.{AreClaims}
 
@@ -66,15 +62,19 @@ neither false a b one other = refl
 outward-known : (tree : Tree) (block root : ℕ) → is_outward tree block root ≡ true → IsOutward tree block root
 outward-known tree block root is =
     let outline = outline_of tree in
-    let parts = and_parts (is_visible outline block root) (not (is_declared outline block is_local_kind root || is_declared outline block is_result_kind root)) is in
+    let parts = and_parts (is_visible outline block root)
+    (not (is_declared outline block is_local_kind root || is_declared outline block is_result_kind root)) is in
     let found = one-there (λ (v : Variable). is_round outline block v.block) (slice_get tree.variables.items root) parts.0 in
     let v = found.0 in
     let none = or_parts (is_declared outline block is_local_kind root) (is_declared outline block is_result_kind root)
-    (not-true (is_declared outline block is_local_kind root || is_declared outline block is_result_kind root) parts.1) in
-    (v, found.1, found.2,
-    neither (nat_eq v.block block) (is_local_kind v.kind) (is_result_kind v.kind)
-    (sym (ap (of_one (λ (x : Variable). nat_eq x.block block && is_local_kind x.kind)) found.1) ∙ none.0)
-    (sym (ap (of_one (λ (x : Variable). nat_eq x.block block && is_result_kind x.kind)) found.1) ∙ none.1))
+    (not-true (is_declared outline block is_local_kind root || is_declared outline block is_result_kind root) parts.1) in (
+      v,
+      found.1,
+      found.2,
+      neither (nat_eq v.block block) (is_local_kind v.kind) (is_result_kind v.kind)
+          (sym (ap (of_one (λ (x : Variable). nat_eq x.block block && is_local_kind x.kind)) found.1) ∙ none.0)
+          (sym (ap (of_one (λ (x : Variable). nat_eq x.block block && is_result_kind x.kind)) found.1) ∙ none.1),
+    )
 
 -- ---- facts
 

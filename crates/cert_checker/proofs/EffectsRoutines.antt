@@ -138,7 +138,7 @@ module _ (tree : Tree) (well : IsWellFormed tree) (certificate : Certificate) (u
 
   -- ---- by the sections of the certificate
 
-  claims-are : (number : ℕ) (block : Block) → slice_get tree.blocks.items number ≡ Some block
+  pub claims-are : (number : ℕ) (block : Block) → slice_get tree.blocks.items number ≡ Some block
       → block_claims_at blocks number ≡ block_claims_in number (contents certificate)
   claims-are number block is =
       get_or-map-range_with_len (λ (n : ℕ). block_claims_in n (contents certificate)) 0 (length tree.blocks.items) number number no_block_claims

@@ -1,9 +1,9 @@
 -- What was passed as a value and isn't listed by a block, the statement of the block leaves as it was.
-use Rattle.std.proofs.Common.{arith, ◌≡◌, ⊎_elim, ◌∙◌, sym, ap, refl, subst, ℕ, zero, suc, Bool, true, false, ◌||◌, nat_eq, List, [], ◌∷◌, ◌++◌}
+use Rattle.std.proofs.Common.{arith, ◌≡◌, ⊎_elim, ◌∙◌, sym, ap, refl, subst, ℕ, suc, true, false, ◌||◌, nat_eq, List, [], ◌++◌}
 use Rattle.std.proofs.Common.{Some}
 use Rattle.std.specs.Prelude.{slice_get}
 use Rattle.std.specs.List.{Contains}
-use Rattle.std.proofs.lemmas.Bool.{and_parts, both_ways, eq-eqb}
+use Rattle.std.proofs.lemmas.Bool.{and_parts, both_ways}
 use Rattle.std.proofs.lemmas.List.Elements.{Contains-append_cases}
 use Rattle.std.proofs.lemmas.Option.{same_Some}
 use Rattle.certificate.specs.declared.Certificate.{Certificate}
@@ -22,6 +22,7 @@ use Rattle.abstract_state.specs.Loops.{is_among}
 use Rattle.call_states.specs.Environments.{IsListed, LeavesPassed}
 use Rattle.call_states.specs.Sections.{BlockClaims, all_block_claims, block_claims_at}
 use Rattle.call_states.specs.Starts.{is_own, is_passed_value}
+use Rattle.call_states.proofs.Lists.{contains-among}
 use Rattle.call_states.proofs.Callee.{IsCalled, Outer, Own, PassedTo, Seen, activation_of, place-for_fits, seen-as}
 use Rattle.call_states.proofs.Entered.{roots-are}
 use Rattle.cert_checker.specs.Walk.{program_walk}
@@ -30,16 +31,6 @@ use Rattle.cert_checker.proofs.EffectsRoutines.{body-here}
 use Rattle.cert_checker.proofs.EffectsStatements.{statement-kept}
 use Rattle.expression_checker.proofs.EffectsCalls.{CallsLeave}
 use Rattle.expression_checker.proofs.EffectsKept.{LeavesSo}
-
-contained-among : (roots : List ℕ) (root : ℕ) → Contains roots root → is_among root roots ≡ true
-contained-among [] root inside = absurd (omega (arith, inside.1))
-contained-among (other ∷ roots) root (zero, within, is) = ap (λ (b : Bool). b || is_among root roots) (eq-eqb other root is)
-contained-among (other ∷ roots) root (suc k, within, is) =
-    or-second (nat_eq other root) (is_among root roots) (contained-among roots root (k, omega (arith, within), is))
-  where
-    or-second : (a b : Bool) → b ≡ true → (a || b) ≡ true
-    or-second true b is = refl
-    or-second false b is = is
 
 no-own_value : (one : VariableKind) → (is_local_kind one || is_result_kind one) ≡ true → is_value_kind one ≡ true → ⊥
 no-own_value kind.ValueParameter own value = both_ways false refl own
@@ -73,7 +64,7 @@ module _ (tree : Tree) (well : IsWellFormed tree) (certificate : Certificate) (u
     where
       here : Contains (changes ++ own_roots) root → ⊥
       here inside =
-          ⊎_elim (λ listed. both_ways (is_among root changes) free (contained-among changes root listed))
+          ⊎_elim (λ listed. both_ways (is_among root changes) free (contains-among changes root listed))
           (λ own.
           let at = roots-are (is_own number) 0 tree.variables.items root own in
           let root_is = at.2 in

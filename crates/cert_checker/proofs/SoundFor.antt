@@ -583,7 +583,8 @@ module _ (world : World) (ranges : world.limits ≡ all_limits world.tree) (bloc
           (meaning.for_rounds way.control way.first.fits way.direction way.last.fits execution env x y t)
       turns-good t here forms in_first in_last =
           good-then world (IsForetold world visible (Passes first_test (Number x)) context first t.store)
-          (Foretold world visible context whole_walked t.store) t (effect.require first_test way.first.fits.site t) (λ done. effect.◌>>=◌ (effect.require last_test way.last.fits.site) (λ done. rounds_action))
+          (Foretold world visible context whole_walked t.store) t (effect.require first_test way.first.fits.site t)
+          (λ done. effect.◌>>=◌ (effect.require last_test way.last.fits.site) (λ done. rounds_action))
           (within-sound world block visible (limits_of way.first.fits.range) way.first.fits.site (met way.first.form state.variables way.first.values)
           (Number x) first_test first_site
           (is_in-limits way.first.fits.range (Number x)) (limits-is_in way.first.fits.range (Number x))

@@ -5,15 +5,15 @@ use Rattle.std.specs.Prelude.{◌+◌, ◌≤◌, nat_lt, slice_get}
 use Rattle.std.specs.List.{Contains, flat_map, list_any, list_all, range_with_len, sum_by}
 use Rattle.std.proofs.lemmas.Bool.{and_parts, eq-eqb, eqb-true}
 use Rattle.std.proofs.lemmas.List.{length-map, get_or-map}
-use Rattle.std.proofs.lemmas.Option.{none-some, slice_get_within}
+use Rattle.std.proofs.lemmas.Option.{none-some}
 use Rattle.std.proofs.lemmas.List.Folds.{list_any_at}
 use Rattle.std.proofs.lemmas.List.Sorted.{sum_by-IsPermutation}
 use Rattle.std.proofs.lemmas.List.Sums.{sum_by-cons}
 use Rattle.std.proofs.lemmas.List.Concat.{flat_map-cons}
-use Rattle.std.proofs.lemmas.List.FromFn.{get_or-map-range_with_len, length-range_with_len, get_or-range_with_len}
+use Rattle.std.proofs.lemmas.List.FromFn.{length-range_with_len, get_or-range_with_len}
 use Rattle.certificate.specs.declared.Certificate.{Certificate}
 use Rattle.certificate.specs.declared.Section.{Section as KeptSection}
-use Rattle.certificate.specs.Contents.{contents, is_empty, said_fact, section_of}
+use Rattle.certificate.specs.Contents.{is_empty, said_fact, section_of}
 use Rattle.typed_tree.specs.declared.tree.Tree.{Tree}
 use Rattle.typed_tree.specs.declared.tree.Block.{Block}
 use Rattle.typed_tree.specs.declared.site.Site.{Site}
@@ -26,7 +26,7 @@ use Rattle.meaning.specs.Effect as effect
 use Rattle.meaning.specs.Effect.{Reply, Visit}
 use Rattle.meaning.specs.Meaning.{calls_of, ended, environment_of, first_state, program_activation, run, run_of}
 use Rattle.call_states.specs.Environments.{Fine}
-use Rattle.call_states.specs.Sections.{BlockClaims, all_block_claims, block_claims_at, block_claims_in, no_block_claims}
+use Rattle.call_states.specs.Sections.{BlockClaims, block_claims_at, block_claims_in}
 use Rattle.call_states.proofs.AliasedStores.{head-or_tail}
 use Rattle.call_states.proofs.Claimed.{AllHold}
 use Rattle.call_states.proofs.Started.{no-claims, program-proper, program-start}
@@ -36,10 +36,11 @@ use Rattle.component_states.specs.Holds.{StateHolds}
 use Rattle.expression_checker.proofs.Sound.{ErrsWithin, Meets, New, World, parts_in, sites_in}
 use Rattle.expression_checker.proofs.CallLaws.{call-laws}
 use Rattle.expression_checker.proofs.SoundCalls.{CallLaws}
-use Rattle.cert_checker.specs.Names.{block_is_known, claims_are_known, is_known, is_of_loops, section_is_known}
+use Rattle.certificate_names.specs.Names.{block_is_known, claims_are_known, is_known, is_of_loops, section_is_known}
 use Rattle.cert_checker.specs.Promise.{open_in, ClosedNeverErr, HoldsAt, StatesHold}
 use Rattle.cert_checker.specs.Walk.{program_walk}
 use Rattle.cert_checker.proofs.ClaimsKnown.{are-claims}
+use Rattle.cert_checker.proofs.EffectsRoutines.{claims-are}
 use Rattle.cert_checker.proofs.SoundBlocks.{body-good, program_world, sound-calls}
 
 -- ---- what is claimed of the program's block
@@ -78,12 +79,6 @@ none-entered tree (section ∷ sections) known =
     by false own rest is = rest
     by true own rest is = ap (map said_fact) (section-known tree section is own)
 
-pub claims-are : (tree : Tree) (certificate : Certificate) (number : ℕ) (block : Block) → slice_get tree.blocks.items number ≡ Some block
-    → block_claims_at (all_block_claims tree certificate) number ≡ block_claims_in number (contents certificate)
-claims-are tree certificate number block is =
-    get_or-map-range_with_len (λ (n : ℕ). block_claims_in n (contents certificate)) 0 (length tree.blocks.items) number number no_block_claims
-    (slice_get_within tree.blocks.items number block is) (zero-add number)
-
 -- ---- a run and the walk over its blocks
 
 -- what the walk over a program foretells of a run
@@ -108,7 +103,7 @@ module _ (tree : Tree) (certificate : Certificate) (unbroken : (program_walk tre
   block-foretold block is =
       let visible = environment_of tree (program_activation tree block.heading) in
       let entry = (block_claims_at world.blocks 0).entry in
-      let none : entry ≡ [] = ap (λ (claims : BlockClaims). claims.entry) (claims-are tree certificate 0 block is)
+      let none : entry ≡ [] = ap (λ (claims : BlockClaims). claims.entry) (claims-are tree well certificate unbroken 0 block is)
       ∙ none-entered tree certificate.sections.items known in
       let hold : AllHold tree entry visible [] = subst (λ (facts : List Fact). AllHold tree facts visible []) (sym none) (no-claims tree visible []) in
       let good = body-good tree certificate unbroken well laws (calls_of tree (suc turns)) (sound-calls tree certificate unbroken well laws (suc turns)) 0 block

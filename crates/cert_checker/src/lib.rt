@@ -9,13 +9,14 @@ ghost use Rattle.cert_checker.specs.Promise.{AreNumbered, ClosedNeverErr, IsRefu
 ghost use Rattle.cert_checker.specs.Promise.{Valid};
 ghost use Rattle.cert_checker.specs.Walk.{program_walk};
 
+mod blocks;
 mod loops;
-mod names;
 mod open_sites;
 mod stores;
 mod walk;
 
 use certificate::Certificate;
+use certificate_names::names::is_known;
 use expression_checker::fault::CheckFault;
 use expression_checker::visits::Visits;
 use leaf_rows::Rows;
@@ -57,7 +58,7 @@ pub fn check(alloc: Global, tree: &Tree, certificate: &Certificate) -> Result<Ve
         → StatesHold tree.now certificate.now) }
 {
     let rows = Rows::of(alloc, tree)?;
-    if !names::is_known(&rows, certificate) {
+    if !is_known(&rows, certificate) {
         return Err(CheckFault::Foreign);
     }
     let mut visits = Visits::new();

@@ -1,5 +1,5 @@
 -- The laws of calls, by which the walk over expressions and statements goes: a call that breaks no rule may be made, and what is known behind it holds.
-use Rattle.std.proofs.Common.{arith, ◌≡◌, ⊎_elim, ◌⊎◌, ◌∙◌, sym, ap, refl, subst, ℕ, suc, ◌<◌, Bool, true, false, ◌&&◌, List, [], ◌∷◌, Option, Some, None}
+use Rattle.std.proofs.Common.{◌≡◌, ⊎_elim, ◌∙◌, sym, refl, subst, ℕ, true, List, [], ◌∷◌, Some, None}
 use Rattle.std.specs.List.{Contains}
 use Rattle.std.specs.Prelude.{slice_get}
 use Rattle.std.proofs.lemmas.Bool.{and_parts, both_ways}
@@ -14,7 +14,7 @@ use Rattle.meaning.specs.declared.store.Value.{Value}
 use Rattle.meaning.specs.Effect as effect
 use Rattle.meaning.specs.Meaning as meaning
 use Rattle.meaning.specs.Meaning.{Argument, assign_all, environment_of}
-use Rattle.meaning.specs.Store.{Environment, Place, Store}
+use Rattle.meaning.specs.Store.{Environment, Store}
 use Rattle.abstract_state.specs.Holds.{HasValue, value_at}
 use Rattle.abstract_state.specs.Knows.{moment}
 use Rattle.abstract_state.specs.Loops.{is_among}
@@ -40,7 +40,7 @@ use Rattle.call_states.proofs.Passed.{AllFit, AreArguments, Fits, IsArgument}
 use Rattle.call_states.proofs.Places.{pair-listed}
 use Rattle.call_states.proofs.Separated.{callee-separate, callee-stands}
 use Rattle.expression_checker.proofs.Sound.{Called, Returned, World, activation_of, parts_in, variables_in}
-use Rattle.expression_checker.proofs.SoundCalls.{ArePassed, CallLaws, IsApartFrom, IsOfKind, IsPassed, MayCall, changed_by_call}
+use Rattle.expression_checker.proofs.SoundCalls.{ArePassed, CallLaws, IsApartFrom, IsOfKind, MayCall, changed_by_call}
 
 gives-same : (a b : Unit {0}) (t u : effect.State) → effect.Gives a t ≡ effect.Gives b u → t ≡ u
 gives-same a b t u is = cc
@@ -127,12 +127,15 @@ module _ (world : World) (well : IsWellFormed world.tree) (limits_are : world.li
     call-entry : (begun ready : effect.State) → begun.store ≡ s.store → assign_all tree inner roots arguments begun ≡ effect.Gives tt ready
         → AllHold tree (block_claims_at world.blocks number).entry inner ready.store
     call-entry begun ready same is =
-        let given = given-hold tree world.pairs number callee arguments visible s.activations block is-called s.store may.fine.begun actuals are-arguments of-types
+        let given = given-hold tree world.pairs number callee arguments visible s.activations block is-called s.store may.fine.begun actuals are-arguments
+        of-types
         state may.known (block_claims_at world.blocks number).entry (are_claims.entry number) may.given in
         let ready_is : record begun { store = all_assigned tree inner roots arguments begun.store } ≡ ready =
-        gives-same tt tt (record begun { store = all_assigned tree inner roots arguments begun.store }) ready (sym (assigns-all tree inner roots arguments begun) ∙ is) in
+        gives-same tt tt (record begun { store = all_assigned tree inner roots arguments begun.store }) ready
+        (sym (assigns-all tree inner roots arguments begun) ∙ is) in
         subst (λ (t : effect.State). AllHold tree (block_claims_at world.blocks number).entry inner t.store) ready_is
-        (subst (λ (store : Store). AllHold tree (block_claims_at world.blocks number).entry inner (all_assigned tree inner roots arguments store)) (sym same) given)
+        (subst (λ (store : Store). AllHold tree (block_claims_at world.blocks number).entry inner (all_assigned tree inner roots arguments store))
+        (sym same) given)
 
     pub may-called : Called world number callee arguments visible s
     may-called = record {
@@ -171,7 +174,7 @@ module _ (world : World) (well : IsWellFormed world.tree) (limits_are : world.li
       kept-behind root apart steps =
           ⊎_elim (λ same. same)
           (λ (near : IsNear tree world.pairs number callee arguments visible s.activations block s.store actuals (block_claims_at world.blocks number) after
-              has-left root).
+          has-left root).
           let there = seen tree world.pairs block s.activations visible may.proper near.other near.place near.place_is in
           let both = apart near.other near.among there in
           absurd

@@ -15,6 +15,15 @@ use Rattle.scopes.specs.declared.fault.ScopeFault.TheVariants as fault
 abbrev pub Region : Type 0
 Region = List (List ℕ × Option Denotation)
 
+-- the innermost region, and those round it
+abbrev pub innermost : List Region → Region
+innermost [] = []
+innermost (region ∷ outer) = region
+
+abbrev pub outer : List Region → List Region
+outer [] = []
+outer (region ∷ regions) = regions
+
 -- what a region says of a name
 abbrev pub said : Region → List ℕ → Option (Option Denotation)
 said region name = lookup (pointwise nat_eq name) region

@@ -3,7 +3,7 @@
 -- kind in, as the leading kind: that site stands behind the token's own, and before all others. It says nothing of what
 -- a program does.
 use Rattle.std.specs.Prelude.{ℕ, ◌+◌, ◌&&◌, ◌||◌, Bool, true, false, not, List, [], ◌∷◌, ◌++◌, Option, Some, None}
-use Rattle.std.specs.Prelude.{is_none, Ok, Err, pos, neg_ℤ, if◌then◌else◌, nat_eq, nat_le, length}
+use Rattle.std.specs.Prelude.{is_none, Ok, Err, pos, neg_ℤ, if◌then◌else◌, nat_eq, nat_le, length, option_map, slice_get}
 use Rattle.place.specs.declared.Place.{Place}
 use Rattle.syntax_tree.specs.declared.Name.{Name}
 use Rattle.syntax_tree.specs.declared.Sign.{Sign}
@@ -43,8 +43,8 @@ use Rattle.typed_tree.specs.declared.tree.Relation.TheVariants as relation
 use Rattle.typed_tree.specs.declared.tree.Selector.{Selector as TreeSelector}
 use Rattle.typed_tree.specs.declared.tree.Selector.TheVariants as tree
 use Rattle.typed_tree.specs.declared.tree.Variable.{Variable}
-use Rattle.typed_tree.specs.Accesses.{index_count, selected as component_type}
-use Rattle.typed_tree.specs.WellFormed.{is_variable_kind, of_one as of_selected}
+use Rattle.typed_tree.specs.Accesses.{index_count}
+use Rattle.typed_tree.specs.WellFormed.{is_variable_kind}
 use Rattle.typed_tree.specs.Look.{Constant, Text, Access, Value, WholeValue, Operation, Applied, Begins, Compared, Ends}
 use Rattle.typed_tree.specs.Look.{Calls, Called, ForValue, ForVariable, ForWhole, Operator as OperatorMark}
 use Rattle.typing.specs.declared.typed.Typed.{Typed}
@@ -205,19 +205,33 @@ is_packed (Some (Array packed index element)) = packed
 is_packed (Some (Record packed fields)) = packed
 is_packed form = false
 
--- the last selector of an access selects from a packed value
-abbrev pub is_of_packed : List Form → TypeId → List TreeSelector → Bool
-is_of_packed types type_id [] = false
-is_of_packed types type_id (selector ∷ []) = is_packed (form_at types type_id)
-is_of_packed types type_id (selector ∷ next ∷ selectors) =
-    of_selected (λ inner. is_of_packed types inner (next ∷ selectors)) (component_type types selector type_id)
+abbrev pub is_packed_at : List Form → Option TypeId → Bool
+is_packed_at types None = false
+is_packed_at types (Some id) = is_packed (form_at types id)
+
+-- the type of the field at a place in a record of a form
+abbrev pub type_of_field : ℕ → Option Form → Option TypeId
+type_of_field position (Some (Record packed fields)) = option_map (λ field. field.type_id) (slice_get fields position)
+type_of_field position form = None
+
+-- the type of what a selector selects from a value of a type
+abbrev pub type_selected : List Form → Option TypeId → TreeSelector → Option TypeId
+type_selected types None selector = None
+type_selected types (Some id) (tree.Element fits cells) = option_map (λ element. element.type_id) (element_of types id)
+type_selected types (Some id) (tree.Field position offset) = type_of_field position (form_at types id)
+
+-- the last of selectors, from a value of a type on, selects from a packed value; or else what stands before them does
+abbrev pub is_of_packed : List Form → Option TypeId → Bool → List TreeSelector → Bool
+is_of_packed types id before [] = before
+is_of_packed types id before (selector ∷ selectors) =
+    is_of_packed types (type_selected types id selector) (is_packed_at types id) selectors
 
 -- a variable or a component of a type is passed where one of a type is needed: K1 where it isn't the same, K4 at a
 -- component of a packed variable (6.6.3.3)
 abbrev pub passable : List Form → TypeId → TypeId → List TreeSelector → TypeId → Place → Checked (Unit {0})
 passable types wanted type_id selectors component place =
     if not (is_same wanted component) then Err (fault.Mismatch place)
-    else if is_of_packed types type_id selectors then Err (fault.PackedComponent place)
+    else if is_of_packed types (Some type_id) false selectors then Err (fault.PackedComponent place)
     else Ok tt
 
 -- what is accessed is passed to a variable parameter of a type

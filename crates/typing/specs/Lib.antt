@@ -8,5 +8,7 @@ pub mod Expressions
 pub mod Statements
 pub mod Routines
 pub mod Typing
+pub mod View
+pub mod Blocks
 pub mod Outcomes
 pub mod Sound

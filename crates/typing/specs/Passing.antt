@@ -20,12 +20,13 @@ pub record Headed : Type 0 where
   pub cells : ℕ
 
 -- a block that is passed: its number, the blocks round it, the cells that its variables take so far, and the routines
--- that it declared with the directive forward and whose blocks didn't come yet, each with the place of its name
+-- that it declared with the directive forward or whose blocks came: each with the place of its name while it waits for
+-- its block
 pub record Enclosing : Type 0 where
   pub block : ℕ
   pub around : List ℕ
   pub cells : ℕ
-  pub waiting : List (ℕ × Place)
+  pub waiting : List (ℕ × Option Place)
 
 -- what is known at a place of a program
 pub record Passed : Type 0 where

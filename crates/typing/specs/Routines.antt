@@ -2,13 +2,16 @@
 -- types are looked up outside the routine's block, and then the block, or the directive forward in its place. It says
 -- nothing of what a routine does.
 use Rattle.std.specs.Prelude.{ℕ, Bool, true, false, not, ◌&&◌, ◌++◌, List, [], ◌∷◌, Option, Some, None, Ok, Err}
-use Rattle.std.specs.Prelude.{filter, flat_map, if◌then◌else◌, is_none, map, nat_eq, option_map}
-use Rattle.std.specs.List.{list_any}
+use Rattle.std.specs.Prelude.{flat_map, if◌then◌else◌, is_none, map, nat_eq}
+use Rattle.std.specs.Map.{lookup}
+use Rattle.std.specs.Option.{option_or}
+use Rattle.indexmap.specs.IndexMap.{insert_entry}
 use Rattle.place.specs.declared.Place.{Place}
 use Rattle.syntax_tree.specs.declared.Name.{Name}
 use Rattle.syntax_tree.specs.declared.Block.{Block}
 use Rattle.syntax_tree.specs.declared.Block.TheOpen.{Block-F, Routine-F}
-use Rattle.syntax_tree.specs.declared.Block.TheFolds.{fold-Block}
+use Rattle.syntax_tree.specs.declared.Block.TheFolds.{fold-Block, fold-Routine}
+use Rattle.syntax_tree.specs.declared.Routine.{Routine}
 use Rattle.syntax_tree.specs.declared.ConstantDefinition.{ConstantDefinition}
 use Rattle.syntax_tree.specs.declared.FormalGroup.{FormalGroup}
 use Rattle.syntax_tree.specs.declared.Heading.{Heading}
@@ -29,7 +32,7 @@ use Rattle.typed_tree.specs.declared.tree.VariableKind.{VariableKind}
 use Rattle.typed_tree.specs.declared.tree.VariableKind.TheVariants as variable
 use Rattle.typed_tree.specs.Look.{BlockEnds}
 use Rattle.typing.specs.Names.{folded, all_folded, formal_names, heading_names, names_defined}
-use Rattle.typing.specs.Passing.{Headed, Enclosing, Passing, fail, given, by_types, mark, each, pure, after, ◌>>=◌, ◌>>◌, ◌>>?◌}
+use Rattle.typing.specs.Passing.{Checked, Headed, Passing, fail, given, mark, each, pure, after, ◌>>=◌, ◌>>◌, ◌>>?◌}
 use Rattle.typing.specs.Steps.{add_heading, close_block, declare, fits, heading_at, innermost, is_assigned, may_nest}
 use Rattle.typing.specs.Steps.{next_block, next_root, open_beside, open_block, enclosing_now, reserve, site, with_enclosing}
 use Rattle.typing.specs.Constants.{constant}
@@ -138,7 +141,7 @@ heading number name groups of_result = do
 unfoldable pub new_heading : Name → List FormalGroup → Option Name → Passing ℕ
 new_heading name groups of_result = do
   may_nest name.place
-  number ← next_block
+  number ← next_block name.place
   declare name (denotes.Routine number (not (is_none of_result)))
   heading number name groups of_result
   pure number
@@ -149,10 +152,16 @@ abbrev pub is_same_kind : Bool → Bool → Bool
 is_same_kind true other = other
 is_same_kind false other = not other
 
+-- a routine waits for its block
+abbrev pub is_waiting : Option (Option Place) → Bool
+is_waiting None = false
+is_waiting (Some None) = false
+is_waiting (Some (Some place)) = true
+
 -- the block of a routine that waits for it
-abbrev pub waits : Bool → List (ℕ × Place) → Option (Option Denotation) → Option ℕ
+abbrev pub waits : Bool → List (ℕ × Option Place) → Option (Option Denotation) → Option ℕ
 waits is_function waiting (Some (Some (denotes.Routine block of_function))) =
-    if list_any (λ one. nat_eq one.0 block) waiting && is_same_kind is_function of_function then Some block else None
+    if is_waiting (lookup (nat_eq block) waiting) && is_same_kind is_function of_function then Some block else None
 waits is_function waiting says = None
 
 -- the block of a function, or of a procedure, of this name, if the block round the place declared it and it waits
@@ -203,23 +212,24 @@ pub record TypedRoutine : Type 0 where
   pub names : List Name
   pub typing : Passing (Unit {0})
 
--- a routine of a block waits for it
-unfoldable pub wait : ℕ → Place → Passing (Unit {0})
-wait number place = enclosing_now >>= (λ enclosing. with_enclosing (record enclosing { waiting = enclosing.waiting ++ (number, place) ∷ [] }))
-
--- it waits no longer
-unfoldable pub waited : ℕ → Passing (Unit {0})
-waited number =
+-- a routine of the block waits for its block from a place on, or no longer
+unfoldable pub told_waiting : ℕ → Option Place → Passing (Unit {0})
+told_waiting number place =
     enclosing_now
-    >>= (λ enclosing. with_enclosing (record enclosing { waiting = filter (λ one. not (nat_eq one.0 number)) enclosing.waiting }))
+    >>= (λ enclosing. with_enclosing (record enclosing { waiting = insert_entry nat_eq enclosing.waiting number place }))
 
-abbrev pub none_waits : List (ℕ × Place) → Passing (Unit {0})
-none_waits [] = pure tt
-none_waits (one ∷ others) = fail (fault.NotCompleted one.1)
+-- the place of the first that waits
+abbrev pub first_waiting : List (ℕ × Option Place) → Option Place
+first_waiting [] = None
+first_waiting (one ∷ others) = option_or one.1 (first_waiting others)
+
+abbrev pub none_waits : Option Place → Checked (Unit {0})
+none_waits None = Ok tt
+none_waits (Some place) = Err (fault.NotCompleted place)
 
 -- no routine of the block waits; K9 at the name of the first that does
 unfoldable pub all_came : Passing (Unit {0})
-all_came = enclosing_now >>= (λ enclosing. none_waits enclosing.waiting)
+all_came = enclosing_now >>= (λ enclosing. given (none_waits (first_waiting enclosing.waiting)))
 
 -- the end of a function has the site of its result; K7 at the function's name where that is assigned nowhere
 unfoldable pub result_at_end : Place → Place → Option ℕ → Passing (Option FunctionResult)
@@ -254,13 +264,13 @@ heading_name (Resumed name) = name
 
 -- the directive forward stands behind the first heading alone; else the name is declared twice
 abbrev pub forward : Bool → ℕ → Place → Passing (Unit {0})
-forward true number place = wait number place
+forward true number place = told_waiting number (Some place)
 forward false number place = fail (fault.DeclaredTwice place)
 
 -- what stands behind a heading: a block, or the directive forward
 abbrev pub routine_body : Begun → Name → Option TypedBlock → Passing (Unit {0})
 routine_body heading name None = forward heading.is_first heading.number name.place
-routine_body heading name (Some block) = waited heading.number >> routine_block heading.number name block
+routine_body heading name (Some block) = told_waiting heading.number None >> routine_block heading.number name block
 
 abbrev pub routine_step : Routine-F TypedBlock TypedRoutine → TypedRoutine
 routine_step r = record {
@@ -287,3 +297,7 @@ block_step b = record {
 -- a block
 abbrev pub typed_block : Block → TypedBlock
 typed_block = fold-Block TypedBlock TypedRoutine block_step routine_step
+
+-- a routine
+abbrev pub typed_routine : Routine → TypedRoutine
+typed_routine = fold-Routine TypedBlock TypedRoutine block_step routine_step

@@ -10,6 +10,7 @@ use Rattle.types.specs.declared.form.TypeId.{TypeId}
 use Rattle.types.specs.declared.refusal.TypeRefusal.{TypeRefusal}
 use Rattle.types.specs.declared.refusal.TypeRefusal.TheVariants as refusal
 use Rattle.types.specs.Types.{admitted, cells_of, host_of, most_cells, required_forms}
+pub use Rattle.scopes.specs.Scopes.{innermost, outer}
 use Rattle.scopes.specs.Scopes.{Region, found, opened, opened_beside, define}
 use Rattle.scopes.specs.declared.denotation.Denotation.{Denotation}
 use Rattle.scopes.specs.declared.fault.ScopeFault.{ScopeFault}
@@ -127,11 +128,15 @@ abbrev pub is_own : ℕ → Option Variable → Bool
 is_own block None = false
 is_own block (Some variable) = nat_eq variable.block block
 
+-- one more of them, unless it is there
+abbrev pub with_one : List ℕ → ℕ → List ℕ
+with_one roots root = if list_any (nat_eq root) roots then roots else roots ++ root ∷ []
+
 -- one more of them, if it is none of the block's own
 abbrev pub with_threatened : ℕ → Passed → Passed
 with_threatened root s =
     if is_own s.enclosing.block (slice_get s.variables root) then s
-    else record s { threatened = s.threatened ++ root ∷ [] }
+    else record s { threatened = with_one s.threatened root }
 
 -- a variable may be changed, if it isn't the control variable of a for statement round the place; else it is K5 at its
 -- name. One of a block round this block is no control variable from here on
@@ -149,7 +154,7 @@ is_local block (Some variable) = nat_eq variable.block block && is_local_kind va
 unfoldable pub may_control : Place → ℕ → Passing (Unit {0})
 may_control place root = λ s.
     if is_local s.enclosing.block (slice_get s.variables root)
-    && not (list_any (λ threatened. nat_eq threatened root) s.threatened)
+    && not (list_any (nat_eq root) s.threatened)
     then Ok (after tt [] s) else Err (fault.Threatened place)
 
 -- the statement of a for begins, of this control variable
@@ -167,14 +172,6 @@ open_block names = λ s. Ok (after tt [] (record s { regions = opened names ∷ 
 -- the region of a block that defines these names, in small letters, beside parameters
 unfoldable pub open_beside : Region → List (List ℕ) → Passing (Unit {0})
 open_beside parameters names = λ s. Ok (after tt [] (record s { regions = opened_beside parameters names ∷ s.regions }))
-
-abbrev pub innermost : List Region → Region
-innermost [] = []
-innermost (region ∷ outer) = region
-
-abbrev pub outer : List Region → List Region
-outer [] = []
-outer (region ∷ regions) = regions
 
 -- the innermost region ends
 unfoldable pub close_block : Passing Region
@@ -261,9 +258,10 @@ unfoldable pub may_nest : Place → Passing (Unit {0})
 may_nest place = λ s.
     if nat_lt (length s.enclosing.around + 1) most_blocks then Ok (after tt [] s) else Err (fault.NestedTooDeep place)
 
--- the number of the next block
-unfoldable pub next_block : Passing ℕ
-next_block = λ s. Ok (after (length s.headings) [] s)
+-- the number of the next block; a program has no more blocks than statements, and one too many is told at its name
+unfoldable pub next_block : Place → Passing ℕ
+next_block place = λ s.
+    if nat_le most_entries (length s.headings) then Err (fault.TooMany place) else Ok (after (length s.headings) [] s)
 
 -- a heading was passed
 unfoldable pub add_heading : Headed → Passing (Unit {0})
@@ -279,9 +277,9 @@ variable_at root = λ s. Ok (after (slice_get s.variables root) [] s)
 
 -- a result is assigned
 unfoldable pub assign_result : ℕ → Passing (Unit {0})
-assign_result root = λ s. Ok (after tt [] (record s { assigned = s.assigned ++ root ∷ [] }))
+assign_result root = λ s. Ok (after tt [] (record s { assigned = with_one s.assigned root }))
 
 -- a result is assigned somewhere before the place; else it is told at the function's name
 unfoldable pub is_assigned : Place → ℕ → Passing (Unit {0})
 is_assigned place root = λ s.
-    if list_any (λ one. nat_eq one root) s.assigned then Ok (after tt [] s) else Err (fault.NeverAssigned place)
+    if list_any (nat_eq root) s.assigned then Ok (after tt [] s) else Err (fault.NeverAssigned place)

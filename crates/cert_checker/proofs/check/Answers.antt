@@ -1,8 +1,9 @@
-use Rattle.std.proofs.Common.{rules, arith, ◌≡◌, ◌∙◌, ap, List, []}
+use Rattle.std.proofs.Common.{rules, arith, ◌≡◌, ◌∙◌, ap, List, [], true}
 use Rattle.typed_tree.specs.declared.tree.Tree.{Tree}
 use Rattle.typed_tree.specs.declared.site.Site.{Site}
 use Rattle.certificate.specs.declared.Certificate.{Certificate}
 use Rattle.typed_tree.specs.Entries.{entries_of}
+use Rattle.cert_checker.specs.Names.{is_known}
 use Rattle.cert_checker.specs.Promise.{open_in}
 use Rattle.expression_checker.specs.Visits.{all_counted, Visits}
 use Rattle.cert_checker.specs.Walk.{program_walk}
@@ -24,16 +25,18 @@ returns-clause-closed_never_err c =
     let tree : Tree = c.args.tree.now in
     let certificate : Certificate = c.args.certificate.now in
     let unbroken : (program_walk tree certificate).broken ≡ [] = search rules in
+    let known : is_known tree certificate ≡ true = search rules in
     let open_sites : List Site = c.in_ok-open_sites.field-0.items in
     let open_are : open_sites ≡ open_in (program_walk tree certificate).open_ids tree.sites.items = search rules in
-    closed-never_err tree certificate open_sites unbroken open_are
+    closed-never_err tree certificate open_sites unbroken known open_are
 
 pub returns-clause-states_hold : goal.returns-clause-states_hold
 returns-clause-states_hold c =
     let tree : Tree = c.args.tree.now in
     let certificate : Certificate = c.args.certificate.now in
     let unbroken : (program_walk tree certificate).broken ≡ [] = search rules in
-    states-hold tree certificate unbroken (program-entered tree certificate)
+    let known : is_known tree certificate ≡ true = search rules in
+    states-hold tree certificate unbroken known (program-entered tree certificate)
 
 pub returns-clause-entries : goal.returns-clause-entries
 returns-clause-entries c = links_entries c.args.tree.now c.args.certificate.now
