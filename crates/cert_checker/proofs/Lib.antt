@@ -16,6 +16,7 @@ pub mod SoundLoops
 pub mod SoundProgram
 pub mod SoundStores
 pub mod Steps
+pub mod StepsBlocks
 pub mod StepsCase
 pub mod StepsFor
 pub mod StepsStores

@@ -65,7 +65,7 @@ impl<'a> Walk<'a> {
     {
         self.begin(number, entry(claims))?;
         self.statement(&block.body, visits)?;
-        self.result(block.heading.result)?;
+        self.use_result(block.heading.result)?;
         self.leave_block(block.end, exit(claims))
     }
 
@@ -79,11 +79,10 @@ impl<'a> Walk<'a> {
     }
 
     /// Where a function ends, it has a result.
-    fn result(&mut self, result: Option<FunctionResult>) -> Result<(), CheckFault>
-        ensures { (visits : Visits)
-            → Goes (result_use result.entry) self.old visits result.exit self.new visits }
+    fn use_result(&mut self, function: Option<FunctionResult>) -> Result<(), CheckFault>
+        ensures { (visits : Visits) → Goes (result_use function) self.old visits result self.new visits }
     {
-        if let Some(own) = result {
+        if let Some(own) = function {
             if !self.flow.state.variables.is_defined(own.root) {
                 self.flow.open_ids.push(own.defined)?;
             }

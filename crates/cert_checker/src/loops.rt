@@ -17,9 +17,9 @@ ghost use Rattle.cert_checker.specs.View.{AreLoops, EntersLoop, Goes, IsLoop, Le
 ghost use Rattle.cert_checker.specs.View.{context_of, said_tested};
 ghost use Rattle.cert_checker.specs.Walk.{are_hidden, assign, control_change, may_control, steady_in, tested_way};
 
-use crate::visible::is_visible;
 use crate::walk::Walk;
 use abstract_state::limits;
+use certificate_names::visible::is_visible;
 use component_states::State;
 use domain::Domain;
 use domain::interval::Interval;

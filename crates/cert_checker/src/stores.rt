@@ -31,6 +31,7 @@ use domain::facts::Bound;
 use domain::interval::Interval;
 use expression_checker::fault::{CheckFault, Rule};
 use expression_checker::flow::asked;
+use expression_checker::grounds::Grounds;
 use expression_checker::visits::Visits;
 use leaf_rows::{Rows, Span};
 use place::Place;
@@ -111,7 +112,7 @@ impl<'a> Walk<'a> {
         visits: &mut Visits,
     ) -> Result<(), CheckFault>
         ensures { Goes (copying becomes target.now (index_pieces indexes.now) type_id value.now
-            (index_pieces value_indexes.now)) self.old visits.old result self.new visits.new }
+            value_indexes.now) self.old visits.old result self.new visits.new }
     {
         let reach = self.access(target, indexes, visits)?;
         let ranges = self.whole_value(value, value_indexes, visits)?;
@@ -134,7 +135,7 @@ impl<'a> Walk<'a> {
     {
         let rows = self.flow.grounds.rows.accessed(target.root, &target.selectors);
         let stores = paired(self.alloc, rows, ranges)?;
-        let fits = self.flow.grounds.may_copy(type_id, value) && are_as_many(rows, ranges);
+        let fits = fits_rows(&self.flow.grounds, type_id, value, rows, ranges);
         self.store_to(becomes, target.root, reach, fits, &stores)
     }
 
@@ -347,9 +348,16 @@ fn range_at(ranges: &[Interval], place: u32) -> Option<Interval>
     ranges.get(place as usize).copied()
 }
 
-/// Whether there are as many ranges as rows.
-fn are_as_many(rows: Span, ranges: &[Interval]) -> bool
-    ensures { result ≡ nat_eq (length (numbers rows)) (length ranges.now) }
+/// Whether a whole value, with the ranges of its components, may be copied to rows of a type.
+fn fits_rows(
+    grounds: &Grounds,
+    target: TypeId,
+    value: &Whole,
+    span: Span,
+    ranges: &[Interval],
+) -> bool
+    ensures { result ≡ (fits_whole grounds.now.rows.now.types target value.now
+        && nat_eq (length (numbers span)) (length ranges.now)) }
 {
-    rows.count as usize == ranges.len()
+    grounds.may_copy(target, value) && span.count as usize == ranges.len()
 }

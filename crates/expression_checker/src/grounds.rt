@@ -1,7 +1,8 @@
-ghost use Rattle.std.specs.Prelude.{◌≡◌, ◌&&◌, ◌||◌, IfOk, List, map, nat_eq, slice_get};
+ghost use Rattle.std.specs.Prelude.{◌≡◌, ◌&&◌, ◌||◌, IfOk, List, Some, length, map, nat_eq, slice_get};
 ghost use Rattle.std.specs.List.{list_all};
 ghost use Rattle.typed_tree.specs.WellFormed.{is_local_kind, is_result_kind, of_one};
 ghost use Rattle.types.specs.Types.{have_one_length, is_same, string_length};
+ghost use Rattle.leaf_rows.specs.Rows.{is_structured};
 ghost use Rattle.structured_states.specs.Loops.{Claims, all_list};
 ghost use Rattle.structured_states.specs.View.{kept_round};
 ghost use Rattle.call_states.specs.Actuals.{are_of_types};
@@ -25,7 +26,7 @@ use std::alloc::{AllocError, Global};
 use structured_states::pairs::Pairs;
 use structured_states::rounds::{Round, all_list};
 use typed_tree::tree::{Block, Call, Whole};
-use types::TypeId;
+use types::{TypeId, TypeTable};
 
 /// What a walk goes by.
 #[derive(Drop)]
@@ -50,7 +51,7 @@ impl<'a> Grounds<'a> {
     pub fn may_change(&self, root: u32) -> bool
         ensures { (claims : List Claims) → result ≡ may_change (context_of self.now claims) root }
     {
-        all_list(root, &self.rounds) && (self.is_own(root) || self.lists(root))
+        all_list(&self.rounds, root) && (self.is_own(root) || self.lists(root))
     }
 
     /// Whether a variable is one of the block's variable declaration part, or its result.
@@ -139,18 +140,44 @@ impl<'a> Grounds<'a> {
     pub fn may_copy(&self, type_id: TypeId, value: &Whole) -> bool
         ensures { result ≡ fits_whole self.now.rows.now.types type_id value.now }
     {
-        let types = &self.rows.tree().types;
-        match value {
-            Whole::Text { characters, .. } => {
-                self.rows.is_structured(type_id)
-                    && types.string_length(type_id) == Some(characters.len())
-            }
-            Whole::Variable {
-                type_id: source, ..
-            } => {
-                self.rows.is_structured(type_id)
-                    && (type_id == *source || types.have_one_length(type_id, *source))
-            }
-        }
+        self.rows.is_structured(type_id) && is_alike(&self.rows.tree().types, type_id, value)
+    }
+}
+
+/// Whether a whole value may be copied to a target of a type, if the type is structured.
+fn is_alike(types: &TypeTable, target: TypeId, value: &Whole) -> bool
+    ensures { (is_structured types.now target && result) ≡ fits_whole types.now target value.now }
+{
+    match value {
+        Whole::Text { characters, .. } => has_length(types.string_length(target), characters),
+        Whole::Variable { type_id, .. } => is_as_long(types, target, *type_id),
+    }
+}
+
+/// Whether two types are the same, or of strings of equal length.
+fn is_as_long(types: &TypeTable, target: TypeId, other: TypeId) -> bool
+    ensures { result ≡ (is_same target other
+        || have_one_length (string_length types.now target) (string_length types.now other)) }
+{
+    target.same(other) || have_one_length(types.string_length(target), types.string_length(other))
+}
+
+/// Whether a string, if it is one, is as long as a text.
+fn has_length(count: Option<u32>, text: &[u8]) -> bool
+    ensures { result ≡ have_one_length count (Some (length text.now)) }
+{
+    match count {
+        None => false,
+        Some(count) => count as usize == text.len(),
+    }
+}
+
+/// Whether two strings, if they are such, are of equal length.
+fn have_one_length(first: Option<u32>, second: Option<u32>) -> bool
+    ensures { result ≡ have_one_length first second }
+{
+    match (first, second) {
+        (Some(length), Some(other)) => length == other,
+        _ => false,
     }
 }

@@ -1,8 +1,8 @@
 use Rattle.std.proofs.Common.{◌∙◌, ◌&&◌, ℕ, List, Some, length, sym, ap, ap₂}
 use Rattle.types.specs.Types.{have_one_length}
 use Rattle.leaf_rows.specs.Rows.{is_structured}
-use Rattle.cert_checker.specs.Walk.{fits_whole}
-use Rattle.cert_checker.proofs.stores.is_alike.Goals as goal
+use Rattle.expression_checker.specs.Walk.{fits_whole}
+use Rattle.expression_checker.proofs.grounds.is_alike.Goals as goal
 
 pub returns-in-Text : goal.returns-in-Text
 returns-in-Text c =
