@@ -547,7 +547,7 @@ impl<'a> Flow<'a> {
         holds_call: bool,
         actuals: Vec<Actual>,
     ) -> Result<(), CheckFault>
-        ensures { (visits : Visits) → Goes (called call holds_call (map said_actual actuals.items))
+        ensures { (visits : Visits) → Goes (called call holds_call (map said_actual actuals.entry.items))
             self.old visits result self.new visits }
     {
         let mut actuals = actuals;
