@@ -610,7 +610,8 @@ fn actuals_for(
     actuals: &[syntax::Actual],
 ) -> Result<Vec<Passed>, TypeFault>
     requires { length actuals.now ≡ length roots.now }
-    ensures { (callee : ℕ) → MakesActuals callee (spec.actuals_for roots.now (map spec.written_actual actuals.now)
+    ensures counted { IfOk result (λ made. length made.items ≡ length actuals.now) }
+    ensures made { (callee : ℕ) → MakesActuals callee (spec.actuals_for roots.now (map spec.written_actual actuals.now)
         callee 0 typer.old) result typer.new }
 {
     let mut made = Vec::with_capacity(typer.alloc, actuals.len())?;
@@ -647,6 +648,7 @@ fn actual(
 
 // A variable for a variable parameter of a type (6.6.3.3): K2 at the first token of what is none.
 #[cycle(expressions)]
+#[tactic(auto, using(typing::proofs::Written::written_expressions), unfolding(typing::specs::Expressions::no_variable))]
 fn passed_variable(
     typer: &mut Typer,
     wanted: TypeId,
@@ -661,7 +663,13 @@ fn passed_variable(
             selectors,
             indexes,
         } => passed_access(typer, wanted, name, selectors, indexes),
-        other => Err(TypeFault::NotVariable(first_place(other))),
+        syntax::Expr::Number { place, .. }
+        | syntax::Expr::String { place, .. }
+        | syntax::Expr::Not { place, .. }
+        | syntax::Expr::Signed { place, .. } => Err(TypeFault::NotVariable(*place)),
+        syntax::Expr::Call { name, .. } => Err(TypeFault::NotVariable(name.place)),
+        syntax::Expr::Parenthesized { open, .. } => Err(TypeFault::NotVariable(*open)),
+        syntax::Expr::Chain { first, .. } => Err(TypeFault::NotVariable(first_place(first))),
     }
 }
 
