@@ -1,5 +1,5 @@
 -- Blocks in the order of their numbers, which are all numbers from 0 on: each stands at its number.
-use Rattle.std.proofs.Common.{◌≡◌, ℕ, zero, suc, ◌+◌, ◌-◌, ◌<◌, ◌≤◌, false, List, [], ◌∷◌, ◌++◌, length, get_or, map, nat_eq, All, Some, slice_get, refl, sym, ap, subst, ◌∙◌, arith}
+use Rattle.std.proofs.Common.{◌≡◌, ℕ, zero, suc, ◌+◌, ◌-◌, ◌<◌, ◌≤◌, false, List, [], ◌∷◌, ◌++◌, length, get_or, map, nat_eq, All, MatchResult, Result, Ok, Err, Vec, Some, slice_get, refl, sym, ap, subst, ◌∙◌, arith}
 use Rattle.std.specs.Prelude.{IsPermutation, flat_map}
 use Rattle.std.specs.List.{Contains, IsDistinct, range_with_len}
 use Rattle.std.specs.List.Sorted.{IsNonDecreasing, IsNonDecreasingBy, IsStrictlyIncreasing}
@@ -10,6 +10,9 @@ use Rattle.std.proofs.lemmas.List.FromFn.{get_or-range_with_len, length-range_wi
 use Rattle.std.proofs.lemmas.List.Sorted.{All-permutation, Contains-permutation, IsPermutation-map, IsPermutation-trans, length_permutation}
 use Rattle.std.proofs.lemmas.Map.Keys.{IsDistinct-IsPermutation, IsDistinct-from_apart, IsStrictlyIncreasing-from_distinct}
 use Rattle.std.proofs.lemmas.Option.{slice_get-get_or}
+use Rattle.std.specs.declared.alloc.Global.{Global}
+use Rattle.typed_tree.specs.declared.fault.TypeFault.{TypeFault}
+use Rattle.typed_tree.specs.declared.fault.TypeFault.TheVariants.{Memory}
 use Rattle.typed_tree.specs.declared.tree.Block.{Block}
 use Rattle.typed_tree.specs.declared.tree.Tree.{Tree}
 use Rattle.typed_tree.specs.Entries.{in_text, of_block}
@@ -61,6 +64,13 @@ module _ (numbers : List ℕ) (rise : IsStrictlyIncreasing numbers) where
       let up : get_or numbers (more + k) 0 < get_or numbers (suc more + k) 0 =
       subst (λ n. get_or numbers (more + k) 0 < get_or numbers n 0) next (rise (more + k) (omega arith)) in
       omega arith
+
+-- sorted blocks without their numbers
+pub arranged_of : (made sorted : List MadeBlock) → IsPermutation made sorted → IsNonDecreasingBy (λ one. one.number) sorted
+    → (answer : Result (Vec Block Global) TypeFault) → MatchResult answer (λ blocks. blocks.items ≡ map (λ one. one.block) sorted) (λ why. why ≡ Memory)
+    → MatchResult answer (λ blocks. AreArranged made blocks.items) (λ why. why ≡ Memory)
+arranged_of made sorted shuffled rise (Ok blocks) are = record { sorted = sorted; shuffled = shuffled; rise = rise; are = are }
+arranged_of made sorted shuffled rise (Err why) memory = memory
 
 mapped_rise : (xs : List MadeBlock) → IsNonDecreasingBy (λ one. one.number) xs → IsNonDecreasing (map number_of xs)
 mapped_rise [] rise i j d less within = absurd (omega arith)

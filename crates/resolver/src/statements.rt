@@ -354,8 +354,11 @@ fn declared_call(
     if is_function {
         return Err(TypeFault::WrongParameters(name.place));
     }
-    let (call, actuals, _) = routine_call(typer, false, callee, name.place, actuals)?;
-    Ok(Stmt::Call { call, actuals })
+    let made = routine_call(typer, false, callee, name.place, actuals)?;
+    Ok(Stmt::Call {
+        call: made.call,
+        actuals: made.actuals,
+    })
 }
 
 // A write or writeln.

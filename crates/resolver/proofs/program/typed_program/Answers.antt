@@ -1,4 +1,6 @@
 use Rattle.std.proofs.Common.{rules, ◌≡◌, ◌∙◌, ap, map, subst, sym}
+use Rattle.typing.specs.Outcomes.{IsFault}
+use Rattle.typing.specs.Typing.{typing}
 use Rattle.resolver.specs.Made.{AreArranged}
 use Rattle.resolver.specs.Table.{IsTableOf}
 use Rattle.resolver.proofs.BlockForms.{parameters_stop}
@@ -9,6 +11,12 @@ use Rattle.resolver.proofs.program.typed_program.Goals as goal
 pub returns-in_err-typer : goal.returns-in_err-typer
 returns-in_err-typer c =
     let stops = parameters_stop c.args.program.now c.in_err-typer.field-0.0 c.in_err-typer.ensures.refused in
+    search (rules, stops)
+
+-- its block stops
+pub returns-in_err-program_blocks : goal.returns-in_err-program_blocks
+returns-in_err-program_blocks c =
+    let stops : IsFault (typing c.args.program.now) c.in_err-program_blocks.field-0.0 = c.in_err-program_blocks.ensures in
     search (rules, stops)
 
 -- the tree of the program
