@@ -97,5 +97,8 @@ returns-clause-visits c = c.in_ok-verdict.ensures.visits
 pub returns-clause-states_hold : goal.returns-clause-states_hold
 returns-clause-states_hold c = c.in_ok-verdict.ensures.states_hold c.in_ok-tree.ensures.well_formed c.in_ok-tree.ensures.numbered
 
+pub returns-clause-calls_change : goal.returns-clause-calls_change
+returns-clause-calls_change c = c.in_ok-verdict.ensures.calls_change c.in_ok-tree.ensures.well_formed
+
 pub returns-clause-by_place : goal.returns-clause-by_place
 returns-clause-by_place c = c.in_ok-tree.ensures.by_place
