@@ -1,6 +1,7 @@
 -- Calls of the program as the definitions see them: what is passed, what is claimed of blocks, what calls change. It
 -- does not say what is known of them.
-use Rattle.std.specs.Prelude.{ℕ, suc, ◌⊎◌, ◌≤◌, ℤ, neg_ℤ, pos, ◌≡◌, ◌<◌, ◌≤ℤ◌, Bool, false, List, [], ◌∷◌, Option, Some, None, get_or}
+use Rattle.std.specs.Prelude.{ℕ, suc, ◌⊎◌, ◌≤◌, ℤ, neg_ℤ, pos, ◌≡◌, ◌<◌, ◌≤ℤ◌, Bool, false, List, [], ◌∷◌, Option}
+use Rattle.std.specs.Prelude.{Some, None, get_or}
 use Rattle.std.specs.Prelude.{if◌then◌else◌, length, map, nat_eq, slice_get}
 use denote.Ref.{Bor}
 use Rattle.typed_tree.specs.declared.tree.Selector.{Selector}

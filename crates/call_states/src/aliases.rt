@@ -3,8 +3,10 @@ ghost use Rattle.abstract_state.specs.Loops.{is_among};
 ghost use Rattle.abstract_state.specs.View.{said_form};
 ghost use Rattle.component_states.specs.View.{said_index, said_reach, viewed};
 ghost use Rattle.leaf_rows.specs.View.{numbers};
-ghost use Rattle.call_states.specs.Aliases.{alias_joined, aliases_joined, all_dropped, all_joined_to, index_unless_alias};
-ghost use Rattle.call_states.specs.Aliases.{reach_unless_alias, rows_joined, same_values, unless_alias, variable_values};
+ghost use Rattle.call_states.specs.Aliases.{alias_joined, aliases_joined, all_dropped, all_joined_to};
+ghost use Rattle.call_states.specs.Aliases.{index_unless_alias};
+ghost use Rattle.call_states.specs.Aliases.{reach_unless_alias, rows_joined, same_values, unless_alias};
+ghost use Rattle.call_states.specs.Aliases.{variable_values};
 ghost use Rattle.call_states.specs.Aliases.{with_aliases_stored};
 ghost use Rattle.call_states.specs.View.{said_stored};
 

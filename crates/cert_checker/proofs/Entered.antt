@@ -37,8 +37,8 @@ use Rattle.place.specs.declared.Place.{Place}
 use Rattle.expression_checker.specs.Walk.{Context, Walking, ◌>>=◌, access_walk, index_pieces, numbers_of, fitting, value_walk, parameter_walk, whole_walk}
 use Rattle.cert_checker.specs.Walk.{first_context, assign, assign_to, arms_walk, case_walk, for_round, for_turns, for_walk, index_test, loop_walk}
 use Rattle.cert_checker.specs.Walk.{steady_in}
-use Rattle.cert_checker.specs.Walk.{tested_way, while_round, repeat_round, statement_step, statement_walk, where_so, all_of, block_walk, blocks_walk, program_walk}
-use Rattle.cert_checker.specs.Walk.{reach_before, result_use}
+use Rattle.cert_checker.specs.Walk.{tested_way, while_round, repeat_round, statement_step, statement_walk, where_so, all_of, block_walk, blocks_walk}
+use Rattle.cert_checker.specs.Walk.{program_walk, reach_before, result_use}
 use Rattle.expression_checker.proofs.Entered.{Enters, access-entered, and_no_more, and_then, call-entered, parameter-entered, value-entered}
 use Rattle.expression_checker.proofs.Entered.{whole-entered}
 

@@ -37,8 +37,8 @@ pub struct Verdict {
 /// Checks a program by a certificate.
 ///
 /// Each error of a run of the program is at an open site (ISO 7185:1990, 3.1), for every input and every number of
-/// turns. Whenever a run enters a statement or an expression, what the walk knows there holds, and two variables share a
-/// place only if they are a listed pair. A call changes what the certificate lists for its block alone.
+/// turns. Whenever a run enters a statement or an expression, what the walk knows there holds, and two variables share
+/// a place only if they are a listed pair. A call changes what the certificate lists for its block alone.
 ///
 /// # Errors
 /// That the certificate names what the program doesn't have, or else the first rule that it breaks, with its place; a

@@ -95,7 +95,11 @@ impl<'a> Walk<'a> {
         ensures { (visits : Visits) → Goes (assign_component becomes target.now.root target.now.selectors.items
             (said_reach reach) passed) self.old visits result self.new visits }
     {
-        let rows = self.flow.grounds.rows.accessed(target.root, &target.selectors);
+        let rows = self
+            .flow
+            .grounds
+            .rows
+            .accessed(target.root, &target.selectors);
         let stores = alike(self.alloc, passed.range(), rows)?;
         self.store_to(becomes, target.root, reach, true, &stores)
     }
@@ -133,7 +137,11 @@ impl<'a> Walk<'a> {
         ensures { (visits : Visits) → Goes (copy_to becomes target.now.root target.now.selectors.items
             (said_reach reach) type_id value.now ranges.now) self.old visits result self.new visits }
     {
-        let rows = self.flow.grounds.rows.accessed(target.root, &target.selectors);
+        let rows = self
+            .flow
+            .grounds
+            .rows
+            .accessed(target.root, &target.selectors);
         let stores = paired(self.alloc, rows, ranges)?;
         let fits = fits_rows(&self.flow.grounds, type_id, value, rows, ranges);
         self.store_to(becomes, target.root, reach, fits, &stores)

@@ -85,7 +85,7 @@ impl<'a> Walk<'a> {
         claims: Vec<Option<&'a LoopClaims>>,
         aliases: &'a [Vec<u32>],
     ) -> Walk<'a>
-        ensures { IsBegun grounds claims aliases.now result }
+        ensures { IsBegun grounds.entry claims.entry aliases.now result }
     {
         Walk {
             alloc,
@@ -100,7 +100,11 @@ impl<'a> Walk<'a> {
     }
 
     #[cycle(statement)]
-    pub(crate) fn statement(&mut self, statement: &Stmt, visits: &mut Visits) -> Result<(), CheckFault>
+    pub(crate) fn statement(
+        &mut self,
+        statement: &Stmt,
+        visits: &mut Visits,
+    ) -> Result<(), CheckFault>
         ensures { Goes (statement_walk statement.now) self.old visits.old result self.new visits.new }
     {
         match statement {

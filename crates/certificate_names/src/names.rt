@@ -1,13 +1,16 @@
 ghost use Rattle.std.specs.Prelude.{◌≡◌, true, if◌then◌else◌, nat_eq, slice_get};
 ghost use Rattle.std.specs.List.{list_all};
 ghost use Rattle.types.specs.Types.{is_ordinal};
-ghost use Rattle.certificate_names.specs.Names.{block_is_known, bound_is_known, bound_roots, claims_are_known, exit_is_known};
-ghost use Rattle.certificate_names.specs.Names.{fact_is_known, fact_is_on, fact_roots, has_parameter, is_array, is_known};
+ghost use Rattle.certificate_names.specs.Names.{block_is_known, bound_is_known, bound_roots, claims_are_known};
+ghost use Rattle.certificate_names.specs.Names.{exit_is_known, fact_is_known, fact_is_on, fact_roots, has_parameter};
+ghost use Rattle.certificate_names.specs.Names.{is_array, is_known};
 ghost use Rattle.certificate_names.specs.Names.{is_of_loops, is_own_result, is_round_about, names, pair_is_known};
 ghost use Rattle.certificate_names.specs.Names.{section_is_known, stands_in};
 ghost use Rattle.certificate_names.specs.View.{may_name};
 
-use crate::visible::{is_outward, is_result, is_value_parameter, is_variable_parameter, is_visible};
+use crate::visible::{
+    is_outward, is_result, is_value_parameter, is_variable_parameter, is_visible,
+};
 use certificate::{AliasPair, Certificate, Fact, LoopClaims, Path, Section};
 use domain::facts::Bound;
 use leaf_rows::Rows;

@@ -20,7 +20,8 @@ use Rattle.structured_states.specs.Loops.{is_ordinal_variable, limits_or_integer
 use Rattle.structured_states.specs.Pairs.{all_aliases}
 use Rattle.call_states.specs.Sections.{BlockClaims}
 use Rattle.call_states.specs.Aliases.{all_dropped, same_values, variable_values}
-use Rattle.call_states.specs.Actuals.{Actual, OfValue, OfRows, OfVariable, Bearer, Passed, Variable, Components, Binding}
+use Rattle.call_states.specs.Actuals.{Actual, OfValue, OfRows, OfVariable, Bearer, Passed, Variable, Components}
+use Rattle.call_states.specs.Actuals.{Binding}
 use Rattle.call_states.specs.Actuals.{actual_of, all_of_rows, bearers_named, bearers_of}
 
 -- ---- what is changed

@@ -14,8 +14,8 @@ returns c =
     let valued = c.whole_value.new.self in
     let new = c.copy_to.new.self in
     let after = c.whole_value.new.visits in
-    copying-done c.args.becomes target c.args.indexes.now c.args.type_id c.args.value.now c.args.value_indexes.now reach before c.args.self.now c.access.new.self
-    valued c.args.visits.now c.access.new.visits after c.in_ok-ranges.ranges.items c.copy_to.result new
+    copying-done c.args.becomes target c.args.indexes.now c.args.type_id c.args.value.now c.args.value_indexes.now reach before c.args.self.now
+    c.access.new.self valued c.args.visits.now c.access.new.visits after c.in_ok-ranges.ranges.items c.copy_to.result new
     (c.reach_before-reach.ensures ∙ ap (λ holds. reach_before holds reach) c.whole_holds_call.ensures) c.in_ok-reach.ensures c.in_ok-ranges.ensures
     (subst (λ (ranges : List Interval).
     Goes (copy_to c.args.becomes target.root target.selectors.items before c.args.type_id c.args.value.now ranges) valued after c.copy_to.result new after)

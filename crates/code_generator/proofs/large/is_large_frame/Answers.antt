@@ -2,7 +2,7 @@ use Rattle.std.proofs.Common.{sym, arith}
 use Rattle.std.proofs.lemmas.Bool.{le-ltb, ltb-false}
 use Rattle.code_generator.specs.Large.{frame_cells}
 use Rattle.code_generator.proofs.LargeFrames.{block_within}
-use Rattle.code_generator.proofs.large.is_large_block.Goals as goal
+use Rattle.code_generator.proofs.large.is_large_frame.Goals as goal
 
 pub returns-then-not-is_large : goal.returns-then-not-is_large
 returns-then-not-is_large c = λ all.
