@@ -3,7 +3,7 @@ ghost use Rattle.std.specs.List.{list_all};
 ghost use Rattle.domain.specs.Facts.{said_bound};
 ghost use Rattle.domain.specs.Interval.{always_true, never_true};
 ghost use Rattle.abstract_state.specs.Conditions.{bound_at_least, bound_at_most, bound_isnt, branched, condition_of};
-ghost use Rattle.abstract_state.specs.Conditions.{conjunct_of, narrowed, operation_refined, opposite, refined, related};
+ghost use Rattle.abstract_state.specs.Conditions.{conjunct_of, narrowed, operation_refined, opposite, related};
 ghost use Rattle.abstract_state.specs.Conditions.{related_forms, single_refined, takes_both, told, unless_excluded};
 ghost use Rattle.abstract_state.specs.Conditions.{unlike, with_different, with_le, with_order, without_first};
 ghost use Rattle.abstract_state.specs.Conditions.{without_last};
@@ -18,6 +18,7 @@ use domain::Domain;
 use domain::facts::Bound;
 use domain::interval::Interval;
 use std::alloc::AllocError;
+use typed_tree::calls::holds_call;
 use typed_tree::tree::{Dyadic, Expr, Link, Monadic, Relation};
 
 impl State {
@@ -33,15 +34,20 @@ impl State {
         if excludes(range, truth) {
             *self = State::Dead;
         }
+        if holds_call(condition) {
+            return Ok(());
+        }
         self.refine(condition, truth)
     }
 
-    /// What a condition tells that had a truth value.
+    /// What a condition tells that had a truth value, if no call in it changes that.
     fn refine(&mut self, condition: &Expr, truth: bool) -> Result<(), AllocError>
-        ensures { IfOk result (λ _. viewed self.new ≡ refined truth condition.now (viewed self.old)) }
+        ensures { IfOk result
+            (λ _. viewed self.new ≡ (condition_of condition.now).refined truth (viewed self.old)) }
     {
         match condition {
-            Expr::Constant { .. } | Expr::Variable { .. } | Expr::Compare { .. } => Ok(()),
+            Expr::Constant { .. } | Expr::Variable { .. } => Ok(()),
+            Expr::Compare { .. } | Expr::Call { .. } => Ok(()),
             Expr::Monadic {
                 operation: Monadic::Not,
                 operand,

@@ -140,7 +140,7 @@ impl State {
     }
 
     /// What is left of facts after a variable got a value.
-    pub(crate) fn change(&mut self, root: u32, form: Option<Bound>)
+    pub fn change(&mut self, root: u32, form: Option<Bound>)
         ensures { viewed self.new ≡ with_change root (said_form form) (viewed self.old) }
     {
         if let State::Live(facts) = self {
@@ -187,7 +187,7 @@ impl State {
     }
 
     /// The ends of the range in which the number of a bound lies.
-    pub(crate) fn ends(&self, bound: Bound) -> Ends
+    pub fn ends(&self, bound: Bound) -> Ends
         ensures { AreEnds result (bound_range (viewed self.now) (said_bound bound)) }
     {
         match bound {

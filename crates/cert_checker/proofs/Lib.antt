@@ -4,6 +4,7 @@ pub mod Controls
 pub mod Entered
 pub mod Heads
 pub mod Keeping
+pub mod Rounds
 pub mod SoundAssignments
 pub mod SoundCase
 pub mod SoundCopies
@@ -16,6 +17,8 @@ pub mod Steps
 pub mod StepsCase
 pub mod StepsFor
 pub mod StepsStores
-pub mod Stored
 pub mod Targets
 pub mod Written
+pub mod EffectsStatements
+pub mod EffectsParameters
+pub mod EffectsRoutines

@@ -19,10 +19,10 @@ use Rattle.leaf_rows.specs.Rows.{all_parts, first_index, is_structured, rows_acc
 use Rattle.component_states.specs.Components.{At, Entire, Inside, Reach}
 use Rattle.component_states.specs.Holds.{IsOfRow}
 use Rattle.component_states.specs.Laws.{IsReach, IsReached}
-use Rattle.expression_checker.proofs.SoundRows.{IsReachedBy, LieIn, Matches, RowsAre, first-then, one-way}
+XX
 use Rattle.cert_checker.specs.Walk.{Stores, alike, paired}
 use Rattle.cert_checker.proofs.SoundStores.{AreReached, AreTargets, IsFormed, bound-once}
-use Rattle.cert_checker.proofs.Stored.{Pairs, at-head, head-or_tail, in-tail}
+use Rattle.call_states.proofs.AliasedStores.{Pairs, at-head, head-or_tail, in-tail}
 
 -- ---- lists
 

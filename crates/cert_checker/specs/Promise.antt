@@ -13,7 +13,7 @@ use Rattle.meaning.specs.declared.outcome.Ending.TheVariants.{Error}
 use Rattle.meaning.specs.Effect.{Visit, State as Before}
 use Rattle.meaning.specs.Laws.{state_after}
 use Rattle.meaning.specs.Meaning.{Argument, calls_of, environment_of, run, meaning}
-use Rattle.meaning.specs.Store.{Environment, Place, is_beginning, stored}
+use Rattle.meaning.specs.Store.{Environment, Place, stored}
 use Rattle.component_states.specs.States.{State}
 use Rattle.expression_checker.specs.declared.fault.CheckFault.{CheckFault}
 use Rattle.expression_checker.specs.declared.fault.CheckFault.TheVariants.{Memory, Foreign, Broken}
@@ -25,6 +25,7 @@ use Rattle.abstract_state.specs.Holds.{Separate}
 use Rattle.component_states.specs.Holds.{StateHolds}
 use Rattle.leaf_rows.specs.Rows.{Parts, all_parts}
 use Rattle.certificate.specs.Contents.{contents}
+use Rattle.call_states.specs.Environments.{IsListed}
 use Rattle.call_states.specs.Sections.{all_pairs, block_claims_in}
 
 -- the sites of the table that the walk leaves open, in the order of the table
@@ -72,13 +73,6 @@ StatesHold tree certificate =
     → HoldsAt (all_parts tree) (program_walk tree certificate).linked visit
     × Separate visit.environment (all_pairs certificate)
 
--- a place is a part of that of a variable which the claims on a block list
-abbrev pub IsListed : Certificate → ℕ → Environment → Place → Type 0
-IsListed certificate block visible place =
-    (root : ℕ) × (home : Place) × Contains (block_claims_in block (contents certificate)).changes root
-    × (visible.variables root ≡ Some home) × (home.activation ≡ place.activation) × (home.variable ≡ place.variable)
-    × (is_beginning home.steps place.steps ≡ true)
-
 -- A call changes what its block lists alone, and what lies in activations that begin in it, its own among them: of each
 -- other place it leaves the value as it was. What is visible in the block is told by what is passed and by what is
 -- visible where it is called.
@@ -88,7 +82,7 @@ CallsChangeWhatTheyList tree certificate =
     → slice_get tree.blocks.items number ≡ Some block
     → stored (state_after (calls_of tree depth number arguments caller s)).store place ≢ stored s.store place
     → (s.activations ≤ place.activation)
-    ⊎ IsListed certificate number
+    ⊎ IsListed (block_claims_in number (contents certificate)).changes
     (environment_of tree (record {
       number = s.activations;
       block = number;

@@ -8,8 +8,6 @@ use Rattle.std.specs.declared.alloc.Global.{Global}
 use Rattle.std.specs.declared.boxed.Box.{Box}
 use Rattle.std.specs.declared.vec.Vec.{Vec}
 use Rattle.place.specs.declared.Place.{Place}
-use Rattle.types.specs.Forms.{Form}
-use Rattle.types.specs.Types.{have_one_length, is_same, string_length}
 use Rattle.types.specs.declared.form.OrdinalRange.{OrdinalRange}
 use Rattle.types.specs.declared.form.TypeId.{TypeId}
 use Rattle.certificate.specs.declared.Certificate.{Certificate}
@@ -19,7 +17,6 @@ use Rattle.typed_tree.specs.declared.tree.Access.{Access}
 use Rattle.typed_tree.specs.declared.tree.RangeTest.{RangeTest}
 use Rattle.typed_tree.specs.declared.tree.Selector.{Selector}
 use Rattle.typed_tree.specs.declared.tree.Whole.{Whole}
-use Rattle.typed_tree.specs.declared.tree.Whole.TheVariants.{Text, Variable as VariableOf}
 use Rattle.typed_tree.specs.declared.tree.FunctionResult.{FunctionResult}
 use Rattle.typed_tree.specs.declared.tree.Expr.{Expr}
 use Rattle.typed_tree.specs.declared.tree.Stmt.{Stmt}
@@ -44,18 +41,18 @@ use Rattle.component_states.specs.Components.{Reach, all_stored}
 use Rattle.component_states.specs.States.{State, dead, joined_states, over_bound, over_change, over_variables}
 use Rattle.structured_states.specs.Cases.{arm_start, constants_before}
 use Rattle.structured_states.specs.Loops.{Round, all_claims, all_control, all_limits, claims_at, gives_claims}
-use Rattle.structured_states.specs.Loops.{head_of, limits_at, round_of, row_limits, touched, with_own, without_own}
+use Rattle.structured_states.specs.Loops.{head_of, limits_at, round_of, touched, with_own, without_own}
 use Rattle.structured_states.specs.Ways.{End, Way, met, next, steady, turn_begun, turn_ended, way_of, way_out}
 use Rattle.structured_states.specs.Ways.{where_counts, with_values}
 use Rattle.structured_states.specs.Pairs.{aliases_of}
 use Rattle.call_states.specs.Sections.{BlockClaims, all_block_claims, all_pairs, block_claims_at}
 use Rattle.call_states.specs.Starts.{block_start}
 use Rattle.call_states.specs.Aliases.{Stored, reach_unless_alias, unless_alias, variable_values, with_aliases_stored}
-use Rattle.call_states.specs.Actuals.{unknown_reach}
+use Rattle.call_states.specs.Actuals.{lies_among, unknown_reach}
 use Rattle.expression_checker.specs.declared.fault.Rule.{Rule}
 use Rattle.expression_checker.specs.declared.fault.Rule.TheVariants.{LoopEntry, LoopTurn, Exit, Changes}
 use Rattle.expression_checker.specs.Walk.{Context, Piece, Walked, Walking, ◌>>=◌, access_walk, asked, call_walk}
-use Rattle.expression_checker.specs.Walk.{changed_by, enter, fitting, followed, give, index_pieces, left_open}
+use Rattle.expression_checker.specs.Walk.{changed_by, enter, fits_whole, fitting, followed, give, index_pieces, left_open}
 use Rattle.expression_checker.specs.Walk.{may_change, parameter_walk, passed_piece_of, tested, value_walk, whole_walk}
 use Rattle.expression_checker.specs.Walk.{with_state, within}
 
@@ -92,7 +89,7 @@ Stores = List (ℕ × Interval)
 -- the values of stores are ones of the types of their rows
 abbrev pub are_typed : Context → Stores → Bool
 are_typed context stores =
-    list_all (λ one. is_included one.1 (row_limits (rows_of context.tree) one.0)) stores
+    list_all (λ one. lies_among (values_at (rows_of context.tree) one.0) one.1) stores
 
 -- components of a variable are changed at a place. Each loop round the place lists it, and so does the block, if need
 -- be
@@ -144,14 +141,6 @@ assign_to place root [] reach values form passed = do
   assign root form passed
 assign_to place root (selector ∷ selectors) reach values form passed =
     assign_component place root (selector ∷ selectors) reach passed
-
--- a whole value may be copied to a target of a structured type: it is of the same type, or a string as long
-abbrev pub fits_whole : List Form → TypeId → Whole → Bool
-fits_whole types target (Text number text) =
-    is_structured types target && have_one_length (string_length types target) (Some (length text.items))
-fits_whole types target (VariableOf access type_id cells defined) =
-    is_structured types target
-    && (is_same target type_id || have_one_length (string_length types target) (string_length types type_id))
 
 -- rows with their ranges
 abbrev pub paired : List ℕ → List Interval → Stores

@@ -8,8 +8,8 @@ ghost use Rattle.component_states.specs.States.{all_of_row, dead, gives_componen
 ghost use Rattle.component_states.specs.States.{gives_reached, gives_some, is_dead, joined_components, joined_row};
 ghost use Rattle.component_states.specs.States.{joined_rows, joined_states, over_bound, over_change, over_components};
 ghost use Rattle.component_states.specs.States.{range_stretch, start};
-ghost use Rattle.component_states.specs.View.{said_component, said_index, said_reach, said_row, said_some, viewed};
-ghost use Rattle.component_states.specs.View.{viewed_components};
+ghost use Rattle.component_states.specs.View.{said_component, said_index, said_reach, said_row, said_some};
+ghost use Rattle.component_states.specs.View.{said_stretch, viewed, viewed_components};
 
 use crate::components::Components;
 use crate::facts::{ComponentFact, Index, Reach, Stretch};
@@ -189,6 +189,13 @@ impl State {
         ensures { result ≡ (row_at (viewed self.now).components row).range }
     {
         self.components.row(row).range
+    }
+
+    /// The stretches that are known to be defined.
+    pub fn stretches(&self) -> &[Stretch]
+        ensures { map said_stretch result.now ≡ (viewed self.now).components.stretches }
+    {
+        self.components.stretches.as_slice()
     }
 
     /// Values of a range were stored to what an access reaches in a row.

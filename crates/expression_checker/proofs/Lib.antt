@@ -1,10 +1,15 @@
+pub mod Effects
+pub mod EffectsCalls
+pub mod EffectsKept
 pub mod Entered
+pub mod Fitting
 pub mod Forms
 pub mod Held
-pub mod RowUses
 pub mod Keeping
+pub mod RowUses
 pub mod Sound
 pub mod SoundAccesses
+pub mod SoundCalls
 pub mod SoundExpressions
 pub mod SoundOperations
 pub mod SoundRows

@@ -29,10 +29,11 @@ use Rattle.abstract_state.specs.Holds.{HasValue, IsBound, IsIn, Moment}
 use Rattle.abstract_state.specs.State.{integer}
 use Rattle.abstract_state.specs.Knows.{moment}
 use Rattle.leaf_rows.specs.Leaves.{Leaf, is_named, leaves_of}
-use Rattle.leaf_rows.specs.Rows.{Parts, all_parts, first_index, index_at, rows_accessed, rows_of}
+use Rattle.leaf_rows.specs.Rows.{Parts, all_parts, first_index, index_at, is_structured, rows_accessed, rows_of}
 use Rattle.leaf_rows.proofs.Accessed.{indexes-are}
 pub use Rattle.leaf_rows.proofs.Accessed.{RowsAre, rows-are}
 pub use Rattle.leaf_rows.proofs.Selected.{Matches}
+pub use Rattle.call_states.proofs.Passed.{IsIndexOn, IsReachedBy, Leads, LieIn}
 use Rattle.component_states.specs.Components.{At, Defined, Entire, Index, Inside, Reach, Stretch, Stretched, at_index, between, row_at, with_defined}
 use Rattle.component_states.specs.Holds.{HasComponent, IsOfRow, Knows}
 use Rattle.component_states.specs.States.{State, all_of_row, gives_component, gives_form, gives_index, gives_reached, gives_some, is_dead, over_components}
@@ -43,46 +44,18 @@ use Rattle.component_states.proofs.Rows.{with_defined-holds}
 use Rattle.expression_checker.specs.Walk.{all_defined, all_joined, is_covered, ranges_of, text_range, with_used}
 use Rattle.expression_checker.proofs.Sound.{alive, false-true}
 
--- ---- what an access reaches
-
--- the first index on a way is a number of the range, and what its form says
-pub record IsIndexOn (env : Environment) (store : Store) (index : Index) (way : List Step) : Type 0 where
-  pub number : ℤ
-  pub is_first : first_index way ≡ Some number
-  pub in_range : HasMember index.range number
-  pub of_form : (b : Bound) → index.form ≡ Some b → IsBound (moment env store) b number
-
--- what is reached on a way: by no index, by one, or by more
-abbrev pub IsReachedBy : Environment → Store → List Selector → List Step → Reach → Type 0
-IsReachedBy env store selectors way Entire = index_count selectors ≡ 0
-IsReachedBy env store selectors way (At index) = (index_count selectors ≡ 1) × IsIndexOn env store index way
-IsReachedBy env store selectors way (Inside index) = IsIndexOn env store index way
-
--- selectors lead to the place of a part of a variable, which is reached as the walk tells
-pub record Leads (env : Environment) (root : ℕ) (selectors : List Selector) (store : Store) (reach : Reach) (place : Option Place) : Type 0 where
-  pub way : List Step
-  pub place_is : place ≡ part (env.variables root) way
-  pub matches : Matches selectors way
-  pub reached : IsReachedBy env store selectors way reach
-
 -- ---- whole values
 
 abbrev pub AreIntegers : List ℤ → Type 0
 AreIntegers row = All (HasMember integer) row
-
--- the number of each component of a type lies in the range of the leaf that names it
-abbrev pub LieIn : List Form → TypeId → List Interval → List ℤ → Type 0
-LieIn types id ranges numbers =
-    (k j : ℕ) (rest : List Step) (leaf : Leaf) (n : ℤ) (range : Interval) → slice_get (components_of types id) k ≡ Some rest
-    → slice_get (leaves_of types id) j ≡ Some leaf → is_named leaf.steps rest ≡ true → slice_get numbers k ≡ Some n → slice_get ranges j ≡ Some range
-    → HasMember range n
 
 -- the numbers of a whole value, by the ranges that are known
 abbrev pub AreOf : List Form → Whole → List Interval → List ℤ → Type 0
 AreOf types (Text number text) ranges numbers =
     (numbers ≡ map pos text.items) × (ranges ≡ text_range text.items ∷ []) × All (HasMember (text_range text.items)) numbers
 AreOf types (VariableOf access type_id cells defined) ranges numbers =
-    (length numbers ≡ length (components_of types type_id)) × LieIn types type_id ranges numbers
+    (length numbers ≡ length (components_of types type_id))
+    × (is_structured types type_id ≡ true → length ranges ≡ length (leaves_of types type_id)) × LieIn types type_id ranges numbers
 
 pub record IsWhole (types : List Form) (value : Whole) (ranges : List Interval) (numbers : List ℤ) : Type 0 where
   pub integers : AreIntegers numbers

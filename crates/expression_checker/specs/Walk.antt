@@ -2,7 +2,7 @@
 -- sites that it leaves open, the rules of certificates that its calls break, and the state at each entry into an
 -- expression (ISO 7185:1990, 6.7). It does not say that a run does what the walk says of it.
 use Rattle.std.specs.Prelude.{◌≡◌, ℕ, ℤ, pos, ◌+ℤ◌, ◌-ℤ◌, Bool, not, ◌||◌, int_le, int_lt, List, [], ◌∷◌, ◌++◌}
-use Rattle.std.specs.Prelude.{Option, Some, None, if◌then◌else◌, map, ◌&&◌, true, false, slice_get}
+use Rattle.std.specs.Prelude.{Option, Some, None, if◌then◌else◌, map, ◌&&◌, true, false, length, slice_get}
 use Rattle.std.specs.List.{list_all, list_any}
 use Rattle.place.specs.declared.Place.{Place}
 use Rattle.typed_tree.specs.declared.tree.Tree.{Tree}
@@ -23,6 +23,8 @@ use Rattle.typed_tree.specs.declared.tree.Written.{Written}
 use Rattle.typed_tree.specs.declared.tree.Written.TheVariants as written
 use Rattle.typed_tree.specs.declared.tree.Whole.{Whole}
 use Rattle.typed_tree.specs.declared.tree.Whole.TheVariants.{Text, Variable as VariableOf}
+use Rattle.types.specs.Forms.{Form as TypeForm}
+use Rattle.types.specs.Types.{have_one_length, is_same, string_length}
 use Rattle.types.specs.declared.form.TypeId.{TypeId}
 use Rattle.typed_tree.specs.declared.tree.Expr.{Expr}
 use Rattle.typed_tree.specs.declared.tree.Link.{Link}
@@ -46,15 +48,15 @@ use Rattle.abstract_state.specs.declared.known.Known.TheVariants.{Ordinal}
 use Rattle.abstract_state.specs.State.{integer, is_defined, limits_of, range_of, unless_empty}
 use Rattle.abstract_state.specs.State as variables
 use Rattle.abstract_state.specs.Forms.{Form, Literal, Other, Operand, access_form, bound_of, chain_form, sign_form}
-use Rattle.leaf_rows.specs.Rows.{index_at, is_structured, rows_accessed, rows_of, rows_under}
+use Rattle.leaf_rows.specs.Rows.{index_at, is_structured, rows_accessed, rows_of}
 use Rattle.component_states.specs.Components.{Index, Reach, Entire, At, Inside, row_at, with_defined}
 use Rattle.component_states.specs.States.{State, gives_reached, is_dead, over_components, over_variables}
 use Rattle.abstract_state.specs.Loops.{is_among}
-use Rattle.structured_states.specs.Loops.{Claims, Round, all_list, limits_at, row_limits}
+use Rattle.structured_states.specs.Loops.{Claims, Round, all_list}
 use Rattle.structured_states.specs.Ways.{single}
 use Rattle.call_states.specs.Sections.{BlockClaims, block_claims_at}
 use Rattle.call_states.specs.Starts.{is_own}
-use Rattle.call_states.specs.Actuals.{Actual, OfValue, OfRows, OfVariable, Binding, bound_to, settled}
+use Rattle.call_states.specs.Actuals.{Actual, OfValue, OfRows, OfVariable, Binding, are_of_types, bound_to, settled}
 use Rattle.call_states.specs.Entry.{are_given}
 use Rattle.call_states.specs.Overlaps.{are_separate}
 use Rattle.call_states.specs.Exit.{behind_call, result_range, roots_changed}
@@ -447,10 +449,23 @@ value_passed value fits = do
   passed ← fitting fits known
   give (OfValue (range_in passed) (bound_of value.form))
 
-abbrev pub whole_passed : Whole → List Piece → Walking Actual
-whole_passed value indexes = do
+-- a whole value may be copied to a target of a structured type: it is of the same type, or a string as long
+abbrev pub fits_whole : List TypeForm → TypeId → Whole → Bool
+fits_whole types target (Text number text) =
+    is_structured types target && have_one_length (string_length types target) (Some (length text.items))
+fits_whole types target (VariableOf access type_id cells defined) =
+    is_structured types target
+    && (is_same target type_id || have_one_length (string_length types target) (string_length types type_id))
+
+-- a copy of a value for a parameter of a type: one that may not be copied has no ranges
+abbrev pub copied : TypeId → Whole → List Interval → Walking Actual
+copied type_id value ranges context =
+    give (OfRows (if fits_whole context.tree.types type_id value then ranges else [])) context
+
+abbrev pub whole_passed : TypeId → Whole → List Piece → Walking Actual
+whole_passed type_id value indexes = do
   ranges ← whole_walk value indexes
-  give (OfRows ranges)
+  copied type_id value ranges
 
 abbrev pub variable_passed : Access → List Piece → Walking Actual
 variable_passed access indexes = do
@@ -459,7 +474,7 @@ variable_passed access indexes = do
 
 abbrev pub passed_walk : Passed-F Piece PassedPiece Joint → Walking Actual
 passed_walk (PassedValue value fits) = value_passed value fits
-passed_walk (PassedWhole type_id value indexes) = whole_passed value indexes.items
+passed_walk (PassedWhole type_id value indexes) = whole_passed type_id value indexes.items
 passed_walk (Reference type_id access indexes) = variable_passed access indexes.items
 
 abbrev pub passed_holds : Passed-F Piece PassedPiece Joint → Bool
@@ -497,27 +512,12 @@ result_of (Some block) = block.heading.result
 abbrev pub called_block : Context → Call → Option Block
 called_block context call = slice_get context.tree.blocks.items call.block
 
--- the ranges of a copy lie in those of the types of a variable's rows
-abbrev pub are_of_rows : Context → List ℕ → List Interval → Bool
-are_of_rows context [] [] = true
-are_of_rows context (row ∷ rows) (range ∷ ranges) =
-    is_included range (row_limits (rows_of context.tree) row) && are_of_rows context rows ranges
-are_of_rows context rows ranges = false
-
--- what is passed as a value lies in the type of the formal parameter
-abbrev pub is_of_type : Context → ℕ → Actual → Bool
-is_of_type context root (OfValue range form) = is_included range (limits_at context.limits root)
-is_of_type context root (OfRows ranges) = are_of_rows context (rows_under (rows_of context.tree) root []) ranges
-is_of_type context root (OfVariable other selectors reach) = true
-
-abbrev pub are_of_types : Context → List Binding → Bool
-are_of_types context bindings = list_all (λ binding. is_of_type context binding.root binding.actual) bindings
-
 -- a call changes what it may: by the claims on the callee, at the place of its name
 abbrev pub call_change : Place → List Binding → BlockClaims → Walking (Unit {0})
 call_change place bindings claims context =
     asked
-    (list_all (may_change context) (roots_changed bindings claims.changes) && are_of_types context bindings)
+    (list_all (may_change context) (roots_changed bindings claims.changes)
+    && are_of_types context.tree context.limits bindings)
     Changes place context
 
 -- what is passed makes listed aliases alone

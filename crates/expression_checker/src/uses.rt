@@ -60,7 +60,7 @@ impl<'a> Flow<'a> {
         ensures { (visits : Visits) → Goes (component_use root selectors.now (said_reach reach.now) defined)
             self.old visits result self.new visits }
     {
-        let rows = self.rows.accessed(root, selectors);
+        let rows = self.grounds.rows.accessed(root, selectors);
         let range = joined_ranges(&self.state, rows);
         self.open_unless(self.covers(reach, rows), defined)?;
         define_used(&mut self.state, reach, rows);
@@ -80,7 +80,7 @@ impl<'a> Flow<'a> {
             → Goes (whole_use type_id access.now.root access.now.selectors.items (said_reach reach.now) defined)
             self.old visits (seen said_ranges result) self.new visits }
     {
-        let rows = self.rows.accessed(access.root, &access.selectors);
+        let rows = self.grounds.rows.accessed(access.root, &access.selectors);
         let ranges = ranges_of(*self.open_ids.allocator(), &self.state, rows)?;
         self.open_unless(self.covers_whole(type_id, reach, rows), defined)?;
         define_used(&mut self.state, reach, rows);
@@ -89,19 +89,19 @@ impl<'a> Flow<'a> {
 
     /// Whether what is reached of a whole value is known to be defined.
     fn covers_whole(&self, type_id: TypeId, reach: &Reach, span: Span) -> bool
-        ensures { result ≡ (is_dead (viewed self.now.state) || (is_structured self.now.rows.now.types type_id
-            && is_covered self.now.rows.now (viewed self.now.state) (said_reach reach.now) (numbers span))) }
+        ensures { result ≡ (is_dead (viewed self.now.state) || (is_structured self.now.grounds.rows.now.types type_id
+            && is_covered self.now.grounds.rows.now (viewed self.now.state) (said_reach reach.now) (numbers span))) }
     {
-        self.state.is_dead() || self.rows.is_structured(type_id) && self.covers(reach, span)
+        self.state.is_dead() || self.grounds.rows.is_structured(type_id) && self.covers(reach, span)
     }
 
     /// Whether what is reached in each row is known to be defined.
     fn covers(&self, reach: &Reach, span: Span) -> bool
         ensures { result
-            ≡ is_covered self.now.rows.now (viewed self.now.state) (said_reach reach.now) (numbers span) }
+            ≡ is_covered self.now.grounds.rows.now (viewed self.now.state) (said_reach reach.now) (numbers span) }
     {
         for row in span.first..span.end() {
-            if !self.state.gives_reached(*reach, self.rows.index(row), row) {
+            if !self.state.gives_reached(*reach, self.grounds.rows.index(row), row) {
                 return false;
             }
         }

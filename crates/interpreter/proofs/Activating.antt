@@ -1,5 +1,5 @@
 -- How an activation begins and ends, as the work that is pending then.
-use Rattle.std.proofs.Common.{◌≡◌, ◌+◌, ◌-◌, ◌^◌, ◌<◌, ◌≤◌, ℕ, zero, suc, List, [], ◌∷◌, ◌++◌, Option, Some, None, Result, Ok, Err, OnOk, pos, length, reverse, map, filter, slice_get}
+use Rattle.std.proofs.Common.{◌≡◌, ◌+◌, ◌-◌, ◌<◌, ℕ, suc, List, [], ◌∷◌, ◌++◌, Option, Some, None, Result, Ok, Err, OnOk, pos, length, reverse, filter, slice_get}
 use Rattle.std.proofs.Common.{arith, sym, ◌∙◌, ap, subst, refl}
 use Rattle.std.proofs.lemmas.List.{length-reverse}
 use Rattle.std.specs.declared.alloc.AllocError.{AllocError}
@@ -11,13 +11,13 @@ use Rattle.meaning.specs.declared.outcome.Ending.TheVariants as ending
 use Rattle.meaning.specs.declared.store.Value.{Value}
 use Rattle.meaning.specs.declared.store.Value.TheVariants.{Number}
 use Rattle.meaning.specs.Store.{Environment, Store}
-use Rattle.meaning.specs.Effect.{State, Reply, Gives, Stops, Action, ◌>>=◌, and_then, begin_with, end_with, give, stop}
+use Rattle.meaning.specs.Effect.{State, Reply, Gives, Stops, Action, ◌>>=◌, and_then, begin_with, end_with, give}
 use Rattle.meaning.specs.Meaning.{Activation, Argument, OfValue, Calls, Surroundings, activated, assign_all, calls_of, effect_of, environment_of}
 use Rattle.meaning.specs.Meaning.{executed, result_of}
 use Rattle.interpreter_state.specs.declared.activation.Activation.{Activation as KeptActivation}
 use Rattle.interpreter_state.specs.declared.work.Caller.{Caller}
 use Rattle.interpreter_state.specs.declared.work.Work.{Work}
-use Rattle.interpreter_state.specs.Views.{Visible, pairs_passed, visible_in}
+use Rattle.interpreter_state.specs.Views.{Visible, visible_in}
 use Rattle.interpreter_state.proofs.Sees.{own_of, sees_inner}
 use Rattle.interpreter.specs.declared.interpreter.Run.{Run}
 use Rattle.interpreter.specs.Pending.{Agrees, Resumption, Sees, Waits, StoreAgrees, activating, beginning, left_below, operands_of, pending_of, returning}
@@ -82,16 +82,6 @@ called : (env : Surroundings) (number count : ℕ) (next : Resumption) (operands
 called env number count next operands s calls is =
     ap (λ (c : Calls). and_then (c number (taken_from count operands) env.visible s) (λ v. next (OfValue v ∷ left_below count operands))) is
 
--- where no activation may begin no turn is left
-pub too_deep : (tree : Tree) (env : Surroundings) (number count : ℕ) (next : Resumption) (operands : List Argument) (s : State) →
-    env.calls ≡ calls_of tree 0 → s.turns ≡ 0 →
-    activating env number count next operands s ≡ Stops ending.More (record s { starved = number ∷ s.living })
-too_deep tree env number count next operands s calls none =
-    let then_rest : Value → Action (Unit {0}) = λ v. next (OfValue v ∷ left_below count operands) in
-    let stopping : ℕ → Action Value = λ activation. stop ending.More in
-    called env number count next operands s (calls_of tree 0) calls
-    ∙ ap (λ n. and_then (and_then (begin_with n number s) stopping) then_rest) none
-
 -- a call of a routine, and of none
 pub calls_block : (tree : Tree) (env : Surroundings) (number count depth : ℕ) (block : Block) (next : Resumption) (operands : List Argument) (s : State) →
     env.calls ≡ calls_of tree (suc depth) → slice_get tree.blocks.items number ≡ Some block →
@@ -110,6 +100,14 @@ calls_none tree env number count depth next operands s calls missing =
     ∙ ap (λ (o : Option Block). and_then (activated tree (calls_of tree depth) number o (taken_from count operands) env.visible s)
     (λ v. next (OfValue v ∷ left_below count operands))) missing
 
+-- a call of a routine where no turn is left
+pub calls_starved : (tree : Tree) (env : Surroundings) (number count depth : ℕ) (block : Block) (next : Resumption) (operands : List Argument) (s : State) →
+    env.calls ≡ calls_of tree (suc depth) → slice_get tree.blocks.items number ≡ Some block → s.turns ≡ 0 →
+    activating env number count next operands s ≡ Stops ending.More (record s { starved = number ∷ s.living })
+calls_starved tree env number count depth block next operands s calls found none =
+    calls_block tree env number count depth block next operands s calls found
+    ∙ starves tree depth number block (taken_from count operands) env next (left_below count operands) s none
+
 -- what goes on behind an activation that begins now
 abbrev pub behind : Surroundings → Resumption → Run → State → Surroundings → KeptActivation → Resumption
 behind env outer old s there activation = returning there activation s.living (pending_of env outer (reverse old.pending.items))
@@ -121,18 +119,24 @@ pub agrees_begun : (old begun : Run) (caller : Caller) (env : Surroundings) (out
     ∷ filter (λ (seen : Visible). is_one_of block.heading.around.items seen.block) (visible_in old.activation) →
     begun.activation.depth ≡ old.activation.depth - 1 → begun.callers.items ≡ old.callers.items ++ caller ∷ [] →
     caller.activation ≡ old.activation → caller.pending.items ≡ old.pending.items → StoreAgrees begun.store after →
-    begun ≡ record old { turns = left; called = old.called + 1; activation = begun.activation; callers = begun.callers; pending = begun.pending;
-      store = begun.store } →
-    Agrees (inside old.tree.now (old.activation.depth - 1) (begun_activation s.activations number block arguments env.visible))
-    (behind env outer old s (inside old.tree.now (old.activation.depth - 1) (begun_activation s.activations number block arguments env.visible))
+    begun ≡ record old {
+      turns = left;
+      called = old.called + 1;
+      activation = begun.activation;
+      callers = begun.callers;
+      pending = begun.pending;
+      store = begun.store;
+    } →
+    Agrees (inside old.tree.now old.activation.depth (begun_activation s.activations number block arguments env.visible))
+    (behind env outer old s (inside old.tree.now old.activation.depth (begun_activation s.activations number block arguments env.visible))
     begun.activation) begun (after_begin left number after s)
 agrees_begun old begun caller env outer s left number block arguments after agrees some deep sees depth pushed waits_as pending store same =
     let tree = old.tree.now in
     let activation = begun_activation s.activations number block arguments env.visible in
-    let there = inside tree (old.activation.depth - 1) activation in
+    let there = inside tree old.activation.depth activation in
     let outer_there = behind env outer old s there begun.activation in
     let from_caller : KeptActivation → List Work → Type 0 = λ a works.
-    Sees env.visible tree a × (env.calls ≡ calls_of tree a.depth) × (a.depth ≡ suc begun.activation.depth)
+    Sees env.visible tree a × (env.calls ≡ calls_of tree (suc a.depth)) × (a.depth ≡ suc begun.activation.depth)
     × Waits tree env a outer (reverse old.callers.items)
     × ((operands : List Argument) (t : State) → outer_there operands t ≡
     returning there begun.activation s.living (pending_of env outer (reverse works)) operands t) in
@@ -142,13 +146,20 @@ agrees_begun old begun caller env outer s left number block arguments after agre
     subst (λ a. from_caller a caller.pending.items) (sym waits_as) (subst (λ l. from_caller old.activation l) (sym pending) waits) in
     let few_left = agrees.few in
     let deep_left = agrees.deep in
-    let fields : Agrees there outer_there (record old { turns = left; called = old.called + 1; activation = begun.activation; callers = begun.callers;
-      pending = begun.pending; store = begun.store }) (after_begin left number after s) = record {
+    let one_more : old.activation.depth ≡ suc begun.activation.depth = omega (arith, deep, depth) in
+    let fields : Agrees there outer_there (record old {
+      turns = left;
+      called = old.called + 1;
+      activation = begun.activation;
+      callers = begun.callers;
+      pending = begun.pending;
+      store = begun.store;
+    }) (after_begin left number after s) = record {
       visible = record {
         variables = sees_inner tree activation (visible_in old.activation) (visible_in begun.activation) agrees.visible.variables sees;
         types = refl;
       };
-      calls = ap (calls_of tree) (sym depth);
+      calls = ap (calls_of tree) one_more;
       waits = subst (λ (l : List Caller). Waits tree there begun.activation outer_there l) (sym (ap reverse pushed ∙ reverse_push old.callers.items caller))
           (env, outer, s.living, moved.0, moved.1, moved.2, moved.3, moved.4);
       deep = omega (arith, deep_left, some, depth, deep);

@@ -1,5 +1,5 @@
 -- What pending work means, step by step.
-use Rattle.std.proofs.Common.{◌≡◌, ℕ, List, [], ◌∷◌, ◌++◌, Option, Some, None, Result, Ok, Err, reverse, sym, ◌∙◌, ap, subst, refl, length, map, arith, Bool}
+use Rattle.std.proofs.Common.{◌≡◌, ℕ, suc, List, [], ◌∷◌, ◌++◌, Option, Some, None, Result, Ok, Err, reverse, sym, ◌∙◌, ap, subst, refl, length, map, arith, Bool}
 use Rattle.std.proofs.Common.{true, false, if◌then◌else◌, Box, Global, ℤ}
 use Rattle.std.proofs.lemmas.Int.{ints}
 use mir.Syntax.{w32}
@@ -22,7 +22,8 @@ use Rattle.meaning.specs.declared.store.Value.TheVariants.{Number}
 use Rattle.meaning.specs.Meaning.{Surroundings}
 use Rattle.meaning.specs.Store.{Place, held, kept, part}
 use Rattle.meaning.specs.Effect.{State, Reply, Gives, Stops, Action, ◌>>=◌, and_then, fetched, fetch, give, is_in, number_of, require, stop, store}
-use Rattle.meaning.specs.Meaning.{effect_of, is_so}
+use Rattle.meaning.specs.Meaning.{Calls, calls_of, effect_of, is_so}
+use Rattle.typed_tree.specs.declared.tree.Tree.{Tree}
 use Rattle.meaning.proofs.Turns.{ExtendedCalls, extended_calls}
 use Rattle.interpreter_state.specs.declared.work.Caller.{Caller}
 use Rattle.operations.specs.Answers.{answered, checked, number_tested}
@@ -61,8 +62,11 @@ pub fetched_there : (defined : ℕ) (s : State) (place : Option Place) (o : Opti
 fetched_there defined s place o answer holds is = ap (λ w. fetched w defined s) (sym holds) ∙ fetched_answer o defined s ∙ ap (λ a. answered a s) (sym is)
 
 -- loops in a run give no turns back
+extended_at : (tree : Tree) (depth : ℕ) (calls : Calls) → calls ≡ calls_of tree depth → ExtendedCalls calls
+extended_at tree depth calls is = subst ExtendedCalls (sym is) (extended_calls tree depth)
+
 pub calls_extended : (env : Surroundings) (outer : Resumption) (run : Run) (s : State) → Agrees env outer run s → ExtendedCalls env.calls
-calls_extended env outer run s agrees = subst ExtendedCalls (sym agrees.calls) (extended_calls run.tree.now run.activation.depth)
+calls_extended env outer run s agrees = extended_at run.tree.now (suc run.activation.depth) env.calls agrees.calls
 
 module _ (env : Surroundings) (outer : Resumption) (old new : Run) where
   -- the run goes on with other work

@@ -1,5 +1,5 @@
 -- How a run begins.
-use Rattle.std.proofs.Common.{◌≡◌, ◌<◌, ◌+◌, ◌^◌, ◌≤◌, ℕ, suc, List, [], ◌∷◌, ◌++◌, Option, Some, None, Result, IfOk, Bor, reverse, slice_get}
+use Rattle.std.proofs.Common.{◌≡◌, ℕ, suc, List, [], ◌∷◌, ◌++◌, Option, Some, None, Result, IfOk, Bor, reverse, slice_get}
 use Rattle.std.proofs.Common.{arith, filter, map, sym, ◌∙◌, ap, subst, refl}
 use Rattle.std.specs.BTreeMap.{BTreeMap, is_at}
 use Rattle.std.specs.Map.{lookup}
@@ -35,7 +35,7 @@ holds_nothing kept none p = ap (λ (l : List (KeptPlace × Value)). lookup (is_a
 
 -- a run that did the program's block from the first state ends as the program does
 pub ends_as_meant : (tree : Tree) (input : List ℕ) (turns : ℕ) (done : Run) (ending : Ending) →
-    EndsAs (run_of tree turns (slice_get tree.blocks.items 0) (first_state input turns)) done ending →
+    EndsAs (run_of tree (suc turns) (slice_get tree.blocks.items 0) (first_state input turns)) done ending →
     (done.output.items ≡ (meaning tree input turns).output) × (ending ≡ (meaning tree input turns).ending)
 ends_as_meant tree input turns done ending ends = (ends.output, sym ends.ending)
 
@@ -44,10 +44,10 @@ pub agrees_first : (old begun : Run) (heading : Heading) (s : State) → IsFresh
     visible_in begun.activation ≡ own_of (program_activation old.tree.now heading)
     ∷ filter (λ (seen : Visible). is_one_of heading.around.items seen.block) (visible_in old.activation) →
     begun ≡ record old { activation = begun.activation; pending = begun.pending } → begun.activation.depth ≡ old.turns →
-    Agrees (program_surroundings old.tree.now old.turns heading) (λ operands. give tt) begun s
+    Agrees (program_surroundings old.tree.now (suc old.turns) heading) (λ operands. give tt) begun s
 agrees_first old begun heading s fresh sees same depth =
     let tree = old.tree.now in
-    let env = program_surroundings tree old.turns heading in
+    let env = program_surroundings tree (suc old.turns) heading in
     let outer : Resumption = λ operands. give tt in
     let none : visible_in old.activation ≡ [] = ap (map seen_as) fresh.visible in
     let called = fresh.called in
@@ -59,7 +59,7 @@ agrees_first old begun heading s fresh sees same depth =
             ∙ ap (λ (l : List Visible). place_of l root (slice_get tree.variables.items root)) (sym none)) sees;
         types = refl;
       };
-      calls = ap (calls_of tree) (sym depth);
+      calls = ap (λ n. calls_of tree (suc n)) (sym depth);
       waits = subst (λ (l : List Caller). Waits tree env begun.activation outer (reverse l)) (sym fresh.callers) (λ operands t. refl);
       deep = omega (arith, depth);
       few = omega (arith, called, few_left);
@@ -72,16 +72,17 @@ agrees_first old begun heading s fresh sees same depth =
     subst (λ (r : Run). Agrees env outer r s) (sym same) fields
 
 -- the statement of the program's block is all that is pending
-pub begins_with_block : (inner : Bor Stmt) (block : Block) (tree : Tree) (turns : ℕ) (operands : List Argument) (s : State) (pending : List Work) →
-    pending ≡ work.Statement inner ∷ [] → inner.now ≡ block.body → slice_get tree.blocks.items 0 ≡ Some block →
+pub begins_with_block : (inner : Bor Stmt) (block : Block) (tree : Tree) (turns : ℕ) (operands : List Argument) (s : State) (pending before : List Work) →
+    pending ≡ before ++ work.Statement inner ∷ [] → before ≡ [] → inner.now ≡ block.body → slice_get tree.blocks.items 0 ≡ Some block →
     run_of tree turns (slice_get tree.blocks.items 0) s ≡
     pending_of (program_surroundings tree turns block.heading) (λ operands. give tt) (reverse pending) operands s
-begins_with_block inner block tree turns operands s pending pushed body is =
+begins_with_block inner block tree turns operands s pending before pushed none body is =
     let env = program_surroundings tree turns block.heading in
+    let alone : pending ≡ work.Statement inner ∷ [] = pushed ∙ ap (λ l. l ++ work.Statement inner ∷ []) none in
     ap (λ (o : Option Block). run_of tree turns o s) is
     ∙ ap (λ (b : Stmt). effect_of b env s) (sym body)
     ∙ sym (and_then-nothing (effect_of inner.now env s))
-    ∙ ap (λ (l : List Work). pending_of env (λ operands. give tt) (reverse l) operands s) (sym pushed)
+    ∙ ap (λ (l : List Work). pending_of env (λ operands. give tt) (reverse l) operands s) (sym alone)
 
 -- a run that does the same ends the same
 pub ends_alike : (new : Run) (whole rest : Reply (Unit {0})) (result : Result Ending AllocError) → whole ≡ rest →

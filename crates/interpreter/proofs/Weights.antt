@@ -116,7 +116,6 @@ module _ (callees : Callees) (higher : (block : ℕ) → Rises (callees block)) 
       let one = rising_components left left_indexes.items turns more in
       let other = rising_components right right_indexes.items turns more in
       omega (arith, one, other)
-
   expression-parts (CallOf call actuals) turns more =
       rising_call call (map (weight_of_passed callees) (map (λ p. p.0) actuals.items)) (rising_actuals actuals.items) turns more
 

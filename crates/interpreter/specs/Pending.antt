@@ -2,7 +2,7 @@
 -- It says nothing of how many steps the work takes.
 use Rattle.std.specs.Prelude.{◌≡◌, ◌+◌, ◌^◌, ◌<◌, ◌≤◌, zero, suc, ℕ, ℤ, pos, Bool, List, [], ◌∷◌, Option, Some, None}
 use Rattle.std.specs.Prelude.{Result, Ok, Err, Vec, IfOk}
-use Rattle.std.specs.Prelude.{if◌then◌else◌, drop, length, map, option_map, reverse, slice_get}
+use Rattle.std.specs.Prelude.{if◌then◌else◌, drop, length, map, reverse, slice_get}
 use Rattle.std.specs.BTreeMap.{BTreeMap, get}
 use Rattle.std.specs.declared.alloc.AllocError.{AllocError}
 use Rattle.std.specs.declared.alloc.Global.{Global}
@@ -403,7 +403,7 @@ Waits tree env activation outer [] = (operands : List Argument) (s : State) → 
 Waits tree env activation outer (caller ∷ callers) =
     (there : Surroundings) × (behind : Resumption) × (living : List ℕ)
     × Sees there.visible tree caller.activation
-    × (there.calls ≡ calls_of tree caller.activation.depth)
+    × (there.calls ≡ calls_of tree (suc caller.activation.depth))
     × (caller.activation.depth ≡ suc activation.depth)
     × Waits tree there caller.activation behind callers
     × ((operands : List Argument) (s : State) → outer operands s ≡
@@ -414,7 +414,7 @@ Waits tree env activation outer (caller ∷ callers) =
 abbrev pub Agrees : Surroundings → Resumption → Run → State → Type 0
 Agrees env outer run s = record {
   visible : Sees env.visible run.tree.now run.activation;
-  calls : env.calls ≡ calls_of run.tree.now run.activation.depth;
+  calls : env.calls ≡ calls_of run.tree.now (suc run.activation.depth);
   waits : Waits run.tree.now env run.activation outer (reverse run.callers.items);
   deep : run.turns ≤ run.activation.depth;
   few : run.called + run.turns < 2 ^ 64;
@@ -493,4 +493,4 @@ IsFresh run s = record {
 abbrev pub Executes : Run → Result Ending AllocError → Run → Type 0
 Executes old result new =
     (s : State) → IsFresh old s → IfOk result (λ ending.
-    EndsAs (run_of old.tree.now old.turns (slice_get old.tree.now.blocks.items 0) s) new ending)
+    EndsAs (run_of old.tree.now (suc old.turns) (slice_get old.tree.now.blocks.items 0) s) new ending)

@@ -56,7 +56,9 @@ impl<'t> Run<'t, '_> {
                 self.plan(Work::Whole { value, indexes }, Work::Pass(rest))
             }
             Passed::Reference {
-                access, indexes, ..
+                access,
+                indexes,
+                ..
             } => self.access(access, indexes, Work::Pass(rest)),
         }
     }
@@ -80,13 +82,13 @@ impl<'t> Run<'t, '_> {
         ensures does { Does (λ env. resumed env (Work.Activate number count)) self.old result self.new }
     {
         let arguments = self.arguments(count)?;
+        let Some(block) = self.tree.blocks.get(number as usize) else {
+            return self.go_on(Ok(Value::Number(Ordinal::new(0))));
+        };
         if self.activation.depth == 0 {
             return Ok(Some(Ending::More));
         }
-        match self.tree.blocks.get(number as usize) {
-            Some(block) => self.begin(number, block, &arguments),
-            None => self.go_on(Ok(Value::Number(Ordinal::new(0)))),
-        }
+        self.begin(number, block, &arguments)
     }
 
     // So many operands, the topmost one last.
@@ -117,7 +119,7 @@ impl<'t> Run<'t, '_> {
         ensures fewer { OnOk result (pending_weight self.new
             ≤ pending_weight self.old + 1 + begun_weight
             (callees_of self.old.tree.now (self.old.activation.depth - 1)) (Some block.now) self.old.turns) }
-        ensures does { Does (beginning self.old.tree.now (self.old.activation.depth - 1) number block.now
+        ensures does { Does (beginning self.old.tree.now self.old.activation.depth number block.now
             (map operand_seen arguments.now)) self.old result self.new }
     {
         if self.turns == 0 {
@@ -127,9 +129,9 @@ impl<'t> Run<'t, '_> {
         let Some(called) = self.called.checked_add(1) else {
             return Ok(Some(Ending::More));
         };
-        let activation =
-            self.activation
-                .inner(self.alloc, number, &block.heading, called, arguments)?;
+        let activation = self
+            .activation
+            .inner(self.alloc, number, &block.heading, called, arguments)?;
         self.turns -= 1;
         self.called = called;
         let activation = mem::replace(&mut self.activation, activation);

@@ -26,12 +26,6 @@ pub fn interpret(
         (o.output.items ≡ (meaning tree.now input.now turns).output)
         × (o.ending ≡ (meaning tree.now input.now turns).ending)) }
 {
-    let visible = Vec::new(alloc);
-    let nothing = Activation {
-        visible,
-        depth: turns,
-        result: None,
-    };
     let mut run = Run {
         alloc,
         tree,
@@ -41,7 +35,7 @@ pub fn interpret(
         output: Vec::new(alloc),
         turns,
         called: 0,
-        activation: nothing,
+        activation: Activation::outside(alloc, turns),
         callers: Vec::new(alloc),
         operands: Vec::new(alloc),
         pending: Vec::new(alloc),
@@ -82,9 +76,9 @@ impl<'t> Run<'t, '_> {
     {
         match self.tree.blocks.first() {
             Some(block) => {
-                let mut activation =
-                    self.activation
-                        .inner(self.alloc, 0, &block.heading, 0, &[])?;
+                let mut activation = self
+                    .activation
+                    .inner(self.alloc, 0, &block.heading, 0, &[])?;
                 activation.depth = self.turns;
                 self.activation = activation;
                 put(&mut self.pending, Work::Statement(&block.body))?;

@@ -1,5 +1,4 @@
 ghost use Rattle.std.specs.Prelude.{◌≡◌, ◌+◌, ◌<◌, ◌≤◌, OnOk};
-ghost use Rattle.typed_tree.specs.WellFormed.{length_of};
 ghost use Rattle.interpreter.specs.Pending.{Does, counting_on, forgetting, line_ending, repeating, resumed, whiling};
 ghost use Rattle.interpreter.specs.Pending.{writing, writing_one, writing_row};
 ghost use Rattle.interpreter.specs.Weight.{Lightens, callees_in, for_weight, pending_weight, weight_of_expression};
@@ -14,6 +13,7 @@ use operations::arms::arm_at;
 use operations::ordinals::{
     number_of, positive_width, tested_bounds, truth_of, value_toward, width_by_default,
 };
+use operations::rows::length_of;
 use operations::text::{write_row, write_row_in, write_value};
 use std::alloc::AllocError;
 use typed_tree::tree::{
@@ -343,10 +343,7 @@ impl<'t> Run<'t, '_> {
     }
 
     // A value that is written.
-    fn parameter(
-        &mut self,
-        parameter: &'t WriteParameter,
-    ) -> Result<Option<Ending>, AllocError>
+    fn parameter(&mut self, parameter: &'t WriteParameter) -> Result<Option<Ending>, AllocError>
         ensures fewer { OnOk result (pending_weight self.new < pending_weight self.old
             + weight_of_parameter (callees_in self.old) parameter.now self.old.turns) }
         ensures does { Does (λ env. writing_one env parameter.now) self.old result self.new }
@@ -474,15 +471,5 @@ impl<'t> Run<'t, '_> {
             self.output.push(b'\n')?;
         }
         Ok(None)
-    }
-}
-
-// How many components a whole value has.
-fn length_of(value: &Whole) -> usize
-    ensures { result ≡ length_of value.now }
-{
-    match value {
-        Whole::Text { characters, .. } => characters.len(),
-        Whole::Variable { cells, .. } => *cells as usize,
     }
 }

@@ -69,13 +69,7 @@ impl Run<'_, '_> {
     {
         let mut row = Vec::new(self.alloc);
         for component in 0..self.tree.types.cells(type_id) {
-            let part = component_of(
-                self.alloc,
-                &self.tree.types,
-                place,
-                type_id,
-                component,
-            )?;
+            let part = component_of(self.alloc, &self.tree.types, place, type_id, component)?;
             match self.found(&part) {
                 Some(value) => row.push(number_of(value))?,
                 None => return Ok(None),
@@ -100,13 +94,7 @@ impl Run<'_, '_> {
             let Some(number) = row.get(component as usize) else {
                 break;
             };
-            let part = component_of(
-                self.alloc,
-                &self.tree.types,
-                place,
-                type_id,
-                component,
-            )?;
+            let part = component_of(self.alloc, &self.tree.types, place, type_id, component)?;
             self.keep(part, Value::Number(*number))?;
         }
         Ok(())

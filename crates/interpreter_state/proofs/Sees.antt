@@ -1,15 +1,14 @@
 -- What is visible in an activation that begins inside another, as the meaning has it.
-use Rattle.std.proofs.Common.{◌≡◌, ℕ, List, [], ◌∷◌, Bool, true, false, Option, Some, None, filter, map, nat_eq, slice_get, if◌then◌else◌}
+use Rattle.std.proofs.Common.{◌≡◌, ℕ, List, [], ◌∷◌, Bool, true, false, Option, Some, None, filter, nat_eq, slice_get, if◌then◌else◌}
 use Rattle.std.proofs.Common.{sym, ◌∙◌, ap, refl}
 use Rattle.std.proofs.lemmas.Bool.{eqb-true}
 use Rattle.std.proofs.Math.Bool.{cond}
 use Rattle.typed_tree.specs.declared.tree.Tree.{Tree}
-use Rattle.typed_tree.specs.declared.tree.Heading.{Heading}
 use Rattle.typed_tree.specs.declared.tree.Variable.{Variable as DeclaredVariable}
 use Rattle.typed_tree.specs.declared.tree.VariableKind.{VariableKind}
 use Rattle.typed_tree.specs.declared.tree.VariableKind.TheVariants as kind
 use Rattle.typed_tree.specs.WellFormed.{is_one_of}
-use Rattle.meaning.specs.Store.{Environment, Place}
+use Rattle.meaning.specs.Store.{Place}
 use Rattle.meaning.specs.Meaning.{Activation, Argument, environment_of, home_of, place_for, place_passed, seen_from}
 use Rattle.interpreter_state.specs.Views.{Visible, declared_in, home_in, pairs_passed, passed_at, place_of}
 

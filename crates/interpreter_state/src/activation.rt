@@ -1,4 +1,4 @@
-ghost use Rattle.std.specs.Prelude.{◌≡◌, ◌∷◌, ◌++◌, ◌-◌, IfOk, OnOk, filter, map, option_map, slice_get};
+ghost use Rattle.std.specs.Prelude.{◌≡◌, [], ◌∷◌, ◌++◌, ◌-◌, IfOk, OnOk, filter, map, option_map, slice_get};
 ghost use Rattle.typed_tree.specs.WellFormed.{is_one_of};
 ghost use Rattle.interpreter_state.specs.Views.{declared_in, home_in, operand_seen, pairs_passed, passed_at, place_of};
 ghost use Rattle.interpreter_state.specs.Views.{place_seen, reference_seen, seen_as, visible_in};
@@ -86,6 +86,18 @@ impl Seen {
 }
 
 impl Activation {
+    /// What is round a program: nothing is visible, and so many activations may be in one another inside it.
+    pub fn outside(alloc: Global, depth: u64) -> Activation
+        ensures visible { result.visible.items ≡ [] }
+        ensures depth { result.depth ≡ depth }
+    {
+        Activation {
+            visible: Vec::new(alloc),
+            depth,
+            result: None,
+        }
+    }
+
     /// Where a variable lies, if it is visible. An error means that memory ran out, as it does below.
     pub fn place(
         &self,
@@ -114,9 +126,9 @@ impl Activation {
     ) -> Result<Activation, AllocError>
         ensures visible { IfOk result (λ inner. visible_in inner
             ≡ record {
-                block = block;
-                number = number;
-                references = pairs_passed heading.now.parameters.items (map operand_seen arguments.now);
+              block = block;
+              number = number;
+              references = pairs_passed heading.now.parameters.items (map operand_seen arguments.now);
             } ∷ filter (λ seen. is_one_of heading.now.around.items seen.block) (visible_in self.now)) }
         ensures depth { IfOk result (λ inner. inner.depth ≡ self.now.depth - 1) }
         ensures told { IfOk result (λ inner. inner.result ≡ heading.now.result) }
@@ -138,10 +150,7 @@ impl Activation {
 }
 
 // What was passed, once more.
-fn references_again(
-    alloc: Global,
-    references: &[Reference],
-) -> Result<Vec<Reference>, AllocError>
+fn references_again(alloc: Global, references: &[Reference]) -> Result<Vec<Reference>, AllocError>
     ensures { IfOk result (λ again. map reference_seen again.items ≡ map reference_seen references.now) }
 {
     let mut again = Vec::new(alloc);

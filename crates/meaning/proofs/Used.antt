@@ -28,7 +28,7 @@ abbrev left_at : {A : Type 0} → ℕ → Reply A → Reply A
 left_at left (Gives a s) = Gives a (record s { turns = left })
 left_at left (Stops e s) = Stops e (record s { turns = left })
 
-exact_plain : {A : Type 0} (action : Action A) → ((s : State) → (state_after (action s)).turns ≡ s.turns)
+pub exact_plain : {A : Type 0} (action : Action A) → ((s : State) → (state_after (action s)).turns ≡ s.turns)
     → ((s : State) (left : ℕ) → action (record s { turns = left }) ≡ left_at left (action s)) → UsesTurnsExactly action
 exact_plain action same plain s t a is =
     let none : s.turns ≡ 0 + t.turns = sym (same s) ∙ ap (λ r. (state_after r).turns) is ∙ plus_none t.turns in
@@ -37,11 +37,11 @@ exact_plain action same plain s t a is =
     plus_none : (n : ℕ) → n ≡ 0 + n
     plus_none n = omega arith
 
-exact_give : {A : Type 0} (a : A) → UsesTurnsExactly (give a)
+pub exact_give : {A : Type 0} (a : A) → UsesTurnsExactly (give a)
 exact_give a = exact_plain (give a) (λ s. refl) (λ s left. refl)
 
 -- an action that gives no value
-exact_stop : {A : Type 0} (action : Action A) → ((s t : State) (a : A) → action s ≡ Gives a t → ⊥) → UsesTurnsExactly action
+pub exact_stop : {A : Type 0} (action : Action A) → ((s t : State) (a : A) → action s ≡ Gives a t → ⊥) → UsesTurnsExactly action
 exact_stop action never s t a is = absurd (never s t a is)
 
 fetched_turns : (value : Option Value) (site : ℕ) (s : State) → (state_after (fetched value site s)).turns ≡ s.turns
@@ -54,7 +54,7 @@ fetched_left (Some v) site s left = refl
 
 -- ---- one after the other
 
-exact_then : {A B : Type 0} (action : Action A) (rest : A → Action B) → UsesTurnsExactly action → ((a : A) → UsesTurnsExactly (rest a))
+pub exact_then : {A B : Type 0} (action : Action A) (rest : A → Action B) → UsesTurnsExactly action → ((a : A) → UsesTurnsExactly (rest a))
     → UsesTurnsExactly (action >>= rest)
 exact_then {A} {B} action rest first each s t b is = by (action s) refl is
   where
@@ -93,7 +93,7 @@ turn_exact (suc less) s t a there is =
           ap (λ n. take_turn n (record s { turns = n })) one_more ∙ ap (λ (u : State). Gives tt (record u { turns = left })) state,
     )
 
-exact_turn : UsesTurnsExactly use_turn
+pub exact_turn : UsesTurnsExactly use_turn
 exact_turn s t a is = turn_exact s.turns s t a refl is
 
 begin_exact : (turns block : ℕ) (s t : State) (a : ℕ) → turns ≡ s.turns → begin_with turns block s ≡ Gives a t
@@ -108,7 +108,7 @@ begin_exact (suc less) block s t a there is =
           ap (λ n. begin_with n block (record s { turns = n })) one_more ∙ ap (left_at left) is,
     )
 
-exact_begin : (block : ℕ) → UsesTurnsExactly (begin block)
+pub exact_begin : (block : ℕ) → UsesTurnsExactly (begin block)
 exact_begin block s t a is = begin_exact s.turns block s t a refl is
 
 -- ---- loops
@@ -149,7 +149,7 @@ module _ {A : Type 0} (round : Round A) (uses : UsesTurns round) (each : (a : A)
       exact_round a s t b (round a s) refl (uses.spent a s)
       (λ more u fewer more_is. exact_rounds bound more u t b (omega (arith, few, fewer)) more_is) (sym (looped-rounds round uses a s) ∙ is)
 
-  exact_looped : (a : A) → UsesTurnsExactly (looped round a)
+  pub exact_looped : (a : A) → UsesTurnsExactly (looped round a)
   exact_looped a s t b is = exact_rounds s.turns a s t b (omega arith) is
 
 -- ---- pieces
@@ -158,7 +158,7 @@ module _ {A : Type 0} (round : Round A) (uses : UsesTurns round) (each : (a : A)
 abbrev pub Exact : (A : Type 0) → Action A → Action A → Type 0
 Exact A action other = Extended action × UsesTurnsExactly action
 
-exact_turn_if : (so : Bool) (body : Action (Unit {0})) → UsesTurnsExactly body → UsesTurnsExactly (turn_if so body)
+pub exact_turn_if : (so : Bool) (body : Action (Unit {0})) → UsesTurnsExactly body → UsesTurnsExactly (turn_if so body)
 exact_turn_if false body done = exact_give None
 exact_turn_if true body done = exact_then use_turn _ exact_turn (λ _. exact_then body _ done (λ _. exact_give (Some tt)))
 
@@ -187,7 +187,7 @@ exact_for place direction last body done first =
     (λ n. exact_then (store place (Number n)) _ (exact_plain (store place (Number n)) (λ s. refl) (λ s left. refl))
     (λ _. exact_then use_turn _ exact_turn (λ _. exact_then body _ done.1 (λ _. exact_give (value_behind direction last n))))) first
 
-exact_closed : Closed Exact
+pub exact_closed : Closed Exact
 exact_closed = record {
   follows = λ a b f g one each. (extended_then a f one.0 (λ x. (each x).0), exact_then a f one.1 (λ x. (each x).1));
   gives = λ a. (extended_give a, exact_give a);
@@ -231,7 +231,7 @@ module _ (tree : Tree) where
       → UsesTurnsExactly (executed tree calls block activation)
   exact_executed calls exact block activation = (of_executed Exact exact_closed tree calls calls exact block activation).1
 
-  exact_activated : (calls : Calls) → ExactCalls calls → (number : ℕ) (block : Option Block) (arguments : List Argument) (caller : Environment)
+  pub exact_activated : (calls : Calls) → ExactCalls calls → (number : ℕ) (block : Option Block) (arguments : List Argument) (caller : Environment)
       → UsesTurnsExactly (activated tree calls number block arguments caller)
   exact_activated calls exact number None arguments caller = exact_give _
   exact_activated calls exact number (Some block) arguments caller =

@@ -133,18 +133,18 @@ module _ (R : (A : Type 0) → Action A → Action A → Type 0) (actions : OfAc
 module _ (R : (A : Type 0) → Action A → Action A → Type 0) (closed : Closed R) where
   -- ---- what doesn't depend on calls
 
-  of_require : (b : Bool) (site : ℕ) → R (Unit {0}) (require b site) (require b site)
+  pub of_require : (b : Bool) (site : ℕ) → R (Unit {0}) (require b site) (require b site)
   of_require true site = closed.gives tt
   of_require false site = closed.errs site
 
-  of_fetch_all : (p : Option Place) (components : List (List Step)) (site : ℕ)
+  pub of_fetch_all : (p : Option Place) (components : List (List Step)) (site : ℕ)
       → R (List ℤ) (fetch_all p components site) (fetch_all p components site)
   of_fetch_all p [] site = closed.gives []
   of_fetch_all p (steps ∷ components) site =
       closed.follows _ _ _ _ (closed.fetches (part p steps) site)
       (λ v. closed.follows _ _ _ _ (of_fetch_all p components site) (λ numbers. closed.gives (number_of v ∷ numbers)))
 
-  of_store_all : (p : Option Place) (components : List (List Step)) (numbers : List ℤ)
+  pub of_store_all : (p : Option Place) (components : List (List Step)) (numbers : List ℤ)
       → R (Unit {0}) (store_all p components numbers) (store_all p components numbers)
   of_store_all p [] numbers = closed.gives tt
   of_store_all p (steps ∷ components) [] = closed.gives tt
@@ -152,13 +152,13 @@ module _ (R : (A : Type 0) → Action A → Action A → Type 0) (closed : Close
       closed.follows _ _ _ _ (closed.stores (part p steps) (Number n)) (λ _. of_store_all p components numbers)
 
   -- a test, and then a value
-  of_tested : (b : Bool) (site : ℕ) (v : Value) → R Value (require b site >>= λ _. give v) (require b site >>= λ _. give v)
+  pub of_tested : (b : Bool) (site : ℕ) (v : Value) → R Value (require b site >>= λ _. give v) (require b site >>= λ _. give v)
   of_tested b site v = closed.follows _ _ _ _ (of_require b site) (λ _. closed.gives v)
 
-  of_whole : (overflow : ℕ) (n : ℤ) → R Value (whole overflow n) (whole overflow n)
+  pub of_whole : (overflow : ℕ) (n : ℤ) → R Value (whole overflow n) (whole overflow n)
   of_whole overflow n = of_tested (is_integer_number n) overflow (Number n)
 
-  of_operated : (operation : Monadic) (v : Value) → R Value (operated operation v) (operated operation v)
+  pub of_operated : (operation : Monadic) (v : Value) → R Value (operated operation v) (operated operation v)
   of_operated monadic.Plus (Number a) = closed.gives _
   of_operated monadic.Minus (Number a) = closed.gives _
   of_operated monadic.Not (Number a) = closed.gives _
@@ -170,7 +170,7 @@ module _ (R : (A : Type 0) → Action A → Action A → Type 0) (closed : Close
   of_operated (monadic.Succ no_successor last) (Number a) = of_tested (int_lt a last) no_successor (Number (a +ℤ pos 1))
   of_operated (monadic.Pred no_predecessor first) (Number a) = of_tested (int_lt first a) no_predecessor (Number (a -ℤ pos 1))
 
-  of_combined : (operation : Dyadic) (left right : Value) → R Value (combined operation left right) (combined operation left right)
+  pub of_combined : (operation : Dyadic) (left right : Value) → R Value (combined operation left right) (combined operation left right)
   of_combined (dyadic.Plus overflow) (Number a) (Number b) = of_whole overflow (a +ℤ b)
   of_combined (dyadic.Minus overflow) (Number a) (Number b) = of_whole overflow (a -ℤ b)
   of_combined (dyadic.Times overflow) (Number a) (Number b) = of_whole overflow (a *ℤ b)
@@ -180,18 +180,18 @@ module _ (R : (A : Type 0) → Action A → Action A → Type 0) (closed : Close
   of_combined dyadic.Or (Number a) (Number b) = closed.gives _
   of_combined (dyadic.Relation r) (Number a) (Number b) = closed.gives _
 
-  of_line_ended : (ends_line : Bool) → R (Unit {0}) (line_ended ends_line) (line_ended ends_line)
+  pub of_line_ended : (ends_line : Bool) → R (Unit {0}) (line_ended ends_line) (line_ended ends_line)
   of_line_ended true = closed.writes (10 ∷ [])
   of_line_ended false = closed.gives tt
 
   -- one of two actions
-  of_chosen : {A : Type 0} (b : Bool) (one two other second : Action A) → R A one two → R A other second
+  pub of_chosen : {A : Type 0} (b : Bool) (one two other second : Action A) → R A one two → R A other second
       → R A (if b then one else other) (if b then two else second)
   of_chosen true one two other second first rest = first
   of_chosen false one two other second first rest = rest
 
   -- what is passed is written to a value parameter
-  of_assign : (types : List Form) (place : Option Place) (formal : Option DeclaredVariable) (argument : Argument)
+  pub of_assign : (types : List Form) (place : Option Place) (formal : Option DeclaredVariable) (argument : Argument)
       → R (Unit {0}) (assign types place formal argument) (assign types place formal argument)
   of_assign types place formal (OfValue v) = closed.stores place v
   of_assign types place None (OfRow numbers) = closed.gives tt
@@ -199,7 +199,7 @@ module _ (R : (A : Type 0) → Action A → Action A → Type 0) (closed : Close
   of_assign types place None (OfPlace other) = closed.gives tt
   of_assign types place (Some formal) (OfPlace other) = closed.gives tt
 
-  of_assign_all : (tree : Tree) (visible : Environment) (roots : List ℕ) (arguments : List Argument)
+  pub of_assign_all : (tree : Tree) (visible : Environment) (roots : List ℕ) (arguments : List Argument)
       → R (Unit {0}) (assign_all tree visible roots arguments) (assign_all tree visible roots arguments)
   of_assign_all tree visible [] arguments = closed.gives tt
   of_assign_all tree visible (root ∷ roots) [] = closed.gives tt
@@ -207,7 +207,7 @@ module _ (R : (A : Type 0) → Action A → Action A → Type 0) (closed : Close
       closed.follows _ _ _ _ (of_assign tree.types (visible.variables root) (slice_get tree.variables.items root) argument)
       (λ _. of_assign_all tree visible roots arguments)
 
-  of_result : (result : Option FunctionResult) (visible : Environment) → R Value (result_of result visible) (result_of result visible)
+  pub of_result : (result : Option FunctionResult) (visible : Environment) → R Value (result_of result visible) (result_of result visible)
   of_result None visible = closed.gives _
   of_result (Some result) visible = closed.fetches (visible.variables result.root) result.defined
 
@@ -243,13 +243,13 @@ module _ (R : (A : Type 0) → Action A → Action A → Type 0) (closed : Close
     abbrev RelatedLink : Type 0
     RelatedLink = (l : Link) × IsRelatedLink l
 
-    of_in_turn : (links : List RelatedLink) (v : Value)
+    pub of_in_turn : (links : List RelatedLink) (v : Value)
         → R Value (in_turn (map link_of (map (λ l. l.0) links)) here v) (in_turn (map link_of (map (λ l. l.0) links)) there v)
     of_in_turn [] v = closed.gives v
     of_in_turn (link ∷ links) v = closed.follows _ _ _ _ (link.1 v) (λ w. of_in_turn links w)
 
     -- the place to which selectors lead
-    of_selected : (selectors : List Selector) (indexes : List RelatedExpr) (p : Option Place)
+    pub of_selected : (selectors : List Selector) (indexes : List RelatedExpr) (p : Option Place)
         → R (Option Place) (selected selectors (values_of (map (λ e. e.0) indexes)) here p)
         (selected selectors (values_of (map (λ e. e.0) indexes)) there p)
     of_selected [] indexes p = closed.gives p
@@ -261,27 +261,27 @@ module _ (R : (A : Type 0) → Action A → Action A → Type 0) (closed : Close
         (λ _. of_selected selectors indexes (part p (step.Element (number_of v) ∷ []))))
 
     -- the place that is accessed
-    of_accessed : (access : Access) (indexes : List RelatedExpr)
+    pub of_accessed : (access : Access) (indexes : List RelatedExpr)
         → R (Option Place) (accessed access (values_of (map (λ e. e.0) indexes)) here) (accessed access (values_of (map (λ e. e.0) indexes)) there)
     of_accessed access indexes =
         closed.follows _ _ _ _ (closed.enters access.number visible)
         (λ _. of_selected access.selectors.items indexes (visible.variables access.root))
 
     -- the components of a whole value
-    of_components : (value : Whole) (indexes : List RelatedExpr)
+    pub of_components : (value : Whole) (indexes : List RelatedExpr)
         → R (List ℤ) (whole_of value (values_of (map (λ e. e.0) indexes)) here) (whole_of value (values_of (map (λ e. e.0) indexes)) there)
     of_components (Text number characters) indexes = closed.follows _ _ _ _ (closed.enters number visible) (λ _. closed.gives (map pos characters.items))
     of_components (VariableOf access type_id cells defined) indexes =
         closed.follows _ _ _ _ (of_accessed access indexes) (λ p. of_fetch_all p (components_of visible.types type_id) defined)
 
     -- actual parameters, from left to right
-    of_all_passed : (actuals : List RelatedPassed)
+    pub of_all_passed : (actuals : List RelatedPassed)
         → R (List Argument) (all_passed (map passing_of (map (λ p. p.0) actuals)) here) (all_passed (map passing_of (map (λ p. p.0) actuals)) there)
     of_all_passed [] = closed.gives []
     of_all_passed (one ∷ rest) =
         closed.follows _ _ _ _ one.1 (λ argument. closed.follows _ _ _ _ (of_all_passed rest) (λ arguments. closed.gives (argument ∷ arguments)))
 
-    of_call : (call : Call) (actuals : List RelatedPassed)
+    pub of_call : (call : Call) (actuals : List RelatedPassed)
         → R Value (call_of call (map passing_of (map (λ p. p.0) actuals)) here) (call_of call (map passing_of (map (λ p. p.0) actuals)) there)
     of_call call actuals =
         closed.follows _ _ _ _ (closed.enters call.number visible)
@@ -306,7 +306,7 @@ module _ (R : (A : Type 0) → Action A → Action A → Type 0) (closed : Close
     abbrev bare_link : Link-F RelatedExpr RelatedPassed RelatedLink → Link-F Expr Passed Link
     bare_link = map-Link RelatedExpr RelatedPassed RelatedLink Expr Passed Link (λ e. e.0) (λ p. p.0) (λ l. l.0)
 
-    of_layer : (y : Expr-F RelatedExpr RelatedPassed RelatedLink) → R Value (valued (bare y) here) (valued (bare y) there)
+    pub of_layer : (y : Expr-F RelatedExpr RelatedPassed RelatedLink) → R Value (valued (bare y) here) (valued (bare y) there)
     of_layer (Constant number value) = closed.follows _ _ _ _ (closed.enters number visible) (λ _. closed.gives (Number value))
     of_layer (Variable access indexes defined) =
         closed.follows _ _ _ _ (of_accessed access indexes.items) (λ p. closed.fetches p defined)
@@ -319,7 +319,7 @@ module _ (R : (A : Type 0) → Action A → Action A → Type 0) (closed : Close
         (λ _. closed.follows _ _ _ _ (of_components right right_indexes.items) (λ b. closed.gives (compared relation a b))))
     of_layer (CallOf call actuals) = of_call call actuals.items
 
-    of_passed_layer : (y : Passed-F RelatedExpr RelatedPassed RelatedLink) → R Argument (passed_on (bare_passed y) here) (passed_on (bare_passed y) there)
+    pub of_passed_layer : (y : Passed-F RelatedExpr RelatedPassed RelatedLink) → R Argument (passed_on (bare_passed y) here) (passed_on (bare_passed y) there)
     of_passed_layer (PassedValue value fits) =
         closed.follows _ _ _ _ value.1
         (λ v. closed.follows _ _ _ _ (of_require (is_in fits.range v) fits.site) (λ _. closed.gives (OfValue v)))
@@ -328,24 +328,24 @@ module _ (R : (A : Type 0) → Action A → Action A → Type 0) (closed : Close
     of_passed_layer (Reference type_id access indexes) =
         closed.follows _ _ _ _ (of_accessed access indexes.items) (λ place. closed.gives (OfPlace place))
 
-    of_link_layer : (y : Link-F RelatedExpr RelatedPassed RelatedLink) (left : Value)
+    pub of_link_layer : (y : Link-F RelatedExpr RelatedPassed RelatedLink) (left : Value)
         → R Value (linked (bare_link y) here left) (linked (bare_link y) there left)
     of_link_layer y left =
         closed.follows _ _ _ _ (closed.enters y.number visible)
         (λ _. closed.follows _ _ _ _ y.operand.1 (λ v. of_combined y.operation left v))
 
-    of_rolled : (x : Expr-F Expr Passed Link) (y : Expr-F RelatedExpr RelatedPassed RelatedLink) → bare y ≡ x → IsRelated (roll-Expr x)
+    pub of_rolled : (x : Expr-F Expr Passed Link) (y : Expr-F RelatedExpr RelatedPassed RelatedLink) → bare y ≡ x → IsRelated (roll-Expr x)
     of_rolled x y is =
         subst (λ (f : Evaluation). R Value (f here) (f there))
         (sym (fold-roll-Expr Evaluation Passing Combination value_step passed_step link_step x ∙ ap valued (sym is))) (of_layer y)
 
-    of_rolled_passed : (x : Passed-F Expr Passed Link) (y : Passed-F RelatedExpr RelatedPassed RelatedLink) → bare_passed y ≡ x
+    pub of_rolled_passed : (x : Passed-F Expr Passed Link) (y : Passed-F RelatedExpr RelatedPassed RelatedLink) → bare_passed y ≡ x
         → IsRelatedPassed (roll-Passed x)
     of_rolled_passed x y is =
         subst (λ (f : Passing). R Argument (f here) (f there))
         (sym (fold-roll-Passed Evaluation Passing Combination value_step passed_step link_step x ∙ ap passed_on (sym is))) (of_passed_layer y)
 
-    of_rolled_link : (x : Link-F Expr Passed Link) (y : Link-F RelatedExpr RelatedPassed RelatedLink) → bare_link y ≡ x → IsRelatedLink (roll-Link x)
+    pub of_rolled_link : (x : Link-F Expr Passed Link) (y : Link-F RelatedExpr RelatedPassed RelatedLink) → bare_link y ≡ x → IsRelatedLink (roll-Link x)
     of_rolled_link x y is left =
         subst (λ (f : Combination). R Value (f here left) (f there left))
         (sym (fold-roll-Link Evaluation Passing Combination value_step passed_step link_step x ∙ ap linked (sym is))) (of_link_layer y left)
@@ -389,11 +389,11 @@ module _ (R : (A : Type 0) → Action A → Action A → Type 0) (closed : Close
         subst (λ all. R Value (call_of call (map passing_of all) here) (call_of call (map passing_of all) there)) (all_actuals actuals)
         (of_call call (actuals_related actuals))
 
-    of_width : (width : Option Width) (default : ℤ) → R Value (width_of width default here) (width_of width default there)
+    pub of_width : (width : Option Width) (default : ℤ) → R Value (width_of width default here) (width_of width default there)
     of_width None default = closed.gives _
     of_width (Some width) default = closed.follows _ _ _ _ (of_value width.value) (λ w. of_tested (is_positive w) width.site w)
 
-    of_written : (value : Written) (width : Option Width) → R (Unit {0}) (written_of value width here) (written_of value width there)
+    pub of_written : (value : Written) (width : Option Width) → R (Unit {0}) (written_of value width here) (written_of value width there)
     of_written (Ordinal value representation) width =
         closed.follows _ _ _ _ (of_value value)
         (λ v. closed.follows _ _ _ _ (of_width width (default_width representation)) (λ w. closed.writes (text_of representation v w)))
@@ -401,7 +401,7 @@ module _ (R : (A : Type 0) → Action A → Action A → Type 0) (closed : Close
         closed.follows _ _ _ _ (of_whole_value value indexes.items)
         (λ components. closed.follows _ _ _ _ (of_width width (pos (length_of value))) (λ w. closed.writes (row_text components w)))
 
-    of_parameters : (parameters : List WriteParameter)
+    pub of_parameters : (parameters : List WriteParameter)
         → R (Unit {0}) (all_of (map parameter_of parameters) here) (all_of (map parameter_of parameters) there)
     of_parameters [] = closed.gives tt
     of_parameters (parameter ∷ parameters) =
@@ -409,7 +409,7 @@ module _ (R : (A : Type 0) → Action A → Action A → Type 0) (closed : Close
 
     -- ---- the rounds of a for
 
-    of_for_rounds : (control : ℕ) (first_fits : RangeTest) (direction : Direction) (last_fits : RangeTest) (body : Execution)
+    pub of_for_rounds : (control : ℕ) (first_fits : RangeTest) (direction : Direction) (last_fits : RangeTest) (body : Execution)
         → R (Unit {0}) (body here) (body there) → (first last : ℤ)
         → R (Unit {0}) (for_rounds control first_fits direction last_fits body here first last)
         (for_rounds control first_fits direction last_fits body there first last)
@@ -418,7 +418,7 @@ module _ (R : (A : Type 0) → Action A → Action A → Type 0) (closed : Close
         (λ _. closed.follows _ _ _ _ (of_require (is_in last_fits.range (Number last)) last_fits.site)
         (λ _. closed.fors (visible.variables control) direction last (body here) (body there) done first))
 
-    of_for_between : (control : ℕ) (first_fits : RangeTest) (direction : Direction) (last_fits : RangeTest) (body : Execution)
+    pub of_for_between : (control : ℕ) (first_fits : RangeTest) (direction : Direction) (last_fits : RangeTest) (body : Execution)
         → R (Unit {0}) (body here) (body there) → (first last : Value)
         → R (Unit {0}) (for_between control first_fits direction last_fits body here first last)
         (for_between control first_fits direction last_fits body there first last)
@@ -435,13 +435,13 @@ module _ (R : (A : Type 0) → Action A → Action A → Type 0) (closed : Close
     abbrev RelatedStmt : Type 0
     RelatedStmt = (e : Stmt) × IsRelatedStmt e
 
-    of_all : (statements : List RelatedStmt)
+    pub of_all : (statements : List RelatedStmt)
         → R (Unit {0}) (all_of (map effect_of (map (λ e. e.0) statements)) here) (all_of (map effect_of (map (λ e. e.0) statements)) there)
     of_all [] = closed.gives tt
     of_all (statement ∷ statements) = closed.follows _ _ _ _ statement.1 (λ _. of_all statements)
 
     -- the arm of a case at a value, or its error
-    of_arm : (site : ℕ) (rows : List (Vec ℤ Global)) (arms : List RelatedStmt) (n : ℤ)
+    pub of_arm : (site : ℕ) (rows : List (Vec ℤ Global)) (arms : List RelatedStmt) (n : ℤ)
         → R (Unit {0}) (arm_of site rows (map effect_of (map (λ e. e.0) arms)) n here) (arm_of site rows (map effect_of (map (λ e. e.0) arms)) n there)
     of_arm site [] arms n = closed.errs site
     of_arm site (row ∷ rows) [] n = closed.errs site
@@ -457,7 +457,7 @@ module _ (R : (A : Type 0) → Action A → Action A → Type 0) (closed : Close
     abbrev bare_stmt : Stmt-F RelatedStmt → Stmt-F Stmt
     bare_stmt = map-Stmt RelatedStmt Stmt (λ e. e.0)
 
-    of_stmt_layer : (y : Stmt-F RelatedStmt) → R (Unit {0}) (done (bare_stmt y) here) (done (bare_stmt y) there)
+    pub of_stmt_layer : (y : Stmt-F RelatedStmt) → R (Unit {0}) (done (bare_stmt y) here) (done (bare_stmt y) there)
     of_stmt_layer (Empty number) = closed.enters number visible
     of_stmt_layer (Assign number becomes target indexes fits value) =
         closed.follows _ _ _ _ (closed.enters number visible)

@@ -1,3 +1,4 @@
+pub mod AnyOf
 pub mod Blocks
 pub mod Insides
 pub mod LoopNumbers

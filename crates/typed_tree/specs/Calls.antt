@@ -4,12 +4,13 @@ use Rattle.std.specs.Prelude.{◌||◌, Bool, true, false, List, map}
 use Rattle.std.specs.List.{list_any}
 use Rattle.typed_tree.specs.declared.tree.Whole.{Whole}
 use Rattle.typed_tree.specs.declared.tree.Expr.{Expr}
+use Rattle.typed_tree.specs.declared.tree.Link.{Link}
 use Rattle.typed_tree.specs.declared.tree.Passed.{Passed}
 use Rattle.typed_tree.specs.declared.tree.Expr.TheOpen.{Expr-F, Passed-F, Link-F}
 use Rattle.typed_tree.specs.declared.tree.Expr.TheOpen.Expr-F.{Constant, Variable, Monadic as MonadicOf, Chain}
 use Rattle.typed_tree.specs.declared.tree.Expr.TheOpen.Expr-F.{Compare, Call}
 use Rattle.typed_tree.specs.declared.tree.Expr.TheOpen.Passed-F.{Value, Whole as WholeOf, Reference}
-use Rattle.typed_tree.specs.declared.tree.Expr.TheFolds.{fold-Expr, fold-Passed}
+use Rattle.typed_tree.specs.declared.tree.Expr.TheFolds.{fold-Expr, fold-Passed, fold-Link}
 use Rattle.typed_tree.specs.WellFormed.{whole_indexes}
 
 -- one of them does
@@ -40,6 +41,10 @@ holds_call = fold-Expr Bool Bool Bool expression_holds_call passed_step_holds_ca
 -- an actual parameter does
 abbrev pub passed_holds_call : Passed → Bool
 passed_holds_call = fold-Passed Bool Bool Bool expression_holds_call passed_step_holds_call link_holds_call
+
+-- the right operand of an operator does
+abbrev pub link_holds_call_of : Link → Bool
+link_holds_call_of = fold-Link Bool Bool Bool expression_holds_call passed_step_holds_call link_holds_call
 
 -- one of these expressions does
 abbrev pub hold_call : List Expr → Bool

@@ -1,6 +1,5 @@
-use Rattle.std.proofs.Common.{◌≡◌, map, reverse, arith, sym, ◌∙◌, ap}
+use Rattle.std.proofs.Common.{◌≡◌, map, reverse, arith, ◌∙◌, ap}
 use Rattle.std.proofs.lemmas.List.{reverse-reverse}
-use Rattle.interpreter_state.specs.declared.operand.Operand.{Operand}
 use Rattle.interpreter_state.specs.Views.{operand_seen}
 use Rattle.interpreter.specs.Pending.{operands_of, taken_from}
 use Rattle.interpreter.specs.Weight.{pending_weight}

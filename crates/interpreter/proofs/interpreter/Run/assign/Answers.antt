@@ -1,10 +1,10 @@
-use Rattle.std.proofs.Common.{◌≡◌, List, ℤ, Option, Some, None, map, option_map, slice_get, refl, sym, arith, ◌∙◌, ap, subst}
+use Rattle.std.proofs.Common.{◌≡◌, List, ℤ, Option, Some, None, slice_get, refl, sym, arith, ◌∙◌, ap, subst}
 use Rattle.std.proofs.lemmas.Option.{slice_get_past, slice_get_read}
 use Rattle.typed_tree.specs.declared.tree.Variable.{Variable as DeclaredVariable}
 use Rattle.types.specs.Components.{components_of}
 use Rattle.meaning.specs.Store.{Place, kept}
-use Rattle.meaning.specs.Meaning.{Argument, OfPlace, OfRow, OfValue, assign}
-use Rattle.interpreter_state.specs.Views.{operand_seen, place_seen}
+use Rattle.meaning.specs.Meaning.{Argument, OfRow, assign}
+use Rattle.interpreter_state.specs.Views.{operand_seen}
 use Rattle.interpreter.specs.Pending.{StoreAgrees, kept_all}
 use Rattle.interpreter.proofs.Activating.{then_ok}
 use Rattle.interpreter.proofs.Rows.{stored_all}

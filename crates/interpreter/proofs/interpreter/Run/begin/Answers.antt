@@ -1,16 +1,15 @@
-use Rattle.std.proofs.Common.{◌≡◌, ◌+◌, ◌-◌, ◌∷◌, ◌++◌, [], ℕ, suc, List, OnOk, Some, filter, map, reverse, refl, sym, arith, ◌∙◌, ap, subst}
+use Rattle.std.proofs.Common.{◌≡◌, ◌+◌, ◌-◌, ◌∷◌, [], ℕ, suc, List, OnOk, filter, map, reverse, refl, sym, arith, ◌∙◌, ap, subst}
 use Rattle.interpreter_state.specs.declared.activation.Activation.{Activation}
 use Rattle.interpreter_state.specs.declared.work.Caller.{Caller}
 use Rattle.interpreter_state.specs.declared.work.Work.{Work}
-use Rattle.interpreter_state.specs.declared.work.Work.TheVariants as work
 use Rattle.typed_tree.specs.WellFormed.{is_one_of}
-use Rattle.meaning.specs.Effect.{State, and_then}
+use Rattle.meaning.specs.Effect.{and_then}
 use Rattle.meaning.specs.Meaning.{Argument, assign_all, effect_of, environment_of}
 use Rattle.interpreter_state.specs.Views.{Visible, operand_seen, pairs_passed, visible_in}
 use Rattle.interpreter_state.proofs.Sees.{own_of, sees_inner}
 use Rattle.interpreter.specs.declared.interpreter.Run.{Run}
 use Rattle.interpreter.specs.Pending.{Sees, operands_of, pending_of}
-use Rattle.interpreter.specs.Weight.{callees_in, pending_weight, weight_of}
+use Rattle.interpreter.specs.Weight.{callees_in, pending_weight, weight_of_statement}
 use Rattle.interpreter.proofs.Activating.{after_begin, agrees_begun, begins, begun_activation, behind, inside, starves}
 use Rattle.interpreter.proofs.Resuming.{continues_as}
 use Rattle.interpreter.proofs.Weights.{begin_weighs, no_heavier}
@@ -25,7 +24,7 @@ returns-then-self-eq0-clause-does c = λ env outer s agrees.
       outer,
       record s { starved = c.args.number ∷ s.living },
       agrees,
-      starves old.tree.now (old.activation.depth - 1) c.args.number c.args.block.now (map operand_seen c.args.arguments.now) env
+      starves old.tree.now old.activation.depth c.args.number c.args.block.now (map operand_seen c.args.arguments.now) env
           (pending_of env outer (reverse old.pending.items)) (operands_of old) s none,
     )
 
@@ -33,7 +32,7 @@ pub returns-clause-does : goal.returns-clause-does
 returns-clause-does c = λ env outer s agrees.
     let old = c.args.self.now in
     let tree = old.tree.now in
-    let depth = old.activation.depth - 1 in
+    let depth = old.activation.depth in
     let left = old.turns - 1 in
     let number = c.args.number in
     let block = c.args.block.now in
@@ -63,11 +62,21 @@ returns-clause-does c = λ env outer s agrees.
     let after = stored.0 in
     let stores = ap (λ l. assign_all tree visible l arguments start) (sym c.deref.ensures.value) ∙ stored.1 in
     let caller : Caller = record { activation = c.replace-activation.result; pending = c.replace-pending.result } in
-    let begun : ℕ → Run → Run = λ n r. record old { turns = left; called = n; activation = r.activation; callers = r.callers; pending = r.pending;
-      store = r.store } in
+    let begun : ℕ → Run → Run = λ n r. record old {
+      turns = left;
+      called = n;
+      activation = r.activation;
+      callers = r.callers;
+      pending = r.pending;
+      store = r.store;
+    } in
     let same = c.assign_all.ensures.same in
-    let alike : new ≡ begun (old.called + 1) new = same ∙ ap (λ n. begun n (begun c.in-Some.called (record old { activation = c.replace-activation.new.dest;
-      callers = c.push.new.self; pending = c.replace-pending.new.dest; store = new.store }))) told ∙ ap (begun (old.called + 1)) (sym same) in
+    let alike : new ≡ begun (old.called + 1) new = same ∙ ap (λ n. begun n (begun c.in-Some.called (record old {
+      activation = c.replace-activation.new.dest;
+      callers = c.push.new.self;
+      pending = c.replace-pending.new.dest;
+      store = new.store;
+    }))) told ∙ ap (begun (old.called + 1)) (sym same) in
     let outer_there = behind env outer old s there new.activation in
     let agreed = agrees_begun old new caller env outer s left number block arguments after agrees some c.requires
     (ap (λ (r : Run). visible_in r.activation) same ∙ ap visible_in c.replace-activation.ensures.after ∙ sees)
@@ -92,11 +101,11 @@ returns-clause-fewer c =
     let dest = c.replace-activation.new.dest in
     let some : old.turns ≡ suc left = omega (arith, c.if-self-eq0.false) in
     let caller : Caller = record { activation = c.replace-activation.result; pending = c.replace-pending.result } in
-    let weighs : Run → Type 0 = λ r. OnOk c.do_next.result (pending_weight c.do_next.new.self ≡
-    pending_weight r + weight_of (callees_in r) r.turns c.do_next.new.next) in
     let begun = begin_weighs old.tree.now old.activation dest old.pending.items c.replace-pending.new.dest.items old.callers.items c.push.new.self.items caller
     c.args.block.now old.turns left some
     (ap (λ (a : Activation). a.depth) c.replace-activation.ensures.after ∙ c.in_ok-activation.ensures.depth)
     (ap (λ v. v.items) c.replace-pending.ensures.after ∙ c.new.ensures.items) c.in_ok-push.ensures.items c.replace-activation.ensures.value
     (ap (λ v. v.items) c.replace-pending.ensures.value) in
+    let weighs : Run → Type 0 = λ r. OnOk c.do_next.result (pending_weight c.do_next.new.self ≡
+    pending_weight r + weight_of_statement (callees_in r) c.args.block.now.body r.turns) in
     no_heavier c.do_next.result _ _ _ (subst weighs c.assign_all.ensures.same c.do_next.ensures.weight) (omega (arith, begun))

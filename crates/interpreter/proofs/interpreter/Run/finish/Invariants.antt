@@ -6,11 +6,11 @@ use Rattle.interpreter.specs.Weight.{pending_weight}
 use Rattle.interpreter.proofs.interpreter.Run.finish.Given as goal
 
 -- what is pending means what it did at the begin
-abbrev pub invariant-loop : goal.invariant-loop
-invariant-loop l =
+abbrev pub invariant-loop-work : goal.invariant-loop-work
+invariant-loop-work l =
     (env : Surroundings) (outer : Resumption) (s : State) → Agrees env outer l.initial.self s →
     (there : Surroundings) × (next : Resumption) × (t : State) × Agrees there next l.self t
     × (rest_of env outer l.initial.self s ≡ rest_of there next l.self t)
 
-abbrev pub decreases-loop : goal.decreases-loop
-decreases-loop l = pending_weight l.self
+abbrev pub decreases-loop-work : goal.decreases-loop-work
+decreases-loop-work l = pending_weight l.self

@@ -1,5 +1,4 @@
-use Rattle.std.proofs.Common.{◌≡◌, ◌∷◌, [], ◌++◌, List, Ok, refl, sym, arith, ◌∙◌, ap}
-use Rattle.interpreter_state.specs.declared.work.Caller.{Caller}
+use Rattle.std.proofs.Common.{◌≡◌, ◌∷◌, [], ◌++◌, refl, arith, ◌∙◌, ap}
 use Rattle.meaning.specs.Effect.{Gives}
 use Rattle.meaning.specs.Meaning.{result_of}
 use Rattle.operations.specs.Answers.{answered}
@@ -33,10 +32,10 @@ returns-in-Some-clause-does c = λ env outer s agrees none some.
 
 pub returns-in-Err-clause-does : goal.returns-in-Err-clause-does
 returns-in-Err-clause-does c = λ env outer s agrees none some. (
-      env,
-      outer,
-      s,
-      agrees,
-      stops_without c.args.self.now env outer s c.in-Err.site agrees some
-          (c.in_ok-value.ensures env.visible s agrees.visible agrees.store ∙ ap (λ a. answered a s) c.in-Err.is),
-    )
+  env,
+  outer,
+  s,
+  agrees,
+  stops_without c.args.self.now env outer s c.in-Err.site agrees some
+      (c.in_ok-value.ensures env.visible s agrees.visible agrees.store ∙ ap (λ a. answered a s) c.in-Err.is),
+)

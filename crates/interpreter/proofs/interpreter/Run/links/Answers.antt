@@ -1,6 +1,4 @@
-use Rattle.std.proofs.Common.{◌≡◌, ℕ, ◌+◌, ◌<◌, List, ◌∷◌, Option, Result, Ok, Err, OnOk, map, sum_by, reverse, refl, ap, sym, subst, ◌∙◌, arith}
-use Rattle.std.specs.declared.alloc.AllocError.{AllocError}
-use Rattle.meaning.specs.declared.outcome.Ending.{Ending}
+use Rattle.std.proofs.Common.{◌≡◌, ◌+◌, List, ◌∷◌, map, sum_by, reverse, refl, ap, sym, ◌∙◌, arith}
 use Rattle.interpreter.specs.Weight.{Weight, callees_in, weight_of, weight_of_link, weight_of_expression, expression_weight, link_weight, passed_weight}
 use Rattle.interpreter.specs.Weight.{row_weight}
 use Rattle.typed_tree.specs.declared.tree.Expr.TheFolds.{fold_out-Link}

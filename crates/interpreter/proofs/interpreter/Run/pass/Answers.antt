@@ -1,4 +1,4 @@
-use Rattle.std.proofs.Common.{◌≡◌, ◌∷◌, List, reverse, refl, sym, ◌∙◌, ap, arith}
+use Rattle.std.proofs.Common.{◌∷◌, List, reverse, refl, sym, ◌∙◌, ap, arith}
 use Rattle.interpreter_state.specs.declared.work.Work.{Work}
 use Rattle.interpreter_state.specs.declared.work.Work.TheVariants as work
 use Rattle.meaning.specs.Meaning.{value_of}

@@ -104,3 +104,6 @@ returns-in-Test-clause-does c = does_as c.args.self.now c.test.new.self c.args.w
 
 pub returns-in-Discard-clause-does : goal.returns-in-Discard-clause-does
 returns-in-Discard-clause-does c = does_as c.args.self.now c.discard.new.self c.args.work _ c.discard.result c.in-Discard.is c.discard.ensures.does
+
+pub returns-in-Activate-clause-does : goal.returns-in-Activate-clause-does
+returns-in-Activate-clause-does c = does_as c.args.self.now c.activate.new.self c.args.work _ c.activate.result c.in-Activate.is c.activate.ensures.does

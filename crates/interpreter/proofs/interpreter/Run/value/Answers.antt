@@ -9,7 +9,7 @@ returns-in-Variable-clause-does c = λ env outer s agrees.
     let old = c.args.self.now in
     let given = c.in-Variable in
     continues_as env outer old c.access.new.self _ _ c.access.result
-    (does-Variable given.access given.indexes given.defined c.args.expression.now given.is c.deref.result.now c.deref.ensures.value env
+    (does-Variable given.access given.indexes given.defined c.args.expression.now given.is c.deref.result.now c.deref.ensures.value env outer
     (reverse old.pending.items) (operands_of old) s)
     (c.access.ensures.does env outer (entered given.access.number env s) agrees)
 
@@ -18,7 +18,7 @@ returns-in-Monadic-clause-does c = λ env outer s agrees.
     let old = c.args.self.now in
     continues_as env outer old c.plan.new.self _ _ c.plan.result
     (does-Monadic c.in-Monadic.number c.in-Monadic.operation c.in-Monadic.operand c.args.expression.now c.in-Monadic.is c.deref-in-Monadic.result
-    c.deref-in-Monadic.ensures env
+    c.deref-in-Monadic.ensures env outer
     (reverse old.pending.items) (operands_of old) s)
     (c.plan.ensures.does env outer (entered c.in-Monadic.number env s) agrees)
 
@@ -36,7 +36,7 @@ returns-in-Compare-clause-does c = λ env outer s agrees.
     let given = c.in-Compare in
     continues_as env outer old c.plan-in-Compare.new.self _ _ c.plan-in-Compare.result
     (does-Compare given.number given.relation given.left given.left_indexes given.right given.right_indexes c.args.expression.now given.is
-    c.deref-in-Compare.result.now c.deref-in-Compare-2.result.now c.deref-in-Compare.ensures.value c.deref-in-Compare-2.ensures.value env
+    c.deref-in-Compare.result.now c.deref-in-Compare-2.result.now c.deref-in-Compare.ensures.value c.deref-in-Compare-2.ensures.value env outer
     (reverse old.pending.items) (operands_of old) s)
     (c.plan-in-Compare.ensures.does env outer s agrees)
 

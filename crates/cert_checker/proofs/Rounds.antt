@@ -1,0 +1,183 @@
+-- What the turns of a loop change, the loop touches, and the aliases of that: at its head, and inside it as far as they are visible.
+use Rattle.std.proofs.Common.{◌≡◌, ⊎_elim, ◌∙◌, sym, ap, ap₂, refl, subst, ℕ, Bool, true, false, not, cond, ◌&&◌, ◌||◌, nat_eq, List, [], ◌∷◌, ◌++◌, Option, Some}
+use Rattle.std.proofs.Common.{None}
+use Rattle.std.specs.Prelude.{flat_map}
+use Rattle.std.specs.List.{Contains, list_all}
+use Rattle.std.proofs.lemmas.Bool.{and_parts, eqb-true, eq-eqb, or_cases}
+use Rattle.std.proofs.lemmas.List.Folds.{list_any-append}
+use Rattle.std.proofs.lemmas.List.Elements.{Contains-push_cases}
+use Rattle.typed_tree.specs.WellFormed.{is_visible, outline_of}
+use Rattle.abstract_state.specs.Loops.{is_among}
+use Rattle.structured_states.specs.Loops.{Round, all_but, round_of, touched, with_own, without_own}
+use Rattle.structured_states.specs.Pairs.{aliases_of, all_aliases, partner}
+use Rattle.structured_states.proofs.Touched.{among-but, inside-parts, touched_parts}
+use Rattle.expression_checker.specs.Walk.{Context, may_change}
+use Rattle.expression_checker.proofs.Sound.{Goes, IsClosed, World, is_seen}
+use Rattle.cert_checker.specs.Walk.{are_hidden}
+
+or-second : (a b : Bool) → b ≡ true → (a || b) ≡ true
+or-second true b is = refl
+or-second false b is = is
+
+or-first : (a b : Bool) → a ≡ true → (a || b) ≡ true
+or-first true b is = refl
+or-first false b is = absurd (cc)
+
+not-both : (b : Bool) → b ≡ true → b ≡ false → ⊥
+not-both b is isnt = cc
+
+false-true : ◌≡◌ {A = Bool} false true → ⊥
+false-true is = cc
+
+-- an alias of one of several variables is one of theirs
+pub among-all : (pairs : List (ℕ × ℕ)) (roots : List ℕ) (root alias : ℕ) → is_among root roots ≡ true → is_among alias (aliases_of pairs root) ≡ true
+    → is_among alias (all_aliases pairs roots) ≡ true
+among-all pairs [] root alias among is = absurd (false-true among)
+among-all pairs (other ∷ roots) root alias among is =
+    list_any-append (λ (x : ℕ). nat_eq x alias) (aliases_of pairs other) (all_aliases pairs roots)
+    ∙ ⊎_elim
+    (λ (same : nat_eq other root ≡ true).
+    or-first (is_among alias (aliases_of pairs other)) (is_among alias (all_aliases pairs roots))
+    (subst (λ (r : ℕ). is_among alias (aliases_of pairs r) ≡ true) (sym (eqb-true other root same)) is))
+    (λ (later : is_among root roots ≡ true).
+    or-second (is_among alias (aliases_of pairs other)) (is_among alias (all_aliases pairs roots)) (among-all pairs roots root alias later is))
+    (or_cases (nat_eq other root) (is_among root roots) among)
+
+-- an alias of a variable has it as an alias
+partner-back : (pair : ℕ × ℕ) (root alias : ℕ) → is_among alias (partner root pair) ≡ true → is_among root (partner alias pair) ≡ true
+partner-back pair root alias is =
+    by (nat_eq pair.0 root) (nat_eq pair.1 root) refl refl is
+  where
+    single : (x y : ℕ) → is_among x (y ∷ []) ≡ true → y ≡ x
+    single x y among = ⊎_elim (λ (same : nat_eq y x ≡ true). eqb-true y x same) (λ (none : ◌≡◌ {A = Bool} false true). absurd (false-true none))
+        (or_cases (nat_eq y x) false among)
+
+    own : (x : ℕ) → is_among x (x ∷ []) ≡ true
+    own x = or-first (nat_eq x x) false (eq-eqb x x refl)
+
+    first-of : (x y : ℕ) → is_among x (partner y (x, y)) ≡ true
+    first-of x y = by-first (nat_eq x y) refl
+      where
+        by-first : (b : Bool) → nat_eq x y ≡ b → is_among x (partner y (x, y)) ≡ true
+        by-first true same =
+            ap (λ (b : Bool). is_among x (cond b (y ∷ []) (cond (nat_eq y y) (x ∷ []) []))) same
+            ∙ or-first (nat_eq y x) false (eq-eqb y x (sym (eqb-true x y same)))
+        by-first false apart =
+            ap (λ (b : Bool). is_among x (cond b (y ∷ []) (cond (nat_eq y y) (x ∷ []) []))) apart
+            ∙ ap (λ (b : Bool). is_among x (cond b (x ∷ []) [])) (eq-eqb y y refl) ∙ own x
+
+    second-of : (x y : ℕ) → is_among y (partner x (x, y)) ≡ true
+    second-of x y = ap (λ (b : Bool). is_among y (cond b (y ∷ []) (cond (nat_eq y x) (x ∷ []) []))) (eq-eqb x x refl) ∙ own y
+
+    by : (first second : Bool) → nat_eq pair.0 root ≡ first → nat_eq pair.1 root ≡ second → is_among alias (partner root pair) ≡ true
+        → is_among root (partner alias pair) ≡ true
+    by true second one other among =
+        let same : pair.1 ≡ alias = single alias pair.1
+        (sym (ap (λ (b : Bool). is_among alias (cond b (pair.1 ∷ []) (cond (nat_eq pair.1 root) (pair.0 ∷ []) []))) one) ∙ among) in
+        subst (λ (r : ℕ). is_among r (partner alias pair) ≡ true) (eqb-true pair.0 root one)
+        (subst (λ (a : ℕ). is_among pair.0 (partner a pair) ≡ true) same (first-of pair.0 pair.1))
+    by false true one other among =
+        let same : pair.0 ≡ alias = single alias pair.0
+        (sym (ap (λ (b : Bool). is_among alias (cond b (pair.1 ∷ []) (cond (nat_eq pair.1 root) (pair.0 ∷ []) []))) one
+        ∙ ap (λ (b : Bool). is_among alias (cond b (pair.0 ∷ []) [])) other) ∙ among) in
+        subst (λ (r : ℕ). is_among r (partner alias pair) ≡ true) (eqb-true pair.1 root other)
+        (subst (λ (a : ℕ). is_among pair.1 (partner a pair) ≡ true) same (second-of pair.0 pair.1))
+    by false false one other among =
+        absurd (false-true
+        (sym (ap (λ (b : Bool). is_among alias (cond b (pair.1 ∷ []) (cond (nat_eq pair.1 root) (pair.0 ∷ []) []))) one
+        ∙ ap (λ (b : Bool). is_among alias (cond b (pair.0 ∷ []) [])) other) ∙ among))
+
+pub aliases-back : (pairs : List (ℕ × ℕ)) (root alias : ℕ) → is_among alias (aliases_of pairs root) ≡ true → is_among root (aliases_of pairs alias) ≡ true
+aliases-back [] root alias is = absurd (false-true is)
+aliases-back (pair ∷ pairs) root alias is =
+    list_any-append (λ (x : ℕ). nat_eq x root) (partner alias pair) (aliases_of pairs alias)
+    ∙ ⊎_elim
+    (λ (here : is_among alias (partner root pair) ≡ true).
+    or-first (is_among root (partner alias pair)) (is_among root (aliases_of pairs alias)) (partner-back pair root alias here))
+    (λ (later : is_among alias (aliases_of pairs root) ≡ true).
+    or-second (is_among root (partner alias pair)) (is_among root (aliases_of pairs alias)) (aliases-back pairs root alias later))
+    (or_cases (is_among alias (partner root pair)) (is_among alias (aliases_of pairs root))
+    (sym (list_any-append (λ (x : ℕ). nat_eq x alias) (partner root pair) (aliases_of pairs root)) ∙ is))
+
+-- ---- a loop
+
+module _ (world : World) (block : ℕ) (context : Context) (number : ℕ) (pairs_are : context.pairs ≡ world.pairs) where
+  abbrev loop : Round
+  loop = round_of context.tree context.pairs context.claims number
+
+  among-aliases : (root alias : ℕ) → is_among root (loop.controls ++ loop.changes) ≡ true → is_among alias (aliases_of world.pairs root) ≡ true
+      → is_among alias loop.aliases ≡ true
+  among-aliases root alias among is =
+      among-all context.pairs (loop.controls ++ loop.changes) root alias among
+      (subst (λ (pairs : List (ℕ × ℕ)). is_among alias (aliases_of pairs root) ≡ true) (sym pairs_are) is)
+
+  -- round its body, where it is no for statement
+  pub loop-closed : IsClosed world block loop
+  loop-closed root alias shown other among is =
+      touched_parts None loop alias
+      ∙ or-second (is_among alias loop.controls) (is_among alias loop.changes || is_among alias loop.aliases)
+      (or-second (is_among alias loop.changes) (is_among alias loop.aliases) (among-aliases root alias among is))
+
+  -- and where it is one, whose control variable has no aliases that are visible
+  pub inside-closed : (control : ℕ) → is_seen world block control ≡ true
+      → ((alias : ℕ) → is_among alias (aliases_of world.pairs control) ≡ true → is_seen world block alias ≡ false)
+      → IsClosed world block (without_own (Some control) loop)
+  inside-closed control own_seen hidden root alias shown other among is =
+      let parts = list_any-append (λ (x : ℕ). nat_eq x root) (all_but control loop.controls) (all_but control loop.changes) in
+      let inner : is_among root (loop.controls ++ loop.changes) ≡ true =
+      list_any-append (λ (x : ℕ). nat_eq x root) loop.controls loop.changes
+      ∙ ⊎_elim
+      (λ (one : is_among root (all_but control loop.controls) ≡ true).
+      or-first (is_among root loop.controls) (is_among root loop.changes)
+      (and_parts (not (nat_eq control root)) (is_among root loop.controls) (sym (among-but root control loop.controls) ∙ one)).1)
+      (λ (two : is_among root (all_but control loop.changes) ≡ true).
+      or-second (is_among root loop.controls) (is_among root loop.changes)
+      (and_parts (not (nat_eq control root)) (is_among root loop.changes) (sym (among-but root control loop.changes) ∙ two)).1)
+      (or_cases (is_among root (all_but control loop.controls)) (is_among root (all_but control loop.changes)) (sym parts ∙ among)) in
+      let listed = among-aliases root alias inner is in
+      let apart : nat_eq control alias ≡ false = none (nat_eq control alias)
+      (λ same.
+      not-both (is_seen world block root) shown
+      (hidden root (aliases-back world.pairs root control
+      (subst (λ (a : ℕ). is_among a (aliases_of world.pairs root) ≡ true) (sym (eqb-true control alias same)) is)))) in
+      inside-parts control loop alias
+      ∙ or-second (not (nat_eq control alias) && is_among alias loop.controls)
+      ((not (nat_eq control alias) && is_among alias loop.changes) || (not (nat_eq control alias) && is_among alias loop.aliases))
+      (or-second (not (nat_eq control alias) && is_among alias loop.changes) (not (nat_eq control alias) && is_among alias loop.aliases)
+      (ap (λ (b : Bool). not b && is_among alias loop.aliases) apart ∙ listed))
+    where
+      none : (b : Bool) → (b ≡ true → ⊥) → b ≡ false
+      none true isnt = absurd (isnt refl)
+      none false isnt = refl
+
+-- with a loop more round a piece
+pub goes-inside : (world : World) (context : Context) (round : Round) → IsClosed world context.block round → Goes world context
+    → Goes world (record context { rounds = context.rounds ++ round ∷ [] })
+goes-inside world context round closed goes = record {
+  tree_is = goes.tree_is;
+  limits_are = goes.limits_are;
+  pairs_are = goes.pairs_are;
+  blocks_are = goes.blocks_are;
+  closed = λ other inside. ⊎_elim (λ old. goes.closed other old) (λ same. subst (λ (r : Round). IsClosed world context.block r) same closed)
+      (Contains-push_cases context.rounds round other inside);
+}
+
+-- ---- hidden variables
+
+false-one : (test : ℕ → Bool) (roots : List ℕ) (root : ℕ) → list_all (λ (r : ℕ). not (test r)) roots ≡ true → is_among root roots ≡ true → test root ≡ false
+false-one test [] root all among = absurd (false-true among)
+false-one test (other ∷ roots) root all among =
+    let parts = and_parts (not (test other)) (list_all (λ (r : ℕ). not (test r)) roots) all in
+    ⊎_elim
+    (λ (same : nat_eq other root ≡ true). subst (λ (r : ℕ). test r ≡ false) (eqb-true other root same) (not-true (test other) parts.0))
+    (λ (later : is_among root roots ≡ true). false-one test roots root parts.1 later) (or_cases (nat_eq other root) (is_among root roots) among)
+  where
+    not-true : (b : Bool) → not b ≡ true → b ≡ false
+    not-true true is = absurd (false-true is)
+    not-true false is = refl
+
+pub hidden-in : (world : World) (context : Context) (roots : List ℕ) → context.tree ≡ world.tree → are_hidden context roots ≡ true → (root : ℕ)
+    → is_among root roots ≡ true → is_seen world context.block root ≡ false
+hidden-in world context roots tree_is all root among =
+    ap (λ t. is_visible (outline_of t) context.block root) (sym tree_is)
+    ∙ false-one (λ (r : ℕ). is_visible (outline_of context.tree) context.block r) roots root all among
