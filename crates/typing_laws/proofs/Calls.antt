@@ -1,6 +1,6 @@
 -- What calls of routines do: each actual parameter fits the formal one at its place, and there are as many.
-use Rattle.std.proofs.Common.{◌≡◌, ℕ, ℤ, ◌+◌, ◌<◌, Bool, true, false, ◌&&◌, ◌||◌, not, nat_eq, if◌then◌else◌, List, [], ◌∷◌, ◌++◌, length}
-use Rattle.std.proofs.Common.{Option, Some, None, Ok, Err, is_none, slice_get, refl, sym, ap, subst, ◌∙◌, arith, append_assoc, length-append, option_map}
+use Rattle.std.proofs.Common.{◌≡◌, ℕ, ℤ, ◌+◌, ◌<◌, Bool, true, false, ◌&&◌, ◌||◌, not, nat_eq, if◌then◌else◌, List, [], ◌∷◌, ◌++◌, length, Option, Some, None}
+use Rattle.std.proofs.Common.{Ok, Err, is_none, slice_get, refl, sym, ap, subst, ◌∙◌, arith, append_assoc, length-append, option_map}
 use Rattle.std.specs.Ordering.{int_eq}
 use Rattle.std.proofs.lemmas.Bool.{eq-eqb}
 use Rattle.std.proofs.lemmas.Int.{ints}
@@ -25,18 +25,17 @@ use Rattle.typed_tree.specs.WellFormed.{may_call, of_one, passes_value, passes_w
 use Rattle.typing.specs.Steps.{or_mismatch}
 use Rattle.typing.specs.declared.typed.Typed.{Typed}
 use Rattle.typing.specs.Expressions.{Written, WrittenActual, actual, actuals_for, are_as_many, as_routine, copied_cells, copying, fitting, function_value}
-use Rattle.typing.specs.Expressions.{or_no_result}
-use Rattle.typing.specs.Expressions.{passed_ordinal, passed_to, passed_value, passed_whole, result_variable, routine_call, typed, unless_width}
+use Rattle.typing.specs.Expressions.{or_no_result, passed_ordinal, passed_to, passed_value, passed_whole, result_variable, routine_call, typed, unless_width}
 use Rattle.typing_laws.proofs.WholeRanges.{HaveWholeRanges, IsWholeRange}
 use Rattle.typing_laws.proofs.Covers.{Covers, covers_any, covers_both, covers_more, covers_none, leads_first}
-use Rattle.typing_laws.proofs.Reached.{Signature, signature_of, head_of, Reached, whole_of, IsFurther, further_still, Here, StandsIn}
-use Rattle.typing_laws.proofs.Reached.{is_round_here, get_longer, get_mapped, mapped_longer, stands_later}
+use Rattle.typing_laws.proofs.Reached.{Signature, signature_of, head_of, Reached, whole_of, IsFurther, further_still, Here, StandsIn, is_round_here, get_longer}
+use Rattle.typing_laws.proofs.Reached.{get_mapped, mapped_longer, stands_later}
 use Rattle.typing_laws.proofs.Grown.{heads_of, FitsHeading, both_true}
 use Rattle.typing_laws.proofs.Sound.{IsRoutine, routine_longer}
 use Rattle.typing_laws.proofs.Strings.{there, both_and}
 use Rattle.typing_laws.proofs.Steps.{Does, Anything, Nothing, IsSoundThen, joins, quietly, last, checks_types, sited, answered, pure_does, given_does}
-use Rattle.typing_laws.proofs.Steps.{fail_does, mark_does, pass_does}
-use Rattle.typing_laws.proofs.Steps.{enter_does, site_does, host_type_does, heading_at_does, variable_at_does, led, behind_does}
+use Rattle.typing_laws.proofs.Steps.{fail_does, mark_does, pass_does, enter_does, site_does, host_type_does, heading_at_does, variable_at_does, led}
+use Rattle.typing_laws.proofs.Steps.{behind_does}
 use Rattle.typing_laws.proofs.Tables.{cells_of_longer, is_ordinal_longer, range_of_longer}
 use Rattle.typing_laws.proofs.Leading.{IsLed, Types, led_alone, known_later, lt_true, IsFormalAt, formal_later, formal_is, LawfulWritten, covers_test}
 use Rattle.typing_laws.proofs.Leading.{led_covers}
@@ -177,7 +176,7 @@ module _ (here : Here) where
       (fitting_is w.first types formal.type_id t range fits, fitting_whole w.first types lawful.whole formal.type_id t range fits)) λ range next two is.
       let seen = further_still one two in
       let there = formal_later least next callee position formal seen at in
-      mark_does (ForValue (record { site = site; range = range }) callee position) refl refl refl
+      mark_does (ForValue (record { site = site; range = range }) callee position) refl refl refl refl
       (λ o h. value_formed next callee position formal (record { site = site; range = range }) o h there by_value
       (is_ordinal_longer seen.types formal.type_id at.stands ∙ ordinal) (omega (arith, known, two.sites)) is.0 is.1)
     where
@@ -207,7 +206,7 @@ module _ (here : Here) where
       subst (λ l. nat_eq (cells_of l formal.type_id) cells ≡ true) (sym same) (copying_is w.first types formal.type_id t cells copies)))
       λ cells next more as_many.
       let there = formal_later least next callee position formal more at in
-      mark_does (ForWhole formal.type_id cells callee position) refl refl refl
+      mark_does (ForWhole formal.type_id cells callee position) refl refl refl refl
       (λ o h. whole_formed next callee position formal cells o h there by_value
       (is_ordinal_longer more.types formal.type_id at.stands ∙ structured) as_many)
     where
@@ -346,7 +345,7 @@ module _ (here : Here) where
   unfolding routine_call
   routine_call_does {least} is_function callee place actuals rows routine stands laws =
       let may = may_call_it least is_function callee routine in
-      quietly (enter_does (λ n. Calls n place callee) (λ n. refl) (λ n. refl) (λ n. refl) (λ n o h. refl)) λ _ entered one _.
+      quietly (enter_does (λ n. Calls n place callee) (λ n. refl) (λ n. refl) (λ n. refl) (λ n. refl) (λ n o h. refl)) λ _ entered one _.
       quietly (heading_at_does callee may.signature (get_longer one.headings callee may.signature may.heading)) λ heading now two is.
       let known = get_longer (further_still one two).headings callee may.signature may.heading in
       let same : heading.parameters ≡ may.signature.parameters = ap (λ (s : Signature). s.parameters) is.0 in
@@ -355,7 +354,7 @@ module _ (here : Here) where
       let as_many = subst (λ l. nat_eq (length actuals) (length l) ≡ true) same (count_is place (length actuals) (length heading.parameters) counts) in
       last (actuals_do heading.parameters actuals rows callee 0 laws (parameters_later now next callee 0 heading.parameters three all)) λ _ _ four _.
       let seen = further_still one (further_still two (further_still three four)) in
-      quietly (mark_does (Called is_function callee (length actuals)) refl refl refl
+      quietly (mark_does (Called is_function callee (length actuals)) refl refl refl refl
       (λ o h. called_formed least is_function callee (length actuals) may stands as_many o (further_still seen h))) λ _ _ _ _.
       pure_does heading.result (λ n h. tt)
 

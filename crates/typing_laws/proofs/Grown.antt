@@ -1,8 +1,8 @@
 -- What a form does to what is known: it adds sites, entries and perhaps types, and its marks are well formed, as they
 -- are with more sites, types, variables and headings behind. All else stays.
-use Rattle.std.proofs.Common.{◌≡◌, ℕ, zero, suc, ◌+◌, ◌<◌, ◌≤◌, Bool, true, ◌&&◌, List, [], ◌∷◌, ◌++◌, length, map, Some, slice_get}
-use Rattle.std.proofs.Common.{append_assoc, length-append, sym, ap, ap₂, subst, ◌∙◌, arith}
-use Rattle.std.specs.List.{range_with_len, list_all, flat_map}
+use Rattle.std.proofs.Common.{◌≡◌, ℕ, zero, suc, ◌+◌, ◌<◌, ◌≤◌, Bool, true, false, nat_eq, refl, ◌&&◌, List, [], ◌∷◌, ◌++◌, length, map, Some, slice_get}
+use Rattle.std.proofs.Common.{append_assoc, length-append, sym, ap, ap₂, subst, ◌∙◌, arith, ◌||◌, inl, inr, ◌⊎◌}
+use Rattle.std.specs.List.{range_with_len, list_all, flat_map, list_any}
 use Rattle.std.proofs.lemmas.List.Folds.{list_all-append}
 use Rattle.std.proofs.lemmas.Grind.{flat_map-append}
 use Rattle.types.specs.Types.{is_ordinal}
@@ -12,10 +12,14 @@ use Rattle.typed_tree.specs.WellFormed.{Outline, is_parameter_kind}
 use Rattle.typed_tree.specs.Look.{Mark, Look, mark_entries, entries_of_look, mark_loops, loops_of_look, blocks_of_look, mark_blocks, is_formed_mark}
 use Rattle.typing.specs.Passing.{Enclosing, Passed}
 use Rattle.typing.specs.Steps.{most_sites, most_entries}
-use Rattle.typing_laws.proofs.Reached.{IsLonger, longer_still, same_longer, get_longer, Signature, signature_passed, Head, head_of, Reached}
-use Rattle.typing_laws.proofs.Reached.{reached, whole_of, IsFurther, further_still, mapped_longer, Here, StandsIn, stands_later}
-use Rattle.typing_laws.proofs.Sound.{AreSound, inside_itself, regions_later}
+use Rattle.typing_laws.proofs.Reached.{IsLonger, longer_still, same_longer, get_longer, Signature, signature_passed, Head, head_of, Reached, reached, whole_of}
+use Rattle.typing_laws.proofs.Reached.{IsFurther, further_still, mapped_longer, Here, StandsIn, stands_later}
+use Rattle.typing_laws.proofs.Sound.{AreSound, inside_itself, regions_later, or_right}
 use Rattle.typing_laws.proofs.Tables.{AreLawful, AreTexts, stands_longer, is_ordinal_longer}
+use Rattle.typing_laws.specs.Controls.{Each, mark_changes, mark_controls}
+use Rattle.typing_laws.proofs.Kept.{MayChange, change_later, changes_of, controls_of, each_append, each_more}
+use Rattle.typing_laws.proofs.Owned.{Fails}
+use Rattle.typing_laws.specs.Results.{is_target, mark_targets}
 
 -- ---- headings that were passed
 
@@ -93,6 +97,13 @@ pub record Fine (here : Here) (s : Passed) : Type 0 where
   pub stands : StandsIn here (reached s)
   pub fit : AreFit (reached s)
 
+-- a variable of the block's own that no other block threatened
+pub record IsFree (here : Here) (old new : Passed) (root : ℕ) : Type 0 where
+  pub variable : Variable
+  pub is_there : slice_get new.variables root ≡ Some variable
+  pub own : nat_eq variable.block here.block ≡ true
+  pub free : Fails (list_any (nat_eq root) old.threatened)
+
 -- a form of a block that looks so, with sites of which something holds
 pub record Grown (here : Here) (Has : List Stands → Type 0) (look : Look) (old new : Passed) : Type 0 where
   pub regions : new.regions ≡ old.regions
@@ -112,6 +123,13 @@ pub record Grown (here : Here) (Has : List Stands → Type 0) (look : Look) (old
   pub looped : loops_of_look look ≡ range_with_len old.loops (length (loops_of_look look))
   pub begun : new.loops ≡ old.loops + length (loops_of_look look)
   pub inner : blocks_of_look look ≡ []
+  pub threats : (root : ℕ) → list_any (nat_eq root) old.threatened ≡ true → list_any (nat_eq root) new.threatened ≡ true
+  pub assigns : (root : ℕ) → list_any (nat_eq root) old.assigned ≡ true → list_any (nat_eq root) new.assigned ≡ true
+  pub assigned :
+      here.owing ≡ false → (root : ℕ) → list_any (nat_eq root) new.assigned ≡ true
+      → (list_any (nat_eq root) old.assigned ≡ true) ⊎ (is_target look root ≡ true)
+  pub changes : Each (MayChange here (reached new)) (changes_of look)
+  pub controls : Each (IsFree here old new) (controls_of look)
   pub formed : (o : Outline) → IsFurther (reached new) (whole_of o) → list_all (is_formed_mark o here.block) look ≡ true
 
 pub range_joins : (a m n : ℕ) → range_with_len a (m + n) ≡ range_with_len a m ++ range_with_len (a + m) n
@@ -139,6 +157,7 @@ further g = record {
   types = g.longer;
   variables = same_longer g.variables_kept;
   headings = same_longer (ap (map signature_passed) g.headings_kept);
+  threats = g.threats;
 }
 
 pub fine_later : {here : Here} {Has : List Stands → Type 0} {look : Look} {old new : Passed} → Grown here Has look old new
@@ -175,6 +194,46 @@ module _ (numbers : Mark → List ℕ) (look more : Look) where
       ∙ sym (range_joins from (length (flat_map numbers look)) (length (flat_map numbers more)))
       ∙ ap (range_with_len from) (sym counted)
 
+-- a target is one among more
+any_first : (xs ys : List ℕ) (root : ℕ) → list_any (nat_eq root) xs ≡ true → list_any (nat_eq root) (xs ++ ys) ≡ true
+any_first [] ys root is = absurd cc
+any_first (x ∷ xs) ys root is = by (nat_eq root x) (any_first xs ys root) is
+  where
+    by : (test : Bool) → (list_any (nat_eq root) xs ≡ true → list_any (nat_eq root) (xs ++ ys) ≡ true) → (test || list_any (nat_eq root) xs) ≡ true
+        → (test || list_any (nat_eq root) (xs ++ ys)) ≡ true
+    by true more h = refl
+    by false more h = more h
+
+any_second : (xs ys : List ℕ) (root : ℕ) → list_any (nat_eq root) ys ≡ true → list_any (nat_eq root) (xs ++ ys) ≡ true
+any_second [] ys root is = is
+any_second (x ∷ xs) ys root is = or_right (nat_eq root x) (list_any (nat_eq root) (xs ++ ys)) (any_second xs ys root is)
+
+pub target_first : (look more : Look) (root : ℕ) → is_target look root ≡ true → is_target (look ++ more) root ≡ true
+target_first look more root is =
+    subst (λ l. list_any (nat_eq root) l ≡ true) (sym (flat_map-append mark_targets look more))
+    (any_first (flat_map mark_targets look) (flat_map mark_targets more) root is)
+
+pub target_second : (look more : Look) (root : ℕ) → is_target more root ≡ true → is_target (look ++ more) root ≡ true
+target_second look more root is =
+    subst (λ l. list_any (nat_eq root) l ≡ true) (sym (flat_map-append mark_targets look more))
+    (any_second (flat_map mark_targets look) (flat_map mark_targets more) root is)
+
+-- assigned in one part or in the other
+pub assigned_then : {before between : Bool} (look more : Look) (root : ℕ)
+    → (between ≡ true → (before ≡ true) ⊎ (is_target look root ≡ true)) → (between ≡ true) ⊎ (is_target more root ≡ true)
+    → (before ≡ true) ⊎ (is_target (look ++ more) root ≡ true)
+assigned_then {before} look more root first (inl there) = by (first there)
+  where
+    by : (before ≡ true) ⊎ (is_target look root ≡ true) → (before ≡ true) ⊎ (is_target (look ++ more) root ≡ true)
+    by (inl old) = inl old
+    by (inr target) = inr (target_first look more root target)
+assigned_then {before} look more root first (inr target) = inr (target_second look more root target)
+
+-- a variable that is threatened later alone is free before
+free_before : (a b : Bool) → (a ≡ true → b ≡ true) → Fails b → Fails a
+free_before true b more is = let same : false ≡ true = sym is ∙ more refl in absurd cc
+free_before false b more is = refl
+
 -- one form, and then another
 pub grown_then : {here : Here} {First Second Both : List Stands → Type 0} {look more : Look} {old now new : Passed}
     → ((a b : List Stands) → First a → Second b → Both (a ++ b))
@@ -197,6 +256,30 @@ grown_then {here} {First} {Second} {Both} {look} {more} {old} {now} {new} joined
   looped = go_on mark_loops look more old.loops now.loops f.looped f.begun g.looped;
   begun = omega (arith, f.begun, g.begun, counted mark_loops look more);
   inner = flat_map-append mark_blocks look more ∙ ap₂ (λ a b. a ++ b) f.inner g.inner;
+  threats = λ root is. g.threats root (f.threats root is);
+  assigns = λ root is. g.assigns root (f.assigns root is);
+  assigned = λ settled root is. assigned_then look more root (f.assigned settled root) (g.assigned settled root is);
+  changes =
+      subst (Each (MayChange here (reached new))) (sym (flat_map-append mark_changes look more))
+      (each_append (MayChange here (reached new)) (changes_of look) (changes_of more)
+      (each_more (MayChange here (reached now)) (MayChange here (reached new)) (changes_of look)
+      (λ root. change_later here (reached now) (reached new) root (further g)) f.changes)
+      g.changes);
+  controls =
+      subst (Each (IsFree here old new)) (sym (flat_map-append mark_controls look more))
+      (each_append (IsFree here old new) (controls_of look) (controls_of more)
+      (each_more (IsFree here old now) (IsFree here old new) (controls_of look) (λ root c. record {
+        variable = c.variable;
+        is_there = ap (λ l. slice_get l root) g.variables_kept ∙ c.is_there;
+        own = c.own;
+        free = c.free;
+      }) f.controls)
+      (each_more (IsFree here now new) (IsFree here old new) (controls_of more) (λ root c. record {
+        variable = c.variable;
+        is_there = c.is_there;
+        own = c.own;
+        free = free_before (list_any (nat_eq root) old.threatened) (list_any (nat_eq root) now.threatened) (f.threats root) c.free;
+      }) g.controls));
   formed = λ o h.
       list_all-append (is_formed_mark o here.block) look more ∙ both_true _ _ (f.formed o (further_still (further g) h)) (g.formed o h);
 }

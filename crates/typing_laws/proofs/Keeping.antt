@@ -21,6 +21,8 @@ pub record Silent (counted : ℕ) (old new : Passed) : Type 0 where
   pub sites : new.sites ≡ old.sites
   pub entries : new.entries ≡ old.entries
   pub loops : new.loops ≡ old.loops
+  pub threatened : new.threatened ≡ old.threatened
+  pub assigned : new.assigned ≡ old.assigned
   pub types : IsLonger old.types new.types
   pub variables : IsLonger old.variables new.variables
   pub headings : new.headings ≡ old.headings
@@ -34,6 +36,8 @@ silent_as_is = record {
   sites = refl;
   entries = refl;
   loops = refl;
+  threatened = refl;
+  assigned = refl;
   types = as_long;
   variables = as_long;
   headings = refl;
@@ -48,6 +52,8 @@ silent_then f g = record {
   sites = g.sites ∙ f.sites;
   entries = g.entries ∙ f.entries;
   loops = g.loops ∙ f.loops;
+  threatened = g.threatened ∙ f.threatened;
+  assigned = g.assigned ∙ f.assigned;
   types = longer_still f.types g.types;
   variables = longer_still f.variables g.variables;
   headings = g.headings ∙ f.headings;
@@ -63,6 +69,8 @@ silent_types types longer = record {
   sites = refl;
   entries = refl;
   loops = refl;
+  threatened = refl;
+  assigned = refl;
   types = longer;
   variables = as_long;
   headings = refl;
@@ -77,6 +85,8 @@ silent_regions regions = record {
   sites = refl;
   entries = refl;
   loops = refl;
+  threatened = refl;
+  assigned = refl;
   types = as_long;
   variables = as_long;
   headings = refl;
@@ -91,6 +101,8 @@ silent_latest place = record {
   sites = refl;
   entries = refl;
   loops = refl;
+  threatened = refl;
+  assigned = refl;
   types = as_long;
   variables = as_long;
   headings = refl;
@@ -105,6 +117,8 @@ silent_texts texts = record {
   sites = refl;
   entries = refl;
   loops = refl;
+  threatened = refl;
+  assigned = refl;
   types = as_long;
   variables = as_long;
   headings = refl;
@@ -120,6 +134,8 @@ silent_output = record {
   sites = refl;
   entries = refl;
   loops = refl;
+  threatened = refl;
+  assigned = refl;
   types = as_long;
   variables = as_long;
   headings = refl;
@@ -136,6 +152,8 @@ silent_variable {counted} {s} variable cells own = record {
   sites = refl;
   entries = refl;
   loops = refl;
+  threatened = refl;
+  assigned = refl;
   types = as_long;
   variables = one_longer s.variables variable;
   headings = refl;

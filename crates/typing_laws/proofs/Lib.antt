@@ -4,6 +4,8 @@ pub mod Tables
 pub mod Sound
 pub mod Constants
 mod Covers
+mod Owned
+mod Kept
 pub mod Grown
 pub mod Steps
 pub mod Strings
@@ -13,11 +15,12 @@ pub mod Calls
 pub mod Expressions
 pub mod Operators
 pub mod EveryExpression
+pub mod Targets
 pub mod Statements
 mod Waiting
-mod Owned
 mod Ready
 mod Keeping
+mod Placed
 pub mod Declarations
 pub mod Headings
 pub mod Built

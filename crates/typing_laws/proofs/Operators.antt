@@ -1,6 +1,6 @@
 -- What operators, chains and calls do, each with the site of its operation.
-use Rattle.std.proofs.Common.{◌≡◌, ℕ, ◌<◌, Bool, true, false, ◌&&◌, ◌||◌, if◌then◌else◌, nat_lt, nat_eq, List, [], ◌∷◌, ◌++◌, length, Option, None, Some}
-use Rattle.std.proofs.Common.{Ok, is_none, pos, neg_ℤ, refl, ap, subst, arith}
+use Rattle.std.proofs.Common.{◌≡◌, ℕ, ◌<◌, Bool, true, false, ◌&&◌, ◌||◌, if◌then◌else◌, nat_lt, nat_eq, List, [], ◌∷◌, ◌++◌, length, Option, None, Some, Ok}
+use Rattle.std.proofs.Common.{is_none, pos, neg_ℤ, refl, ap, subst, arith}
 use Rattle.place.specs.declared.Place.{Place}
 use Rattle.syntax_tree.specs.declared.Name.{Name}
 use Rattle.syntax_tree.specs.declared.Operator.{Operator}
@@ -31,12 +31,11 @@ use Rattle.typing_laws.proofs.WholeRanges.{HaveWholeRanges, IfWhole, if_whole}
 use Rattle.typing_laws.proofs.Covers.{AreAbove, at_place, Covers, Leads, covers_both, leads_first, leads_more}
 use Rattle.typing_laws.proofs.Grown.{both_true}
 use Rattle.typing_laws.proofs.Reached.{Reached, whole_of, IsFurther, further_still, Here}
-use Rattle.typing_laws.proofs.Steps.{Does, Anything, Nothing, IsFound, joins, quietly, last, checks_types, pure_does, given_does, by_types_does}
-use Rattle.typing_laws.proofs.Steps.{find_does, mark_does, enter_does, site_does, led, IsKnown, behind_does}
+use Rattle.typing_laws.proofs.Steps.{Does, Anything, Nothing, IsFound, joins, quietly, last, checks_types, pure_does, given_does, by_types_does, find_does}
+use Rattle.typing_laws.proofs.Steps.{mark_does, enter_does, site_does, led, IsKnown, behind_does}
 use Rattle.typing_laws.proofs.Strings.{fit_is, there, both_and}
 use Rattle.typing_laws.proofs.Leading.{IsLed, Types, led_alone, led_behind, known_later, lt_true, LawfulWritten, LawfulLink, no_variable_lawful, led_covers}
-use Rattle.typing_laws.proofs.Calls.{AreLawfulActuals, routine_is}
-use Rattle.typing_laws.proofs.Calls.{function_does as function_does_call}
+use Rattle.typing_laws.proofs.Calls.{AreLawfulActuals, routine_is, function_does as function_does_call}
 
 module _ (here : Here) where
   -- ---- operators
@@ -143,7 +142,7 @@ module _ (here : Here) where
   compares_does None None alike = pure_does tt (λ n h. tt)
   compares_does None (Some b) alike = pure_does tt (λ n h. tt)
   compares_does (Some a) None alike = pure_does tt (λ n h. tt)
-  compares_does (Some a) (Some b) alike = mark_does (Compared a b) refl refl refl (λ o h. alike)
+  compares_does (Some a) (Some b) alike = mark_does (Compared a b) refl refl refl refl (λ o h. alike)
 
   pub link_does : (o : Operator) (place : Place) (places : List Place) (operand : Written) → LawfulWritten here places operand
       → LawfulLink here (place ∷ places) (link o place operand)
@@ -156,7 +155,7 @@ module _ (here : Here) where
           → Does here least (Leads place (operator_kinds o) places) (link o place operand left) Types
       by least left known =
           joins (leads_first 2 place (operator_kinds o) places) (operation_does o place) λ tests now one formed.
-          quietly (enter_does (λ n. OperatorMark n tests) (λ n. refl) (λ n. refl) (λ n. refl) (λ n w h. formed w h)) λ _ next two _.
+          quietly (enter_does (λ n. OperatorMark n tests) (λ n. refl) (λ n. refl) (λ n. refl) (λ n. refl) (λ n w h. formed w h)) λ _ next two _.
           last (law.types next None tt) λ right met three _.
           quietly (by_types_does (λ types. or_mismatch place (result_type types o left right))) λ type_id now four is.
           let result = there place (result_type now.types o left right) type_id is.1 in
@@ -183,11 +182,11 @@ module _ (here : Here) where
   chain_does first ls places others law more =
       no_variable_lawful here (places ++ others) (law.begins.0 ++ others) first.first _ (ap (λ l. l ++ others) law.begins.1)
       (λ least lead is.
-      quietly (mark_does Begins refl refl refl (λ o h. refl)) λ _ now _ _.
+      quietly (mark_does Begins refl refl refl refl (λ o h. refl)) λ _ now _ _.
       joins (covers_both 2 places others) (law.types now lead is) λ f met _ known.
       last (more met f known) λ t there _ known.
       quietly (given_does (fits (is_none f.length || nat_eq (length ls) 1) first.first t)) λ _ _ one _.
-      quietly (mark_does Ends refl refl refl (λ o h. refl)) λ _ _ two _.
+      quietly (mark_does Ends refl refl refl refl (λ o h. refl)) λ _ _ two _.
       pure_does t (λ n h. known_later t.site there n (further_still one (further_still two h)) known))
 
   -- ---- calls
@@ -266,12 +265,12 @@ module _ (here : Here) where
       led_covers here 2 name.place places (function_kinds f ++ led lead) (function_ascending f lead is)
       (joins (leads_more name.place (function_kinds f) (led lead) places) (function_does f name.place) λ tests met _ formed.
       joins (leads_first 2 name.place (led lead) places) (behind_does lead name.place) λ id now seen known.
-      quietly (enter_does Operation (λ n. refl) (λ n. refl) (λ n. refl) (λ n o h. refl)) λ _ _ one _.
+      quietly (enter_does Operation (λ n. refl) (λ n. refl) (λ n. refl) (λ n. refl) (λ n o h. refl)) λ _ _ one _.
       quietly (given_does (only name.place actuals)) λ actual m two right.
       last (checks_types {L = λ does n. IsFormedMonadic does.0 n} ((laws actual right).types m None tt) λ types t does n later same lawful is _.
       applied_formed types lawful.whole f tests actual.first t does is met n
       (further_still seen (further_still one (further_still two later))) formed) λ does _ three formed.
-      quietly (mark_does (Applied does.0) refl refl refl (λ o h. formed o h)) λ _ _ four _.
+      quietly (mark_does (Applied does.0) refl refl refl refl (λ o h. formed o h)) λ _ _ four _.
       let later = further_still one (further_still two (further_still three four)) in
       pure_does (typed does.1 id) (λ n h. known_later id now n (further_still later h) known))
 

@@ -1,7 +1,8 @@
 -- How far typing has come: how many sites there are, which types, which variables, and what the headings that were passed
 -- tell; and the block round a place. What a form is stays so as more of these come.
-use Rattle.std.proofs.Common.{◌≡◌, ℕ, zero, suc, ◌≤◌, ◌||◌, Bool, List, [], ◌∷◌, ◌++◌, length, map, nat_eq, slice_get, Option, Some}
-use Rattle.std.proofs.Common.{append_assoc, append-nil, refl, sym, ap, subst, ◌∙◌, arith, is_none, option_map, get_or, inl, inr, ◌⊎◌}
+use Rattle.std.proofs.Common.{◌≡◌, ℕ, zero, suc, ◌≤◌, ◌||◌, Bool, true, List, [], ◌∷◌, ◌++◌, length, map, nat_eq, slice_get, Option, Some, append_assoc}
+use Rattle.std.proofs.Common.{append-nil, refl, sym, ap, subst, ◌∙◌, arith, is_none, option_map, get_or, inl, inr, ◌⊎◌}
+use Rattle.std.specs.List.{list_any}
 use Rattle.std.specs.Prelude.{not}
 use Rattle.std.proofs.lemmas.List.{map-append}
 use Rattle.types.specs.Forms.{Form}
@@ -110,13 +111,27 @@ pub record Reached : Type 0 where
   pub types : List Form
   pub variables : List Variable
   pub headings : List Signature
+  -- which variables blocks inside others may change
+  pub threatens : ℕ → Bool
 
 abbrev pub reached : Passed → Reached
-reached s = record { sites = length s.sites; types = s.types; variables = s.variables; headings = map signature_passed s.headings }
+reached s = record {
+  sites = length s.sites;
+  types = s.types;
+  variables = s.variables;
+  headings = map signature_passed s.headings;
+  threatens = λ root. list_any (nat_eq root) s.threatened;
+}
 
 -- the whole program
 abbrev pub whole_of : Outline → Reached
-whole_of o = record { sites = o.sites; types = o.types; variables = o.variables; headings = map signature_of o.headings }
+whole_of o = record {
+  sites = o.sites;
+  types = o.types;
+  variables = o.variables;
+  headings = map signature_of o.headings;
+  threatens = λ root. true;
+}
 
 -- at least as far
 pub record IsFurther (old new : Reached) : Type 0 where
@@ -124,9 +139,16 @@ pub record IsFurther (old new : Reached) : Type 0 where
   pub types : IsLonger old.types new.types
   pub variables : IsLonger old.variables new.variables
   pub headings : IsLonger old.headings new.headings
+  pub threats : (root : ℕ) → old.threatens root ≡ true → new.threatens root ≡ true
 
 pub as_far : {one : Reached} → IsFurther one one
-as_far = record { sites = omega arith; types = as_long; variables = as_long; headings = as_long }
+as_far = record {
+  sites = omega arith;
+  types = as_long;
+  variables = as_long;
+  headings = as_long;
+  threats = λ root is. is;
+}
 
 pub further_still : {old now new : Reached} → IsFurther old now → IsFurther now new → IsFurther old new
 further_still f g = record {
@@ -134,14 +156,16 @@ further_still f g = record {
   types = longer_still f.types g.types;
   variables = longer_still f.variables g.variables;
   headings = longer_still f.headings g.headings;
+  threats = λ root is. g.threats root (f.threats root is);
 }
 
 -- ---- the block round a place
 
--- its number, and the blocks round it
+-- its number, and the blocks round it; and whether a result may be assigned here whose target comes behind
 pub record Here : Type 0 where
   pub block : ℕ
   pub around : List ℕ
+  pub owing : Bool
 
 -- a block is this one, or stands round it
 abbrev pub is_round_here : Here → ℕ → Bool

@@ -1,7 +1,7 @@
 -- What is known among declarations: the types, the variables and the headings fit each other, each name denotes what is
 -- sound, and the cells of the block's variables are counted.
-use Rattle.std.proofs.Common.{◌≡◌, ℕ, zero, suc, ◌+◌, ◌<◌, ◌≤◌, Bool, true, false, nat_lt, nat_eq, List, [], ◌∷◌, ◌++◌, length, map}
-use Rattle.std.proofs.Common.{Some, None, slice_get, refl, sym, ap, subst, ◌∙◌, arith, length-append, inl, inr, ◌⊎◌}
+use Rattle.std.proofs.Common.{◌≡◌, ℕ, zero, suc, ◌+◌, ◌<◌, ◌≤◌, Bool, true, false, nat_lt, nat_eq, List, [], ◌∷◌, ◌++◌, length, map, Some, None, slice_get}
+use Rattle.std.proofs.Common.{refl, sym, ap, subst, ◌∙◌, arith, length-append, inl, inr, ◌⊎◌, ◌||◌}
 use Rattle.std.specs.List.{list_all}
 use Rattle.std.proofs.lemmas.Bool.{eqb-true}
 use Rattle.std.proofs.lemmas.Bool.Decides.{nat_tests}
@@ -11,7 +11,7 @@ use Rattle.types.specs.Forms.{Form}
 use Rattle.types.specs.Types.{cells_of, is_ordinal, most_cells}
 use Rattle.typed_tree.specs.declared.tree.Variable.{Variable}
 use Rattle.typed_tree.specs.declared.tree.VariableKind.{VariableKind}
-use Rattle.typed_tree.specs.WellFormed.{declarer, is_local_kind, is_parameter_kind, is_result_kind, most_blocks, most_variables}
+use Rattle.typed_tree.specs.WellFormed.{declarer, is_local_kind, is_parameter_kind, is_result_kind, is_one_of, most_blocks, most_variables}
 use Rattle.typing.specs.Passing.{Headed, Passed}
 use Rattle.typing_laws.proofs.Grown.{AreFit, FitsHeading, IsFormal, both_true}
 use Rattle.typing_laws.proofs.Owned.{Fails, HasRoot, declares, parameters_of, results_of, roots_of, root_there, roots_none_more, not_both, local_no_parameter}
@@ -36,7 +36,7 @@ IsPlacedAt headings (suc block) headed =
     × (outer : Headed) × (slice_get headings last ≡ Some outer) × (headed.around ≡ outer.around ++ last ∷ [])
 
 abbrev pub within : ℕ → Headed → Here
-within block headed = record { block = block; around = headed.around }
+within block headed = record { block = block; around = headed.around; owing = false }
 
 -- an ordinal variable that a block declares
 abbrev pub IsOrdinalAt : List Form → List Variable → ℕ → Type 0
@@ -251,3 +251,38 @@ fit_of s blocks b = record {
           is_parameter = (both_and (nat_eq r.variable.block block) (is_parameter_kind r.variable.kind) r.holds).1;
           stands = type_stands s.types s.variables root r.variable b.have_types there;
         }
+
+-- ---- the blocks round a block
+
+pub among_split : (blocks : List ℕ) (last block : ℕ) → is_one_of (blocks ++ last ∷ []) block ≡ true → (is_one_of blocks block ≡ true) ⊎ (block ≡ last)
+among_split [] last block is = by (nat_eq last block) refl is
+  where
+    by : (test : Bool) → nat_eq last block ≡ test → (test || false) ≡ true → (is_one_of [] block ≡ true) ⊎ (block ≡ last)
+    by true same h = inr (sym (eqb-true last block same))
+    by false same h = absurd cc
+among_split (one ∷ blocks) last block is = by (nat_eq one block) refl is (among_split blocks last block)
+  where
+    by : (test : Bool) → nat_eq one block ≡ test → (test || is_one_of (blocks ++ last ∷ []) block) ≡ true
+        → (is_one_of (blocks ++ last ∷ []) block ≡ true → (is_one_of blocks block ≡ true) ⊎ (block ≡ last))
+        → ((test || is_one_of blocks block) ≡ true) ⊎ (block ≡ last)
+    by true same h more = inl refl
+    by false same h more = more h
+
+-- they have lower numbers
+pub around_less : (types : List Form) (variables : List Variable) (headings : List Headed) (blocks : ℕ) → Base types variables headings blocks
+    → (many number : ℕ) → number < many → (headed : Headed) → slice_get headings number ≡ Some headed → (block : ℕ)
+    → is_one_of headed.around block ≡ true → block < number
+around_less types variables headings blocks b zero number less headed is block among = absurd (omega (arith, less))
+around_less types variables headings blocks b (suc many) zero less headed is block among =
+    let placed = (b.headed zero headed is).placed in absurd (no (sym (ap (λ l. is_one_of l block) placed.0) ∙ among))
+  where
+    no : ◌≡◌ {A = Bool} false true → ⊥
+    no h = absurd cc
+around_less types variables headings blocks b (suc many) (suc number) less headed is block among =
+    let placed = (b.headed (suc number) headed is).placed in
+    by placed.1 placed.3 (among_split placed.4.around placed.1 block (sym (ap (λ l. is_one_of l block) placed.6) ∙ among))
+    (around_less types variables headings blocks b many placed.1 (omega (arith, less, placed.3)) placed.4 placed.5 block)
+  where
+    by : {inside : Bool} (last : ℕ) → last < suc number → (inside ≡ true) ⊎ (block ≡ last) → (inside ≡ true → block < last) → block < suc number
+    by last few (inl inner) more = let deeper = more inner in omega (arith, few, deeper)
+    by last few (inr same) more = omega (arith, few, same)

@@ -1,15 +1,15 @@
 -- What holds of all that names denote: a constant is a whole number, a variable is one of the block or of one round it, of
 -- the type that it has there, a routine is one that such a block declares, and a type stands in the table.
-use Rattle.std.proofs.Common.{◌≡◌, ℕ, ◌<◌, Bool, true, false, cond, nat_eq, List, [], ◌∷◌, ◌++◌, Option, Some, None, Ok, Err, if◌then◌else◌, fold}
-use Rattle.std.proofs.Common.{refl, ap, subst, arith, length, slice_get, ◌||◌}
+use Rattle.std.proofs.Common.{◌≡◌, ℕ, ◌<◌, Bool, true, false, cond, nat_eq, List, [], ◌∷◌, ◌++◌, Option, Some, None, Ok, Err, if◌then◌else◌, fold, refl, ap}
+use Rattle.std.proofs.Common.{subst, arith, length, slice_get, ◌||◌}
 use Rattle.std.proofs.lemmas.Bool.{eq-eqb, eqb-true}
 use Rattle.std.specs.Cmp.Lexicographic.{pointwise}
+use Rattle.types.specs.Forms.{Form}
+use Rattle.types.specs.declared.form.TypeId.{TypeId}
 use Rattle.scopes.specs.Scopes.{Region, said, decided, found, put, opened, listing, is_listed, opened_beside, is_defined, define}
 use Rattle.scopes.specs.declared.fault.ScopeFault.TheVariants.{DeclaredTwice}
 use Rattle.scopes.specs.declared.denotation.Denotation.{Denotation}
 use Rattle.scopes.specs.declared.denotation.Denotation.TheVariants as denotes
-use Rattle.types.specs.Forms.{Form}
-use Rattle.types.specs.declared.form.TypeId.{TypeId}
 use Rattle.typed_tree.specs.declared.tree.Variable.{Variable}
 use Rattle.typed_tree.specs.WellFormed.{is_whole, is_one_of, of_one, declarer}
 use Rattle.typing.specs.Names.{required_region}
@@ -180,7 +180,7 @@ or_right true b is = refl
 or_right false b is = is
 
 -- a routine's block is inside its declarer's
-pub inside_routine : (here : Here) (number : ℕ) → IsInside here (record { block = number; around = here.around ++ here.block ∷ [] })
+pub inside_routine : (here : Here) (number : ℕ) → IsInside here (record { block = number; around = here.around ++ here.block ∷ []; owing = false })
 inside_routine here number = record { keeps = λ block is. or_right (nat_eq block number) _ (by block (nat_eq block here.block) refl is) }
   where
     by : (block : ℕ) (test : Bool) → nat_eq block here.block ≡ test → (test || is_one_of here.around block) ≡ true

@@ -1,10 +1,8 @@
 -- What statements do, form by form, and the law of every statement, by induction over its form.
-use Rattle.std.proofs.Common.{◌≡◌, ℕ, ℤ, Vec, ◌<◌, ap, ap₂, ◌∙◌, ◌||◌, length, nat_eq, Bool, true, false, if◌then◌else◌, List, [], ◌∷◌, ◌++◌, map, Option}
-use Rattle.std.proofs.Common.{Some, None, Ok, refl, sym, slice_get}
-use Rattle.std.proofs.Common.{subst, append_assoc, arith, is_none, option_map, ◌&&◌}
+use Rattle.std.proofs.Common.{◌≡◌, ℕ, ℤ, Vec, ◌<◌, ap, ◌∙◌, length, nat_eq, Bool, true, false, if◌then◌else◌, List, [], ◌∷◌, ◌++◌, map, Option, Some, None, Ok}
+use Rattle.std.proofs.Common.{refl, sym, slice_get, subst, append_assoc, arith, is_none, option_map, ◌&&◌}
 use Rattle.std.specs.List.{flat_map}
 use Rattle.std.specs.declared.alloc.Global.{Global}
-use Rattle.std.proofs.lemmas.Bool.{eq-eqb, eqb-true}
 use Rattle.place.specs.declared.Place.{Place}
 use Rattle.syntax_tree.specs.declared.Name.{Name}
 use Rattle.syntax_tree.specs.declared.Expr.{Expr}
@@ -31,45 +29,36 @@ use Rattle.typed_tree.specs.declared.site.SiteKind.{SiteKind}
 use Rattle.typed_tree.specs.declared.site.SiteKind.TheVariants as kind
 use Rattle.typed_tree.specs.declared.tree.Representation.{Representation}
 use Rattle.typed_tree.specs.Ids.{Stands}
-use Rattle.typed_tree.specs.declared.tree.Selector.{Selector as TreeSelector}
 use Rattle.typed_tree.specs.declared.tree.Variable.{Variable}
-use Rattle.typed_tree.specs.Accesses.{index_count}
-use Rattle.typed_tree.specs.Look.{Access, Assign, Target, WholeTarget, Copied, Fits, Write, Written as WrittenMark, Width, Empty, Compound, If, Then}
-use Rattle.typed_tree.specs.Look.{Else, While, Do, Repeat, Until, For}
+use Rattle.typed_tree.specs.Look.{Assign, Copied, Fits, Write, Written as WrittenMark, Width, Empty, Compound, If, Then, Else, While, Do, Repeat, Until, For}
 use Rattle.typed_tree.specs.Look.{Case, Arm, Ends, Mark, WrittenString, mark_entries, mark_loops, mark_blocks, is_formed_mark}
-use Rattle.typed_tree.specs.WellFormed.{Outline, is_declared, is_local_kind, is_one_of, of_one}
-use Rattle.typing.specs.Passing.{Enclosing, Passing, and_then, each, mark}
+use Rattle.typed_tree.specs.WellFormed.{Outline, is_declared, is_local_kind, of_one}
+use Rattle.typing.specs.Passing.{Passing, and_then, each}
 use Rattle.typing.specs.Steps.{fits, is_local, or_mismatch}
 use Rattle.typing.specs.declared.typed.Typed.{Typed}
 use Rattle.typing.specs.Expressions.{Written, WrittenActual, is_of, as_routine, as_variable, expression, written_actual}
-use Rattle.typing.specs.Statements.{target_mark, result_target, or_no_variable, function_target, target_of, target, assigned, copied, assignment}
-use Rattle.typing.specs.Statements.{as_procedure, ends_line}
-use Rattle.typing.specs.Statements.{is_output, names_file, unless_wide, is_file, written_values}
+use Rattle.typing.specs.Statements.{assigned, copied, assignment, as_procedure, ends_line, is_output, names_file, unless_wide, is_file, written_values}
 use Rattle.typing.specs.Statements.{has_values, representation_of, written_as, measured, width, parameter, write, required_call, declared_call, call_by}
-use Rattle.typing.specs.Statements.{procedure_call, compound, condition}
-use Rattle.typing.specs.Statements.{alternative, tested, choice, while_loop}
-use Rattle.typing.specs.Statements.{repeat_loop, way, bound, for_head, for_body, for_loop, case_arms, case_head, case_body, case_statement, statement_step}
-use Rattle.typing.specs.Statements.{statement}
+use Rattle.typing.specs.Statements.{procedure_call, compound, condition, alternative, tested, choice, while_loop, repeat_loop, way, bound, for_head, for_body}
+use Rattle.typing.specs.Statements.{for_loop, case_arms, case_head, case_body, case_statement, statement_step, statement}
 use Rattle.typing_laws.proofs.Tables.{stands_longer, cells_of_longer}
 use Rattle.typing_laws.proofs.WholeRanges.{IsWholeRange}
 use Rattle.typing_laws.proofs.Covers.{Covers, covers_both, covers_none, covers_behind, covers_skip, covers_lower, leads_first}
 use Rattle.typing_laws.proofs.Grown.{heads_of, both_true}
-use Rattle.typing_laws.proofs.Reached.{Signature, Reached, whole_of, IsFurther, further_still, Here, StandsIn, is_round_here, get_longer, stands_later}
-use Rattle.typing_laws.proofs.Sound.{IsVariable, IsRoutine, variable_later, or_right}
-use Rattle.typing_laws.proofs.Steps.{Does, Anything, Nothing, IsFound, joins, quietly, last, checks, checks_types, sited, further_answered, pure_does}
-use Rattle.typing_laws.proofs.Steps.{given_does}
-use Rattle.typing_laws.proofs.Steps.{by_types_does, fail_does, find_does, pass_does, enclosing_now_does, heading_at_does, variable_at_does, assign_result_does}
-use Rattle.typing_laws.proofs.Steps.{wants_output_does}
-use Rattle.typing_laws.proofs.Steps.{mark_does, enter_does, enter_loop_does, may_change_does, may_control_does, begin_control_does, end_control_does, site_does}
-use Rattle.typing_laws.proofs.Steps.{IsKnown}
+use Rattle.typing_laws.proofs.Reached.{Reached, whole_of, IsFurther, further_still, Here, StandsIn, get_longer}
+use Rattle.typing_laws.proofs.Sound.{IsRoutine, variable_later}
+use Rattle.typing_laws.proofs.Steps.{Does, Anything, Nothing, IsFound, joins, quietly, last, checks, checks_types, sited, pure_does, given_does, by_types_does}
+use Rattle.typing_laws.proofs.Steps.{fail_does, find_does, pass_does, wants_output_does, mark_does, enter_does, enter_loop_does, may_change_does}
+use Rattle.typing_laws.proofs.Steps.{begin_control_does, end_control_does, site_does, IsKnown, controlled_does}
 use Rattle.typing_laws.proofs.Leading.{IsLed, Types, lt_true, LawfulWritten, covers_test, led_covers}
-use Rattle.typing_laws.proofs.Accesses.{LeadsTo, AreLawfulRows, leads_nowhere, leads_later, selected_does, tests_ordinal_does, tested as tested_is}
-use Rattle.typing_laws.proofs.Accesses.{ordinal_formed, whole_formed}
-use Rattle.typing_laws.proofs.Calls.{IsLawfulWidth, LawfulActual, fitting_whole, copying_is, may_call_it, routine_is, routine_call_does}
+use Rattle.typing_laws.proofs.Accesses.{AreLawfulRows, leads_nowhere, leads_later, tests_ordinal_does, ordinal_formed}
+use Rattle.typing_laws.proofs.Calls.{IsLawfulWidth, LawfulActual, fitting_whole, copying_is, routine_is, routine_call_does}
 use Rattle.typing_laws.proofs.Expressions.{variable_is}
 use Rattle.typing_laws.proofs.Constants.{row_does}
 use Rattle.typing_laws.proofs.Strings.{there, fit_is}
 use Rattle.typing_laws.proofs.EveryExpression.{expression_lawful, actual_lawful, indexes_lawful, every_actual_lawful}
+use Rattle.typing_laws.specs.Controls.{mark_changes}
+use Rattle.typing_laws.proofs.Targets.{target_does}
 
 -- ---- tests
 
@@ -84,16 +73,17 @@ measured_is place t id is = by (is_of integer t) t.site is
 -- a mark that says how a value is written is no entry
 abbrev IsForm : Mark → Type 0
 IsForm one =
-    (mark_entries one ≡ []) × (mark_loops one ≡ []) × (mark_blocks one ≡ []) × ((o : Outline) (block : ℕ) → is_formed_mark o block one ≡ true)
+    (mark_entries one ≡ []) × (mark_loops one ≡ []) × (mark_blocks one ≡ []) × (mark_changes one ≡ [])
+    × ((o : Outline) (block : ℕ) → is_formed_mark o block one ≡ true)
 
 form_is : (place : Place) (types : List Form) (t : Typed) (form : Mark) → or_mismatch place (written_as types t) ≡ Ok form → IsForm form
 form_is place types t form is = by (is_none t.length) (representation_of types t.type_id) (is_string types t.type_id) (there place (written_as types t) form is)
   where
     by : (ordinal : Bool) (representation : Option Representation) (string : Bool)
         → (if ordinal then option_map WrittenMark representation else (if string then Some WrittenString else None)) ≡ Some form → IsForm form
-    by true (Some r) string h = let same : WrittenMark r ≡ form = cc in subst IsForm same (refl, refl, refl, λ o block. refl)
+    by true (Some r) string h = let same : WrittenMark r ≡ form = cc in subst IsForm same (refl, refl, refl, refl, λ o block. refl)
     by true None string h = absurd cc
-    by false r true h = let same : WrittenString ≡ form = cc in subst IsForm same (refl, refl, refl, λ o block. refl)
+    by false r true h = let same : WrittenString ≡ form = cc in subst IsForm same (refl, refl, refl, refl, λ o block. refl)
     by false r false h = absurd cc
 
 module _ (here : Here) where
@@ -106,99 +96,9 @@ module _ (here : Here) where
 
   -- ---- assignments
 
-  target_formed : {least : Reached} (root : ℕ) (selectors : List TreeSelector) (id : TypeId) (ordinal : Bool) → LeadsTo here root selectors id least
-      → is_ordinal least.types id ≡ ordinal → Does here least Nothing (mark (target_mark ordinal root selectors id)) Anything
-  target_formed {least} root selectors id true l is =
-      mark_does (Target root selectors (index_count selectors)) refl refl refl (λ n h. ordinal_formed here root selectors id least n l is h)
-  target_formed {least} root selectors id false l is =
-      mark_does (WholeTarget root selectors (index_count selectors) id) refl refl refl (λ n h. whole_formed here root selectors id least n l is h)
-
   -- it is of a type that stands in the table
   abbrev StandsThere : TypeId → Reached → Type 0
   StandsThere id now = id.index < length now.types
-
-  -- the result of a function, inside its block
-  result_target_does : {least : Reached} (place : Place) (inside : Bool) (result : Option ℕ)
-      → Does here least Nothing (result_target place inside result) (λ root now. (inside ≡ true) × (result ≡ Some root))
-  result_target_does place true (Some root) = quietly (assign_result_does root) λ _ _ _ _. pure_does root (λ n h. (refl, refl))
-  result_target_does place true None = fail_does (fault.NotVariable place)
-  result_target_does place false result = fail_does (fault.NotVariable place)
-
-  variable_type : (place : Place) (found : Option Variable) (id : TypeId) → or_no_variable place found ≡ Ok id
-      → (v : Variable) × (found ≡ Some v) × (v.type_id ≡ id)
-  variable_type place (Some v) id is = (v, refl, cc)
-  variable_type place None id is = absurd cc
-
-  inside_is : (enclosing : Enclosing) (block : ℕ) → enclosing.block ≡ here.block → enclosing.around ≡ here.around
-      → is_one_of (enclosing.block ∷ enclosing.around) block ≡ true → is_round_here here block ≡ true
-  inside_is enclosing block one two is =
-      by (nat_eq here.block block) refl (subst (λ blocks. is_one_of blocks block ≡ true) (ap₂ (λ a b. a ∷ b) one two) is)
-    where
-      by : (test : Bool) → nat_eq here.block block ≡ test → (test || is_one_of here.around block) ≡ true
-          → (nat_eq block here.block || is_one_of here.around block) ≡ true
-      by true same h = ap (λ b. b || is_one_of here.around block) (eq-eqb block here.block (sym (eqb-true here.block block same)))
-      by false same h = or_right (nat_eq block here.block) (is_one_of here.around block) h
-
-  -- what stands left of `:=` is a variable, or the result of a function
-  abbrev IsTarget : ℕ × TypeId → Reached → Type 0
-  IsTarget variable now = IsVariable here now.variables now.types variable.0 variable.1 × StandsIn here now
-
-  function_target_does : {least : Reached} (place : Place) (block : ℕ) (is_function : Bool) → IsRoutine here (heads_of least) block is_function
-      → StandsIn here least → Does here least Nothing (function_target place block) IsTarget
-  unfolding function_target
-  function_target_does {least} place block is_function routine stands =
-      let may = may_call_it here least is_function block routine in
-      quietly enclosing_now_does λ enclosing _ one in_here.
-      quietly (heading_at_does block may.signature (get_longer one.headings block may.signature may.heading)) λ heading now two is.
-      let inside = is_one_of (enclosing.block ∷ enclosing.around) block in
-      quietly (result_target_does place inside heading.result) λ root _ three has.
-      quietly (variable_at_does root) λ found next four there.
-      quietly (given_does (or_no_variable place found)) λ id _ five type_is.
-      let outcome = is.1.outcome root (sym (ap (λ (s : Signature). s.result) is.0) ∙ has.1) in
-      let typed = variable_type place found id type_is in
-      let known : Some outcome.variable ≡ Some typed.0 =
-      sym (get_longer (further_still three four).variables root outcome.variable outcome.is_there) ∙ there ∙ typed.1 in
-      let same : outcome.variable ≡ typed.0 = some_same outcome.variable typed.0 known in
-      pure_does (root, id) (λ n h.
-      let seen = further_still three (further_still four (further_still five h)) in (
-        record {
-          variable = outcome.variable;
-          is_there = get_longer seen.variables root outcome.variable outcome.is_there;
-          is_visible = ap (is_round_here here) outcome.of_block ∙ inside_is enclosing block in_here.0 in_here.1 has.0;
-          of_type = ap (λ (v : Variable). v.type_id) same ∙ typed.2;
-          stands = stands_longer seen.types id
-              (subst (λ (i : TypeId). i.index < length now.types) (ap (λ (v : Variable). v.type_id) same ∙ typed.2) outcome.stands);
-        },
-        stands_later here least n (further_still one (further_still two seen)) stands,
-      ))
-    where
-      some_same : (a b : Variable) → Some a ≡ Some b → a ≡ b
-      some_same a b is = cc
-
-  target_of_does : {least : Reached} (found : Option (ℕ × Bool)) (place : Place) (d : Denotation) → as_routine d ≡ found → IsFound here d least
-      → Does here least Nothing (target_of found place d) IsTarget
-  target_of_does {least} None place d same sound =
-      further_answered (given_does (as_variable place d)) (λ variable now more is.
-      (variable_later here least now variable.0 variable.1 more (variable_is here least place d variable is sound.0), stands_later here least now more sound.1))
-  target_of_does {least} (Some routine) place d same sound =
-      function_target_does place routine.0 routine.1 (routine_is here least d routine same sound.0) sound.1
-
-  target_does : {least : Reached} (name : Name) (selectors : List Selector) (rows : List (List Place)) (ws : List Written) → AreLawfulRows here rows ws
-      → Does here least (Covers 0 (selector_places selectors rows)) (target name selectors ws) StandsThere
-  unfolding target
-  target_does name selectors rows ws laws =
-      quietly (find_does name) λ d _ _ sound.
-      quietly (target_of_does (as_routine d) name.place d refl sound) λ variable now _ found.
-      quietly (may_change_does name.place variable.0) λ _ _ two _.
-      quietly (enter_does Access (λ n. refl) (λ n. refl) (λ n. refl) (λ n m h. refl)) λ _ entered three _.
-      let start = leads_nowhere here variable.0 variable.1 now found.0 found.1 in
-      last (selected_does here variable.0 [] variable.1 selectors rows ws laws
-      (leads_later here variable.0 [] variable.1 now entered (further_still two three) start))
-      λ component met _ l.
-      quietly (tests_ordinal_does here component.1) λ ordinal next four ordered.
-      let led = leads_later here variable.0 component.0 component.1 met next four l in
-      quietly (target_formed variable.0 component.0 component.1 ordinal led (tested_is here next component.1 ordinal ordered.1)) λ _ _ five _.
-      pure_does component.1 (λ n h. stands_longer (further_still five h).types component.1 led.stands)
 
   assigned_does : {least : Reached} (id : TypeId) (becomes : Place) (places : List Place) (value : Written) → LawfulWritten here places value
       → Does here least (Covers 0 (becomes ∷ places)) (assigned id becomes value) Anything
@@ -208,7 +108,7 @@ module _ (here : Here) where
       (joins (leads_first 0 becomes (kind.Subrange ∷ []) places) (site_does kind.Subrange becomes) λ site there _ known.
       last (checks_types {L = λ range n. IsWholeRange range} (typed_does there places value None law tt) λ types t range n more same lawful fits _.
       fitting_whole becomes types lawful.whole id t range fits) λ range n more whole.
-      mark_does (Fits (record { site = site; range = range })) refl refl refl
+      mark_does (Fits (record { site = site; range = range })) refl refl refl refl
       (λ o h. both_true _ _ (lt_true site o.sites (omega (arith, known, more.sites, h.sites))) whole))
 
   copied_does : {least : Reached} (id : TypeId) (becomes : Place) (places : List Place) (value : Written) → id.index < length least.types
@@ -220,7 +120,7 @@ module _ (here : Here) where
       last (checks_types {L = λ cells n. nat_eq (cells_of n.types id) cells ≡ true} (typed_does now places value None law tt)
       λ types t cells n more same lawful copies _.
       subst (λ l. nat_eq (cells_of l id) cells ≡ true) (sym same) (copying_is becomes types id t cells copies)) λ cells n two as_many.
-      mark_does (Copied id cells) refl refl refl
+      mark_does (Copied id cells) refl refl refl refl
       (λ m h.
       let there = stands_longer (further_still one two).types id stands in
       ap (λ c. nat_eq c cells) (cells_of_longer h.types id there) ∙ as_many))
@@ -232,14 +132,14 @@ module _ (here : Here) where
   value_does false id becomes places value stands law = copied_does id becomes places value stands law
 
   assignment_does : (name : Name) (selectors : List Selector) (rows : List (List Place)) (ws : List Written) (becomes : Place) (places : List Place)
-      (value : Written) → AreLawfulRows here rows ws → LawfulWritten here places value
+      (value : Written) → ((h : Here) → AreLawfulRows h rows ws) → LawfulWritten here places value
       → LawfulStatement (name.place ∷ (selector_places selectors rows ++ (becomes ∷ places))) (assignment name selectors ws becomes value)
   unfolding assignment
   assignment_does name selectors rows ws becomes places value laws law = record {
     passes = λ least.
         sited (λ sites. covers_skip 0 name.place (selector_places selectors rows ++ (becomes ∷ places)) sites)
-        (quietly (enter_does (λ n. Assign n becomes) (λ n. refl) (λ n. refl) (λ n. refl) (λ n m h. refl)) λ _ _ _ _.
-        joins (covers_both 0 (selector_places selectors rows) (becomes ∷ places)) (target_does name selectors rows ws laws) λ id now _ stands.
+        (quietly (enter_does (λ n. Assign n becomes) (λ n. refl) (λ n. refl) (λ n. refl) (λ n. refl) (λ n m h. refl)) λ _ _ _ _.
+        joins (covers_both 0 (selector_places selectors rows) (becomes ∷ places)) (target_does here name selectors rows ws laws) λ id now _ stands.
         quietly (tests_ordinal_does here id) λ ordinal next one _.
         value_does ordinal id becomes places value (stands_longer one.types id stands) law);
   }
@@ -287,7 +187,7 @@ module _ (here : Here) where
   width_does least places (Some w) law =
       last (checks {L = λ id n. IsKnown (Some id) n} (typed_does least places w (Some kind.Width) law (omega arith)) λ types t id n more is known.
       subst (λ z. IsKnown z n) (measured_is w.first t id is) known) λ id n more known.
-      mark_does (Width id) refl refl refl (λ m h. lt_true id m.sites (omega (arith, known, h.sites)))
+      mark_does (Width id) refl refl refl refl (λ m h. lt_true id m.sites (omega (arith, known, h.sites)))
 
   parameter_does : (least : Reached) (places : List Place) (a : WrittenActual) → LawfulActual here places a
       → Does here least (Covers 0 places) (parameter a) Anything
@@ -297,7 +197,7 @@ module _ (here : Here) where
       (joins (covers_both 0 law.of_value law.of_width)
       (checks {L = λ form n. IsForm form} (typed_does least law.of_value a.value None law.value tt) λ types t form n more is _.
       form_is a.value.first types t form is) λ form now _ is.
-      quietly (mark_does form is.0 is.1 is.2 (λ o h. is.3 o here.block)) λ _ next _ _.
+      quietly (mark_does form is.0 is.1 is.2 is.3 (λ o h. is.4 o here.block)) λ _ next _ _.
       width_does next law.of_width a.width law.width)
 
   parameters_do : (least : Reached) (values : List Actual)
@@ -313,12 +213,12 @@ module _ (here : Here) where
   unfolding write
   write_does least name actuals procedure =
       quietly (wants_output_does name.place) λ _ _ _ _.
-      quietly (enter_does (λ n. Write n name.place (ends_line procedure)) (λ n. refl) (λ n. refl) (λ n. refl) (λ n m h. refl)) λ _ _ _ _.
+      quietly (enter_does (λ n. Write n name.place (ends_line procedure)) (λ n. refl) (λ n. refl) (λ n. refl) (λ n. refl) (λ n m h. refl)) λ _ _ _ _.
       quietly (written_values_do actuals) λ values now _ among.
       sited among
       (quietly (given_does (has_values name.place procedure values)) λ _ there _ _.
       last (parameters_do there values) λ _ m _ _.
-      mark_does Ends refl refl refl (λ n h. refl))
+      mark_does Ends refl refl refl refl (λ n h. refl))
 
   joined_mapped : (actuals : List Actual) → joined_places (map actual_places actuals) ≡ flat_map actual_places actuals
   joined_mapped [] = refl
@@ -358,9 +258,9 @@ module _ (here : Here) where
   unfolding compound
   compound_does places statements row = record {
     passes = λ least.
-        quietly (enter_does Compound (λ n. refl) (λ n. refl) (λ n. refl) (λ n m h. refl)) λ _ now _ _.
+        quietly (enter_does Compound (λ n. refl) (λ n. refl) (λ n. refl) (λ n. refl) (λ n m h. refl)) λ _ now _ _.
         last (row now) λ _ m _ _.
-        mark_does Ends refl refl refl (λ n h. refl);
+        mark_does Ends refl refl refl refl (λ n h. refl);
   }
 
   -- ---- branches
@@ -379,7 +279,7 @@ module _ (here : Here) where
   unfolding alternative
   alternative_does least places None law =
       sited (λ sites none. subst (Covers 0 places) (sym none) (covers_none 0 places)) (pure_does {K = Anything} tt (λ n h. tt))
-  alternative_does least places (Some other) law = quietly (mark_does Else refl refl refl (λ n h. refl)) λ _ now _ _. law.passes now
+  alternative_does least places (Some other) law = quietly (mark_does Else refl refl refl refl (λ n h. refl)) λ _ now _ _. law.passes now
 
   tested_does : (least : Reached) (place : Place) (places : List Place) (w : Written) → LawfulWritten here places w
       → Does here least (Covers 0 (place ∷ places)) (tested place w) Anything
@@ -387,9 +287,9 @@ module _ (here : Here) where
   tested_does least place places w law =
       sited (λ sites. covers_skip 0 place places sites)
       (quietly (pass_does place) λ _ _ _ _.
-      quietly (enter_does If (λ n. refl) (λ n. refl) (λ n. refl) (λ n m h. refl)) λ _ now _ _.
+      quietly (enter_does If (λ n. refl) (λ n. refl) (λ n. refl) (λ n. refl) (λ n m h. refl)) λ _ now _ _.
       last (condition_does now places w law) λ _ _ _ _.
-      mark_does Then refl refl refl (λ n h. refl))
+      mark_does Then refl refl refl refl (λ n h. refl))
 
   choice_does : (place : Place) (tests first second : List Place) (w : Written) (consequence : Passing (Unit {0})) (other : Option (Passing (Unit {0})))
       → LawfulWritten here tests w → LawfulStatement first consequence → IsLawfulAlternative second other
@@ -400,7 +300,7 @@ module _ (here : Here) where
         joins (covers_both 0 (place ∷ tests) (first ++ second)) (tested_does least place tests w law) λ _ there _ _.
         joins (covers_both 0 first second) (one.passes there) λ _ next _ _.
         last (alternative_does next second other two) λ _ _ _ _.
-        mark_does Ends refl refl refl (λ n h. refl);
+        mark_does Ends refl refl refl refl (λ n h. refl);
   }
 
   -- ---- loops
@@ -412,11 +312,11 @@ module _ (here : Here) where
     passes = λ least.
         sited (λ sites. covers_skip 0 place (tests ++ inside) sites)
         (quietly (pass_does place) λ _ _ _ _.
-        quietly (enter_loop_does (λ n l. While n l place) (λ n l. refl) (λ n l. refl) (λ n l. refl) (λ n l m h. refl)) λ _ now _ _.
+        quietly (enter_loop_does (λ n l. While n l place) (λ n l. refl) (λ n l. refl) (λ n l. refl) (λ n l. refl) (λ n l m h. refl)) λ _ now _ _.
         joins (covers_both 0 tests inside) (condition_does now tests w law) λ _ _ _ _.
-        quietly (mark_does Do refl refl refl (λ n h. refl)) λ _ there _ _.
+        quietly (mark_does Do refl refl refl refl (λ n h. refl)) λ _ there _ _.
         last (one.passes there) λ _ _ _ _.
-        mark_does Ends refl refl refl (λ n h. refl));
+        mark_does Ends refl refl refl refl (λ n h. refl));
   }
 
   repeat_does : (place : Place) (inside tests : List Place) (statements : List (Passing (Unit {0}))) (w : Written)
@@ -427,11 +327,11 @@ module _ (here : Here) where
     passes = λ least.
         sited (λ sites. covers_skip 0 place (inside ++ tests) sites)
         (quietly (pass_does place) λ _ _ _ _.
-        quietly (enter_loop_does (λ n l. Repeat n l place) (λ n l. refl) (λ n l. refl) (λ n l. refl) (λ n l m h. refl)) λ _ now _ _.
+        quietly (enter_loop_does (λ n l. Repeat n l place) (λ n l. refl) (λ n l. refl) (λ n l. refl) (λ n l. refl) (λ n l m h. refl)) λ _ now _ _.
         joins (covers_both 0 inside tests) (row now) λ _ _ _ _.
-        quietly (mark_does Until refl refl refl (λ n h. refl)) λ _ there _ _.
+        quietly (mark_does Until refl refl refl refl (λ n h. refl)) λ _ there _ _.
         last (condition_does there tests w law) λ _ _ _ _.
-        mark_does Ends refl refl refl (λ n h. refl));
+        mark_does Ends refl refl refl refl (λ n h. refl));
   }
 
   -- the test of a bound stands before its first token's own sites
@@ -442,7 +342,7 @@ module _ (here : Here) where
       joins (covers_test here kind.Subrange (omega arith) (omega arith) places w law) (site_does kind.Subrange w.first) λ id there _ known.
       last (checks_types {L = λ range n. IsWholeRange range} (law.types there None tt) λ types t range n more same lawful fits _.
       fitting_whole w.first types lawful.whole type_id t range fits) λ range n more whole.
-      mark_does (Fits (record { site = id; range = range })) refl refl refl
+      mark_does (Fits (record { site = id; range = range })) refl refl refl refl
       (λ m h. both_true _ _ (lt_true id m.sites (omega (arith, known, more.sites, h.sites))) whole)
 
   -- a variable of the variable declaration part of the block
@@ -470,15 +370,18 @@ module _ (here : Here) where
       quietly (by_types_does (λ types. fits (is_ordinal types control.1) name.place (tt {0}))) λ _ tests still fit.
       let ordinal = (fit_is (is_ordinal tests.types control.1) name.place (tt {0}) (tt {0}) fit.1).0 in
       let seen = leads_later here control.0 [] control.1 now tests (further_still more still) led in
-      quietly (may_change_does name.place control.0) λ _ _ further _.
-      quietly (may_control_does name.place control.0) λ _ known later local.
-      quietly (enter_loop_does (λ n l. For n l place control.0 (way d)) (λ n l. refl) (λ n l. refl) (λ n l. refl)
-      (λ n l o h. both_true _ _ (local_formed control.0 known o h local)
-      (ordinal_formed here control.0 [] control.1 tests o seen ordinal (further_still further (further_still later h))))) λ _ now _ _.
+      let found_there = variable_later here now tests control.0 control.1 (further_still more still) found in
+      quietly (may_change_does name.place control.0 control.1 found_there) λ _ changed further may.
+      controlled_does name.place control.0 (λ n l. For n l place control.0 (way d)) _ (λ n l. refl) (λ n l. refl) (λ n l. refl) (λ n l. refl)
+      (λ n l. refl) may
+      (λ known later local n l o h.
+      both_true _ _ (local_formed control.0 known o h local)
+      (ordinal_formed here control.0 [] control.1 tests o seen ordinal (further_still further (further_still later h))))
+      (λ now later.
       joins (covers_both 0 firsts lasts) (bound_does now control.1 firsts first one) λ _ next _ _.
       last (bound_does next control.1 lasts end two) λ _ _ _ _.
-      quietly (mark_does Do refl refl refl (λ n h. refl)) λ _ _ _ _.
-      pure_does control.0 (λ n h. tt))
+      quietly (mark_does Do refl refl refl refl (λ n h. refl)) λ _ _ _ _.
+      pure_does control.0 (λ n h. tt)))
 
   for_does : (place : Place) (name : Name) (firsts lasts inside : List Place) (first : Written) (d : SyntaxDirection) (end : Written)
       (body : Passing (Unit {0}))
@@ -493,7 +396,7 @@ module _ (here : Here) where
         quietly (begin_control_does control) λ _ now _ _.
         last (three.passes now) λ _ _ _ _.
         quietly end_control_does λ _ _ _ _.
-        mark_does Ends refl refl refl (λ n h. refl));
+        mark_does Ends refl refl refl refl (λ n h. refl));
   }
 
   -- ---- cases
@@ -504,7 +407,8 @@ module _ (here : Here) where
   case_head_does least place places w law =
       led_covers here 0 place places (kind.Case ∷ []) (omega arith, tt)
       (joins (leads_first 0 place (kind.Case ∷ []) places) (site_does kind.Case place) λ id there _ known.
-      quietly (enter_does (λ n. Case n id) (λ n. refl) (λ n. refl) (λ n. refl) (λ n m h. lt_true id m.sites (omega (arith, known, h.sites)))) λ _ now _ _.
+      quietly (enter_does (λ n. Case n id) (λ n. refl) (λ n. refl) (λ n. refl) (λ n. refl)
+      (λ n m h. lt_true id m.sites (omega (arith, known, h.sites)))) λ _ now _ _.
       checks {L = Anything} (typed_does now places w None law tt) λ types t b n more is _. tt)
 
   case_does : (place : Place) (tests inside : List Place) (w : Written) (arms : List (List Constant × Passing (Unit {0})))
@@ -516,7 +420,7 @@ module _ (here : Here) where
     passes = λ least.
         joins (covers_both 0 (place ∷ tests) inside) (case_head_does least place tests w law) λ type_id there _ _.
         last (row there type_id) λ _ _ _ _.
-        mark_does Ends refl refl refl (λ n h. refl);
+        mark_does Ends refl refl refl refl (λ n h. refl);
   }
 
   -- ---- every statement
@@ -557,7 +461,7 @@ module _ (here : Here) where
   arms_lawful (row ∷ rows) (y ∷ ys) type_id before least =
       sited behind_constants
       (quietly (row_does here type_id before [] row.items refl) λ values _ _ whole.
-      quietly (mark_does (Arm values) refl refl refl (λ n h. whole)) λ _ now _ _.
+      quietly (mark_does (Arm values) refl refl refl refl (λ n h. whole)) λ _ now _ _.
       joins (covers_both 0 (stmt_places y.0) (arms_row rows ys)) (y.1.passes now) λ _ there _ _.
       arms_lawful rows ys type_id (before ++ values) there)
     where
@@ -567,11 +471,12 @@ module _ (here : Here) where
           (covers_behind 0 (flat_map constant_places row.items) (stmt_places y.0 ++ arms_row rows ys) sites has)
 
   statement_layer : (y : layer.Stmt-F WithStmt) → LawfulStmt (roll-Stmt (bare y))
-  statement_layer layer.Empty = from_layer layer.Empty (record { passes = λ least. enter_does Empty (λ n. refl) (λ n. refl) (λ n. refl) (λ n m h. refl) })
+  statement_layer layer.Empty =
+      from_layer layer.Empty (record { passes = λ least. enter_does Empty (λ n. refl) (λ n. refl) (λ n. refl) (λ n. refl) (λ n m h. refl) })
   statement_layer (layer.Assign name selectors indexes becomes value) =
       from_layer (layer.Assign name selectors indexes becomes value)
       (assignment_does name selectors.items (map expr_places indexes.items) (map expression indexes.items) becomes (expr_places value) (expression value)
-      (indexes_lawful here indexes.items) (expression_lawful here value))
+      (λ h. indexes_lawful h indexes.items) (expression_lawful here value))
   statement_layer (layer.Call name actuals) = from_layer (layer.Call name actuals) (call_does name actuals.items)
   statement_layer (layer.Compound statements) = from_layer (bare (layer.Compound statements)) (compound_does _ _ (row_lawful statements.items))
   statement_layer (layer.If place condition consequence None) =
