@@ -18,7 +18,7 @@ use Rattle.expression_checker.specs.Visits.{Visits, all_counted}
 use Rattle.cert_checker.specs.declared.walk.Walk.{Walk}
 use Rattle.component_states.specs.declared.state.State.{State as Kept}
 use Rattle.component_states.specs.View.{viewed}
-use Rattle.component_states.specs.States.{State, joined_states}
+use Rattle.component_states.specs.States.{State, dead, joined_states}
 use Rattle.expression_checker.specs.Walk.{Context, Walked, Walking, ◌>>=◌, give}
 use Rattle.expression_checker.specs.Walk.{asked, breach_unless, enter, value_walk, followed, numbers_of, with_state}
 use Rattle.expression_checker.specs.Walk.{IsBreachOf}
@@ -81,17 +81,17 @@ module _ {A B : Type 0} (first : Walking A) (next : A → Walking B) (old mid : 
   abbrev begun : Walked A
   begun = first (context_of old) (viewed old.flow.state)
 
-  abbrev then : Walked B
-  then = next a (context_of mid) (viewed mid.flow.state)
+  abbrev later : Walked B
+  later = next a (context_of mid) (viewed mid.flow.state)
 
   -- from where the first piece left the checker, the next is what it is behind the first
-  then-same : then ≡ next begun.value (context_of old) begun.after
+  then-same : later ≡ next begun.value (context_of old) begun.after
   then-same =
       ap (λ (context : Context). next a context (viewed mid.flow.state)) one.context_is
       ∙ ap (λ x. next x (context_of old) (viewed mid.flow.state)) one.value_is ∙ ap (next begun.value (context_of old)) one.state_is
 
-  both-broken : then.broken ≡ ((first >>= next) (context_of old) (viewed old.flow.state)).broken
-  both-broken = sym (ap (λ w. begun.broken ++ w.broken) (sym then-same) ∙ ap (λ b. b ++ then.broken) one.unbroken)
+  both-broken : later.broken ≡ ((first >>= next) (context_of old) (viewed old.flow.state)).broken
+  both-broken = sym (ap (λ w. begun.broken ++ w.broken) (sym then-same) ∙ ap (λ b. b ++ later.broken) one.unbroken)
 
   pub walks-then : (new : Walk) (after : Visits) (b : B) → Walks (next a) mid between new after b → Walks (first >>= next) old before new after b
   walks-then new after b two = record {
@@ -99,18 +99,18 @@ module _ {A B : Type 0} (first : Walking A) (next : A → Walking B) (old mid : 
     aliases_are = two.aliases_are ∙ one.aliases_are;
     value_is = two.value_is ∙ ap (λ w. w.value) then-same;
     state_is = two.state_is ∙ ap (λ w. w.after) then-same;
-    open_is = two.open_is ∙ ap (λ ids. ids ++ then.open_ids) one.open_is
+    open_is = two.open_is ∙ ap (λ ids. ids ++ later.open_ids) one.open_is
         ∙ ap (λ w. (old.flow.open_ids.items ++ begun.open_ids) ++ w.open_ids) then-same
         ∙ append_assoc old.flow.open_ids.items begun.open_ids (next begun.value (context_of old) begun.after).open_ids;
-    visits_are = two.visits_are ∙ ap (all_counted (numbers_of then.linked)) one.visits_are
+    visits_are = two.visits_are ∙ ap (all_counted (numbers_of later.linked)) one.visits_are
         ∙ ap (λ w. all_counted (numbers_of w.linked) (all_counted (numbers_of begun.linked) before)) then-same
         ∙ sym (counted-both begun.linked (next begun.value (context_of old) begun.after).linked before);
     unbroken = sym both-broken ∙ two.unbroken;
   }
 
   -- the first breach of the next is that of both
-  breach-later : (fault : CheckFault) → IsBreachOf then fault → IsBreachOf ((first >>= next) (context_of old) (viewed old.flow.state)) fault
-  breach-later fault is = breach-same then ((first >>= next) (context_of old) (viewed old.flow.state)) fault both-broken is
+  breach-later : (fault : CheckFault) → IsBreachOf later fault → IsBreachOf ((first >>= next) (context_of old) (viewed old.flow.state)) fault
+  breach-later fault is = breach-same later ((first >>= next) (context_of old) (viewed old.flow.state)) fault both-broken is
 
   -- the checker has the aliases of the loops behind the first
   loops-then : AreLoops (context_of old) old.aliases.now → AreLoops (context_of mid) mid.aliases.now
@@ -266,15 +266,15 @@ pub branches-walk : (one_state other_state : State → State) (one_walk other_wa
     → IsMoved (other_state (viewed old.flow.state)) mid start → Does other_walk start between done after tt
     → IsMoved (joined_states (viewed mid.flow.state) (viewed done.flow.state)) done new
     → Does (parted one_state other_state one_walk other_walk) old before new after tt
-branches-walk one_state other_state one_walk other_walk old taken mid start done new before between after to_yes yes to_no no met = λ ready.
+branches-walk one_state other_state one_walk other_walk old taken mid start done new before between after to_yes first_did to_no second_did met = λ ready.
     let first : Walked (Unit {0}) = one_walk (context_of old) (one_state (viewed old.flow.state)) in
     let second : Walked (Unit {0}) = other_walk (context_of old) (other_state (viewed old.flow.state)) in
     let first_same = moved-same one_walk (one_state (viewed old.flow.state)) old taken to_yes in
     let taken_ready = moved-loops (one_state (viewed old.flow.state)) old taken to_yes ready in
-    let one = yes taken_ready in
+    let one = first_did taken_ready in
     let context : context_of mid ≡ context_of old = one.context_is ∙ ap context_of to_yes.only_state in
     let mid_ready = loops-same taken mid (context_of taken) one.context_is one.aliases_are taken_ready in
-    let two = no (moved-loops (other_state (viewed old.flow.state)) mid start to_no mid_ready) in
+    let two = second_did (moved-loops (other_state (viewed old.flow.state)) mid start to_no mid_ready) in
     let second_same : other_walk (context_of start) (viewed start.flow.state) ≡ second =
     moved-same other_walk (other_state (viewed old.flow.state)) mid start to_no ∙ ap (λ x. other_walk x (other_state (viewed old.flow.state))) context in
     let first_after = one.state_is ∙ ap (λ w. w.after) first_same in
