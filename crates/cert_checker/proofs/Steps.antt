@@ -1,6 +1,6 @@
 -- What the checker did over a piece of a program, from what it did over the parts of the piece.
 use Rattle.std.proofs.Common.{rules, ◌≡◌, ◌≤◌, Bool, true, false, Option, Some, None, Result, Ok, Err, ℕ, ◌+◌, List, [], ◌∷◌, ◌++◌, length, map, refl}
-use Rattle.std.proofs.Common.{sym, ap, ◌∙◌, subst, append_assoc, append-nil, ◌<◌, get_or, drop}
+use Rattle.std.proofs.Common.{sym, ap, ap₂, ◌∙◌, subst, append_assoc, append-nil, ◌<◌, get_or, drop}
 use Rattle.std.specs.Result.{IsErr, IsErrAnd}
 use Rattle.std.specs.Prelude.{MatchResult, if◌then◌else◌}
 use Rattle.place.specs.declared.Place.{Place as SourcePlace}
@@ -27,10 +27,14 @@ use Rattle.cert_checker.specs.Walk.{blocks_walk, first_context}
 use Rattle.cert_checker.specs.Walk.{program_walk, here, inside, loop_walk, parted, repeat_round, while_round, where_so}
 use Rattle.cert_checker.specs.View.{at_state, claims_in, context_of, else_walk, AtHead, EntersLoop, IsBehind, IsMoved, LeavesLoop, loop_in, Meets}
 use Rattle.cert_checker.specs.View.{Parts, Walks}
-use Rattle.cert_checker.specs.View.{AreLoops, Goes}
-use Rattle.structured_states.specs.Loops.{Claims, Round, claims_at, gives_claims, head_of, with_own, without_own}
+use Rattle.cert_checker.specs.View.{AreLoops, Goes, IsLoop}
+use Rattle.structured_states.specs.Loops.{Claims, Round, claims_at, gives_claims, head_of, round_of, with_own, without_own}
 use Rattle.typed_tree.specs.declared.tree.Tree.{Tree}
 use denote.Ref.{Bor}
+use Rattle.std.proofs.lemmas.List.{length-map}
+use Rattle.certificate.specs.declared.LoopClaims.{LoopClaims}
+use Rattle.structured_states.specs.declared.rounds.Round.{Round as KeptRound}
+use Rattle.structured_states.specs.View.{all_loop_aliases, loop_of_round, said_claims}
 use Rattle.certificate.specs.declared.Certificate.{Certificate}
 use Rattle.expression_checker.specs.declared.fault.Rule.{Rule}
 use Rattle.expression_checker.specs.declared.fault.Rule.TheVariants.{LoopEntry, LoopTurn}
@@ -493,6 +497,26 @@ module _ (number : ℕ) (place : SourcePlace) (control : Option ℕ) (walking : 
         let head = entered ready in
         let one = does (inner-ready head ready) in
         loop-not_left head rounded before after behind one fault (left (rounded-ready head rounded before after behind one ready))
+
+-- the loop of a number, as the checker finds it
+pub loop-found : (number : ℕ) (control : Option ℕ) (walk : Walk) (round : KeptRound) (tree : Tree) (claims : List (Option (Bor LoopClaims)))
+    → tree ≡ (context_of walk).tree → claims ≡ walk.claims.items → round.own ≡ control
+    → said_claims round.claims ≡ claims_at (map said_claims claims) number
+    → ((pairs : List (ℕ × ℕ)) → length claims ≡ length tree.loops.items
+    → map (λ row. row.items) walk.aliases.now ≡ all_loop_aliases tree pairs (map said_claims claims)
+    → loop_of_round round ≡ round_of tree pairs (map said_claims claims) number)
+    → AreLoops (context_of walk) walk.aliases.now → IsLoop number control walk round
+loop-found number control walk round tree claims tree_is claims_is own found loop ready =
+    let pairs = walk.flow.grounds.pairs in
+    let same : map said_claims claims ≡ (context_of walk).claims = ap (map said_claims) claims_is in
+    record {
+      own_is = own;
+      claims_are = found ∙ ap (λ (kept : List Claims). claims_at kept number) same;
+      loop_is = loop pairs
+          (sym (length-map claims said_claims) ∙ ap length same ∙ ready.0 ∙ ap (λ (t : Tree). length t.loops.items) (sym tree_is))
+          (ready.1 ∙ sym (ap₂ (λ (t : Tree) (kept : List Claims). all_loop_aliases t pairs kept) tree_is same))
+          ∙ ap₂ (λ (t : Tree) (kept : List Claims). round_of t pairs kept number) tree_is same;
+    }
 
 -- a loop from its entry on
 pub while-begun : (statement : Stmt) (number loop_number : ℕ) (place : SourcePlace) (condition : Expr) (body : Box Stmt Global) (inner : Stmt)
