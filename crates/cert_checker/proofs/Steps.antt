@@ -1,6 +1,6 @@
 -- What the checker did over a piece of a program, from what it did over the parts of the piece.
 use Rattle.std.proofs.Common.{rules, ◌≡◌, ◌≤◌, Bool, true, false, Option, Some, None, Result, Ok, Err, ℕ, ◌+◌, List, [], ◌∷◌, ◌++◌, length, map, refl}
-use Rattle.std.proofs.Common.{sym, ap, ◌∙◌, subst, append_assoc, append-nil, ◌<◌, get_or, drop}
+use Rattle.std.proofs.Common.{sym, ap, ap₂, ◌∙◌, subst, append_assoc, append-nil, ◌<◌, get_or, drop}
 use Rattle.std.specs.Result.{IsErr, IsErrAnd}
 use Rattle.std.specs.Prelude.{MatchResult, if◌then◌else◌}
 use Rattle.place.specs.declared.Place.{Place as SourcePlace}
@@ -18,7 +18,7 @@ use Rattle.expression_checker.specs.Visits.{Visits, all_counted}
 use Rattle.cert_checker.specs.declared.walk.Walk.{Walk}
 use Rattle.component_states.specs.declared.state.State.{State as Kept}
 use Rattle.component_states.specs.View.{viewed}
-use Rattle.component_states.specs.States.{State, joined_states}
+use Rattle.component_states.specs.States.{State, dead, joined_states}
 use Rattle.expression_checker.specs.Walk.{Context, Walked, Walking, ◌>>=◌, give}
 use Rattle.expression_checker.specs.Walk.{asked, breach_unless, enter, value_walk, followed, numbers_of, with_state}
 use Rattle.expression_checker.specs.Walk.{IsBreachOf}
@@ -27,10 +27,14 @@ use Rattle.cert_checker.specs.Walk.{blocks_walk, first_context}
 use Rattle.cert_checker.specs.Walk.{program_walk, here, inside, loop_walk, parted, repeat_round, while_round, where_so}
 use Rattle.cert_checker.specs.View.{at_state, claims_in, context_of, else_walk, AtHead, EntersLoop, IsBehind, IsMoved, LeavesLoop, loop_in, Meets}
 use Rattle.cert_checker.specs.View.{Parts, Walks}
-use Rattle.cert_checker.specs.View.{AreLoops, Goes}
-use Rattle.structured_states.specs.Loops.{Claims, Round, claims_at, gives_claims, head_of, with_own, without_own}
+use Rattle.cert_checker.specs.View.{AreLoops, Goes, IsLoop}
+use Rattle.structured_states.specs.Loops.{Claims, Round, claims_at, gives_claims, head_of, round_of, with_own, without_own}
 use Rattle.typed_tree.specs.declared.tree.Tree.{Tree}
 use denote.Ref.{Bor}
+use Rattle.std.proofs.lemmas.List.{length-map}
+use Rattle.certificate.specs.declared.LoopClaims.{LoopClaims}
+use Rattle.structured_states.specs.declared.rounds.Round.{Round as KeptRound}
+use Rattle.structured_states.specs.View.{all_loop_aliases, loop_of_round, said_claims}
 use Rattle.certificate.specs.declared.Certificate.{Certificate}
 use Rattle.expression_checker.specs.declared.fault.Rule.{Rule}
 use Rattle.expression_checker.specs.declared.fault.Rule.TheVariants.{LoopEntry, LoopTurn}
@@ -81,17 +85,17 @@ module _ {A B : Type 0} (first : Walking A) (next : A → Walking B) (old mid : 
   abbrev begun : Walked A
   begun = first (context_of old) (viewed old.flow.state)
 
-  abbrev then : Walked B
-  then = next a (context_of mid) (viewed mid.flow.state)
+  abbrev later : Walked B
+  later = next a (context_of mid) (viewed mid.flow.state)
 
   -- from where the first piece left the checker, the next is what it is behind the first
-  then-same : then ≡ next begun.value (context_of old) begun.after
+  then-same : later ≡ next begun.value (context_of old) begun.after
   then-same =
       ap (λ (context : Context). next a context (viewed mid.flow.state)) one.context_is
       ∙ ap (λ x. next x (context_of old) (viewed mid.flow.state)) one.value_is ∙ ap (next begun.value (context_of old)) one.state_is
 
-  both-broken : then.broken ≡ ((first >>= next) (context_of old) (viewed old.flow.state)).broken
-  both-broken = sym (ap (λ w. begun.broken ++ w.broken) (sym then-same) ∙ ap (λ b. b ++ then.broken) one.unbroken)
+  both-broken : later.broken ≡ ((first >>= next) (context_of old) (viewed old.flow.state)).broken
+  both-broken = sym (ap (λ w. begun.broken ++ w.broken) (sym then-same) ∙ ap (λ b. b ++ later.broken) one.unbroken)
 
   pub walks-then : (new : Walk) (after : Visits) (b : B) → Walks (next a) mid between new after b → Walks (first >>= next) old before new after b
   walks-then new after b two = record {
@@ -99,18 +103,18 @@ module _ {A B : Type 0} (first : Walking A) (next : A → Walking B) (old mid : 
     aliases_are = two.aliases_are ∙ one.aliases_are;
     value_is = two.value_is ∙ ap (λ w. w.value) then-same;
     state_is = two.state_is ∙ ap (λ w. w.after) then-same;
-    open_is = two.open_is ∙ ap (λ ids. ids ++ then.open_ids) one.open_is
+    open_is = two.open_is ∙ ap (λ ids. ids ++ later.open_ids) one.open_is
         ∙ ap (λ w. (old.flow.open_ids.items ++ begun.open_ids) ++ w.open_ids) then-same
         ∙ append_assoc old.flow.open_ids.items begun.open_ids (next begun.value (context_of old) begun.after).open_ids;
-    visits_are = two.visits_are ∙ ap (all_counted (numbers_of then.linked)) one.visits_are
+    visits_are = two.visits_are ∙ ap (all_counted (numbers_of later.linked)) one.visits_are
         ∙ ap (λ w. all_counted (numbers_of w.linked) (all_counted (numbers_of begun.linked) before)) then-same
         ∙ sym (counted-both begun.linked (next begun.value (context_of old) begun.after).linked before);
     unbroken = sym both-broken ∙ two.unbroken;
   }
 
   -- the first breach of the next is that of both
-  breach-later : (fault : CheckFault) → IsBreachOf then fault → IsBreachOf ((first >>= next) (context_of old) (viewed old.flow.state)) fault
-  breach-later fault is = breach-same then ((first >>= next) (context_of old) (viewed old.flow.state)) fault both-broken is
+  breach-later : (fault : CheckFault) → IsBreachOf later fault → IsBreachOf ((first >>= next) (context_of old) (viewed old.flow.state)) fault
+  breach-later fault is = breach-same later ((first >>= next) (context_of old) (viewed old.flow.state)) fault both-broken is
 
   -- the checker has the aliases of the loops behind the first
   loops-then : AreLoops (context_of old) old.aliases.now → AreLoops (context_of mid) mid.aliases.now
@@ -266,15 +270,15 @@ pub branches-walk : (one_state other_state : State → State) (one_walk other_wa
     → IsMoved (other_state (viewed old.flow.state)) mid start → Does other_walk start between done after tt
     → IsMoved (joined_states (viewed mid.flow.state) (viewed done.flow.state)) done new
     → Does (parted one_state other_state one_walk other_walk) old before new after tt
-branches-walk one_state other_state one_walk other_walk old taken mid start done new before between after to_yes yes to_no no met = λ ready.
+branches-walk one_state other_state one_walk other_walk old taken mid start done new before between after to_yes first_did to_no second_did met = λ ready.
     let first : Walked (Unit {0}) = one_walk (context_of old) (one_state (viewed old.flow.state)) in
     let second : Walked (Unit {0}) = other_walk (context_of old) (other_state (viewed old.flow.state)) in
     let first_same = moved-same one_walk (one_state (viewed old.flow.state)) old taken to_yes in
     let taken_ready = moved-loops (one_state (viewed old.flow.state)) old taken to_yes ready in
-    let one = yes taken_ready in
+    let one = first_did taken_ready in
     let context : context_of mid ≡ context_of old = one.context_is ∙ ap context_of to_yes.only_state in
     let mid_ready = loops-same taken mid (context_of taken) one.context_is one.aliases_are taken_ready in
-    let two = no (moved-loops (other_state (viewed old.flow.state)) mid start to_no mid_ready) in
+    let two = second_did (moved-loops (other_state (viewed old.flow.state)) mid start to_no mid_ready) in
     let second_same : other_walk (context_of start) (viewed start.flow.state) ≡ second =
     moved-same other_walk (other_state (viewed old.flow.state)) mid start to_no ∙ ap (λ x. other_walk x (other_state (viewed old.flow.state))) context in
     let first_after = one.state_is ∙ ap (λ w. w.after) first_same in
@@ -493,6 +497,26 @@ module _ (number : ℕ) (place : SourcePlace) (control : Option ℕ) (walking : 
         let head = entered ready in
         let one = does (inner-ready head ready) in
         loop-not_left head rounded before after behind one fault (left (rounded-ready head rounded before after behind one ready))
+
+-- the loop of a number, as the checker finds it
+pub loop-found : (number : ℕ) (control : Option ℕ) (walk : Walk) (round : KeptRound) (tree : Tree) (claims : List (Option (Bor LoopClaims)))
+    → tree ≡ (context_of walk).tree → claims ≡ walk.claims.items → round.own ≡ control
+    → said_claims round.claims ≡ claims_at (map said_claims claims) number
+    → ((pairs : List (ℕ × ℕ)) → length claims ≡ length tree.loops.items
+    → map (λ row. row.items) walk.aliases.now ≡ all_loop_aliases tree pairs (map said_claims claims)
+    → loop_of_round round ≡ round_of tree pairs (map said_claims claims) number)
+    → AreLoops (context_of walk) walk.aliases.now → IsLoop number control walk round
+loop-found number control walk round tree claims tree_is claims_is own found loop ready =
+    let pairs = walk.flow.grounds.pairs in
+    let same : map said_claims claims ≡ (context_of walk).claims = ap (map said_claims) claims_is in
+    record {
+      own_is = own;
+      claims_are = found ∙ ap (λ (kept : List Claims). claims_at kept number) same;
+      loop_is = loop pairs
+          (sym (length-map claims said_claims) ∙ ap length same ∙ ready.0 ∙ ap (λ (t : Tree). length t.loops.items) (sym tree_is))
+          (ready.1 ∙ sym (ap₂ (λ (t : Tree) (kept : List Claims). all_loop_aliases t pairs kept) tree_is same))
+          ∙ ap₂ (λ (t : Tree) (kept : List Claims). round_of t pairs kept number) tree_is same;
+    }
 
 -- a loop from its entry on
 pub while-begun : (statement : Stmt) (number loop_number : ℕ) (place : SourcePlace) (condition : Expr) (body : Box Stmt Global) (inner : Stmt)

@@ -1,21 +1,26 @@
 -- What the checker did over blocks, from what it did over their parts.
-use Rattle.std.proofs.Common.{arith, ◌≡◌, ◌∙◌, sym, ap, refl, ℕ, suc, ◌+◌, ◌<◌, ◌≤◌, List, [], ◌∷◌, ◌++◌, append-nil, drop, get_or, length, subst}
-use Rattle.std.proofs.Common.{Option, Some, None, Result, Ok, Err}
-use Rattle.domain.specs.Facts.{Fact}
+use Rattle.std.proofs.Common.{arith, ◌≡◌, ◌∙◌, sym, ap, ℕ, suc, ◌+◌, ◌<◌, ◌≤◌, List, [], drop, get_or, length, map, subst}
+use Rattle.std.proofs.Common.{Bool, true, false, ◌&&◌, Result, Ok, Err}
+use Rattle.std.specs.Global.{Vec}
+use Rattle.std.specs.List.{range_with_len}
+use Rattle.std.proofs.lemmas.List.{length-map}
+use Rattle.std.proofs.lemmas.List.FromFn.{length-range_with_len}
+use Rattle.certificate.specs.declared.Certificate.{Certificate}
+use Rattle.domain.specs.Interval.{Interval}
+use Rattle.typed_tree.specs.declared.tree.Tree.{Tree}
+use Rattle.structured_states.specs.Loops.{Claims, Round, all_claims, all_limits, claims_on}
+use Rattle.structured_states.specs.View.{all_loop_aliases}
 use Rattle.typed_tree.specs.declared.tree.Block.{Block}
-use Rattle.typed_tree.specs.declared.tree.FunctionResult.{FunctionResult}
-use Rattle.component_states.specs.States.{State}
 use Rattle.component_states.specs.View.{viewed}
 use Rattle.structured_states.proofs.Claims.{item-cut, drop-past}
-use Rattle.call_states.specs.Sections.{BlockClaims, block_claims_at}
-use Rattle.call_states.specs.Starts.{block_start}
+use Rattle.call_states.specs.Sections.{BlockClaims, all_block_claims, all_pairs, block_claims_at}
 use Rattle.expression_checker.specs.declared.fault.CheckFault.{CheckFault}
 use Rattle.expression_checker.specs.declared.fault.Rule.TheVariants.{Exit}
-use Rattle.expression_checker.specs.Visits.{Visits, all_counted}
-use Rattle.expression_checker.specs.Walk.{Context, IsBreachOf, Walking, ◌>>=◌, numbers_of}
+use Rattle.expression_checker.specs.Visits.{Visits}
+use Rattle.expression_checker.specs.Walk.{Context, IsBreachOf, Walking, ◌>>=◌}
 use Rattle.cert_checker.specs.declared.walk.Walk.{Walk}
-use Rattle.cert_checker.specs.Walk.{begin, block_walk, block_walk_by, blocks_walk, facts_given, result_use, statement_walk}
-use Rattle.cert_checker.specs.View.{Goes, Walks, context_of}
+use Rattle.cert_checker.specs.Walk.{begin, block_walk, block_walk_by, blocks_walk, facts_given, first_context, result_use, statement_walk}
+use Rattle.cert_checker.specs.View.{AreLoops, Goes, Walks, context_of}
 use Rattle.cert_checker.proofs.Steps.{Does, Stops, goes-as, goes-stopped, goes-then, walks-give}
 
 -- ---- blocks, from one of them on
@@ -55,12 +60,11 @@ blocks-end blocks i old visits past =
 abbrev pub in_block : ℕ → Walk → Walk
 in_block number walk = record walk { flow = record (walk.flow) { grounds = record (walk.flow.grounds) { block = number } } }
 
-module _ (number : ℕ) (block : Block) (claims : BlockClaims) (old : Walk) (claims_are : claims ≡ block_claims_at (context_of old).blocks number) where
-  -- behind it the checker is where it was
-  pub block-done : (mid : Walk) (before after : Visits) → Does (block_walk_by number block claims) (in_block number old) before mid after tt
+module _ (number : ℕ) (block : Block) (claims : BlockClaims) (old : Walk) (claims_are : claims ≡ block_claims_at (context_of old).blocks number)
+    (inner : ℕ) (inner_is : inner ≡ number) where
+  block-walked : (mid : Walk) (before after : Visits) → Does (block_walk_by number block claims) (in_block number old) before mid after tt
       → Does (block_walk number block) old before (in_block old.flow.grounds.block mid) after tt
-  block-done mid before after done = λ ready.
-      let inside : Context = record (context_of old) { block = number } in
+  block-walked mid before after done = λ ready.
       let one = subst (λ (c : BlockClaims). Walks (block_walk_by number block c) (in_block number old) before mid after tt) claims_are (done ready) in
       record {
         context_is = ap (λ (context : Context). record context { block = old.flow.grounds.block }) one.context_is;
@@ -72,13 +76,32 @@ module _ (number : ℕ) (block : Block) (claims : BlockClaims) (old : Walk) (cla
         unbroken = one.unbroken;
       }
 
-  pub block-stopped : (new : Walk) (before after : Visits) (fault : CheckFault) → Stops (block_walk_by number block claims) (in_block number old) fault
-      → Goes (block_walk number block) old before (Err fault) new after
-  block-stopped new before after fault stopped = λ ready.
+  -- behind it the checker is where it was
+  pub block-done : (mid : Walk) (before after : Visits) (outer : ℕ) → outer ≡ old.flow.grounds.block
+      → Does (block_walk_by number block claims) (in_block inner old) before mid after tt
+      → Does (block_walk number block) old before (in_block outer mid) after tt
+  block-done mid before after outer outer_is done =
+      subst (λ (n : ℕ). Does (block_walk number block) old before (in_block n mid) after tt) (sym outer_is)
+      (block-walked mid before after (subst (λ (n : ℕ). Does (block_walk_by number block claims) (in_block n old) before mid after tt) inner_is done))
+
+  block-left : (fault : CheckFault) → Stops (block_walk_by number block claims) (in_block number old) fault → Stops (block_walk number block) old fault
+  block-left fault stopped = λ ready.
       subst (λ (c : BlockClaims). IsBreachOf (block_walk_by number block c (context_of (in_block number old)) (viewed old.flow.state)) fault) claims_are
       (stopped ready)
 
+  pub block-stopped : (new : Walk) (before after : Visits) (fault : CheckFault) → Stops (block_walk_by number block claims) (in_block inner old) fault
+      → Goes (block_walk number block) old before (Err fault) new after
+  block-stopped new before after fault stopped =
+      block-left fault (subst (λ (n : ℕ). Stops (block_walk_by number block claims) (in_block n old) fault) inner_is stopped)
+
 -- ---- from the start of a block to its end
+
+pub begin-stopped : (number : ℕ) (block : Block) (claims : BlockClaims) (old new : Walk) (before after : Visits) (fault : CheckFault)
+    → Stops (begin number claims.entry) old fault → Goes (block_walk_by number block claims) old before (Err fault) new after
+begin-stopped number block claims old new before after fault stopped =
+    goes-stopped (begin number claims.entry)
+    (λ _. statement_walk block.body >>= λ _. (result_use block.heading.result >>= λ _. facts_given Exit block.end claims.exit)) old new before after fault
+    stopped
 
 module _ (number : ℕ) (block : Block) (claims : BlockClaims) (old begun : Walk) (before : Visits)
     (one : Does (begin number claims.entry) old before begun before tt) where
@@ -113,3 +136,45 @@ module _ (number : ℕ) (block : Block) (claims : BlockClaims) (old begun : Walk
         → Goes at_end used after result new after → Goes (block_walk_by number block claims) old before result new after
     block-ends used new result three four =
         from-walked result new (goes-then (result_use block.heading.result) (λ _. at_end) walked used new after after after tt result three four)
+
+-- ---- whether facts are given
+
+pub both-given : (one other plain parts result : Bool) → one ≡ plain → one ≡ true → other ≡ parts → result ≡ other → result ≡ (plain && parts)
+both-given one other plain parts result one_is so other_is is = is ∙ other_is ∙ sym (ap (λ p. p && parts) (sym one_is ∙ so))
+
+pub none-given : (one plain parts result : Bool) → one ≡ plain → one ≡ false → result ≡ false → result ≡ (plain && parts)
+none-given one plain parts result one_is none is = is ∙ sym (ap (λ p. p && parts) (sym one_is ∙ none))
+
+-- ---- the program
+
+-- what the checker goes by before the first block
+pub program-context : (tree found : Tree) (certificate : Certificate) (limits : List Interval) (sections : List BlockClaims) (pairs : List (ℕ × ℕ))
+    (rounds : List Round) (claims : List Claims)
+    → found ≡ tree → limits ≡ all_limits found → sections ≡ all_block_claims found certificate → pairs ≡ all_pairs certificate → rounds ≡ []
+    → claims ≡ all_claims found certificate
+    → ◌≡◌ {A = Context}
+    (record { tree = tree; limits = limits; claims = claims; blocks = sections; pairs = pairs; block = 0; rounds = rounds })
+    (first_context tree certificate)
+program-context tree found certificate limits sections pairs rounds claims found_is limits_are sections_are pairs_are rounds_are claims_are =
+    let made = λ (limits : List Interval) (claims : List Claims) (sections : List BlockClaims) (pairs : List (ℕ × ℕ)) (rounds : List Round).
+    record { tree = tree; limits = limits; claims = claims; blocks = sections; pairs = pairs; block = 0; rounds = rounds } in
+    ap {B = Context} (λ (l : List Interval). made l claims sections pairs rounds) (limits_are ∙ ap all_limits found_is)
+    ∙ ap {B = Context} (λ (c : List Claims). made (all_limits tree) c sections pairs rounds) (claims_are ∙ ap (λ t. all_claims t certificate) found_is)
+    ∙ ap {B = Context} (λ (b : List BlockClaims). made (all_limits tree) (all_claims tree certificate) b pairs rounds)
+    (sections_are ∙ ap (λ t. all_block_claims t certificate) found_is)
+    ∙ ap {B = Context} (λ (p : List (ℕ × ℕ)). made (all_limits tree) (all_claims tree certificate) (all_block_claims tree certificate) p rounds) pairs_are
+    ∙ ap {B = Context} (λ (r : List Round). made (all_limits tree) (all_claims tree certificate) (all_block_claims tree certificate) (all_pairs certificate) r)
+    rounds_are
+
+-- it has the aliases of the loops
+pub program-loops : (tree found : Tree) (certificate : Certificate) (context : Context) (pairs : List (ℕ × ℕ)) (claims : List Claims)
+    (aliases : List (Vec ℕ))
+    → context ≡ first_context tree certificate → found ≡ tree → pairs ≡ all_pairs certificate → claims ≡ all_claims found certificate
+    → map (λ row. row.items) aliases ≡ all_loop_aliases found pairs claims → AreLoops context aliases
+program-loops tree found certificate context pairs claims aliases context_is found_is pairs_are claims_are aliases_are =
+    let count : length (all_claims tree certificate) ≡ length tree.loops.items =
+    length-map (range_with_len 0 (length tree.loops.items)) (claims_on certificate) ∙ length-range_with_len 0 (length tree.loops.items) in
+    subst (λ (c : Context). AreLoops c aliases) (sym context_is)
+    (count, aliases_are ∙ ap (λ (c : List Claims). all_loop_aliases found pairs c) claims_are
+    ∙ ap (λ (p : List (ℕ × ℕ)). all_loop_aliases found p (all_claims found certificate)) pairs_are
+    ∙ ap (λ (t : Tree). all_loop_aliases t (all_pairs certificate) (all_claims t certificate)) found_is)

@@ -1,8 +1,9 @@
 ghost use Rattle.std.specs.Prelude.{◌≡◌, IfOk, length, map};
+ghost use Rattle.std.specs.List.{list_all};
 ghost use Rattle.domain.specs.Facts.{said};
-ghost use Rattle.abstract_state.specs.Loops.{gives_all};
+ghost use Rattle.abstract_state.specs.State.{gives_fact};
 ghost use Rattle.certificate.specs.Contents.{said_fact};
-ghost use Rattle.component_states.specs.States.{gives_components};
+ghost use Rattle.component_states.specs.States.{gives_component};
 ghost use Rattle.component_states.specs.View.{said_component, viewed};
 ghost use Rattle.structured_states.specs.Loops.{gives_claims};
 ghost use Rattle.call_states.specs.View.{said_claims};
@@ -36,7 +37,8 @@ impl<'a> Walk<'a> {
     {
         let tree = self.flow.grounds.rows.tree();
         for number in 0..block_count(tree)? {
-            self.block(number, &tree.blocks[number as usize], visits)?;
+            let block = &tree.blocks[number as usize];
+            self.block(number, block, visits)?;
         }
         Ok(())
     }
@@ -129,14 +131,14 @@ fn are_given(
 
 /// Whether it gives each of several facts of variables.
 fn give_all(state: &State, facts: &[Fact]) -> bool
-    ensures { result ≡ gives_all (viewed state.now).variables (map said facts.now) }
+    ensures { result ≡ list_all (λ fact. gives_fact (viewed state.now).variables (said fact)) facts.now }
 {
     facts.iter().all(|fact| state.variables.gives(fact))
 }
 
 /// Whether it gives each of several facts of components.
 fn give_components(state: &State, facts: &[ComponentFact]) -> bool
-    ensures { result ≡ gives_components (viewed state.now) (map said_component facts.now) }
+    ensures { result ≡ list_all (λ fact. gives_component (viewed state.now) (said_component fact)) facts.now }
 {
     facts.iter().all(|fact| state.gives(fact))
 }

@@ -54,6 +54,7 @@ impl<'a> Round<'a> {
             → length claims.now ≡ length tree.now.loops.items
             → map (λ row. row.items) aliases.now ≡ all_loop_aliases tree.now pairs (map said_claims claims.now)
             → loop_of_round result ≡ round_of tree.now pairs (map said_claims claims.now) number }
+        ensures claims_are { said_claims result.claims ≡ claims_at (map said_claims claims.now) number }
         ensures own_is { result.own ≡ own }
     {
         Round {

@@ -2,6 +2,7 @@ use Rattle.std.proofs.Common.{ap, ◌∙◌}
 use Rattle.leaf_rows.specs.Rows.{rows_accessed, rows_of}
 use Rattle.leaf_rows.specs.View.{numbers}
 use Rattle.component_states.specs.View.{said_reach}
+use Rattle.cert_checker.specs.View.{context_of}
 use Rattle.cert_checker.proofs.StepsStores.{component-goes}
 use Rattle.cert_checker.proofs.walk.Walk.assign_component.Goals as goal
 
