@@ -1,5 +1,5 @@
 -- What has the values of an access: an entire variable, or components alone.
-use Rattle.std.proofs.Common.{◌≡◌, ◌∙◌, sym, ap, refl, ℕ, ℤ, true, false, cond, List, [], ◌∷◌, map, Option, Some, None, pos}
+use Rattle.std.proofs.Common.{◌≡◌, ◌∙◌, ap, refl, ℕ, ℤ, true, false, cond, List, [], ◌∷◌, map, Option, Some, None, pos}
 use Rattle.std.specs.Option.{option_and_then}
 use Rattle.typed_tree.specs.declared.tree.Selector.{Selector}
 use Rattle.typed_tree.specs.declared.tree.Tree.{Tree}
@@ -10,8 +10,7 @@ use Rattle.leaf_rows.specs.Rows.{rows_accessed, rows_of}
 use Rattle.call_states.specs.declared.limits.Limit.{Limit as KeptLimit}
 use Rattle.call_states.specs.Actuals.{Components, Variable, borne_by}
 use Rattle.call_states.specs.Entry.{Limit, limit_moved, limit_of, limit_of_variable}
-use Rattle.call_states.specs.Exit.{Touches, steady_bound}
-use Rattle.call_states.specs.View.{AreBounded, AreNear, IsLimit, is_entire, said_limit, steady_at}
+use Rattle.call_states.specs.View.{AreBounded, AreNear, IsLimit, is_entire, said_limit}
 
 pub entire-borne : (tree : Tree) (root : ℕ) (selectors : List Selector) (reach : Reach) → is_entire tree root selectors ≡ true
     → borne_by tree root selectors reach ≡ Variable root ∷ []
@@ -37,19 +36,6 @@ pub limit-parts : (tree : Tree) (state : variables.State) (root : ℕ) (selector
     → limit_of_variable state (borne_by tree root selectors reach) ≡ None
 limit-parts tree state root selectors reach is =
     ap (limit_of_variable state) (parts-borne tree root selectors reach is) ∙ none-limited state (rows_accessed (rows_of tree) root selectors) reach
-
-none-steady : (touches : Touches) (n : ℤ) (rows : List ℕ) (reach : Reach) → steady_bound touches n (map (λ row. Components row reach) rows) ≡ None
-none-steady touches n [] reach = refl
-none-steady touches n (row ∷ rows) reach = refl
-
-pub steady-entire : (tree : Tree) (touches : Touches) (n : ℤ) (root : ℕ) (selectors : List Selector) (reach : Reach) → is_entire tree root selectors ≡ true
-    → steady_at touches root n ≡ steady_bound touches n (borne_by tree root selectors reach)
-steady-entire tree touches n root selectors reach is = sym (ap (steady_bound touches n) (entire-borne tree root selectors reach is))
-
-pub steady-parts : (tree : Tree) (touches : Touches) (n : ℤ) (root : ℕ) (selectors : List Selector) (reach : Reach) → is_entire tree root selectors ≡ false
-    → None ≡ steady_bound touches n (borne_by tree root selectors reach)
-steady-parts tree touches n root selectors reach is =
-    sym (ap (steady_bound touches n) (parts-borne tree root selectors reach is) ∙ none-steady touches n (rows_accessed (rows_of tree) root selectors) reach)
 
 -- a limit that is moved
 pub limit-moved : (found : Option Limit) (limit moved : KeptLimit) (n : ℤ) → IsLimit AreNear (Some limit) found

@@ -4,15 +4,10 @@ pub mod AliasedTypes
 pub mod Assigned
 pub mod Bearers
 pub mod Beginning
-pub mod Behind
-pub mod BehindExits
 pub mod Borne
 pub mod Bound
-pub mod CallChanges
-pub mod CallLeaves
 pub mod Callee
 pub mod Claimed
-pub mod Commons
 pub mod ComponentTypes
 pub mod Entered
 pub mod Entire

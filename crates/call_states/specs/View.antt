@@ -1,8 +1,8 @@
 -- Calls of the program as the definitions see them: what is passed, what is claimed of blocks, what calls change. It
 -- does not say what is known of them.
-use Rattle.std.specs.Prelude.{ℕ, suc, ◌⊎◌, ◌≤◌, ℤ, neg_ℤ, pos, ◌≡◌, ◌<◌, ◌≤ℤ◌, Bool, false, List, [], ◌∷◌, ◌++◌, Option, Some, None, get_or}
-use Rattle.std.specs.Prelude.{if◌then◌else◌, filter, length, map, nat_eq, slice_get}
-use Rattle.types.specs.declared.form.OrdinalRange.{OrdinalRange}
+use Rattle.std.specs.Prelude.{ℕ, suc, ◌⊎◌, ◌≤◌, ℤ, neg_ℤ, pos, ◌≡◌, ◌<◌, ◌≤ℤ◌, Bool, false, List, [], ◌∷◌, Option}
+use Rattle.std.specs.Prelude.{Some, None, get_or}
+use Rattle.std.specs.Prelude.{if◌then◌else◌, length, map, nat_eq, slice_get}
 use denote.Ref.{Bor}
 use Rattle.typed_tree.specs.declared.tree.Selector.{Selector}
 use Rattle.typed_tree.specs.declared.tree.Tree.{Tree}
@@ -14,8 +14,6 @@ use Rattle.call_states.specs.Starts.{row_start, variable_start}
 use Rattle.structured_states.specs.Loops.{is_ordinal_variable}
 use Rattle.certificate.specs.declared.Section.{Section as KeptSection}
 use Rattle.certificate.specs.Contents.{said_fact}
-use Rattle.domain.specs.Interval.{Interval, common}
-use Rattle.domain.specs.Facts.{Bound, Fact, Plus}
 use Rattle.abstract_state.specs.View.{said_form}
 use Rattle.component_states.specs.View.{said_reach}
 use Rattle.call_states.specs.declared.actuals.Actual.{Actual as KeptActual}
@@ -24,8 +22,6 @@ use Rattle.call_states.specs.declared.actuals.Bearer.{Bearer as KeptBearer}
 use Rattle.call_states.specs.declared.actuals.Bearer.TheVariants as borne
 use Rattle.call_states.specs.declared.actuals.Bindings.{Bindings}
 use Rattle.call_states.specs.declared.aliases.Stored.{Stored as KeptStored}
-use Rattle.call_states.specs.declared.changes.Change.{Change as KeptChange}
-use Rattle.call_states.specs.declared.exit.Touches.{Touches as KeptTouches}
 use Rattle.call_states.specs.declared.limits.Limit.{Limit as KeptLimit}
 use Rattle.call_states.specs.Sections.{BlockClaims, no_block_claims}
 use Rattle.call_states.specs.Aliases.{Stored}
@@ -33,10 +29,7 @@ use Rattle.call_states.specs.Actuals.{Actual, Bearer, Binding, OfRows, OfValue, 
 use Rattle.call_states.specs.Actuals as actuals
 use Rattle.call_states.specs.Actuals.{bound_to}
 use Rattle.call_states.specs.Entry.{Limit}
-use Rattle.call_states.specs.Exit.{Change, Touches, all_common, is_row, is_steady, is_variable, range_behind}
-use Rattle.call_states.specs.Exit.{roots_changed, touched_behind, with_exits}
 use Rattle.component_states.specs.States.{State}
-use Rattle.structured_states.specs.Pairs.{all_aliases}
 
 -- ---- what is claimed of a block
 
@@ -142,48 +135,6 @@ said_bindings bindings = bound_to bindings.roots.now (map said_actual bindings.a
 
 abbrev pub said_stored : KeptStored → Stored
 said_stored stored = record { values = stored.values; range = stored.range }
-
-abbrev pub said_change : KeptChange → Change
-said_change change =
-    record { bearer = said_bearer change.bearer; values = change.values; range = change.range }
-
--- the variables of the caller that a call may change, and their aliases
-abbrev pub touched_by : List (ℕ × ℕ) → List Binding → List ℕ → List ℕ
-touched_by pairs bindings changes =
-    roots_changed bindings changes ++ all_aliases pairs (roots_changed bindings changes)
-
-abbrev pub said_touches : KeptTouches → Touches
-said_touches touches = record { touched = touches.touched.now; changes = map said_change touches.changes.now }
-
--- what is known behind a call that touches this, and of whose end these facts are claimed
-abbrev pub left_behind : Tree → ℕ → List Binding → Touches → List Fact → State → State
-left_behind tree block bindings touches facts state =
-    with_exits tree block bindings touches facts (touched_behind tree touches.changes touches.touched state)
-
--- a bearer is all of an entire ordinal variable, or all of a row
-abbrev pub is_of : Bearer → Bearer → Bool
-is_of (actuals.Variable root) bearer = is_variable root bearer
-is_of (Components row reach) bearer = is_row row bearer
-is_of (Passed range) bearer = false
-
--- a range beside one that is known, if one is
-abbrev pub met : Option Interval → Interval → Interval
-met None range = range
-met (Some known) range = common known range
-
--- the values of all of some changes, if there are any
-abbrev pub common_of : List Change → Option Interval
-common_of [] = None
-common_of (change ∷ changes) = Some (all_common changes change.range)
-
--- where the values lie of what was in a range
-abbrev pub behind : Option OrdinalRange → List Change → Bearer → Interval → Interval
-behind values changes subject range =
-    range_behind values changes (filter (λ change. is_of subject change.bearer) changes) range
-
--- a variable with a number more, if it is steady
-abbrev pub steady_at : Touches → ℕ → ℤ → Option Bound
-steady_at touches root n = if is_steady touches root then Some (Plus root n) else None
 
 -- ---- bounds
 

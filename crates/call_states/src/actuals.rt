@@ -104,7 +104,7 @@ pub struct Bindings<'b, 'a> {
 
 impl<'b, 'a> Bindings<'b, 'a> {
     /// The actual parameter of a formal one, if a root is that of one.
-    pub(crate) fn actual(&self, root: u32) -> Option<&'b Actual<'a>>
+    pub fn actual(&self, root: u32) -> Option<&'b Actual<'a>>
         ensures { said_found result ≡ actual_of (said_bindings self.now) root }
     {
         let roots = self.roots;
@@ -119,7 +119,7 @@ impl<'b, 'a> Bindings<'b, 'a> {
 }
 
 /// What has the values of the leaves of a formal parameter, leaf by leaf.
-pub(crate) fn bearers_of(
+pub fn bearers_of(
     alloc: Global,
     rows: &Rows,
     actual: &Actual,
@@ -150,7 +150,7 @@ fn alone(alloc: Global, bearer: Bearer) -> Result<Vec<Bearer>, AllocError>
 }
 
 /// Those of what an access leads to: an entire ordinal variable, or components.
-pub(crate) fn borne_by(
+pub fn borne_by(
     alloc: Global,
     rows: &Rows,
     root: u32,
@@ -167,7 +167,7 @@ pub(crate) fn borne_by(
 }
 
 /// Whether an access leads to an entire ordinal variable.
-pub(crate) fn is_entire(tree: &Tree, root: u32, selectors: &[Selector]) -> bool
+pub fn is_entire(tree: &Tree, root: u32, selectors: &[Selector]) -> bool
     ensures { result ≡ is_entire tree.now root selectors.now }
 {
     selectors.is_empty() && is_ordinal_variable(tree, root)
@@ -186,7 +186,7 @@ fn in_rows(alloc: Global, span: Span, reach: &Reach) -> Result<Vec<Bearer>, Allo
 }
 
 /// Those of all of a variable that is no formal parameter.
-pub(crate) fn all_bearers(alloc: Global, rows: &Rows, root: u32) -> Result<Vec<Bearer>, AllocError>
+pub fn all_bearers(alloc: Global, rows: &Rows, root: u32) -> Result<Vec<Bearer>, AllocError>
     ensures { IfOk result (λ bearers. map said_bearer bearers.items ≡ (if is_ordinal_variable rows.now root
         then Variable root ∷ [] else all_of_rows (rows_under (rows_of rows.now) root []))) }
 {
@@ -197,7 +197,7 @@ pub(crate) fn all_bearers(alloc: Global, rows: &Rows, root: u32) -> Result<Vec<B
 }
 
 /// The bearers of what a path names, as the callee knows it.
-pub(crate) fn bearers_named(
+pub fn bearers_named(
     alloc: Global,
     rows: &Rows,
     bindings: Bindings,
@@ -266,7 +266,7 @@ fn bearers_at(
 }
 
 /// Whether a row is one of some.
-pub(crate) fn has(span: Span, row: u32) -> bool
+pub fn has(span: Span, row: u32) -> bool
     ensures { result ≡ is_among row (numbers span) }
 {
     span.first <= row && row < span.end()

@@ -3,9 +3,7 @@
 
 pub mod actuals;
 pub mod aliases;
-pub mod changes;
 pub mod entry;
-pub mod exit;
 mod limits;
 pub mod overlaps;
 pub mod sections;

@@ -36,7 +36,7 @@ use Rattle.component_states.specs.States.{State, dead}
 use Rattle.structured_states.specs.Loops.{all_limits, gives_claims, is_ordinal_variable, limits_or_integer, names_entire, plain, plain_facts}
 use Rattle.call_states.specs.Aliases.{variable_values}
 use Rattle.call_states.specs.Environments.{Fine, Leaves, LeavesPassed, Proper}
-use Rattle.call_states.specs.Exit.{claimed_of_variable, exit_range, result_range}
+use Rattle.exit_states.specs.Exit.{claimed_of_variable, exit_range, result_range}
 use Rattle.call_states.specs.Sections.{BlockClaims, all_block_claims, all_pairs, block_claims_at}
 use Rattle.call_states.specs.Starts.{block_start}
 use Rattle.call_states.proofs.AliasedTypes.{declared, in-types, seen, values-limits}

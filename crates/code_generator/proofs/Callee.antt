@@ -8,19 +8,19 @@ use Rattle.std.proofs.lemmas.Bool.{and_parts, eqb-true, false≢true, false_from
 use Rattle.std.proofs.lemmas.List.{length-map}
 use Rattle.std.proofs.lemmas.List.Sums.{sum_by-cons}
 use Rattle.std.proofs.lemmas.Option.{none-some, same_Some, slice_get_within}
-use Rattle.types.specs.Components.{Steps, components_of}
+use Rattle.types.specs.Components.{components_of}
 use Rattle.types.specs.Types.{cells_of}
 use Rattle.types.proofs.Laid.{length_components}
 use Rattle.typed_tree.specs.declared.tree.Block.{Block}
-use Rattle.typed_tree.specs.declared.tree.Tree.{Tree}
 use Rattle.typed_tree.specs.declared.tree.Variable.{Variable}
 use Rattle.typed_tree.specs.declared.tree.VariableKind.{VariableKind}
 use Rattle.typed_tree.specs.declared.tree.VariableKind.TheVariants as kinds
-use Rattle.typed_tree.specs.WellFormed.{encloses, heading_of, is_one_of, is_parameter_kind, is_round, is_value_kind, is_variable_kind, is_visible, of_one}
+use Rattle.typed_tree.specs.WellFormed.{encloses, heading_of, is_one_of, is_parameter_kind, is_round, is_variable_kind, is_visible, of_one}
 use Rattle.typed_tree.specs.WellFormed.{outline_of, roots_where}
 use Rattle.meaning.specs.declared.store.Value.TheVariants as value
 use Rattle.meaning.specs.Store.{Environment, Place, place_eq}
-use Rattle.meaning.specs.Meaning.{Activation as Begun, Argument, OfValue, OfRow, OfPlace, environment_of, home_of as home_in, own_place, place_for, place_passed}
+use Rattle.meaning.specs.Meaning.{Activation as Begun, Argument, OfValue, OfRow, OfPlace, environment_of, home_of as home_in, own_place, place_for}
+use Rattle.meaning.specs.Meaning.{place_passed}
 use Rattle.meaning.specs.Meaning.{seen_from}
 use Rattle.stack_machine.specs.declared.cell.Cell.{Cell}
 use Rattle.stack_machine.specs.declared.cell.Cell.TheVariants.{Undefined, Number}
@@ -29,17 +29,18 @@ use Rattle.code_scheme.specs.declared.routine.Routine.{Routine}
 use Rattle.code_scheme.specs.Code.{routine_at, routines_of}
 use Rattle.code_scheme.specs.Depth.{block_depth}
 use Rattle.code_scheme.specs.Need.{block_need, living_need}
-use Rattle.code_scheme.specs.Scopes.{Scope, block_level, block_scope, called_routine, cells_where, count, home_of, is_other_of, is_parameter_of, level_of, links}
+use Rattle.code_scheme.specs.Scopes.{Scope, block_level, block_scope, called_routine, cells_where, count, home_of, is_other_of, is_parameter_of, level_of}
+use Rattle.code_scheme.specs.Scopes.{links}
 use Rattle.code_scheme.specs.Scopes.{links_to, offset, other_cells, parameter_cells, routine_or_none, slot_cells, start_of, variable_home}
 use Rattle.code_scheme.proofs.Depths.{block_within}
-use Rattle.code_scheme.proofs.Routines.{Standing, block_stands}
+use Rattle.code_scheme.proofs.Routines.{block_stands}
 use Rattle.code_generator.proofs.Alike.{Activation, World, Lives, Fixed, Lies, LiesIn, IsApart, Leads, leads_above, leads_once, leads_split, leads_within}
 use Rattle.code_generator.proofs.Alike.{slice_get-front}
 use Rattle.code_generator.proofs.Cells.{Owned, home_is, lies_inside, other_ends, others_few, own_scalars, owned, owned_back, owned_in, parameter_ends}
-use Rattle.code_generator.proofs.Cells.{slot_of, small_block, start_near, starts_as_other, starts_as_parameter, variable_ends, where_within}
-use Rattle.code_generator.proofs.Laying.{Found, Laid, fitted_length, found, marked, marked_long, no_reference}
-use Rattle.code_generator.proofs.Nesting.{Callable, Declared, WellBlock, heading_at, one_there, shallow, well_block}
-use Rattle.code_generator.proofs.Parts.{IsPart, inner, part_above}
+use Rattle.code_generator.proofs.Cells.{slot_of, small_block, start_near, starts_as_other, starts_as_parameter, variable_ends}
+use Rattle.code_generator.proofs.Laying.{Laid, fitted_length, found, marked, marked_long, no_reference}
+use Rattle.code_generator.proofs.Nesting.{Callable, heading_at, shallow, well_block}
+use Rattle.code_generator.proofs.Parts.{IsPart, part_above}
 use Rattle.code_generator.proofs.Passing.{Fitted}
 use Rattle.code_generator.proofs.Places.{place_apart}
 use Rattle.code_generator.proofs.Repeats.{repeats}
@@ -77,7 +78,7 @@ pub length_replicate : {A : Type 0} (n : ℕ) (x : A) → length (replicate n x)
 length_replicate zero x = refl
 length_replicate (suc n) x = ap suc (length_replicate n x)
 
-all_at : {A : Type 0} (test : A → Bool) (xs : List A) (i : ℕ) (x : A) → list_all test xs ≡ true → slice_get xs i ≡ Some x → test x ≡ true
+pub all_at : {A : Type 0} (test : A → Bool) (xs : List A) (i : ℕ) (x : A) → list_all test xs ≡ true → slice_get xs i ≡ Some x → test x ≡ true
 all_at test [] i x all at = absurd (none-some x at)
 all_at test (y ∷ xs) zero x all at = ap test (sym (same_Some y x at)) ∙ (and_parts (test y) (list_all test xs) all).0
 all_at test (y ∷ xs) (suc i) x all at = all_at test xs i x (and_parts (test y) (list_all test xs) all).1 at
@@ -249,8 +250,15 @@ module _ (g : Setting) (number : ℕ) (block : Block) (block_is : slice_get g.tr
             slice_behind front (row ++ replicate others fill) (length f.marks_front + l.inward) c
             (omega (arith, front_long, cell, start, begins, mine, f.front_is, f.marks_front_is))
             ∙ slice_before row (replicate others fill) (length f.marks_front + l.inward)
-            (omega (arith, ap length f.marks, length-append f.marks_front (map (mark o.variable) f.first ++ f.marks_behind),
-            length-append (map (mark o.variable) f.first) f.marks_behind, length-map f.first (mark o.variable), long, inward))
+            (omega (
+              arith,
+              ap length f.marks,
+              length-append f.marks_front (map (mark o.variable) f.first ++ f.marks_behind),
+              length-append (map (mark o.variable) f.first) f.marks_behind,
+              length-map f.first (mark o.variable),
+              long,
+              inward,
+            ))
             ∙ ap (λ l'. slice_get l' (length f.marks_front + l.inward)) f.marks
             ∙ slice_behind f.marks_front (map (mark o.variable) f.first ++ f.marks_behind) l.inward (length f.marks_front + l.inward) refl
             ∙ slice_get-front (map (mark o.variable) f.first) f.marks_behind l.inward fill
@@ -305,7 +313,8 @@ module _ (g : Setting) (number : ℕ) (block : Block) (block_is : slice_get g.tr
   routine_of = routine_at g.tree number (0 + length (block_stands g.tree number block block_is).before)
 
   pub routine_is : called_routine g.scope number ≡ routine_of
-  routine_is = ap (λ (rs : List Routine). routine_or_none (slice_get rs number)) g.routines_are ∙ ap routine_or_none (block_stands g.tree number block block_is).known
+  routine_is = ap (λ (rs : List Routine). routine_or_none (slice_get rs number)) g.routines_are
+      ∙ ap routine_or_none (block_stands g.tree number block block_is).known
 
   routine_level : (called_routine g.scope number).level ≡ outer_level
   routine_level =
@@ -430,7 +439,8 @@ module _ (g : Setting) (number : ℕ) (block : Block) (block_is : slice_get g.tr
           few = few_of v at own plain;
         }
       where
-        few_of : (v : Variable) → slice_get variables root ≡ Some v → v.block ≡ number → is_variable_kind v.kind ≡ false → cells_of g.tree.types v.type_id ≤ 65536
+        few_of : (v : Variable) → slice_get variables root ≡ Some v → v.block ≡ number → is_variable_kind v.kind ≡ false
+            → cells_of g.tree.types v.type_id ≤ 65536
         few_of v at own plain = by (is_parameter_kind v.kind) refl
           where
             by : (kind : Bool) → is_parameter_kind v.kind ≡ kind → cells_of g.tree.types v.type_id ≤ 65536
@@ -484,8 +494,14 @@ module _ (g : Setting) (number : ℕ) (block : Block) (block_is : slice_get g.tr
         inside_at (length f.marks_front + 0) (new_frame + (variable_home new_scope root).start)
         (omega (arith, its_start, begins, mine, f.front_is, f.marks_front_is))
         ∙ slice_before shape (replicate others None) (length f.marks_front + 0)
-        (omega (arith, ap length f.marks, length-append f.marks_front (map (fixed_mark v) f.first ++ f.marks_behind),
-        length-append (map (fixed_mark v) f.first) f.marks_behind, length-map f.first (fixed_mark v), ap length r.3))
+        (omega (
+          arith,
+          ap length f.marks,
+          length-append f.marks_front (map (fixed_mark v) f.first ++ f.marks_behind),
+          length-append (map (fixed_mark v) f.first) f.marks_behind,
+          length-map f.first (fixed_mark v),
+          ap length r.3,
+        ))
         ∙ ap (λ l. slice_get l (length f.marks_front + 0)) f.marks
         ∙ slice_behind f.marks_front (map (fixed_mark v) f.first ++ f.marks_behind) 0 (length f.marks_front + 0) refl
         ∙ ap (λ first. slice_get (map (fixed_mark v) first ++ f.marks_behind) 0) r.3
@@ -496,8 +512,11 @@ module _ (g : Setting) (number : ℕ) (block : Block) (block_is : slice_get g.tr
           owner = new_frame;
           leads = its_leads;
           way = ByAddress r.1;
-          reaches = (its_refers ∙ refers, fixed,
-              part_above g.tree.types new_activation g.world g.below new_below r.0 v.type_id r.1 (omega arith) r.4);
+          reaches = (
+            its_refers ∙ refers,
+            fixed,
+            part_above g.tree.types new_activation g.world g.below new_below r.0 v.type_id r.1 (omega arith) r.4,
+          );
         }
 
     shown_own : (kind : VariableKind) → v.kind ≡ kind → NewShown root v
@@ -524,7 +543,8 @@ module _ (g : Setting) (number : ℕ) (block : Block) (block_is : slice_get g.tr
     -- its block, whose level isn't greater than the declarer's
     its_block : (b : Block) × (slice_get g.tree.blocks.items v.block ≡ Some b)
     its_block = slice_there g.tree.blocks.items v.block
-        (ltb-true v.block (length g.tree.blocks.items) (all_at (λ (w : Variable). nat_lt w.block (length g.tree.blocks.items)) variables root v g.well.declared at))
+        (ltb-true v.block (length g.tree.blocks.items) (all_at (λ (w : Variable). nat_lt w.block (length g.tree.blocks.items)) variables root v g.well.declared
+        at))
 
     abbrev far : ℕ
     far = length its_block.0.heading.around.items
@@ -558,11 +578,16 @@ module _ (g : Setting) (number : ℕ) (block : Block) (block_is : slice_get g.tr
     reaches_outside : (way : Way) → Reaches g.tree g.world g.fixed g.below x.place v (x.owner + (variable_home g.scope root).start)
         (variable_home g.scope root).refers way
         → Reaches g.tree new_world new_fixed new_below x.place v (x.owner + (variable_home g.scope root).start) (variable_home g.scope root).refers way
-    reaches_outside Direct r =
-        (r.0, part_above g.tree.types new_activation g.world g.below new_below x.place v.type_id (x.owner + (variable_home g.scope root).start) (omega arith) r.1)
-    reaches_outside (ByAddress address) r =
-        (r.0, outer_fixed (x.owner + (variable_home g.scope root).start) (Some (Number (pos address))) r.1,
-        part_above g.tree.types new_activation g.world g.below new_below x.place v.type_id address (omega arith) r.2)
+    reaches_outside Direct r = (
+      r.0,
+      part_above g.tree.types new_activation g.world g.below new_below x.place v.type_id (x.owner + (variable_home g.scope root).start) (omega arith)
+          r.1,
+    )
+    reaches_outside (ByAddress address) r = (
+      r.0,
+      outer_fixed (x.owner + (variable_home g.scope root).start) (Some (Number (pos address))) r.1,
+      part_above g.tree.types new_activation g.world g.below new_below x.place v.type_id address (omega arith) r.2,
+    )
 
     shown_outside : NewShown root v
     shown_outside = record {
@@ -594,7 +619,8 @@ module _ (g : Setting) (number : ℕ) (block : Block) (block_is : slice_get g.tr
       → (variable_home new_scope root).start + cells_of g.tree.types v.type_id ≤ 16777215
   new_near root v at plain =
       let b = slice_there g.tree.blocks.items v.block
-      (ltb-true v.block (length g.tree.blocks.items) (all_at (λ (w : Variable). nat_lt w.block (length g.tree.blocks.items)) variables root v g.well.declared at)) in
+      (ltb-true v.block (length g.tree.blocks.items) (all_at (λ (w : Variable). nat_lt w.block (length g.tree.blocks.items)) variables root v g.well.declared
+      at)) in
       let near = start_near g.tree g.well g.short v.block b.0 b.1 root v at refl in
       let refers : is_variable_kind v.kind ≡ false = sym (ap (λ (h : Home). h.refers) (its_home root v at)) ∙ plain in
       let start : (variable_home new_scope root).start ≡ offset (start_of g.tree root v) = ap (λ (h : Home). h.start) (its_home root v at) in

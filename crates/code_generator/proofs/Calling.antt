@@ -1,7 +1,7 @@
 -- What the instructions of calls do to a store: the mark of a new frame, the jump to a routine, the beginning of its frame, and
 -- the return.
-use Rattle.std.proofs.Common.{◌≡◌, ℕ, zero, suc, ◌+◌, ◌-◌, ◌%◌, ◌^◌, ◌<◌, ◌≤◌, List, [], ◌∷◌, ◌++◌, length, take, drop, replicate, Option, Some, None, Ok, Err, ap}
-use Rattle.std.proofs.Common.{sym, ◌∙◌, arith, length-append, refl}
+use Rattle.std.proofs.Common.{◌≡◌, ℕ, suc, ◌+◌, ◌-◌, ◌<◌, ◌≤◌, List, [], ◌∷◌, ◌++◌, length, take, drop, replicate, Option, Some, None, Ok, Err, ap}
+use Rattle.std.proofs.Common.{◌∙◌, arith, length-append, refl}
 use Rattle.std.specs.Prelude.{if◌then◌else◌, pos, slice_get, slice_set}
 use Rattle.std.specs.Int.{w32, cast_signed}
 use Rattle.std.proofs.Math.Nat.{mod-eq_of_lt}
@@ -11,9 +11,8 @@ use Rattle.stack_machine.specs.declared.cell.Cell.{Cell}
 use Rattle.stack_machine.specs.declared.cell.Cell.TheVariants.{Undefined, Number}
 use Rattle.stack_machine.specs.declared.stop.MachineFault.TheVariants.{OutOfBounds}
 use Rattle.stack_machine.specs.declared.store.calls.Caller.{Caller}
-use Rattle.stack_machine.specs.Addresses.{has_room_for}
 use Rattle.stack_machine.specs.Calls.{back_in, begun_at, called, caller, index_number, left, link_below, links, marked, not_outside}
-use Rattle.stack_machine.specs.Frames.{Attempt, Frames, ◌>>=◌, base, entered, has, unless_fault}
+use Rattle.stack_machine.specs.Frames.{Attempt, ◌>>=◌, base, entered, unless_fault}
 use Rattle.code_generator.proofs.Acts.{framed, has_some}
 
 -- an index of an instruction is a number of 32 bits

@@ -1,55 +1,50 @@
 -- Calls: from the jump to a routine's code on the machine does what the call does, in as many activations in one another as one
 -- likes, or its store is full.
-use Rattle.std.proofs.Common.{◌≡◌, ℕ, zero, suc, ◌+◌, ◌-◌, ◌<◌, ◌≤◌, ◌⊎◌, inl, inr, ⊎_elim, List, [], ◌∷◌, ◌++◌, length, map, Option, Some, None, Ok, Err}
-use Rattle.std.proofs.Common.{refl, sym, ap, ◌∙◌, subst, arith, Bool, true, false, length-append, append-nil, append_assoc, replicate}
-use Rattle.std.specs.Prelude.{slice_get, pos, nat_eq, ◌&&◌}
+use Rattle.std.proofs.Common.{◌≡◌, ℕ, zero, suc, ◌+◌, ◌-◌, ◌<◌, ◌≤◌, ◌⊎◌, inl, inr, List, [], ◌∷◌, ◌++◌, length, Some, Ok}
+use Rattle.std.proofs.Common.{refl, sym, ap, ◌∙◌, subst, arith, Bool, true, length-append, append-nil, append_assoc, replicate}
+use Rattle.std.specs.Prelude.{slice_get, pos, nat_eq}
 use Rattle.std.specs.Option.{option_and_then}
 use Rattle.std.proofs.lemmas.Bool.{and_parts, cases_lt, eqb-true}
 use Rattle.std.proofs.lemmas.List.Sums.{sum_by-cons}
-use Rattle.pcode_assembler.specs.declared.instr.Instr.{Instr}
 use Rattle.pcode_assembler.specs.declared.instr.Instr.TheVariants as instr
 use Rattle.typed_tree.specs.declared.tree.Block.{Block}
 use Rattle.typed_tree.specs.declared.tree.Heading.{Heading}
-use Rattle.typed_tree.specs.WellFormed.{heading_of, is_callable, is_kind_of, is_parameter_kind, roots_where}
+use Rattle.typed_tree.specs.WellFormed.{heading_of, is_callable, is_kind_of}
 use Rattle.meaning.specs.declared.outcome.Ending.{Ending}
 use Rattle.meaning.specs.declared.outcome.Ending.TheVariants as ending
 use Rattle.meaning.specs.declared.store.Value.{Value}
 use Rattle.meaning.specs.declared.store.Value.TheVariants as value
 use Rattle.meaning.specs.Effect as effect
 use Rattle.meaning.specs.Effect.{Reply, Gives, Action, ◌>>=◌, give}
-use Rattle.meaning.specs.Laws.{UsesTurnsExactly}
 use Rattle.meaning.specs.Meaning.{Activation as Begun, Argument, activated, assign_all, calls_of, effect_of, executed, result_of}
 use Rattle.meaning.proofs.Used.{Exact, exact_calls, exact_closed, exact_effect}
 use Rattle.meaning.proofs.Walks.{of_assign_all}
 use Rattle.stack_machine.specs.declared.stop.Stop.TheVariants as stop
 use Rattle.stack_machine.specs.declared.cell.Cell.{Cell}
 use Rattle.stack_machine.specs.declared.cell.Cell.TheVariants.{Undefined, Number}
-use Rattle.stack_machine.specs.Calls.{called, index_number}
+use Rattle.stack_machine.specs.Calls.{called}
 use Rattle.stack_machine.specs.Frames.{entered}
 use Rattle.stack_machine.specs.Machine.{State, and_then, at_place, with_frame}
-use Rattle.code_scheme.specs.Code.{block_code, end_code, program_code, return_code, routine_at, routines_of, stmt_code}
+use Rattle.code_scheme.specs.Code.{block_code, end_code, return_code, routine_at, routines_of, stmt_code}
 use Rattle.code_scheme.specs.declared.routine.Routine.{Routine}
 use Rattle.code_scheme.specs.Depth.{block_depth}
 use Rattle.code_scheme.specs.Need.{block_need, living_need}
 use Rattle.code_scheme.specs.Scopes.{block_scope, called_routine, count, links_to, other_cells, parameter_cells, routine_or_none, row_length}
 use Rattle.code_scheme.proofs.Depths.{block_within}
-use Rattle.code_scheme.proofs.Routines.{Standing, block_stands}
+use Rattle.code_scheme.proofs.Routines.{block_stands}
 use Rattle.code_generator.proofs.Acts.{framed}
 use Rattle.code_generator.proofs.Alike.{Leads}
-use Rattle.code_generator.proofs.Callee.{length_replicate}
 use Rattle.code_generator.proofs.Calling.{begins_frame, enters, full, index_is}
 use Rattle.code_generator.proofs.Cells.{small_block}
 use Rattle.code_generator.proofs.Laying.{Laid, laid_cells, laid_from}
 use Rattle.code_generator.proofs.Nesting.{Callable, callable as may_be_called, heading_at, well_block}
-use Rattle.code_generator.proofs.Numbers.{Fits}
-use Rattle.code_generator.proofs.Passing.{AllFitted, CallsAt, CallsRun, Returned, Returns, executed_returns, left_by, links_of, returned_on, returns_behind}
+use Rattle.code_generator.proofs.Passing.{AllFitted, CallsRun, Returned, Returns, executed_returns, left_by, links_of, returns_behind}
 use Rattle.code_generator.proofs.Passing.{returns_from}
 use Rattle.code_generator.proofs.Reach.{Comes, Stands, StandsAt, Stops, comes_at_rate, comes_by, comes_less, comes_on, stands_back, stands_front, stays_here}
-use Rattle.code_generator.proofs.Reach.{obeys, stops_by, stops_on}
-use Rattle.code_generator.proofs.Repeats.{repeats}
+use Rattle.code_generator.proofs.Reach.{stops_by, stops_on}
 use Rattle.code_generator.proofs.Returning.{back_based, back_comes, back_place, count_of, finish, restored}
-use Rattle.code_generator.proofs.Setting.{Setting, Based, Ends, Executes, Halts, Starves, around, ends_on, on, outline, running_at, starves_first}
-use Rattle.code_generator.proofs.Starting.{assigned, begun_state, cells_are, h, its_links, started, unset}
+use Rattle.code_generator.proofs.Setting.{Setting, Based, Ends, Executes, Starves, around, on, outline, running_at, starves_first}
+use Rattle.code_generator.proofs.Starting.{assigned, begun_state, h, started}
 use Rattle.code_generator.proofs.Stmts.{stmt_runs}
 
 module _ (g : Setting) (depth : ℕ) (known : CallsRun depth) (depth_is : g.depth ≡ suc depth) (is_function : Bool) (number : ℕ) (block : Block)
@@ -163,8 +158,10 @@ module _ (g : Setting) (depth : ℕ) (known : CallsRun depth) (depth_is : g.dept
       ∙ begins_frame g.frame g.limit g.size front cells (Number (pos outer)) (Number (pos g.frame)) Undefined (Number (pos g.limit))
       (row_length (called_routine g.scope number).cells) (g.target.to (called_routine g.scope number).place) return (sym count_is)
       (omega (arith, linked, full', front_long))
-      ∙ ap (λ z. Ok (framed (length front) g.limit g.size (front ++ (Number (pos outer) ∷ Number (pos g.frame) ∷ Number z ∷ Number (pos g.limit) ∷ cells)),
-      g.target.to (called_routine g.scope number).place)) (index_is return return_short)
+      ∙ ap (λ z. Ok (
+        framed (length front) g.limit g.size (front ++ (Number (pos outer) ∷ Number (pos g.frame) ∷ Number z ∷ Number (pos g.limit) ∷ cells)),
+        g.target.to (called_routine g.scope number).place,
+      )) (index_is return return_short)
       ∙ ap (λ f. Ok (framed f g.limit g.size stack, g.target.to (called_routine g.scope number).place)) front_long
       ∙ ap (λ p. Ok (framed (g.below + length held) g.limit g.size stack, g.target.to p)) target_is in
       comes_at_rate g.target _ (on g ((base ++ (held ++ links_of g outer)) ++ cells) place s.output) arrived stands.0
@@ -323,7 +320,8 @@ module _ (g : Setting) (depth : ℕ) (known : CallsRun depth) (depth_is : g.dept
     abbrev call_place : State
     call_place = on g ((base ++ (held ++ links_of g outer)) ++ cells) place s.output
 
-    returned : (r : Reply Value) → Returned its left arrived [] (back_place g number block block_is callable outer way base held cells arguments s based return depth
+    returned : (r : Reply Value) → Returned its left arrived [] (back_place g number block block_is callable outer way base held cells arguments s based return
+        depth
         depth_is room laid fits is_function behind_body) is_function r
         → Returned g s.turns call_place held (place + 1) is_function (effect.and_then r ends_so)
     returned (Gives (value.Number n) t) e =
@@ -332,8 +330,7 @@ module _ (g : Setting) (depth : ℕ) (known : CallsRun depth) (depth_is : g.dept
         behind_body in
         let came = subst (λ l. Comes g.target (left - t.turns) arrived (on its (l ++ left_by its is_function n) back t.output)) (append-nil last) e.2 in
         let home = back_comes g number block block_is callable outer way base held cells arguments s based return depth depth_is room laid fits t last e.1
-        is_function n back (place + 1) (return_stands last t e.1) (sym stands.1) return_within in
-        (
+        is_function n back (place + 1) (return_stands last t e.1) (sym stands.1) return_within in (
           restored g number block block_is callable outer way base held cells arguments s based return depth depth_is room laid fits t last e.1,
           back_based g number block block_is callable outer way base held cells arguments s based return depth depth_is room laid fits t last e.1,
           comes_less g.target (s.turns - t.turns) (g.target.rate + (left - t.turns + 1)) _ _ (omega (arith, turns_are))

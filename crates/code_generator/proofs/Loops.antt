@@ -1,6 +1,6 @@
 -- Loops: a head where each round begins, and a round that comes back to it or leaves the loop. Each round behind which
 -- another follows uses a turn, so a run with as many turns as a bound takes no more rounds than that.
-use Rattle.std.proofs.Common.{◌≡◌, ℕ, zero, suc, ◌+◌, ◌-◌, ◌<◌, ◌≤◌, ◌⊎◌, List, ◌++◌, [], ◌∷◌, Option, Some, None, inl, inr, refl, sym, arith}
+use Rattle.std.proofs.Common.{◌≡◌, ℕ, zero, suc, ◌+◌, ◌-◌, ◌<◌, ◌≤◌, ◌⊎◌, List, ◌++◌, [], ◌∷◌, Option, Some, None, inl, inr, refl, arith}
 use Rattle.std.specs.Prelude.{ℤ}
 use Rattle.meaning.specs.declared.outcome.Ending.{Ending}
 use Rattle.meaning.specs.declared.outcome.Ending.TheVariants as ending
@@ -15,7 +15,8 @@ use Rattle.stack_machine.specs.declared.cell.Cell.TheVariants.{Number}
 use Rattle.stack_machine.specs.Machine.{State}
 use Rattle.code_generator.proofs.Reach.{Comes, comes_on, comes_less, stays_here}
 use Rattle.code_generator.proofs.Numbers.{Fits}
-use Rattle.code_generator.proofs.Setting.{Setting, Shown, on, Based, Halts, Ends, ends_on, Starves, starves_on, starves_first, starves_behind, Valued, Evaluates, Executed}
+use Rattle.code_generator.proofs.Setting.{Setting, on, Based, Halts, Ends, ends_on, Starves, starves_on, starves_first, starves_behind, Valued, Evaluates}
+use Rattle.code_generator.proofs.Setting.{Executed}
 use Rattle.code_generator.proofs.Setting.{Executes, executes_behind, executes_same}
 
 -- in a setting, a loop with what is held at its head where a round begins with this, its head and its end, and what is

@@ -1,7 +1,7 @@
 -- Actual parameters, and calls: what is shown of the code of an actual parameter, that it leaves the cells of what is passed;
 -- and of a call, that the machine comes back with the result on top of what was held.
-use Rattle.std.proofs.Common.{◌≡◌, ℕ, zero, suc, ◌+◌, ◌-◌, ◌<◌, ◌≤◌, ◌⊎◌, inl, inr, List, [], ◌∷◌, ◌++◌, length, map, Option, Some, None, refl, sym, ap, ◌∙◌, subst}
-use Rattle.std.proofs.Common.{arith, append-nil, Bool, true, false, length-append}
+use Rattle.std.proofs.Common.{◌≡◌, ℕ, suc, ◌+◌, ◌-◌, ◌<◌, ◌≤◌, ◌⊎◌, inl, inr, List, [], ◌∷◌, ◌++◌, length, Option, Some, None, refl, sym, subst}
+use Rattle.std.proofs.Common.{arith, append-nil, Bool, true, false}
 use Rattle.std.specs.Prelude.{slice_get, ℤ, pos}
 use Rattle.pcode_assembler.specs.declared.instr.Instr.{Instr}
 use Rattle.pcode_assembler.specs.declared.instr.Instr.TheVariants as instr
@@ -17,7 +17,7 @@ use Rattle.meaning.specs.Store.{Place}
 use Rattle.meaning.specs.Effect as effect
 use Rattle.meaning.specs.Effect.{Reply, Gives, Action, ◌>>=◌}
 use Rattle.meaning.specs.Laws.{UsesTurnsExactly}
-use Rattle.meaning.specs.Meaning.{Argument, OfValue, OfRow, OfPlace, Passing, all_passed, calls_of, passing_of}
+use Rattle.meaning.specs.Meaning.{Argument, OfValue, OfRow, OfPlace, Passing, calls_of, passing_of}
 use Rattle.stack_machine.specs.declared.cell.Cell.{Cell}
 use Rattle.stack_machine.specs.declared.cell.Cell.TheVariants.{Undefined, Number}
 use Rattle.stack_machine.specs.Machine.{State}
@@ -29,8 +29,9 @@ use Rattle.code_generator.proofs.Alike.{Leads}
 use Rattle.code_generator.proofs.Numbers.{Fits}
 use Rattle.code_generator.proofs.Reach.{Stands, StandsAt, Comes, comes_on, comes_less}
 use Rattle.code_generator.proofs.Rows.{cells_of as number_cells}
-use Rattle.code_generator.proofs.Setting.{Setting, outline, around, on, Based, Ends, ends_on, Starves, starves_on, starves_first, starves_behind, Evaluates, Valued}
-use Rattle.code_generator.proofs.Setting.{Executes, Executed, executes_behind}
+use Rattle.code_generator.proofs.Setting.{Setting, outline, around, on, Based, Ends, ends_on, Starves, starves_on, starves_first, starves_behind, Evaluates}
+use Rattle.code_generator.proofs.Setting.{Valued}
+use Rattle.code_generator.proofs.Setting.{Executes, Executed}
 use Rattle.code_generator.proofs.Wholes.{AllFit, Pushed, Pushes}
 
 module _ (g : Setting) where
@@ -252,7 +253,8 @@ module _ (g : Setting) where
       → Comes g.target least a b → Returns b held place is_function action s → Returns a held place is_function action s
   returns_from least a b held place is_function action s l (inl x) = inl (starves_on g least a b action s l x)
   returns_from least a b held place is_function action s l (inr e) =
-      inr (returned_on s.turns s.turns a b held place is_function (action s) (omega arith) (comes_less g.target (s.turns - s.turns) least a b (omega arith) l) e)
+      inr (returned_on s.turns s.turns a b held place is_function (action s) (omega arith) (comes_less g.target (s.turns - s.turns) least a b (omega arith) l)
+      e)
 
   -- a call behind its actual parameters
   pub then_returns : (m : State) (held held' : List Cell) (place place' callee position total : ℕ) (is_function : Bool) (first : Action (List Argument))

@@ -1,13 +1,13 @@
 -- A routine ends: its result is pushed, and the machine is back in its caller's frame, where what the caller held is as it was,
 -- over cells that are alike to the store.
-use Rattle.std.proofs.Common.{◌≡◌, ℕ, zero, suc, ◌+◌, ◌-◌, ◌<◌, ◌≤◌, inl, inr, List, [], ◌∷◌, ◌++◌, length, map, take, drop, Option, Some, None, Ok}
+use Rattle.std.proofs.Common.{◌≡◌, ℕ, zero, suc, ◌+◌, ◌-◌, ◌<◌, ◌≤◌, inr, List, [], ◌∷◌, ◌++◌, length, map, take, drop, Option, Some, None, Ok}
 use Rattle.std.proofs.Common.{refl, sym, ap, ◌∙◌, subst, arith, Bool, true, false, length-append, append-nil, append_assoc}
 use Rattle.std.specs.Prelude.{if◌then◌else◌, nat_eq, nat_lt, slice_get, ℤ, pos, ◌&&◌}
 use Rattle.std.specs.Option.{option_and_then}
 use Rattle.std.proofs.Math.Seq.{drop-append_seam}
 use Rattle.std.proofs.lemmas.Bool.{and_parts, eqb-true, false≢true, ltb-true}
-use Rattle.std.proofs.lemmas.List.{length-map, take-append-le}
-use Rattle.std.proofs.lemmas.Option.{none-some, same_Some, slice_get_within}
+use Rattle.std.proofs.lemmas.List.{take-append-le}
+use Rattle.std.proofs.lemmas.Option.{same_Some, slice_get_within}
 use Rattle.pcode_assembler.specs.declared.instr.Instr.TheVariants as instr
 use Rattle.types.specs.Types.{is_ordinal}
 use Rattle.typed_tree.specs.declared.tree.Block.{Block}
@@ -17,27 +17,23 @@ use Rattle.typed_tree.specs.declared.tree.VariableKind.{VariableKind}
 use Rattle.typed_tree.specs.declared.tree.VariableKind.TheVariants as kinds
 use Rattle.typed_tree.specs.Accesses.{accessed, is_type}
 use Rattle.typed_tree.specs.WellFormed.{is_kind_of, is_result_kind, is_result_or_none, is_variable_kind, result_roots, roots_where}
-use Rattle.meaning.specs.declared.store.Value.{Value}
-use Rattle.meaning.specs.declared.store.Value.TheVariants as value
-use Rattle.meaning.specs.Store.{Place, stored}
+use Rattle.meaning.specs.Store.{stored}
 use Rattle.meaning.specs.Effect as effect
 use Rattle.meaning.specs.Effect.{Action, fetch, give}
 use Rattle.meaning.specs.Meaning.{Argument, home_of as home_in, own_place, result_of}
 use Rattle.stack_machine.specs.declared.cell.Cell.{Cell}
-use Rattle.stack_machine.specs.declared.cell.Cell.TheVariants.{Undefined, Number}
-use Rattle.stack_machine.specs.Calls.{left}
+use Rattle.stack_machine.specs.declared.cell.Cell.TheVariants.{Number}
 use Rattle.stack_machine.specs.Machine.{State, and_then, at_place}
 use Rattle.code_scheme.specs.Code.{return_code}
 use Rattle.code_scheme.specs.Depth.{block_depth, result_depth}
 use Rattle.code_scheme.specs.Scopes.{called_routine, links_to, other_cells, parameter_cells, variable_home}
 use Rattle.code_generator.proofs.Acts.{framed, loads}
-use Rattle.code_generator.proofs.Alike.{Activation, Fixed, Keeps, Leads, LiesIn, alike_above, cell_of, cell_within, slice_get-front}
-use Rattle.code_generator.proofs.Callee.{callee, link_at, outer_fixed, own_part, seen}
+use Rattle.code_generator.proofs.Alike.{Fixed, Keeps, Leads, LiesIn, alike_above, cell_of, cell_within, slice_get-front}
+use Rattle.code_generator.proofs.Callee.{link_at, outer_fixed, own_part, seen}
 use Rattle.code_generator.proofs.Calling.{leaves}
 use Rattle.code_generator.proofs.Evaluating.{fetched_runs, sites}
 use Rattle.code_generator.proofs.Laying.{Laid}
 use Rattle.code_generator.proofs.Nesting.{Callable, well_block}
-use Rattle.code_generator.proofs.Numbers.{Fits}
 use Rattle.code_generator.proofs.Parts.{ordinal_part}
 use Rattle.code_generator.proofs.Passing.{Returns, evaluated_returns, left_by}
 use Rattle.code_generator.proofs.Reach.{Comes, Stands, StandsAt, comes_by, comes_less, stays_here}
@@ -251,7 +247,8 @@ module _ (g : Setting) (number : ℕ) (block : Block) (block_is : slice_get g.tr
 
     place_is : its.environment.variables result.root ≡ Some (own_place s.activations result.root)
     place_is =
-        seen g number block block_is callable outer way held cells arguments s.activations return depth based.old room laid fits result.root variable declared own
+        seen g number block block_is callable outer way held cells arguments s.activations return depth based.old room laid fits result.root variable declared
+        own
         ∙ home variable.kind kind_is
 
     good : (nat_lt result.defined (sites g) ≡ true)
@@ -267,7 +264,8 @@ module _ (g : Setting) (number : ℕ) (block : Block) (block_is : slice_get g.tr
     lies =
         ordinal_part g.tree.types its.world its.below (own_place s.activations result.root) variable.type_id
         (its.frame + (variable_home its.scope result.root).start) ordinal
-        (own_part g number block block_is callable outer way held cells arguments s.activations return depth based.old room laid fits result.root variable declared own
+        (own_part g number block block_is callable outer way held cells arguments s.activations return depth based.old room laid fits result.root variable
+        declared own
         (plain variable.kind kind_is))
 
     -- it is pushed, and has to be defined
@@ -301,7 +299,8 @@ module _ (g : Setting) (number : ℕ) (block : Block) (block_is : slice_get g.tr
       × StandsAt its.target (back_place is_function place) (instr.Return (count_of is_function)) true
   finishes None false is kind place last t after stands deep =
       let none = comes_less g.target (t.turns - t.turns) 0 _ _ (omega arith)
-      (subst (λ cs. Comes g.target 0 (on its (last ++ []) place t.output) (on its cs place t.output)) (sym (append-nil (last ++ []))) (stays_here g.target _)) in
+      (subst (λ cs. Comes g.target 0 (on its (last ++ []) place t.output) (on its cs place t.output)) (sym (append-nil (last ++ [])))
+      (stays_here g.target _)) in
       (inr (last, after, none, record { is = refl }, omega arith), stands.0)
   finishes None true is kind place last t after stands deep = absurd (false≢true kind)
   finishes (Some result) false is kind place last t after stands deep = absurd (false≢true kind)

@@ -1,6 +1,6 @@
 -- One activation of a block, whose code runs: what stays as it is meanwhile, and what the machine does of what the
 -- program does.
-use Rattle.std.proofs.Common.{◌≡◌, ℕ, zero, suc, ◌+◌, ◌-◌, ◌<◌, ◌≤◌, ◌⊎◌, inl, inr, List, [], ◌∷◌, ◌++◌, length, map, Option, Some, None, Ok, Err, refl, sym, ap}
+use Rattle.std.proofs.Common.{◌≡◌, ℕ, zero, suc, ◌+◌, ◌-◌, ◌<◌, ◌≤◌, ◌⊎◌, inl, inr, List, [], ◌∷◌, ◌++◌, length, map, Some, None, Ok, Err, refl, sym, ap}
 use Rattle.std.proofs.Common.{subst, arith, length-append, Bool, true, false, ◌∙◌}
 use Rattle.std.specs.Prelude.{slice_get, ℤ, pos, if◌then◌else◌}
 use Rattle.pcode_assembler.specs.declared.instr.Instr.{Instr}
@@ -38,7 +38,7 @@ use Rattle.code_generator.specs.Large.{is_too_large}
 use Rattle.code_generator.specs.Tables.{site_table, in_plain_numbers}
 use Rattle.code_generator.proofs.Reach.{Target, Stands, StandsAt, Comes, obeys, Stops, comes_on, comes_less, stays_here, comes_by, stops_on, stops_by}
 use Rattle.code_generator.proofs.Acts.{framed, branches}
-use Rattle.code_generator.proofs.Alike.{World, Lives, Fixed, IsApart, Alike, Keeps, Leads, keeps_above, alike_above, Activation}
+use Rattle.code_generator.proofs.Alike.{World, Lives, Fixed, IsApart, Alike, Keeps, Leads, Activation}
 use Rattle.code_generator.proofs.Numbers.{Fits}
 use Rattle.code_generator.proofs.Parts.{IsPart}
 use Rattle.code_generator.proofs.Repeats.{repeats}
@@ -56,13 +56,13 @@ Reaches tree world fixed end p variable cell refers (ByAddress address) =
 
 -- a variable is visible, and code finds it, or its address, in a frame to which static links lead
 pub record Shown (tree : Tree) (world : World) (fixed : Fixed) (end frame : ℕ) (scope : Scope) (env : Environment) (root : ℕ) (variable : Variable) : Type 0
-    where
-  pub place : Place
-  pub place_is : env.variables root ≡ Some place
-  pub owner : ℕ
-  pub leads : Leads fixed (links_to scope (variable_home scope root).level) frame owner
-  pub way : Way
-  pub reaches : Reaches tree world fixed end place variable (owner + (variable_home scope root).start) (variable_home scope root).refers way
+  where
+    pub place : Place
+    pub place_is : env.variables root ≡ Some place
+    pub owner : ℕ
+    pub leads : Leads fixed (links_to scope (variable_home scope root).level) frame owner
+    pub way : Way
+    pub reaches : Reaches tree world fixed end place variable (owner + (variable_home scope root).start) (variable_home scope root).refers way
 
 -- an activation of a block that runs on the machine
 pub record Setting : Type 0 where

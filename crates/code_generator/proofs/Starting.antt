@@ -1,15 +1,14 @@
 -- The block of a routine begins: its parameters get what was passed, its other variables are undefined, and the cells of its frame
 -- are alike to that.
 use Rattle.std.proofs.Common.{◌≡◌, ℕ, zero, suc, ◌+◌, ◌-◌, ◌<◌, ◌≤◌, ◌⊎◌, inl, inr, ⊎_elim, List, [], ◌∷◌, ◌++◌, length, map, take, drop, Option, Some, None}
-use Rattle.std.proofs.Common.{refl, sym, ap, ◌∙◌, subst, arith, Bool, true, false, length-append, append_assoc, replicate, eq-eqb}
-use Rattle.std.specs.Prelude.{if◌then◌else◌, nat_eq, slice_get, slice_set, ℤ, pos, ◌&&◌}
+use Rattle.std.proofs.Common.{refl, sym, ap, ◌∙◌, subst, arith, Bool, true, false, length-append, append_assoc, replicate}
+use Rattle.std.specs.Prelude.{if◌then◌else◌, nat_eq, slice_get, slice_set, pos}
 use Rattle.std.proofs.Math.Seq.{take-append_seam, drop-append_seam}
 use Rattle.std.proofs.lemmas.Bool.{cases_lt, eqb-true, and_parts, false≢true}
 use Rattle.std.proofs.lemmas.List.{length-map}
 use Rattle.std.proofs.lemmas.Option.{none-some, same_Some}
-use Rattle.types.specs.Components.{Steps, components_of}
+use Rattle.types.specs.Components.{components_of}
 use Rattle.types.specs.Forms.{Form}
-use Rattle.types.specs.Types.{is_ordinal}
 use Rattle.types.proofs.Laid.{length_components}
 use Rattle.typed_tree.specs.declared.tree.Block.{Block}
 use Rattle.typed_tree.specs.declared.tree.Variable.{Variable}
@@ -25,18 +24,18 @@ use Rattle.meaning.specs.Meaning.{Argument, OfValue, OfRow, OfPlace, assign, ass
 use Rattle.stack_machine.specs.declared.cell.Cell.{Cell}
 use Rattle.stack_machine.specs.declared.cell.Cell.TheVariants.{Undefined, Number}
 use Rattle.code_scheme.specs.Depth.{block_depth}
-use Rattle.code_scheme.specs.Scopes.{called_routine, cells_where, is_parameter_of, links_to, other_cells, parameter_cells, slot_cells, start_of}
+use Rattle.code_scheme.specs.Scopes.{called_routine, cells_where, is_parameter_of, links_to, other_cells, parameter_cells, slot_cells}
 use Rattle.code_scheme.specs.Scopes.{variable_home}
-use Rattle.code_generator.proofs.Alike.{Activation, Lives, Fixed, Lies, LiesIn, Alike, HasFit, Keeps, Leads, cell_of, slice_get-front}
-use Rattle.code_generator.proofs.Callee.{callee, fixed_mark, length_replicate, new_activation, new_world, new_frame, own_filled, own_part, seen, slice_before}
-use Rattle.code_generator.proofs.Callee.{its_start, slice_behind, slice_map, slice_there}
+use Rattle.code_generator.proofs.Alike.{Activation, Lives, Fixed, Lies, LiesIn, HasFit, Keeps, Leads, cell_of, slice_get-front}
+use Rattle.code_generator.proofs.Callee.{callee, fixed_mark, length_replicate, new_activation, own_filled, own_part, seen, slice_before}
+use Rattle.code_generator.proofs.Callee.{its_start, slice_behind}
 use Rattle.code_generator.proofs.Cells.{starts_as_parameter, where_cons}
 use Rattle.code_generator.proofs.Held.{scalar_kept}
 use Rattle.code_generator.proofs.Laying.{Laid, Takes, fitted_length, marked, marked_by, marked_first, marked_long, no_reference}
 use Rattle.code_generator.proofs.Nesting.{Callable}
 use Rattle.code_generator.proofs.Parts.{IsPart, ordinal_part}
 use Rattle.code_generator.proofs.Passing.{Fitted}
-use Rattle.code_generator.proofs.Rows.{cells_of as number_cells, length-cells_of}
+use Rattle.code_generator.proofs.Rows.{cells_of as number_cells}
 use Rattle.code_generator.proofs.Setting.{Setting, Based}
 use Rattle.code_generator.proofs.Wholes.{row_kept, set_row, set_row_is, store_all_is, stored_all}
 
@@ -224,8 +223,7 @@ module _ (g : Setting) (number : ℕ) (block : Block) (block_is : slice_get g.tr
       front long blank_mark Undefined (λ v cell plain. ap (λ b. if b then cell else Undefined) plain) p c lies in
       (cell ∙ ap (λ o. Some (cell_of o)) (sym none), subst HasFit (sym none) tt)
   scalar_at p c l (inr lives) =
-      let lies : LiesIn g.world p c = record { owner = l.owner; lives = lives; lies = l.lies } in
-      (
+      let lies : LiesIn g.world p c = record { owner = l.owner; lives = lives; lies = l.lies } in (
         slice_get-front (base ++ held) (its_links ++ (blanks ++ unset)) c _ (slice_get-front base held c _ (based.alike.scalars p c lies)),
         based.alike.fits p c lies,
       )
@@ -298,7 +296,8 @@ module _ (g : Setting) (number : ℕ) (block : Block) (block_is : slice_get g.tr
 
       part_at : (d : ℕ) → d ≡ h.frame + 4 + cells_where types test (take k variables) → IsPart types h.world h.below own_home v.type_id d
       part_at d is =
-          let start = its_start g number block block_is callable outer way held cells arguments s.activations return depth based.old room laid fits k v at own in
+          let start = its_start g number block block_is callable outer way held cells arguments s.activations return depth based.old room laid fits k v at
+          own in
           let begins = starts_as_parameter g.tree k v is_kind in
           let mine = ap (λ n. cells_where types (is_parameter_of n) (take k variables)) own in
           let same : h.frame + (variable_home h.scope k).start ≡ d = omega (arith, is, start, begins, mine) in
@@ -326,8 +325,7 @@ module _ (g : Setting) (number : ℕ) (block : Block) (block_is : slice_get g.tr
         let blank : map (blank_mark v) first ≡ Undefined ∷ [] =
         ap (map (blank_mark v)) f.3 ∙ ap (λ b. (if b then Number n else Undefined) ∷ []) (no_reference v.kind f.0) in
         let before = subst (λ l. Based h t (pre ++ (l ++ post))) blank based' in
-        let after = scalar_kept h own_home (length pre) t (pre ++ (Undefined ∷ post)) n lies before f.2 in
-        (
+        let after = scalar_kept h own_home (length pre) t (pre ++ (Undefined ∷ post)) n lies before f.2 in (
           meant.kept t.store (Some own_home) (value.Number n),
           ap (λ o. effect.store o (value.Number n) t) (home_is_own f.0),
           subst (λ l. Based h (record t { store = meant.kept t.store (Some own_home) (value.Number n) }) (pre ++ (l ++ post))) (sym f.3)
@@ -339,8 +337,7 @@ module _ (g : Setting) (number : ℕ) (block : Block) (block_is : slice_get g.tr
         let many = length_components types v.type_id in
         let blank_long : length (map (blank_mark v) first) ≡ length (number_cells ns) = length-map first (blank_mark v) ∙ ap length f.3 in
         let after = row_kept h own_home components (length pre) ns t (pre ++ (map (blank_mark v) first ++ post)) part.from.each (omega (arith, many, f.1)) f.2
-        based' in
-        (
+        based' in (
           stored_all t.store own_home components ns,
           ap (λ o. effect.store_all o components ns t) (home_is_own f.0) ∙ store_all_is own_home components ns t,
           subst (λ l. Based h (record t { store = stored_all t.store own_home components ns }) (pre ++ (l ++ post))) (sym f.3)
@@ -381,7 +378,8 @@ module _ (g : Setting) (number : ℕ) (block : Block) (block_is : slice_get g.tr
           ap (λ b. marked_by g number blank_mark b v cs (marked g number blank_mark vs)) is
           ∙ ap (λ l'. marked_by g number blank_mark true v l' (marked g number blank_mark vs)) a.5
           ∙ marked_first g number blank_mark v (marked g number blank_mark vs) a.0 a.2 a.3 a.6 in
-          let before = subst (λ l'. Based h t (pre ++ l')) (ap (λ l'. l' ++ unset) shape ∙ append_assoc (map (blank_mark v) a.2) (marked g number blank_mark vs a.3) unset)
+          let before = subst (λ l'. Based h t (pre ++ l')) (ap (λ l'. l' ++ unset) shape ∙ append_assoc (map (blank_mark v) a.2)
+          (marked g number blank_mark vs a.3) unset)
           based' in
           let one = one_assigned k v here is a.0 pre a.2 post t a.6 long before in
           let further = where_next number types variables k v here in
@@ -390,12 +388,12 @@ module _ (g : Setting) (number : ℕ) (block : Block) (block_is : slice_get g.tr
           (omega (arith, long, further, slot, length-append pre a.2, fitted_length g number v a.0 a.2 a.6)) next_there
           (subst (Based h (record t { store = one.0 })) (sym (append_assoc pre a.2 post)) one.2) in
           let whole : (pre ++ a.2) ++ (a.3 ++ unset) ≡ pre ++ (cs ++ unset) =
-          append_assoc pre a.2 (a.3 ++ unset) ∙ ap (λ l'. pre ++ l') (sym (append_assoc a.2 a.3 unset)) ∙ ap (λ l'. pre ++ (l' ++ unset)) (sym a.5) in
-          (
+          append_assoc pre a.2 (a.3 ++ unset) ∙ ap (λ l'. pre ++ l') (sym (append_assoc a.2 a.3 unset)) ∙ ap (λ l'. pre ++ (l' ++ unset)) (sym a.5) in (
             rest.0,
             ap (λ b. assign_all g.tree h.environment (if b then k ∷ roots_where test (suc k) vs else roots_where test (suc k) vs) given t) is
                 ∙ ap (λ given'. assign_all g.tree h.environment (k ∷ roots_where test (suc k) vs) given' t) a.4
-                ∙ ap (λ o. effect.and_then (assign types (h.environment.variables k) o a.0 t) (λ _. assign_all g.tree h.environment (roots_where test (suc k) vs) a.1))
+                ∙ ap (λ o. effect.and_then (assign types (h.environment.variables k) o a.0 t)
+                (λ _. assign_all g.tree h.environment (roots_where test (suc k) vs) a.1))
                 here
                 ∙ ap (λ r. effect.and_then r (λ _. assign_all g.tree h.environment (roots_where test (suc k) vs) a.1)) one.1
                 ∙ rest.1,
@@ -408,8 +406,7 @@ module _ (g : Setting) (number : ℕ) (block : Block) (block_is : slice_get g.tr
           let further = where_next number types variables k v here in
           let slot : (if test v then slot_cells types v else 0) ≡ 0 = ap (λ b. if b then slot_cells types v else 0) is in
           let rest = recur given cs pre t a (omega (arith, long, further, slot)) next_there
-          (subst (λ l'. Based h t (pre ++ (l' ++ unset))) shape based') in
-          (
+          (subst (λ l'. Based h t (pre ++ (l' ++ unset))) shape based') in (
             rest.0,
             ap (λ b. assign_all g.tree h.environment (if b then k ∷ roots_where test (suc k) vs else roots_where test (suc k) vs) given t) is ∙ rest.1,
             rest.2,

@@ -1,11 +1,11 @@
 -- What stays while blocks and routines are passed: the regions round the innermost one, and the names that this one knows.
-use Rattle.std.proofs.Common.{◌≡◌, ℕ, ◌+◌, Bool, true, false, List, [], ◌∷◌, ◌++◌, map, Option, Some, None, Result, Ok, Err, IfOk, nat_le, nat_lt, length, refl, sym, ap, subst, ◌∙◌}
+use Rattle.std.proofs.Common.{◌≡◌, ℕ, ◌+◌, Bool, true, false, List, [], ◌∷◌, ◌++◌, map, Option, Some, None, Result, Ok, Err, IfOk, nat_le, nat_lt, length, slice_index_or, refl, sym, ap, subst, ◌∙◌}
 use Rattle.std.specs.Prelude.{flat_map, is_none, not}
 use Rattle.std.proofs.lemmas.Result.{IfOk-at_ok}
 use Rattle.place.specs.declared.Place.{Place}
 use Rattle.syntax_tree.specs.declared.Block.{Block}
 use Rattle.syntax_tree.specs.declared.Block.TheOpen as layer
-use Rattle.syntax_tree.specs.declared.Block.TheViews.{roll-Block, roll-Routine, out-Block}
+use Rattle.syntax_tree.specs.declared.Block.TheViews.{roll-Block, roll-Routine, out-Block, out-Routine}
 use Rattle.syntax_tree.specs.declared.Block.TheFolds.{map-Block, map-Routine, fold-roll-Block, fold-roll-Routine, ind-Block, ind-Routine}
 use Rattle.syntax_tree.specs.declared.FormalGroup.{FormalGroup}
 use Rattle.syntax_tree.specs.declared.Heading.{Heading}
@@ -19,7 +19,7 @@ use Rattle.scopes.specs.declared.denotation.Denotation.TheVariants as denotes
 use Rattle.typed_tree.specs.declared.fault.TypeFault.TheVariants as fault
 use Rattle.typed_tree.specs.declared.site.SiteKind.TheVariants as kind
 use Rattle.typed_tree.specs.Look.{Look, BlockEnds}
-use Rattle.typing.specs.Names.{all_folded, formal_names}
+use Rattle.typing.specs.Names.{all_folded, folded, formal_names, heading_names}
 use Rattle.typing.specs.Passing.{Headed, Enclosing, Passed, Checked, After, Passing, after, and_then, behind_marks, pure, fail, given, mark, each, ◌>>=◌, ◌>>◌}
 use Rattle.typing.specs.Steps.{fits, add_heading, close_block, enclosing_now, heading_at, open_beside, open_block, with_enclosing}
 use Rattle.typing.specs.Routines.{Begun, TypedBlock, TypedRoutine, all_came, block_end, block_step, definition, first_waiting, forward, group, group_types}
@@ -29,6 +29,7 @@ use Rattle.typing.specs.Statements.{statement}
 use Rattle.typing.proofs.Stays.{Keeps, Stays, given_keeps, is_assigned_keeps, keeps_test, keeps_then, mark_keeps, may_nest_keeps, next_block_keeps, pure_keeps, site_keeps}
 use Rattle.typing.proofs.Stays.{declare_keeps, each_keeps}
 use Rattle.typing.proofs.StayingForms.{body_keeps}
+use Rattle.declarations.specs.Known.{AreKnown, AreKnownRoutines}
 use Rattle.declarations.specs.Parts.{block_declarations}
 use Rattle.declarations.proofs.Kept.{definition_keeps, group_keeps, parameters_keep, result_keeps, type_definition_keeps, type_of_name_keeps, waiting_for_keeps}
 
@@ -320,3 +321,11 @@ module _ {A : Type 0} (step : Passing A) (does : Does Deep step) (answer : A) (l
     (passes : step old ≡ Ok (after answer look new)) where
   pub deep_behind : Deep old new
   deep_behind = IfOk-at_ok (λ a. Deep old a.passed) passes (does.does old)
+
+-- names stay known
+pub names_deep : {old new : Passed} → Deep old new → (names : List Name) → AreKnown names old.regions → AreKnown names new.regions
+names_deep stays names known = λ k d within. stays.known (folded (slice_index_or names k d).text.now) (known k d within)
+
+-- and so do the names of routines
+pub routines_stay : {old new : Passed} → Deep old new → (rs : List Routine) → AreKnownRoutines rs old.regions → AreKnownRoutines rs new.regions
+routines_stay stays rs known = λ k d within. names_deep stays (heading_names (out-Routine (slice_index_or rs k d)).heading) (known k d within)

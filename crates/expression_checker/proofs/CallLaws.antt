@@ -24,12 +24,12 @@ use Rattle.structured_states.specs.Loops.{all_limits}
 use Rattle.structured_states.specs.Pairs.{aliases_of}
 use Rattle.call_states.specs.Actuals.{Actual, OfRows, OfValue, OfVariable, are_of_types, bound_to, is_of_type}
 use Rattle.call_states.specs.Environments.{Fine, Proper, Typed}
-use Rattle.call_states.specs.Exit.{behind_call}
+use Rattle.exit_states.specs.Exit.{behind_call}
 use Rattle.call_states.specs.Sections.{block_claims_at}
 use Rattle.call_states.proofs.AliasedTypes.{seen}
 use Rattle.call_states.proofs.Assigned.{all_assigned, assigns-all}
-use Rattle.call_states.proofs.BehindExits.{MayEnd, behind-known}
-use Rattle.call_states.proofs.CallChanges.{HasLeft, IsNear, defined-kept, value-same_or_near}
+use Rattle.exit_states.proofs.BehindExits.{MayEnd, behind-known}
+use Rattle.exit_states.proofs.CallChanges.{HasLeft, IsNear, defined-kept, value-same_or_near}
 use Rattle.call_states.proofs.Callee.{IsCalled}
 use Rattle.call_states.proofs.Claimed.{AllHold}
 use Rattle.call_states.proofs.Entered.{behind_assignments}

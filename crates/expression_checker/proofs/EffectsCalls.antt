@@ -28,7 +28,7 @@ use Rattle.call_states.specs.Sections.{BlockClaims, block_claims_at}
 use Rattle.call_states.specs.Starts.{is_own}
 use Rattle.call_states.specs.Actuals.{Actual, Binding, OfRows, OfValue, OfVariable, actual_of, after_call, are_of_types, bound_to, settled}
 use Rattle.call_states.specs.Environments.{IsListed, LiesUnder}
-use Rattle.call_states.specs.Exit.{root_changed, roots_changed}
+use Rattle.exit_states.specs.Exit.{root_changed, roots_changed}
 use Rattle.expression_checker.specs.declared.fault.Rule.{Rule}
 use Rattle.expression_checker.specs.declared.fault.Rule.TheVariants.{Changes}
 use Rattle.expression_checker.specs.Walk.{Breach, Context, Walking, ◌>>=◌, asked, block_lists, breach_unless, called, call_aliases, call_behind}

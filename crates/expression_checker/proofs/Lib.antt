@@ -7,6 +7,7 @@ pub mod Fitting
 pub mod Forms
 pub mod Held
 pub mod Keeping
+pub mod Passing
 pub mod RowUses
 pub mod Sound
 pub mod SoundAccesses

@@ -36,7 +36,7 @@ use Rattle.expression_checker.specs.Visits.{moment_of, visits_of}
 use Rattle.structured_states.specs.Loops.{Round, touched}
 use Rattle.structured_states.specs.Pairs.{aliases_of}
 use Rattle.call_states.specs.Environments.{Fine, Leaves as LeavesAll, LeavesPassed, Proper}
-use Rattle.call_states.specs.Exit.{result_range}
+use Rattle.exit_states.specs.Exit.{result_range}
 use Rattle.call_states.specs.Sections.{BlockClaims, block_claims_at}
 use Rattle.call_states.proofs.Claimed.{AllHold}
 use Rattle.call_states.proofs.Passed.{AllFit}

@@ -31,7 +31,7 @@ use Rattle.structured_states.specs.Pairs.{aliases_of}
 use Rattle.call_states.specs.Actuals.{Actual, Binding, after_call, are_of_types, bound_to, settled}
 use Rattle.call_states.specs.Entry.{are_given}
 use Rattle.call_states.specs.Environments.{Fine, LiesIn, Proper}
-use Rattle.call_states.specs.Exit.{behind_call, result_range, roots_changed}
+use Rattle.exit_states.specs.Exit.{behind_call, result_range, roots_changed}
 use Rattle.call_states.specs.Overlaps.{are_separate}
 use Rattle.call_states.specs.Sections.{BlockClaims, block_claims_at}
 use Rattle.call_states.proofs.Passed.{IsArgument, after-call_argument}

@@ -22,7 +22,7 @@ use crate::visits::Visits;
 use abstract_state::{Known, bound_form, limits};
 use call_states::actuals::{Actual, Bindings, settle};
 use call_states::entry::are_given;
-use call_states::exit;
+use exit_states::exit;
 use call_states::sections::{block_claims_at, changes, entry};
 use component_states::{Index, Reach, State};
 use domain::Domain;
@@ -531,7 +531,7 @@ impl<'a> Flow<'a> {
     /// A copy of a whole value for a parameter of a type: one that may not be copied has no ranges.
     fn copied<'b>(&self, type_id: TypeId, value: &Whole, ranges: Vec<Interval>) -> Actual<'b>
         ensures { said_actual result ≡ OfRows (if fits_whole self.now.grounds.rows.now.types type_id value.now
-            then ranges.entry.items else []) }
+            then ranges.items else []) }
     {
         let mut ranges = ranges;
         if !self.grounds.may_copy(type_id, value) {
@@ -547,7 +547,7 @@ impl<'a> Flow<'a> {
         holds_call: bool,
         actuals: Vec<Actual>,
     ) -> Result<(), CheckFault>
-        ensures { (visits : Visits) → Goes (called call holds_call (map said_actual actuals.items))
+        ensures { (visits : Visits) → Goes (called call holds_call (map said_actual actuals.entry.items))
             self.old visits result self.new visits }
     {
         let mut actuals = actuals;

@@ -4,7 +4,7 @@ ghost use Rattle.typed_tree.specs.WellFormed.{is_local_kind, is_result_kind, of_
 ghost use Rattle.types.specs.Types.{have_one_length, is_same, string_length};
 ghost use Rattle.leaf_rows.specs.Rows.{is_structured};
 ghost use Rattle.call_states.specs.Actuals.{are_of_types};
-ghost use Rattle.call_states.specs.Exit.{roots_changed};
+ghost use Rattle.exit_states.specs.Exit.{roots_changed};
 ghost use Rattle.call_states.specs.Overlaps.{are_separate};
 ghost use Rattle.call_states.specs.Starts.{is_own};
 ghost use Rattle.call_states.specs.View.{said_bindings};
@@ -12,8 +12,8 @@ ghost use Rattle.expression_checker.specs.View.{call_range, context_of, found_bl
 ghost use Rattle.expression_checker.specs.Walk.{around_of, block_lists, fits_whole, may_change, parameters_of};
 
 use call_states::actuals::{Bindings, are_of_types};
-use call_states::changes::roots_changed;
-use call_states::exit::result_range;
+use exit_states::changes::roots_changed;
+use exit_states::exit::result_range;
 use call_states::overlaps::are_separate;
 use call_states::sections::{block_claims_at, changes};
 use call_states::starts::is_own;

@@ -1,4 +1,4 @@
-ghost use Rattle.std.specs.Prelude.{◌≡◌, ℕ, [], ◌∷◌, Ok, Err, IfOk, MatchResult, length, map};
+ghost use Rattle.std.specs.Prelude.{◌≡◌, ℕ, true, [], ◌∷◌, Ok, Err, IfOk, MatchResult, length, map};
 ghost use Rattle.typed_tree.specs.Look.{Begins};
 ghost use Rattle.typing.specs.Passing.{behind_marks};
 ghost use Rattle.typing.specs.Expressions as spec;
@@ -120,7 +120,6 @@ fn spelled(
 }
 
 // A name as an expression.
-#[cycle(expressions)]
 #[tactic(auto, unfolding(typing::specs::Expressions::named))]
 fn named(
     typer: &mut Typer,
@@ -134,7 +133,6 @@ fn named(
 }
 
 // What a name denotes, as an expression: a constant, a variable, or a function without parameters.
-#[cycle(expressions)]
 #[tactic(auto, unfolding(typing::specs::Expressions::denoted))]
 fn denoted(
     typer: &mut Typer,
@@ -169,10 +167,56 @@ fn denoted(
             Err(TypeFault::WrongParameters(place))
         }
         Denotation::Routine { block, is_function } => {
-            function_value(typer, block, is_function, place, &[], lead)
+            plain_value(typer, block, is_function, place, lead)
         }
         Denotation::TypeName(_) | Denotation::Output => Err(TypeFault::Mismatch(place)),
     }
+}
+
+// The value of a function without actual parameters: K3 at the name of a procedure.
+#[tactic(auto, unfolding(typing::specs::Expressions::function_value))]
+fn plain_value(
+    typer: &mut Typer,
+    block: u32,
+    is_function: bool,
+    place: Place,
+    lead: Option<SiteKind>,
+) -> Result<TypedExpr, TypeFault>
+    ensures { MakesTyped (spec.function_value block is_function place [] lead typer.old) result typer.new }
+{
+    if !is_function {
+        return Err(TypeFault::WrongParameters(place));
+    }
+    typer.pass(place);
+    let site = typer.behind(lead, place)?;
+    let made = plain_call(typer, block, place)?;
+    let type_id = result_type(typer, place, made.root)?;
+    Ok(TypedExpr {
+        value: Value::Ordinal(Expr::Call {
+            call: made.call,
+            actuals: made.actuals,
+        }),
+        type_id,
+        site,
+    })
+}
+
+// The call of a function without actual parameters.
+#[tactic(auto, unfolding(typing::specs::Expressions::routine_call))]
+fn plain_call(typer: &mut Typer, block: u32, place: Place) -> Result<TypedCall, TypeFault>
+    ensures { MakesCall true (spec.routine_call true block place [] typer.old) result typer.new }
+{
+    let number = typer.enter()?;
+    let found = typer.callee(block, 0, place)?;
+    Ok(TypedCall {
+        call: Call {
+            number,
+            name: place,
+            block,
+        },
+        actuals: Vec::new(typer.alloc),
+        root: found.root,
+    })
 }
 
 // A component of a variable (6.5.1, 6.5.3).
@@ -566,7 +610,8 @@ fn actuals_for(
     actuals: &[syntax::Actual],
 ) -> Result<Vec<Passed>, TypeFault>
     requires { length actuals.now ≡ length roots.now }
-    ensures { (callee : ℕ) → MakesActuals callee (spec.actuals_for roots.now (map spec.written_actual actuals.now)
+    ensures counted { IfOk result (λ made. length made.items ≡ length actuals.now) }
+    ensures made { (callee : ℕ) → MakesActuals callee (spec.actuals_for roots.now (map spec.written_actual actuals.now)
         callee 0 typer.old) result typer.new }
 {
     let mut made = Vec::with_capacity(typer.alloc, actuals.len())?;
@@ -603,6 +648,7 @@ fn actual(
 
 // A variable for a variable parameter of a type (6.6.3.3): K2 at the first token of what is none.
 #[cycle(expressions)]
+#[tactic(auto, using(typing::proofs::Written::written_expressions), unfolding(typing::specs::Expressions::no_variable))]
 fn passed_variable(
     typer: &mut Typer,
     wanted: TypeId,
@@ -617,7 +663,13 @@ fn passed_variable(
             selectors,
             indexes,
         } => passed_access(typer, wanted, name, selectors, indexes),
-        other => Err(TypeFault::NotVariable(first_place(other))),
+        syntax::Expr::Number { place, .. }
+        | syntax::Expr::String { place, .. }
+        | syntax::Expr::Not { place, .. }
+        | syntax::Expr::Signed { place, .. } => Err(TypeFault::NotVariable(*place)),
+        syntax::Expr::Call { name, .. } => Err(TypeFault::NotVariable(name.place)),
+        syntax::Expr::Parenthesized { open, .. } => Err(TypeFault::NotVariable(*open)),
+        syntax::Expr::Chain { first, .. } => Err(TypeFault::NotVariable(first_place(first))),
     }
 }
 

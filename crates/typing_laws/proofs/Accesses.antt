@@ -1,8 +1,7 @@
 -- What accesses of variables do: selectors lead from a variable to a component, and each index has its site before those
 -- of its first token.
-use Rattle.std.proofs.Common.{◌≡◌, ℕ, ℤ, ◌<◌, ◌≤◌, Bool, true, false, ◌&&◌, ◌||◌, not, nat_eq, nat_le, cond, if◌then◌else◌, List, [], ◌∷◌, ◌++◌, length}
-use Rattle.std.proofs.Common.{Option, Some, None, Ok}
-use Rattle.std.proofs.Common.{is_none, slice_get, refl, sym, ap, subst, ◌∙◌, arith}
+use Rattle.std.proofs.Common.{◌≡◌, ℕ, ℤ, ◌<◌, ◌≤◌, Bool, true, false, ◌&&◌, ◌||◌, not, nat_eq, nat_le, cond, if◌then◌else◌, List, [], ◌∷◌, ◌++◌, length, Option}
+use Rattle.std.proofs.Common.{Some, None, Ok, is_none, slice_get, refl, sym, ap, subst, ◌∙◌, arith}
 use Rattle.std.specs.List.{list_all}
 use Rattle.std.specs.Ordering.{int_eq}
 use Rattle.std.specs.Option.{option_and_then}
@@ -30,8 +29,8 @@ use Rattle.typed_tree.specs.declared.tree.Selector.TheVariants as tree
 use Rattle.typed_tree.specs.declared.tree.Variable.{Variable}
 use Rattle.typed_tree.specs.Accesses.{index_count, element_type, field_type, selected as selects, led as led_by, accessed as leads, is_type}
 use Rattle.typed_tree.specs.Look.{Access, Value, WholeValue}
-use Rattle.typed_tree.specs.WellFormed.{Outline, encloses, is_one_of, is_round, is_visible, is_well_formed_selector, leads_to, leads_to_whole}
-use Rattle.typed_tree.specs.WellFormed.{leads_to_ordinal, of_one}
+use Rattle.typed_tree.specs.WellFormed.{Outline, encloses, is_one_of, is_round, is_visible, is_well_formed_selector, leads_to, leads_to_whole, leads_to_ordinal}
+use Rattle.typed_tree.specs.WellFormed.{of_one}
 use Rattle.typing.specs.Names.{folded}
 use Rattle.typing.specs.Passing.{Checked}
 use Rattle.typing.specs.Steps.{or_mismatch}
@@ -43,8 +42,8 @@ use Rattle.typing_laws.proofs.Reached.{Signature, signature_of, Reached, whole_o
 use Rattle.typing_laws.proofs.Reached.{get_mapped}
 use Rattle.typing_laws.proofs.Sound.{IsVariable}
 use Rattle.typing_laws.proofs.Strings.{fit_is, there}
-use Rattle.typing_laws.proofs.Steps.{Does, Nothing, joins, quietly, last, checks, sited, mark_does, pass_does, pure_does, by_types_does, fail_does}
-use Rattle.typing_laws.proofs.Steps.{enter_does, host_type_does, site_does, led, IsKnown, behind_does}
+use Rattle.typing_laws.proofs.Steps.{Does, Nothing, joins, quietly, last, checks, sited, mark_does, pass_does, pure_does, by_types_does, fail_does, enter_does}
+use Rattle.typing_laws.proofs.Steps.{host_type_does, site_does, led, IsKnown, behind_does}
 use Rattle.typing_laws.proofs.Tables.{AreLawful, stands_longer, is_ordinal_longer, cells_of_longer, element_of_longer, field_of_longer}
 use Rattle.typing_laws.proofs.Leading.{IsLed, Types, known_later, lt_true, LawfulWritten, covers_test, led_covers, led_behind}
 

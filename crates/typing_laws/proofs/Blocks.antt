@@ -1,6 +1,5 @@
 -- What blocks and routines do, by induction over their form.
-use Rattle.std.proofs.Common.{◌≡◌, ◌||◌, List, [], ◌∷◌, ◌++◌, map, Option, Some, None, Ok, refl, sym, ap}
-use Rattle.std.proofs.Common.{subst, ◌∙◌, append_assoc}
+use Rattle.std.proofs.Common.{◌≡◌, ◌||◌, List, [], ◌∷◌, ◌++◌, map, Option, Some, None, Ok, refl, sym, ap, subst, ◌∙◌, append_assoc}
 use Rattle.std.specs.List.{flat_map}
 use Rattle.std.proofs.lemmas.Bool.{eq-eqb}
 use Rattle.place.specs.declared.Place.{Place}
@@ -14,18 +13,18 @@ use Rattle.syntax_tree.specs.declared.Routine.{Routine}
 use Rattle.syntax_tree.specs.declared.Stmt.{Stmt}
 use Rattle.syntax_tree.specs.declared.TypeDefinition.{TypeDefinition}
 use Rattle.syntax_tree.specs.declared.VariableGroup.{VariableGroup}
-use Rattle.syntax_tree.specs.Places.{Places, block_places, definition_places, group_places, heading_places, joined_places, routine_places}
-use Rattle.syntax_tree.specs.Places.{stmt_places, type_definition_places, block_step as block_row, routine_step as routine_row}
+use Rattle.syntax_tree.specs.Places.{Places, block_places, definition_places, group_places, heading_places, joined_places, routine_places, stmt_places}
+use Rattle.syntax_tree.specs.Places.{type_definition_places, block_step as block_row, routine_step as routine_row}
 use Rattle.scopes.specs.Scopes.{Region}
 use Rattle.typed_tree.specs.Ids.{Stands}
 use Rattle.typed_tree.specs.WellFormed.{is_one_of}
+use Rattle.typed_tree.specs.Look.{Look}
 use Rattle.typing.specs.Passing.{Passed, After, Passing, after, and_then, behind_marks, each, ◌>>◌}
 use Rattle.typing.specs.Steps.{enclosing_now}
 use Rattle.typing.specs.Statements.{compound, statement}
 use Rattle.typing.specs.Routines.{TypedBlock, TypedRoutine, all_came, block_step, definition, first_waiting, group, headed, heading_name, none_waits}
 use Rattle.typing.specs.Routines.{routine_body, routine_step, type_definition, typed_block, typed_routine}
 use Rattle.typing_laws.proofs.Bodies.{Inside, LawfulBody, LeavesBuilt, body_builds, fine_standing, forward_builds}
-use Rattle.typed_tree.specs.Look.{Look}
 use Rattle.typing_laws.proofs.Built.{Built, Builds, Standing, built_silent, built_then, built_with, builds_more, builds_then, keeps_builds}
 use Rattle.typing_laws.proofs.Covers.{Covers, covers_behind, covers_both, covers_none}
 use Rattle.typing_laws.proofs.Declarations.{definition_keeps, group_keeps, type_definition_keeps}
@@ -192,6 +191,9 @@ module _ (constants : List ConstantDefinition) (types : List TypeDefinition) (gr
           accounted = f.accounted;
           others = f.others;
           threats = f.threats;
+          assigns = f.assigns;
+          assigned = f.assigned;
+          results = f.results;
           placed = f.placed;
           over = f.over;
           changed = f.changed;
@@ -219,6 +221,8 @@ module _ (constants : List ConstantDefinition) (types : List TypeDefinition) (gr
           begun = grown.begun;
           inner = grown.inner;
           threats = grown.threats;
+          assigns = grown.assigns;
+          assigned = grown.assigned;
           changes = grown.changes;
           controls = grown.controls;
           formed = grown.formed;

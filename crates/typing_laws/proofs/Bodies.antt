@@ -1,12 +1,13 @@
 -- What stands behind the heading of a routine: `forward`, or its block, which ends as its heading tells.
-use Rattle.std.proofs.Common.{◌≡◌, ℕ, ◌+◌, ◌<◌, ◌≤◌, Bool, true, false, ◌&&◌, nat_eq, if◌then◌else◌, List, [], ◌∷◌, ◌++◌}
-use Rattle.std.proofs.Common.{length, map, Option, Some, None, Ok, Err, option_map, slice_get, get_or, refl, sym, ap, ap₂, subst, ◌∙◌, arith, inl, inr, ◌⊎◌}
-use Rattle.std.proofs.Common.{append-nil, append_assoc, length-append}
-use Rattle.std.specs.List.{range_with_len, list_any, list_all}
-use Rattle.std.proofs.lemmas.Bool.{eqb-true}
+use Rattle.std.proofs.Common.{◌≡◌, ℕ, ◌+◌, ◌<◌, ◌≤◌, Bool, true, false, ◌&&◌, nat_eq, if◌then◌else◌, List, [], ◌∷◌, ◌++◌, length, map, Option, Some, None, Ok}
+use Rattle.std.proofs.Common.{Err, option_map, slice_get, get_or, refl, sym, ap, ap₂, subst, ◌∙◌, arith, inl, inr, ◌⊎◌, append-nil, append_assoc, length-append}
+use Rattle.std.proofs.Common.{◌||◌}
+use Rattle.std.specs.List.{range_with_len, list_any, list_all, flat_map}
+use Rattle.std.proofs.lemmas.Bool.{eqb-true, eq-eqb}
 use Rattle.std.proofs.lemmas.Bool.Decides.{nat_tests}
 use Rattle.std.proofs.lemmas.Grind.{flat_map-append}
 use Rattle.std.proofs.lemmas.Option.{slice_get_within}
+use Rattle.std.proofs.lemmas.List.Folds.{list_all-append}
 use Rattle.indexmap.specs.IndexMap.{insert_entry}
 use Rattle.place.specs.declared.Place.{Place}
 use Rattle.syntax_tree.specs.declared.Name.{Name}
@@ -15,42 +16,33 @@ use Rattle.typed_tree.specs.declared.fault.TypeFault.TheVariants as fault
 use Rattle.typed_tree.specs.declared.site.SiteKind.TheVariants as kind
 use Rattle.typed_tree.specs.declared.tree.FunctionResult.{FunctionResult}
 use Rattle.typed_tree.specs.Ids.{Stands}
-use Rattle.typed_tree.specs.WellFormed.{Outline, variables_of}
+use Rattle.typed_tree.specs.WellFormed.{Outline, variables_of, is_one_of}
 use Rattle.typed_tree.specs.Look.{Mark, Look, BlockEnds, mark_entries, entries_of_look, mark_loops, loops_of_look, mark_blocks, blocks_of_look, are_formed}
 use Rattle.typed_tree.specs.Look.{is_formed_mark}
 use Rattle.typed_tree.proofs.Blocks.{formed_as_far, formed_before}
+use Rattle.typed_tree.specs.declared.tree.Variable.{Variable}
 use Rattle.typing.specs.Names.{all_folded}
-use Rattle.typing.specs.Passing.{Enclosing, Headed, Passed, Checked, After, Passing, after, behind_marks, mark, ◌>>◌}
-use Rattle.typing.specs.Steps.{close_block, enclosing_now, heading_at, is_assigned, open_beside, program_heading, with_enclosing}
+use Rattle.typing.specs.Passing.{Enclosing, Headed, Passed, Checked, After, Passing, after, behind_marks, mark, ◌>>◌, and_then, pure, ◌>>=◌}
+use Rattle.typing.specs.Steps.{close_block, enclosing_now, heading_at, is_assigned, open_beside, program_heading, with_enclosing, site}
 use Rattle.typing.specs.Routines.{Begun, TypedBlock, block_end, forward, result_at_end, routine_block, told_waiting}
-use Rattle.typing_laws.proofs.Built.{Built, EndsSo, HasSite, IsOpen, Standing, ends_append, ends_later, is_between, no_ends}
-use Rattle.typing_laws.proofs.Built.{open_later}
+use Rattle.typing_laws.proofs.Built.{Built, EndsSo, HasSite, IsOpen, Standing, ends_append, ends_later, is_between, no_ends, open_later, IsChanged}
+use Rattle.typing_laws.proofs.Built.{IsControlled, IsOver, all_later}
 use Rattle.typing_laws.proofs.Covers.{Covers, covers_both, covers_none}
-use Rattle.typing_laws.proofs.Grown.{Fine, Grown, both_true, counted, fine_later, further, go_on, grown_then}
+use Rattle.typing_laws.proofs.Grown.{Fine, Grown, both_true, counted, fine_later, further, go_on, grown_then, IsFree, assigned_then, target_first}
 use Rattle.typing_laws.proofs.Headings.{parts_of, quiet_parts}
 use Rattle.typing_laws.proofs.Owned.{Fails, block_cells_longer, other_block}
-use Rattle.typing_laws.proofs.Ready.{Base, base_types, fit_of, heads_passed}
+use Rattle.typing_laws.proofs.Ready.{Base, base_types, fit_of, heads_passed, among_split, around_less}
 use Rattle.typing_laws.proofs.Reached.{IsLonger, as_long, longer_still, same_longer, mapped_longer, get_longer, get_mapped, get_or_is, mapped_get, head_of}
-use Rattle.typing_laws.proofs.Reached.{signature_passed}
-use Rattle.typing_laws.proofs.Reached.{Reached, reached, IsFurther, as_far, further_still, Here, stands_later}
+use Rattle.typing_laws.proofs.Reached.{signature_passed, Reached, reached, IsFurther, as_far, further_still, Here, stands_later, is_round_here}
 use Rattle.typing_laws.proofs.Routines.{Began, Begins}
-use Rattle.typing_laws.proofs.Sound.{AreSound, IsSoundRegion, beside_holds, inside_itself, inside_routine, regions_later}
-use Rattle.typing_laws.proofs.Sound.{IsSound}
+use Rattle.typing_laws.proofs.Sound.{AreSound, IsSoundRegion, beside_holds, inside_itself, inside_routine, regions_later, IsSound, among_more, or_right}
 use Rattle.typing_laws.proofs.Steps.{Does, Anything, Nothing, Leaves, grown_silent, last as last_does, pure_does, quietly, site_does, sited, split_if}
 use Rattle.typing_laws.proofs.Tables.{cells_in}
 use Rattle.typing_laws.proofs.Waiting.{count_append, count_of, one_if, is_place, told_of_it, told_of_others, waits_in}
-use Rattle.std.proofs.Common.{◌||◌}
-use Rattle.std.proofs.lemmas.Bool.{eq-eqb}
-use Rattle.typed_tree.specs.declared.tree.Variable.{Variable}
-use Rattle.typed_tree.specs.WellFormed.{is_one_of}
 use Rattle.typing_laws.specs.Controls.{AreUnthreatened, Each, in_blocks, mark_changes, mark_controls}
-use Rattle.typing_laws.proofs.Built.{IsChanged, IsControlled, IsOver}
-use Rattle.typing_laws.proofs.Grown.{IsFree}
 use Rattle.typing_laws.proofs.Kept.{MayChange, changes_of, controls_of, each_append, each_more}
 use Rattle.typing_laws.proofs.Placed.{each_map, each_pair, each_square, placed_as_far, placed_inner}
-use Rattle.typing_laws.proofs.Ready.{among_split, around_less}
-use Rattle.typing_laws.proofs.Reached.{is_round_here}
-use Rattle.typing_laws.proofs.Sound.{among_more, or_right}
+use Rattle.typing_laws.specs.Results.{is_target, mark_results}
 
 -- ---- what is told of a routine that waits
 
@@ -68,6 +60,7 @@ pub record Told (here : Here) (under : List Region) (number : ℕ) (told : Bool)
   pub entries : new.entries ≡ old.entries
   pub loops : new.loops ≡ old.loops
   pub threatened : new.threatened ≡ old.threatened
+  pub assigned : new.assigned ≡ old.assigned
   pub types : IsLonger old.types new.types
   pub variables : IsLonger old.variables new.variables
   pub headings : IsLonger old.headings new.headings
@@ -109,6 +102,7 @@ told_standing here under s number place st is_open = record {
   };
   block = st.block;
   around = st.around;
+  settled = st.settled;
   stands = st.stands;
   waiting = λ block waits. opened (by block (nat_eq block number) refl waits);
 }
@@ -132,6 +126,7 @@ new_told here under number place old now st b = record {
   entries = b.entries;
   loops = b.loops;
   threatened = b.threatened;
+  assigned = b.assigned;
   types = b.types;
   variables = b.variables;
   headings = b.headings;
@@ -190,6 +185,7 @@ resumed_told here under number s st waits = record {
   entries = refl;
   loops = refl;
   threatened = refl;
+  assigned = refl;
   types = as_long;
   variables = as_long;
   headings = as_long;
@@ -252,6 +248,9 @@ built_told here under number old new t = record {
   accounted = λ block. omega (arith, t.accounted block);
   others = λ block less other none. (t.others block less other none).1;
   threats = λ root is. ap (list_any (nat_eq root)) t.threatened ∙ is;
+  assigns = λ root is. ap (list_any (nat_eq root)) t.assigned ∙ is;
+  assigned = λ root is. inl (ap (list_any (nat_eq root)) (sym t.assigned) ∙ is);
+  results = refl;
   placed = λ roots rest. refl;
   over = λ block there. absurd (omega (arith, there));
   changed = tt;
@@ -284,7 +283,7 @@ unfolding is_assigned
 is_assigned_does {here} place root = record {
   does = λ s a is fine h.
       let x = split_if (list_any (nat_eq root) s.assigned) (fault.NeverAssigned place) (after tt [] s) a is in
-      subst (Leaves here Nothing s Anything) x.1 (grown_silent here s s refl refl refl refl refl refl refl refl refl (λ root is. is) fine, tt);
+      subst (Leaves here Nothing s Anything) x.1 (grown_silent here s s refl refl refl refl refl refl refl refl refl (λ root is. is) refl fine, tt);
 }
 
 -- the site of a result stands at the end
@@ -402,6 +401,7 @@ module _ (here : Here) (under : List Region) (number : ℕ) (headed : Headed) (n
         };
         block = refl;
         around = around;
+        settled = refl;
         stands = (signature_passed headed, mapped_get signature_passed s.headings number headed there, around);
         waiting = λ block waits. absurd cc;
       }
@@ -453,6 +453,7 @@ module _ (here : Here) (under : List Region) (number : ℕ) (headed : Headed) (n
         };
         block = ap (λ (e : Enclosing). e.block) round_is ∙ st.block;
         around = ap (λ (e : Enclosing). e.around) round_is ∙ st.around;
+        settled = st.settled;
         stands = stands_later here (reached s) (reached last) more st.stands;
         waiting = λ block waits.
             let before = ap (λ (e : Enclosing). waits_in e.waiting block) (sym round_is) ∙ waits in
@@ -473,6 +474,52 @@ module _ (here : Here) (under : List Region) (number : ℕ) (headed : Headed) (n
         where
           no : {b : Bool} → b ≡ true → b ≡ false → ⊥
           no one two = let same : true ≡ false = sym one ∙ two in absurd cc
+
+-- ---- results of a block that ends
+
+-- a target is one before the end
+pub target_ended : {middle : Bool} (look : Look) (mark_end : Mark) (root : ℕ) → (middle ≡ true) ⊎ (is_target look root ≡ true)
+    → (middle ≡ true) ⊎ (is_target (look ++ (mark_end ∷ [])) root ≡ true)
+target_ended look mark_end root (inl there) = inl there
+target_ended look mark_end root (inr target) = inr (target_first look (mark_end ∷ []) root target)
+
+no_result : (one : Mark) → mark_blocks one ≡ [] → mark_results one ≡ []
+no_result (BlockEnds number around parameters result end) none = absurd cc
+no_result other none = refl
+
+first_none : (a b : List ℕ) → a ++ b ≡ [] → (a ≡ []) × (b ≡ [])
+first_none [] b is = (refl, is)
+first_none (x ∷ a) b is = absurd cc
+
+no_results : (look : Look) → blocks_of_look look ≡ [] → flat_map mark_results look ≡ []
+no_results [] none = refl
+no_results (one ∷ look) none =
+    let parts = first_none (mark_blocks one) (blocks_of_look look) none in
+    ap₂ (λ a b. a ++ b) (no_result one parts.0) (no_results look parts.1)
+
+-- the results of blocks, and then that of the block which ends
+pub results_end : (first look : Look) (number : ℕ) (around parameters : List ℕ) (result : Option FunctionResult) (end : Place) (middle last : Passed)
+    → list_all (λ root. list_any (nat_eq root) middle.assigned) (flat_map mark_results first) ≡ true
+    → ((root : ℕ) → list_any (nat_eq root) middle.assigned ≡ true → list_any (nat_eq root) last.assigned ≡ true) → blocks_of_look look ≡ []
+    → ((root : ℕ) → option_map (λ (r : FunctionResult). r.root) result ≡ Some root → list_any (nat_eq root) last.assigned ≡ true)
+    → list_all (λ root. list_any (nat_eq root) last.assigned)
+    (flat_map mark_results (first ++ (look ++ (BlockEnds number around parameters result end ∷ []))))
+    ≡ true
+results_end first look number around parameters result end middle last all more inner own =
+    let mark_end = BlockEnds number around parameters result end in
+    let split =
+    flat_map-append mark_results first (look ++ (mark_end ∷ []))
+    ∙ ap (λ l. flat_map mark_results first ++ l)
+    (flat_map-append mark_results look (mark_end ∷ []) ∙ ap (λ l. l ++ flat_map mark_results (mark_end ∷ [])) (no_results look inner)) in
+    let Holds : ℕ → Bool = λ root. list_any (nat_eq root) last.assigned in
+    ap (list_all Holds) split ∙ list_all-append Holds (flat_map mark_results first) (flat_map mark_results (mark_end ∷ []))
+    ∙ both_true _ _ (all_later middle last more (flat_map mark_results first) all) (by result own)
+  where
+    by : (found : Option FunctionResult)
+        → ((root : ℕ) → option_map (λ (r : FunctionResult). r.root) found ≡ Some root → list_any (nat_eq root) last.assigned ≡ true)
+        → list_all (λ root. list_any (nat_eq root) last.assigned) (flat_map mark_results (BlockEnds number around parameters found end ∷ [])) ≡ true
+    by None told = refl
+    by (Some r) told = both_true _ true (told r.root refl) refl
 
 -- ---- control variables of a block that ends
 
@@ -623,7 +670,8 @@ module _ (here : Here) (under : List Region) (number : ℕ) (headed : Headed) (n
       there_last : 0 < count_of number (blocks_of_look whole_look)
       there_last = omega (arith, counted_blocks number, ap one_if (eq-eqb number number refl))
 
-      first_changed : (change : ℕ × ℕ) → IsChanged inner_here first middle change → IsChanged here whole_look (left here under number headed names s.enclosing last) change
+      first_changed : (change : ℕ × ℕ) → IsChanged inner_here first middle change
+          → IsChanged here whole_look (left here under number headed names s.enclosing last) change
       first_changed change c = record {
         variable = c.variable;
         is_there = ap (λ l. slice_get l change.1) g.variables_kept ∙ c.is_there;
@@ -709,7 +757,8 @@ module _ (here : Here) (under : List Region) (number : ℕ) (headed : Headed) (n
       as_many = ap length g.headings_kept
 
       new_one : 0 < count_of block (blocks_of_look first) → length s.headings ≤ block
-      new_one ended = greater (is_between (length s.headings) (length middle.headings) block) refl (omega (arith, f.accounted block, ap one_if (came block), ended))
+      new_one ended = greater (is_between (length s.headings) (length middle.headings) block) refl
+          (omega (arith, f.accounted block, ap one_if (came block), ended))
         where
           greater : (test : Bool) → is_between (length s.headings) (length middle.headings) block ≡ test → 0 < one_if test → length s.headings ≤ block
           greater true h some = grind (arith, nat_tests)
@@ -736,12 +785,28 @@ module _ (here : Here) (under : List Region) (number : ℕ) (headed : Headed) (n
 
 -- ---- the block of a routine
 
+-- a result is assigned before the end
+ends_assigned : (name end : Place) (root : ℕ) (s : Passed) (a : After (Option FunctionResult)) → result_at_end name end (Some root) s ≡ Ok a
+    → list_any (nat_eq root) s.assigned ≡ true
+unfolding result_at_end is_assigned
+ends_assigned name end root s a is = by (list_any (nat_eq root) s.assigned) is
+  where
+    by : (test : Bool)
+        → and_then (if test then Ok (after (tt {0}) [] s) else Err (fault.NeverAssigned name))
+        (λ b. behind_marks {A = Option FunctionResult} b.look
+        ((site kind.UndefinedResult end >>= (λ defined. pure (Some (record { root = root; defined = defined })))) b.passed))
+        ≡ Ok a
+        → test ≡ true
+    by true h = refl
+    by false h = absurd cc
+
 -- what stands behind its statements
 pub record Closed (here : Here) (b : TypedBlock) (headed : Headed) (s : Passed) (a : After (Unit {0})) : Type 0 where
   pub look : Look
   pub result : Option FunctionResult
   pub grown : Grown here (Covers 0 (b.end ∷ [])) look s a.passed
   pub ends : (option_map (λ (r : FunctionResult). r.root) result ≡ headed.result) × HasSite (length a.passed.sites) result
+  pub assigned : (root : ℕ) → headed.result ≡ Some root → list_any (nat_eq root) s.assigned ≡ true
   pub look_is : a.look ≡ look ++ (BlockEnds here.block headed.around headed.parameters result b.end ∷ [])
 
 pub closed : (here : Here) (name : Place) (b : TypedBlock) (headed : Headed) (s : Passed) (a : After (Unit {0})) → Fine here s
@@ -755,7 +820,15 @@ closed here name b headed s a fine is =
     let last : after tt (BlockEnds here.block headed.around headed.parameters r b.end ∷ []) x.first.passed ≡ x.second = ok_is x.goes_on in
     let whole : after tt (x.first.look ++ (BlockEnds here.block headed.around headed.parameters r b.end ∷ [])) x.first.passed ≡ a =
     ap (λ (z : After (Unit {0})). after z.answer (x.first.look ++ z.look) z.passed) last ∙ x.both in
-    subst (Closed here b headed s) whole (record { look = x.first.look; result = r; grown = law.0; ends = law.1; look_is = refl })
+    subst (Closed here b headed s) whole (record {
+      look = x.first.look;
+      result = r;
+      grown = law.0;
+      ends = law.1;
+      assigned = λ root told.
+          ends_assigned name b.end root s x.first (subst (λ found. result_at_end name b.end found s ≡ Ok x.first) told x.goes);
+      look_is = refl;
+    })
   where
     ok_is : {c d : After (Unit {0})} → ◌≡◌ {A = Checked (After (Unit {0}))} (Ok c) (Ok d) → c ≡ d
     ok_is h = cc
@@ -890,6 +963,13 @@ routine_block_builds here under number name b places lawful old s a t is =
           let still : block < length s.headings = omega (arith, less, no_fewer old.headings s.headings t.headings) in
           ap (variables_of block) g.variables_kept ∙ f.others block still told.0 refl ∙ told.1;
       threats = λ root is. g.threats root (f.threats root (ap (list_any (nat_eq root)) t.threatened ∙ is));
+      assigns = λ root is. g.assigns root (f.assigns root (ap (list_any (nat_eq root)) t.assigned ∙ is));
+      assigned = λ root is.
+          assigned_then i.first ended root (λ there. from_old old s root t.assigned (f.assigned root there))
+          (target_ended look mark_end root (g.assigned refl root is));
+      results =
+          results_end i.first look number headed.around headed.parameters c.result b.end i.middle p.end.passed f.results g.assigns g.inner
+          (λ root there. c.grown.assigns root (c.assigned root (sym c.ends.0 ∙ there)));
       placed = λ roots rest.
           ap (in_blocks roots) (append_assoc i.first ended rest) ∙ f.placed roots (ended ++ rest)
           ∙ ap (λ l. in_blocks roots i.first ++ l) (placed_as_far roots number headed.around headed.parameters c.result b.end look rest)
@@ -910,6 +990,11 @@ routine_block_builds here under number name b places lawful old s a t is =
     let standing =
     left_standing here under number headed names s i.middle p.end.passed s.enclosing refl t.standing t.waits_it o.other f i.standing g in
     subst (LeavesBuilt here under (Covers 0 places) old) whole (built, standing)
+  where
+    from_old : {target : Bool} (old s : Passed) (root : ℕ) → s.assigned ≡ old.assigned → (list_any (nat_eq root) s.assigned ≡ true) ⊎ (target ≡ true)
+        → (list_any (nat_eq root) old.assigned ≡ true) ⊎ (target ≡ true)
+    from_old old s root same (inl there) = inl (ap (list_any (nat_eq root)) (sym same) ∙ there)
+    from_old old s root same (inr target) = inr target
 
 -- what stands behind a heading
 pub body_builds : (here : Here) (under : List Region) (begins : Begun) (name : Name) (block : TypedBlock) (places : List Place) → LawfulBody places block

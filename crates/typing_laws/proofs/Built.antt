@@ -1,35 +1,34 @@
 -- What the parts of a block build: forms of blocks inside it, with sites, entries, types, variables and headings; each block
 -- ends once, as its heading tells, and what is known of blocks outside stays.
-use Rattle.std.proofs.Common.{◌≡◌, ℕ, ◌+◌, ◌<◌, ◌≤◌, Bool, true, false, ◌&&◌, nat_eq, nat_lt, nat_le, List, [], ◌∷◌, ◌++◌, length, map, Option}
-use Rattle.std.proofs.Common.{Some, None, Ok, option_map, slice_get, refl, sym, ap, subst, ◌∙◌, arith, append-nil, append_assoc, length-append}
-use Rattle.std.specs.List.{range_with_len}
+use Rattle.std.proofs.Common.{◌≡◌, ℕ, ◌+◌, ◌<◌, ◌≤◌, Bool, true, false, ◌&&◌, nat_eq, nat_lt, nat_le, List, [], ◌∷◌, ◌++◌, length, map, Option, Some, None, Ok}
+use Rattle.std.proofs.Common.{option_map, slice_get, refl, sym, ap, subst, ◌∙◌, arith, append-nil, append_assoc, length-append, inl, inr, ◌⊎◌, suc, zero}
+use Rattle.std.specs.List.{range_with_len, list_any, flat_map, list_all}
 use Rattle.std.proofs.lemmas.Bool.Decides.{nat_tests}
 use Rattle.std.proofs.lemmas.Grind.{flat_map-append}
 use Rattle.std.proofs.lemmas.List.{length-map}
 use Rattle.std.proofs.lemmas.Option.{slice_get_within}
+use Rattle.std.proofs.lemmas.List.Folds.{list_all-append}
 use Rattle.scopes.specs.Scopes.{Region}
 use Rattle.typed_tree.specs.declared.tree.FunctionResult.{FunctionResult}
 use Rattle.typed_tree.specs.Ids.{Stands}
 use Rattle.typed_tree.specs.WellFormed.{Outline, variables_of}
 use Rattle.typed_tree.specs.Look.{Mark, Look, BlockEnds, mark_entries, entries_of_look, mark_loops, loops_of_look, mark_blocks, blocks_of_look, are_formed}
+use Rattle.typed_tree.specs.declared.tree.Variable.{Variable}
 use Rattle.typing.specs.Passing.{Headed, Passed, After, Passing, ◌>>◌}
-use Rattle.typing_laws.proofs.Grown.{both_true, counted, go_on}
+use Rattle.typing_laws.proofs.Grown.{both_true, counted, go_on, assigned_then}
 use Rattle.typing_laws.proofs.Headings.{parts_of}
 use Rattle.typing_laws.proofs.Keeping.{Silent, Ready, Keeps}
 use Rattle.typing_laws.proofs.Owned.{Fails, cells_of_block, block_cells_longer}
 use Rattle.typing_laws.proofs.Reached.{IsLonger, longer_still, same_longer, mapped_longer, get_longer, Signature, signature_passed, Head, head_of, Reached}
-use Rattle.typing_laws.proofs.Reached.{reached}
-use Rattle.typing_laws.proofs.Reached.{whole_of, IsFurther, further_still, Here, StandsIn, stands_later}
+use Rattle.typing_laws.proofs.Reached.{reached, whole_of, IsFurther, further_still, Here, StandsIn, stands_later, is_round_here}
 use Rattle.typing_laws.proofs.Ready.{heads_passed}
 use Rattle.typing_laws.proofs.Tables.{HaveTypes, cells_in}
 use Rattle.typing_laws.proofs.Waiting.{waits_in, one_if, count_of, count_append}
-use Rattle.std.proofs.Common.{inl, inr, ◌⊎◌, suc, zero}
-use Rattle.typed_tree.specs.declared.tree.Variable.{Variable}
-use Rattle.std.specs.List.{list_any}
 use Rattle.typing_laws.specs.Controls.{AreUnthreatened, Each, in_blocks, mark_changes, mark_controls}
 use Rattle.typing_laws.proofs.Kept.{each_append, each_more}
 use Rattle.typing_laws.proofs.Placed.{each_pair, each_square}
-use Rattle.typing_laws.proofs.Reached.{is_round_here}
+use Rattle.typing_laws.specs.Results.{is_target, mark_results}
+use Rattle.typing_laws.proofs.Strings.{both_and}
 
 -- ---- blocks that end
 
@@ -144,6 +143,10 @@ pub record Built (here : Here) (Has : List Stands → Type 0) (look : Look) (old
       (number : ℕ) → number < length old.headings → Fails (nat_eq here.block number) → Fails (waits_in old.enclosing.waiting number)
       → variables_of number new.variables ≡ variables_of number old.variables
   pub threats : (root : ℕ) → list_any (nat_eq root) old.threatened ≡ true → list_any (nat_eq root) new.threatened ≡ true
+  pub assigns : (root : ℕ) → list_any (nat_eq root) old.assigned ≡ true → list_any (nat_eq root) new.assigned ≡ true
+  pub assigned :
+      (root : ℕ) → list_any (nat_eq root) new.assigned ≡ true → (list_any (nat_eq root) old.assigned ≡ true) ⊎ (is_target look root ≡ true)
+  pub results : list_all (λ root. list_any (nat_eq root) new.assigned) (flat_map mark_results look) ≡ true
   pub placed : (roots : Mark → List ℕ) (rest : Look) → in_blocks roots (look ++ rest) ≡ in_blocks roots look ++ in_blocks roots rest
   pub over : (block : ℕ) → 0 < count_of block (blocks_of_look look) → IsOver here new block
   pub changed : Each (IsChanged here look new) (in_blocks mark_changes look)
@@ -328,6 +331,15 @@ module _ {here : Here} {First Second : List Stands → Type 0} {look more : Look
       (each_pair (IsControlled look now) (IsChanged here more new) Apart controls behind first_apart f.controlled g.changed)
       (each_pair (IsControlled more new) (IsChanged here look now) Apart others changes second_apart g.controlled f.changed) g.unthreatened))
 
+-- what was assigned stays so
+pub all_later : (now new : Passed) → ((root : ℕ) → list_any (nat_eq root) now.assigned ≡ true → list_any (nat_eq root) new.assigned ≡ true)
+    → (roots : List ℕ) → list_all (λ root. list_any (nat_eq root) now.assigned) roots ≡ true
+    → list_all (λ root. list_any (nat_eq root) new.assigned) roots ≡ true
+all_later now new more [] all = refl
+all_later now new more (root ∷ roots) all =
+    let parts = both_and (list_any (nat_eq root) now.assigned) (list_all (λ r. list_any (nat_eq r) now.assigned) roots) all in
+    both_true _ _ (more root parts.0) (all_later now new more roots parts.1)
+
 pub built_then : {here : Here} {First Second Both : List Stands → Type 0} {look more : Look} {old now new : Passed}
     → ((a b : List Stands) → First a → Second b → Both (a ++ b))
     → Built here First look old now → Built here Second more now new → Built here Both (look ++ more) old new
@@ -357,6 +369,12 @@ built_then {here} {First} {Second} {Both} {look} {more} {old} {now} {new} joined
       let still : number < length now.headings = omega (arith, there, no_fewer old.headings now.headings f.headings) in
       g.others number still other (waits_no_more f number there none) ∙ f.others number there other none;
   threats = λ root is. g.threats root (f.threats root is);
+  assigns = λ root is. g.assigns root (f.assigns root is);
+  assigned = λ root is. assigned_then look more root (f.assigned root) (g.assigned root is);
+  results =
+      ap (list_all (λ root. list_any (nat_eq root) new.assigned)) (flat_map-append mark_results look more)
+      ∙ list_all-append (λ root. list_any (nat_eq root) new.assigned) (flat_map mark_results look) (flat_map mark_results more)
+      ∙ both_true _ _ (all_later now new g.assigns (flat_map mark_results look) f.results) g.results;
   placed = λ roots rest.
       ap (in_blocks roots) (append_assoc look more rest) ∙ f.placed roots (more ++ rest) ∙ ap (λ l. in_blocks roots look ++ l) (g.placed roots rest)
       ∙ sym (append_assoc (in_blocks roots look) (in_blocks roots more) (in_blocks roots rest))
@@ -387,6 +405,9 @@ built_with has b = record {
   accounted = b.accounted;
   others = b.others;
   threats = b.threats;
+  assigns = b.assigns;
+  assigned = b.assigned;
+  results = b.results;
   placed = b.placed;
   over = b.over;
   changed = b.changed;
@@ -416,6 +437,9 @@ built_silent {here} {old} {new} q = record {
       omega (arith, waiting, as_many, none_between (length old.headings) number);
   others = λ number there other none. q.others number other;
   threats = λ root is. ap (list_any (nat_eq root)) q.threatened ∙ is;
+  assigns = λ root is. ap (list_any (nat_eq root)) q.assigned ∙ is;
+  assigned = λ root is. inl (ap (list_any (nat_eq root)) (sym q.assigned) ∙ is);
+  results = refl;
   placed = λ roots rest. refl;
   over = λ block there. absurd (omega (arith, there));
   changed = tt;
@@ -449,6 +473,7 @@ pub record Standing (here : Here) (under : List Region) (s : Passed) : Type 0 wh
   pub ready : Ready here under here.block (heads_passed s.headings) s.variables s
   pub block : s.enclosing.block ≡ here.block
   pub around : s.enclosing.around ≡ here.around
+  pub settled : here.owing ≡ false
   pub stands : StandsIn here (reached s)
   pub waiting : (number : ℕ) → waits_in s.enclosing.waiting number ≡ true → IsOpen here s number
 
@@ -458,6 +483,7 @@ standing_silent {here} {under} {old} {new} st q ready = record {
   ready = subst (λ h. Ready here under here.block (heads_passed h) new.variables new) (sym q.headings) ready;
   block = q.block ∙ st.block;
   around = q.around ∙ st.around;
+  settled = st.settled;
   stands = stands_later here (reached old) (reached new) (built_further (built_silent {here = here} q)) st.stands;
   waiting = λ number waits.
       let o = st.waiting number (ap (λ l. waits_in l number) (sym q.waiting) ∙ waits) in

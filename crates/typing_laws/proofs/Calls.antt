@@ -1,6 +1,6 @@
 -- What calls of routines do: each actual parameter fits the formal one at its place, and there are as many.
-use Rattle.std.proofs.Common.{◌≡◌, ℕ, ℤ, ◌+◌, ◌<◌, Bool, true, false, ◌&&◌, ◌||◌, not, nat_eq, if◌then◌else◌, List, [], ◌∷◌, ◌++◌, length}
-use Rattle.std.proofs.Common.{Option, Some, None, Ok, Err, is_none, slice_get, refl, sym, ap, subst, ◌∙◌, arith, append_assoc, length-append, option_map}
+use Rattle.std.proofs.Common.{◌≡◌, ℕ, ℤ, ◌+◌, ◌<◌, Bool, true, false, ◌&&◌, ◌||◌, not, nat_eq, if◌then◌else◌, List, [], ◌∷◌, ◌++◌, length, Option, Some, None}
+use Rattle.std.proofs.Common.{Ok, Err, is_none, slice_get, refl, sym, ap, subst, ◌∙◌, arith, append_assoc, length-append, option_map}
 use Rattle.std.specs.Ordering.{int_eq}
 use Rattle.std.proofs.lemmas.Bool.{eq-eqb}
 use Rattle.std.proofs.lemmas.Int.{ints}
@@ -25,18 +25,17 @@ use Rattle.typed_tree.specs.WellFormed.{may_call, of_one, passes_value, passes_w
 use Rattle.typing.specs.Steps.{or_mismatch}
 use Rattle.typing.specs.declared.typed.Typed.{Typed}
 use Rattle.typing.specs.Expressions.{Written, WrittenActual, actual, actuals_for, are_as_many, as_routine, copied_cells, copying, fitting, function_value}
-use Rattle.typing.specs.Expressions.{or_no_result}
-use Rattle.typing.specs.Expressions.{passed_ordinal, passed_to, passed_value, passed_whole, result_variable, routine_call, typed, unless_width}
+use Rattle.typing.specs.Expressions.{or_no_result, passed_ordinal, passed_to, passed_value, passed_whole, result_variable, routine_call, typed, unless_width}
 use Rattle.typing_laws.proofs.WholeRanges.{HaveWholeRanges, IsWholeRange}
 use Rattle.typing_laws.proofs.Covers.{Covers, covers_any, covers_both, covers_more, covers_none, leads_first}
-use Rattle.typing_laws.proofs.Reached.{Signature, signature_of, head_of, Reached, whole_of, IsFurther, further_still, Here, StandsIn}
-use Rattle.typing_laws.proofs.Reached.{is_round_here, get_longer, get_mapped, mapped_longer, stands_later}
+use Rattle.typing_laws.proofs.Reached.{Signature, signature_of, head_of, Reached, whole_of, IsFurther, further_still, Here, StandsIn, is_round_here, get_longer}
+use Rattle.typing_laws.proofs.Reached.{get_mapped, mapped_longer, stands_later}
 use Rattle.typing_laws.proofs.Grown.{heads_of, FitsHeading, both_true}
 use Rattle.typing_laws.proofs.Sound.{IsRoutine, routine_longer}
 use Rattle.typing_laws.proofs.Strings.{there, both_and}
 use Rattle.typing_laws.proofs.Steps.{Does, Anything, Nothing, IsSoundThen, joins, quietly, last, checks_types, sited, answered, pure_does, given_does}
-use Rattle.typing_laws.proofs.Steps.{fail_does, mark_does, pass_does}
-use Rattle.typing_laws.proofs.Steps.{enter_does, site_does, host_type_does, heading_at_does, variable_at_does, led, behind_does}
+use Rattle.typing_laws.proofs.Steps.{fail_does, mark_does, pass_does, enter_does, site_does, host_type_does, heading_at_does, variable_at_does, led}
+use Rattle.typing_laws.proofs.Steps.{behind_does}
 use Rattle.typing_laws.proofs.Tables.{cells_of_longer, is_ordinal_longer, range_of_longer}
 use Rattle.typing_laws.proofs.Leading.{IsLed, Types, led_alone, known_later, lt_true, IsFormalAt, formal_later, formal_is, LawfulWritten, covers_test}
 use Rattle.typing_laws.proofs.Leading.{led_covers}

@@ -1,8 +1,6 @@
 -- What declarations do: they add no site and no entry, each name denotes what is sound, and the variables have room.
-use Rattle.std.proofs.Common.{ℤ, pos, nat_le, map, Vec, ◌<◌}
-use Rattle.std.proofs.Common.{◌≡◌, ℕ, ◌+◌, ◌-◌, ◌≤◌, ◌&&◌, Bool, true, false, nat_eq, nat_lt, if◌then◌else◌, List, [], ◌∷◌, ◌++◌, length, Option, Some, None}
-use Rattle.std.proofs.Common.{Result, Ok}
-use Rattle.std.proofs.Common.{Err, codes, length-append, refl, sym, ap, subst, ◌∙◌, arith, inl, ◌⊎◌, slice_get}
+use Rattle.std.proofs.Common.{ℤ, pos, nat_le, map, Vec, ◌<◌, ◌≡◌, ℕ, ◌+◌, ◌-◌, ◌≤◌, ◌&&◌, Bool, true, false, nat_eq, nat_lt, if◌then◌else◌, List, [], ◌∷◌, ◌++◌}
+use Rattle.std.proofs.Common.{length, Option, Some, None, Result, Ok, Err, codes, length-append, refl, sym, ap, subst, ◌∙◌, arith, inl, ◌⊎◌, slice_get}
 use Rattle.std.proofs.lemmas.Bool.{eq-eqb}
 use Rattle.std.proofs.lemmas.Bool.Decides.{nat_tests}
 use Rattle.std.specs.List.{list_all}
@@ -21,8 +19,7 @@ use Rattle.syntax_tree.specs.declared.TypeDenoter.TheViews.{roll-TypeDenoter}
 use Rattle.syntax_tree.specs.declared.TypeDenoter.TheFolds.{map-TypeDenoter, fold-roll-TypeDenoter, ind-TypeDenoter}
 use Rattle.syntax_tree.specs.Places.{fields_of}
 use Rattle.syntax_tree.specs.declared.VariableGroup.{VariableGroup}
-use Rattle.types.specs.Forms.{Form}
-use Rattle.types.specs.Forms.{FieldForm, Enumeration, Subrange, Array, Record}
+use Rattle.types.specs.Forms.{Form, FieldForm, Enumeration, Subrange, Array, Record}
 use Rattle.types.specs.declared.form.TypeId.{TypeId}
 use Rattle.types.specs.Types.{char, cells_of, form_range, host_of, is_ordinal, is_same, most_cells}
 use Rattle.scopes.specs.Scopes.{Region, said, put, is_defined, found, define, outer}

@@ -1,6 +1,6 @@
 -- What expressions do, form by form.
-use Rattle.std.proofs.Common.{◌≡◌, ℕ, Bool, true, false, not, nat_le, if◌then◌else◌, List, [], ◌∷◌, length, Option, Some, None, Ok, Err, pos}
-use Rattle.std.proofs.Common.{refl, sym, ap, subst, ◌∙◌}
+use Rattle.std.proofs.Common.{◌≡◌, ℕ, Bool, true, false, not, nat_le, if◌then◌else◌, List, [], ◌∷◌, length, Option, Some, None, Ok, Err, pos, refl, sym, ap}
+use Rattle.std.proofs.Common.{subst, ◌∙◌}
 use Rattle.std.proofs.lemmas.Bool.{eq-eqb, eqb-true}
 use Rattle.std.specs.List.{list_all}
 use Rattle.place.specs.declared.Place.{Place}
@@ -34,10 +34,10 @@ use Rattle.typing_laws.proofs.Sound.{IsVariable, variable_later}
 use Rattle.typing_laws.proofs.Covers.{Covers, Leads, leads_first}
 use Rattle.typing_laws.proofs.Grown.{both_true}
 use Rattle.typing_laws.proofs.Strings.{fit_is, all_of_char, char_whole, string_type_does}
-use Rattle.typing_laws.proofs.Steps.{Does, Anything, Nothing, IsSoundThen, IsFound, joins, quietly, last, checks, sited, mark_does, change_does, text_at_does, pass_does}
-use Rattle.typing_laws.proofs.Steps.{pure_does, given_does, by_types_does, fail_does, find_does, enter_does, may_change_does, led, IsKnown, behind_does}
-use Rattle.typing_laws.proofs.Leading.{IsLed, Types, led_alone, known_later, IsFormalAt, formal_later, formal_is, LawfulWritten, no_variable_lawful}
-use Rattle.typing_laws.proofs.Leading.{led_covers}
+use Rattle.typing_laws.proofs.Steps.{Does, Anything, Nothing, IsSoundThen, IsFound, joins, quietly, last, checks, sited, mark_does, change_does, text_at_does}
+use Rattle.typing_laws.proofs.Steps.{pass_does, pure_does, given_does, by_types_does, fail_does, find_does, enter_does, may_change_does, led, IsKnown}
+use Rattle.typing_laws.proofs.Steps.{behind_does}
+use Rattle.typing_laws.proofs.Leading.{IsLed, Types, led_alone, known_later, IsFormalAt, formal_later, formal_is, LawfulWritten, no_variable_lawful, led_covers}
 use Rattle.typing_laws.proofs.Accesses.{AreLawfulRows, accessed_does, leads_nowhere, leads_later, leads_formed, selected_does}
 use Rattle.typing_laws.proofs.Calls.{function_does}
 

@@ -1,8 +1,8 @@
 -- What a form does to what is known: it adds sites, entries and perhaps types, and its marks are well formed, as they
 -- are with more sites, types, variables and headings behind. All else stays.
 use Rattle.std.proofs.Common.{◌≡◌, ℕ, zero, suc, ◌+◌, ◌<◌, ◌≤◌, Bool, true, false, nat_eq, refl, ◌&&◌, List, [], ◌∷◌, ◌++◌, length, map, Some, slice_get}
-use Rattle.std.proofs.Common.{append_assoc, length-append, sym, ap, ap₂, subst, ◌∙◌, arith}
-use Rattle.std.specs.List.{range_with_len, list_all, flat_map}
+use Rattle.std.proofs.Common.{append_assoc, length-append, sym, ap, ap₂, subst, ◌∙◌, arith, ◌||◌, inl, inr, ◌⊎◌}
+use Rattle.std.specs.List.{range_with_len, list_all, flat_map, list_any}
 use Rattle.std.proofs.lemmas.List.Folds.{list_all-append}
 use Rattle.std.proofs.lemmas.Grind.{flat_map-append}
 use Rattle.types.specs.Types.{is_ordinal}
@@ -12,17 +12,14 @@ use Rattle.typed_tree.specs.WellFormed.{Outline, is_parameter_kind}
 use Rattle.typed_tree.specs.Look.{Mark, Look, mark_entries, entries_of_look, mark_loops, loops_of_look, blocks_of_look, mark_blocks, is_formed_mark}
 use Rattle.typing.specs.Passing.{Enclosing, Passed}
 use Rattle.typing.specs.Steps.{most_sites, most_entries}
-use Rattle.typing_laws.proofs.Reached.{IsLonger, longer_still, same_longer, get_longer, Signature, signature_passed, Head, head_of, Reached}
-use Rattle.typing_laws.proofs.Reached.{reached, whole_of, IsFurther, further_still, mapped_longer, Here, StandsIn, stands_later}
-use Rattle.typing_laws.proofs.Sound.{AreSound, inside_itself, regions_later}
+use Rattle.typing_laws.proofs.Reached.{IsLonger, longer_still, same_longer, get_longer, Signature, signature_passed, Head, head_of, Reached, reached, whole_of}
+use Rattle.typing_laws.proofs.Reached.{IsFurther, further_still, mapped_longer, Here, StandsIn, stands_later}
+use Rattle.typing_laws.proofs.Sound.{AreSound, inside_itself, regions_later, or_right}
 use Rattle.typing_laws.proofs.Tables.{AreLawful, AreTexts, stands_longer, is_ordinal_longer}
-use Rattle.std.specs.List.{list_any}
 use Rattle.typing_laws.specs.Controls.{Each, mark_changes, mark_controls}
 use Rattle.typing_laws.proofs.Kept.{MayChange, change_later, changes_of, controls_of, each_append, each_more}
 use Rattle.typing_laws.proofs.Owned.{Fails}
-use Rattle.std.proofs.Common.{◌||◌, inl, inr, ◌⊎◌}
 use Rattle.typing_laws.specs.Results.{is_target, mark_targets}
-use Rattle.typing_laws.proofs.Sound.{or_right}
 
 -- ---- headings that were passed
 

@@ -1,14 +1,12 @@
 -- What the heading of a routine does: its parameters and its result are variables of its block, and the block round it goes
 -- on behind it as before.
 use Rattle.std.proofs.Common.{◌≡◌, ℕ, zero, suc, ◌+◌, ◌<◌, ◌≤◌, Bool, true, false, not, ◌||◌, ◌&&◌, nat_eq, nat_lt, nat_le, if◌then◌else◌, List, [], ◌∷◌, ◌++◌}
-use Rattle.std.proofs.Common.{length, map}
-use Rattle.std.proofs.Common.{Option, Some, None, Ok, is_none, slice_get, refl, sym, ap, ap₂, subst, ◌∙◌, arith, inl, inr, append_assoc, append-nil}
-use Rattle.std.proofs.Common.{length-append, ◌⊎◌}
+use Rattle.std.proofs.Common.{length, map, Option, Some, None, Ok, is_none, slice_get, refl, sym, ap, ap₂, subst, ◌∙◌, arith, inl, inr, append_assoc}
+use Rattle.std.proofs.Common.{append-nil, length-append, ◌⊎◌}
 use Rattle.std.specs.List.{list_all, flat_map}
 use Rattle.std.proofs.lemmas.Bool.{eq-eqb}
 use Rattle.std.proofs.lemmas.Bool.Decides.{nat_tests}
-use Rattle.std.proofs.lemmas.List.{length-map}
-use Rattle.std.proofs.lemmas.List.{map-append}
+use Rattle.std.proofs.lemmas.List.{length-map, map-append}
 use Rattle.std.proofs.lemmas.Option.{slice_get_within}
 use Rattle.place.specs.declared.Place.{Place}
 use Rattle.syntax_tree.specs.declared.Name.{Name}
@@ -32,13 +30,13 @@ use Rattle.typing.specs.Steps.{fits, next_root, reserve, enclosing_now, with_enc
 use Rattle.typing.specs.Denoters.{named_type, type_of_name}
 use Rattle.typing.specs.Routines.{group_types, heading, parameter_kind, parameters, parameters_named, result, result_type, type_of_result}
 use Rattle.typing_laws.proofs.Owned.{Fails, block_cells_longer, cells_of_block, declares, other_block, roots_of}
-use Rattle.typing_laws.proofs.Reached.{IsLonger, as_long, longer_still, one_longer, get_longer, get_mapped, Signature}
-use Rattle.typing_laws.proofs.Reached.{signature_passed, Head, head_of, reached, Here, is_round_here, StandsIn}
+use Rattle.typing_laws.proofs.Reached.{IsLonger, as_long, longer_still, one_longer, get_longer, get_mapped, Signature, signature_passed, Head, head_of, reached}
+use Rattle.typing_laws.proofs.Reached.{Here, is_round_here, StandsIn}
 use Rattle.typing_laws.proofs.Sound.{IsSound, AreSound, IsSoundRegion, found_holds, opened_holds, inside_itself, inside_routine, regions_later}
 use Rattle.typing_laws.proofs.Ready.{Base, IsHeaded, IsOrdinalAt, IsPlacedAt, base_heading, heads_passed, placed_longer, type_stands}
 use Rattle.typing_laws.proofs.Keeping.{Silent, Ready, Keeps, keeps_then, pure_keeps, aside, before}
-use Rattle.typing_laws.proofs.Declarations.{IsReady, IsBehind, HasRoots, and_root, and_result, declared_keeps, named_is, next_root_keeps}
-use Rattle.typing_laws.proofs.Declarations.{reserve_keeps, root_is_next}
+use Rattle.typing_laws.proofs.Declarations.{IsReady, IsBehind, HasRoots, and_root, and_result, declared_keeps, named_is, next_root_keeps, reserve_keeps}
+use Rattle.typing_laws.proofs.Declarations.{root_is_next}
 use Rattle.typing_laws.proofs.Strings.{behind_nothing, fit_is, both_and}
 use Rattle.typing_laws.proofs.Steps.{split, split_behind, split_unless}
 use Rattle.typing_laws.proofs.Tables.{HaveTypes, cells_in, is_ordinal_longer, stands_longer}
@@ -280,6 +278,7 @@ pub record HeadingAdded (here : Here) (under : List Region) (number : ℕ) (old 
   pub entries : new.entries ≡ old.entries
   pub loops : new.loops ≡ old.loops
   pub threatened : new.threatened ≡ old.threatened
+  pub assigned : new.assigned ≡ old.assigned
   pub types : IsLonger old.types new.types
   pub variables : IsLonger old.variables new.variables
   pub regions : new.regions ≡ old.regions
@@ -479,6 +478,7 @@ module _ (here : Here) (under : List Region) (number : ℕ) (name : Name) (group
     pub from : (start.sites ≡ s.sites) × (start.entries ≡ s.entries) × (start.loops ≡ s.loops) × (start.regions ≡ s.regions)
         × (start.headings ≡ s.headings) × IsLonger s.types start.types × IsLonger s.variables start.variables
     pub threatened : start.threatened ≡ s.threatened
+    pub assigned : start.assigned ≡ s.assigned
     pub others : (block : ℕ) → Fails (nat_eq number block) → variables_of block start.variables ≡ variables_of block s.variables
     pub root : Option ℕ
     pub ready : Ready inner under number (heads_passed s.headings ++ pending ∷ []) start.variables start
@@ -543,6 +543,7 @@ module _ (here : Here) (under : List Region) (number : ℕ) (name : Name) (group
         start = z.0.passed;
         from = (k.1.sites, k.1.entries, k.1.loops, result_regions number name.place y.0.answer n3 z.0 z.1, k.1.headings, k.1.types, k.1.variables);
         threatened = k.1.threatened;
+        assigned = k.1.assigned;
         others = k.1.others;
         root = z.0.answer;
         ready = k.2.0.0.0;
@@ -627,7 +628,8 @@ module _ (here : Here) (under : List Region) (number : ℕ) (name : Name) (group
             ordinal_later r.start.types last.types r.start.variables last.variables root r.ready.base.have_types p.silent.types p.silent.variables
             (result_ordinal heads r.id r.root r.start root r.result_is r.ordinal told);
         region =
-            subst (λ h. IsSoundRegion (record { block = number; around = headed.around; owing = false }) last.variables last.types h headed.region) (sym same_heads)
+            subst (λ h. IsSoundRegion (record { block = number; around = headed.around; owing = false }) last.variables last.types h headed.region)
+            (sym same_heads)
             (subst (λ l. IsSoundRegion (record { block = number; around = l; owing = false }) last.variables last.types heads headed.region) (sym around)
             (innermost_sound inner last.variables last.types heads last.regions p.ready.sound));
       } in
@@ -653,6 +655,7 @@ module _ (here : Here) (under : List Region) (number : ℕ) (name : Name) (group
         entries = p.silent.entries ∙ r.from.1;
         loops = p.silent.loops ∙ r.from.2;
         threatened = p.silent.threatened ∙ r.threatened;
+        assigned = p.silent.assigned ∙ r.assigned;
         types = types;
         variables = variables;
         regions = regions;

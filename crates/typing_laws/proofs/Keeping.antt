@@ -22,6 +22,7 @@ pub record Silent (counted : ℕ) (old new : Passed) : Type 0 where
   pub entries : new.entries ≡ old.entries
   pub loops : new.loops ≡ old.loops
   pub threatened : new.threatened ≡ old.threatened
+  pub assigned : new.assigned ≡ old.assigned
   pub types : IsLonger old.types new.types
   pub variables : IsLonger old.variables new.variables
   pub headings : new.headings ≡ old.headings
@@ -36,6 +37,7 @@ silent_as_is = record {
   entries = refl;
   loops = refl;
   threatened = refl;
+  assigned = refl;
   types = as_long;
   variables = as_long;
   headings = refl;
@@ -51,6 +53,7 @@ silent_then f g = record {
   entries = g.entries ∙ f.entries;
   loops = g.loops ∙ f.loops;
   threatened = g.threatened ∙ f.threatened;
+  assigned = g.assigned ∙ f.assigned;
   types = longer_still f.types g.types;
   variables = longer_still f.variables g.variables;
   headings = g.headings ∙ f.headings;
@@ -67,6 +70,7 @@ silent_types types longer = record {
   entries = refl;
   loops = refl;
   threatened = refl;
+  assigned = refl;
   types = longer;
   variables = as_long;
   headings = refl;
@@ -82,6 +86,7 @@ silent_regions regions = record {
   entries = refl;
   loops = refl;
   threatened = refl;
+  assigned = refl;
   types = as_long;
   variables = as_long;
   headings = refl;
@@ -97,6 +102,7 @@ silent_latest place = record {
   entries = refl;
   loops = refl;
   threatened = refl;
+  assigned = refl;
   types = as_long;
   variables = as_long;
   headings = refl;
@@ -112,6 +118,7 @@ silent_texts texts = record {
   entries = refl;
   loops = refl;
   threatened = refl;
+  assigned = refl;
   types = as_long;
   variables = as_long;
   headings = refl;
@@ -128,6 +135,7 @@ silent_output = record {
   entries = refl;
   loops = refl;
   threatened = refl;
+  assigned = refl;
   types = as_long;
   variables = as_long;
   headings = refl;
@@ -145,6 +153,7 @@ silent_variable {counted} {s} variable cells own = record {
   entries = refl;
   loops = refl;
   threatened = refl;
+  assigned = refl;
   types = as_long;
   variables = one_longer s.variables variable;
   headings = refl;

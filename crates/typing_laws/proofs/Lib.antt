@@ -15,6 +15,7 @@ pub mod Calls
 pub mod Expressions
 pub mod Operators
 pub mod EveryExpression
+pub mod Targets
 pub mod Statements
 mod Waiting
 mod Ready

@@ -1,6 +1,6 @@
 -- What operators, chains and calls do, each with the site of its operation.
-use Rattle.std.proofs.Common.{◌≡◌, ℕ, ◌<◌, Bool, true, false, ◌&&◌, ◌||◌, if◌then◌else◌, nat_lt, nat_eq, List, [], ◌∷◌, ◌++◌, length, Option, None, Some}
-use Rattle.std.proofs.Common.{Ok, is_none, pos, neg_ℤ, refl, ap, subst, arith}
+use Rattle.std.proofs.Common.{◌≡◌, ℕ, ◌<◌, Bool, true, false, ◌&&◌, ◌||◌, if◌then◌else◌, nat_lt, nat_eq, List, [], ◌∷◌, ◌++◌, length, Option, None, Some, Ok}
+use Rattle.std.proofs.Common.{is_none, pos, neg_ℤ, refl, ap, subst, arith}
 use Rattle.place.specs.declared.Place.{Place}
 use Rattle.syntax_tree.specs.declared.Name.{Name}
 use Rattle.syntax_tree.specs.declared.Operator.{Operator}
@@ -31,12 +31,11 @@ use Rattle.typing_laws.proofs.WholeRanges.{HaveWholeRanges, IfWhole, if_whole}
 use Rattle.typing_laws.proofs.Covers.{AreAbove, at_place, Covers, Leads, covers_both, leads_first, leads_more}
 use Rattle.typing_laws.proofs.Grown.{both_true}
 use Rattle.typing_laws.proofs.Reached.{Reached, whole_of, IsFurther, further_still, Here}
-use Rattle.typing_laws.proofs.Steps.{Does, Anything, Nothing, IsFound, joins, quietly, last, checks_types, pure_does, given_does, by_types_does}
-use Rattle.typing_laws.proofs.Steps.{find_does, mark_does, enter_does, site_does, led, IsKnown, behind_does}
+use Rattle.typing_laws.proofs.Steps.{Does, Anything, Nothing, IsFound, joins, quietly, last, checks_types, pure_does, given_does, by_types_does, find_does}
+use Rattle.typing_laws.proofs.Steps.{mark_does, enter_does, site_does, led, IsKnown, behind_does}
 use Rattle.typing_laws.proofs.Strings.{fit_is, there, both_and}
 use Rattle.typing_laws.proofs.Leading.{IsLed, Types, led_alone, led_behind, known_later, lt_true, LawfulWritten, LawfulLink, no_variable_lawful, led_covers}
-use Rattle.typing_laws.proofs.Calls.{AreLawfulActuals, routine_is}
-use Rattle.typing_laws.proofs.Calls.{function_does as function_does_call}
+use Rattle.typing_laws.proofs.Calls.{AreLawfulActuals, routine_is, function_does as function_does_call}
 
 module _ (here : Here) where
   -- ---- operators

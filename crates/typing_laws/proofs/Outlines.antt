@@ -1,7 +1,7 @@
 -- The headings of the blocks that end in a look, and those that were passed: where the blocks end as their headings tell,
 -- the headings of a tree that looks so are these.
-use Rattle.std.proofs.Common.{◌≡◌, ℕ, zero, suc, ◌+◌, ◌<◌, Bool, true, false, nat_eq, nat_lt, List, [], ◌∷◌, ◌++◌, length, map, Option, Some, None}
-use Rattle.std.proofs.Common.{option_map, slice_get, refl, sym, ap, ap₂, subst, ◌∙◌, arith}
+use Rattle.std.proofs.Common.{◌≡◌, ℕ, zero, suc, ◌+◌, ◌<◌, Bool, true, false, nat_eq, nat_lt, List, [], ◌∷◌, ◌++◌, length, map, Option, Some, None, option_map}
+use Rattle.std.proofs.Common.{slice_get, refl, sym, ap, ap₂, subst, ◌∙◌, arith}
 use Rattle.std.specs.Cmp.Lexicographic.{pointwise}
 use Rattle.std.specs.Option.{option_and_then}
 use Rattle.std.proofs.lemmas.Bool.{eq-eqb, eqb-true}
@@ -12,8 +12,7 @@ use Rattle.typed_tree.specs.declared.tree.Heading.{Heading as TreeHeading}
 use Rattle.typed_tree.specs.declared.tree.Variable.{Variable}
 use Rattle.typed_tree.specs.Accesses.{is_type, led}
 use Rattle.typed_tree.specs.Look.{Look, BlockEnds, blocks_of_look}
-use Rattle.typed_tree.specs.WellFormed.{Outline, declarer, is_declared_by, is_heading, is_placed}
-use Rattle.typed_tree.specs.WellFormed.{is_result_or_none, most_blocks, of_one, result_roots}
+use Rattle.typed_tree.specs.WellFormed.{Outline, declarer, is_declared_by, is_heading, is_placed, is_result_or_none, most_blocks, of_one, result_roots}
 use Rattle.typing.specs.Passing.{Headed}
 use Rattle.typing_laws.specs.Lawful.{HasHeading, TellsHeadings}
 use Rattle.typing_laws.proofs.Built.{AreEnds, EndsSo, HasSite}

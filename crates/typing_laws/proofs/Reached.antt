@@ -1,7 +1,7 @@
 -- How far typing has come: how many sites there are, which types, which variables, and what the headings that were passed
 -- tell; and the block round a place. What a form is stays so as more of these come.
-use Rattle.std.proofs.Common.{◌≡◌, ℕ, zero, suc, ◌≤◌, ◌||◌, Bool, true, List, [], ◌∷◌, ◌++◌, length, map, nat_eq, slice_get, Option, Some}
-use Rattle.std.proofs.Common.{append_assoc, append-nil, refl, sym, ap, subst, ◌∙◌, arith, is_none, option_map, get_or, inl, inr, ◌⊎◌}
+use Rattle.std.proofs.Common.{◌≡◌, ℕ, zero, suc, ◌≤◌, ◌||◌, Bool, true, List, [], ◌∷◌, ◌++◌, length, map, nat_eq, slice_get, Option, Some, append_assoc}
+use Rattle.std.proofs.Common.{append-nil, refl, sym, ap, subst, ◌∙◌, arith, is_none, option_map, get_or, inl, inr, ◌⊎◌}
 use Rattle.std.specs.List.{list_any}
 use Rattle.std.specs.Prelude.{not}
 use Rattle.std.proofs.lemmas.List.{map-append}

@@ -1,7 +1,7 @@
 -- What is known among declarations: the types, the variables and the headings fit each other, each name denotes what is
 -- sound, and the cells of the block's variables are counted.
-use Rattle.std.proofs.Common.{◌≡◌, ℕ, zero, suc, ◌+◌, ◌<◌, ◌≤◌, Bool, true, false, nat_lt, nat_eq, List, [], ◌∷◌, ◌++◌, length, map}
-use Rattle.std.proofs.Common.{Some, None, slice_get, refl, sym, ap, subst, ◌∙◌, arith, length-append, inl, inr, ◌⊎◌}
+use Rattle.std.proofs.Common.{◌≡◌, ℕ, zero, suc, ◌+◌, ◌<◌, ◌≤◌, Bool, true, false, nat_lt, nat_eq, List, [], ◌∷◌, ◌++◌, length, map, Some, None, slice_get}
+use Rattle.std.proofs.Common.{refl, sym, ap, subst, ◌∙◌, arith, length-append, inl, inr, ◌⊎◌, ◌||◌}
 use Rattle.std.specs.List.{list_all}
 use Rattle.std.proofs.lemmas.Bool.{eqb-true}
 use Rattle.std.proofs.lemmas.Bool.Decides.{nat_tests}
@@ -21,7 +21,6 @@ use Rattle.typing_laws.proofs.Reached.{reached, Here}
 use Rattle.typing_laws.proofs.Sound.{IsSoundRegion, inside_itself, region_later}
 use Rattle.typing_laws.proofs.Strings.{both_and}
 use Rattle.typing_laws.proofs.Tables.{AreLawful, HaveTypes, cells_in, have_types_longer, is_ordinal_longer, one_has_type}
-use Rattle.std.proofs.Common.{◌||◌}
 
 -- ---- headings
 

@@ -1,6 +1,6 @@
 -- What a routine does as far as its block: a heading that is new, or one that waits for its block; and `forward`.
-use Rattle.std.proofs.Common.{◌≡◌, ℕ, ◌+◌, ◌<◌, Bool, true, false, not, ◌||◌, ◌&&◌, nat_eq, nat_lt, nat_le, if◌then◌else◌, List, [], ◌∷◌, ◌++◌}
-use Rattle.std.proofs.Common.{length, Option, Some, None, Ok, is_none, slice_get, refl, sym, ap, subst, ◌∙◌, arith, inl, inr, ◌⊎◌, length-append}
+use Rattle.std.proofs.Common.{◌≡◌, ℕ, ◌+◌, ◌<◌, Bool, true, false, not, ◌||◌, ◌&&◌, nat_eq, nat_lt, nat_le, if◌then◌else◌, List, [], ◌∷◌, ◌++◌, length, Option}
+use Rattle.std.proofs.Common.{Some, None, Ok, is_none, slice_get, refl, sym, ap, subst, ◌∙◌, arith, inl, inr, ◌⊎◌, length-append}
 use Rattle.std.specs.List.{list_all, list_any}
 use Rattle.std.specs.Map.{lookup}
 use Rattle.std.proofs.lemmas.Bool.{eq-eqb}
@@ -20,15 +20,15 @@ use Rattle.typed_tree.specs.WellFormed.{is_one_of, most_blocks, of_one, variable
 use Rattle.typing.specs.Names.{folded}
 use Rattle.typing.specs.Passing.{Enclosing, Passed, Checked, After, Passing, after, pure, ◌>>=◌, ◌>>◌}
 use Rattle.typing.specs.Steps.{declare, may_nest, most_entries, next_block}
-use Rattle.typing.specs.Routines.{Begun, begun, headed, heading, is_same_kind, is_waiting, new_heading, or_mismatched, or_new, procedure_headed}
-use Rattle.typing.specs.Routines.{resumed, waiting_for, waits}
+use Rattle.typing.specs.Routines.{Begun, begun, headed, heading, is_same_kind, is_waiting, new_heading, or_mismatched, or_new, procedure_headed, resumed}
+use Rattle.typing.specs.Routines.{waiting_for, waits}
 use Rattle.typing_laws.proofs.Built.{IsOpen, Standing, open_later}
 use Rattle.typing_laws.proofs.Declarations.{declare_is, declare_keeps}
 use Rattle.typing_laws.proofs.Headings.{HeadingAdded, Entering, declarer_last, heading_adds, heads_count, quiet_parts}
 use Rattle.typing_laws.proofs.Keeping.{Ready}
 use Rattle.typing_laws.proofs.Owned.{Fails, other_block}
-use Rattle.typing_laws.proofs.Reached.{IsLonger, as_long, one_longer, get_last, get_mapped, mapped_longer, signature_passed, Head}
-use Rattle.typing_laws.proofs.Reached.{reached, IsFurther, Here, is_round_here, stands_later}
+use Rattle.typing_laws.proofs.Reached.{IsLonger, as_long, one_longer, get_last, get_mapped, mapped_longer, signature_passed, Head, reached, IsFurther, Here}
+use Rattle.typing_laws.proofs.Reached.{is_round_here, stands_later}
 use Rattle.typing_laws.proofs.Ready.{base_blocks, heads_passed}
 use Rattle.typing_laws.proofs.Sound.{IsRoutine, inside_itself, regions_later}
 use Rattle.typing_laws.proofs.Steps.{split_if, split_unless}
@@ -58,6 +58,7 @@ pub record Began (here : Here) (under : List Region) (number : ℕ) (old new : P
   pub entries : new.entries ≡ old.entries
   pub loops : new.loops ≡ old.loops
   pub threatened : new.threatened ≡ old.threatened
+  pub assigned : new.assigned ≡ old.assigned
   pub types : IsLonger old.types new.types
   pub variables : IsLonger old.variables new.variables
   pub headings : IsLonger old.headings new.headings
@@ -173,6 +174,7 @@ module _ (here : Here) (under : List Region) where
             entries = added.entries;
             loops = added.loops;
             threatened = added.threatened;
+            assigned = added.assigned;
             types = added.types;
             variables = added.variables;
             headings = longer;
@@ -183,6 +185,7 @@ module _ (here : Here) (under : List Region) where
               ready = added.ready;
               block = ap (λ (e : Enclosing). e.block) added.enclosing ∙ st.block;
               around = ap (λ (e : Enclosing). e.around) added.enclosing ∙ st.around;
+              settled = st.settled;
               stands = stands_later here (reached s) (reached new) more st.stands;
               waiting = λ block waits.
                   let o = st.waiting block (ap (λ (e : Enclosing). waits_in e.waiting block) (sym added.enclosing) ∙ waits) in

@@ -1,15 +1,15 @@
 -- What holds of all that names denote: a constant is a whole number, a variable is one of the block or of one round it, of
 -- the type that it has there, a routine is one that such a block declares, and a type stands in the table.
-use Rattle.std.proofs.Common.{◌≡◌, ℕ, ◌<◌, Bool, true, false, cond, nat_eq, List, [], ◌∷◌, ◌++◌, Option, Some, None, Ok, Err, if◌then◌else◌, fold}
-use Rattle.std.proofs.Common.{refl, ap, subst, arith, length, slice_get, ◌||◌}
+use Rattle.std.proofs.Common.{◌≡◌, ℕ, ◌<◌, Bool, true, false, cond, nat_eq, List, [], ◌∷◌, ◌++◌, Option, Some, None, Ok, Err, if◌then◌else◌, fold, refl, ap}
+use Rattle.std.proofs.Common.{subst, arith, length, slice_get, ◌||◌}
 use Rattle.std.proofs.lemmas.Bool.{eq-eqb, eqb-true}
 use Rattle.std.specs.Cmp.Lexicographic.{pointwise}
+use Rattle.types.specs.Forms.{Form}
+use Rattle.types.specs.declared.form.TypeId.{TypeId}
 use Rattle.scopes.specs.Scopes.{Region, said, decided, found, put, opened, listing, is_listed, opened_beside, is_defined, define}
 use Rattle.scopes.specs.declared.fault.ScopeFault.TheVariants.{DeclaredTwice}
 use Rattle.scopes.specs.declared.denotation.Denotation.{Denotation}
 use Rattle.scopes.specs.declared.denotation.Denotation.TheVariants as denotes
-use Rattle.types.specs.Forms.{Form}
-use Rattle.types.specs.declared.form.TypeId.{TypeId}
 use Rattle.typed_tree.specs.declared.tree.Variable.{Variable}
 use Rattle.typed_tree.specs.WellFormed.{is_whole, is_one_of, of_one, declarer}
 use Rattle.typing.specs.Names.{required_region}

@@ -1,10 +1,8 @@
 -- What statements do, form by form, and the law of every statement, by induction over its form.
-use Rattle.std.proofs.Common.{◌≡◌, ℕ, ℤ, Vec, ◌<◌, ap, ap₂, ◌∙◌, ◌||◌, length, nat_eq, Bool, true, false, if◌then◌else◌, List, [], ◌∷◌, ◌++◌, map, Option}
-use Rattle.std.proofs.Common.{Some, None, Ok, refl, sym, slice_get}
-use Rattle.std.proofs.Common.{subst, append_assoc, arith, is_none, option_map, ◌&&◌}
+use Rattle.std.proofs.Common.{◌≡◌, ℕ, ℤ, Vec, ◌<◌, ap, ◌∙◌, length, nat_eq, Bool, true, false, if◌then◌else◌, List, [], ◌∷◌, ◌++◌, map, Option, Some, None, Ok}
+use Rattle.std.proofs.Common.{refl, sym, slice_get, subst, append_assoc, arith, is_none, option_map, ◌&&◌}
 use Rattle.std.specs.List.{flat_map}
 use Rattle.std.specs.declared.alloc.Global.{Global}
-use Rattle.std.proofs.lemmas.Bool.{eq-eqb, eqb-true}
 use Rattle.place.specs.declared.Place.{Place}
 use Rattle.syntax_tree.specs.declared.Name.{Name}
 use Rattle.syntax_tree.specs.declared.Expr.{Expr}
@@ -31,48 +29,35 @@ use Rattle.typed_tree.specs.declared.site.SiteKind.{SiteKind}
 use Rattle.typed_tree.specs.declared.site.SiteKind.TheVariants as kind
 use Rattle.typed_tree.specs.declared.tree.Representation.{Representation}
 use Rattle.typed_tree.specs.Ids.{Stands}
-use Rattle.typed_tree.specs.declared.tree.Selector.{Selector as TreeSelector}
 use Rattle.typed_tree.specs.declared.tree.Variable.{Variable}
-use Rattle.typed_tree.specs.Accesses.{index_count}
-use Rattle.typed_tree.specs.Look.{Access, Assign, Target, WholeTarget, Copied, Fits, Write, Written as WrittenMark, Width, Empty, Compound, If, Then}
-use Rattle.typed_tree.specs.Look.{Else, While, Do, Repeat, Until, For}
+use Rattle.typed_tree.specs.Look.{Assign, Copied, Fits, Write, Written as WrittenMark, Width, Empty, Compound, If, Then, Else, While, Do, Repeat, Until, For}
 use Rattle.typed_tree.specs.Look.{Case, Arm, Ends, Mark, WrittenString, mark_entries, mark_loops, mark_blocks, is_formed_mark}
-use Rattle.typed_tree.specs.WellFormed.{Outline, is_declared, is_local_kind, is_one_of, of_one}
-use Rattle.typing.specs.Passing.{Enclosing, Passing, and_then, each, mark}
+use Rattle.typed_tree.specs.WellFormed.{Outline, is_declared, is_local_kind, of_one}
+use Rattle.typing.specs.Passing.{Passing, and_then, each}
 use Rattle.typing.specs.Steps.{fits, is_local, or_mismatch}
 use Rattle.typing.specs.declared.typed.Typed.{Typed}
 use Rattle.typing.specs.Expressions.{Written, WrittenActual, is_of, as_routine, as_variable, expression, written_actual}
-use Rattle.typing.specs.Statements.{target_mark, result_target, or_no_variable, function_target, target_of, target, assigned, copied, assignment}
-use Rattle.typing.specs.Statements.{as_procedure, ends_line}
-use Rattle.typing.specs.Statements.{is_output, names_file, unless_wide, is_file, written_values}
+use Rattle.typing.specs.Statements.{assigned, copied, assignment, as_procedure, ends_line, is_output, names_file, unless_wide, is_file, written_values}
 use Rattle.typing.specs.Statements.{has_values, representation_of, written_as, measured, width, parameter, write, required_call, declared_call, call_by}
-use Rattle.typing.specs.Statements.{procedure_call, compound, condition}
-use Rattle.typing.specs.Statements.{alternative, tested, choice, while_loop}
-use Rattle.typing.specs.Statements.{repeat_loop, way, bound, for_head, for_body, for_loop, case_arms, case_head, case_body, case_statement, statement_step}
-use Rattle.typing.specs.Statements.{statement}
+use Rattle.typing.specs.Statements.{procedure_call, compound, condition, alternative, tested, choice, while_loop, repeat_loop, way, bound, for_head, for_body}
+use Rattle.typing.specs.Statements.{for_loop, case_arms, case_head, case_body, case_statement, statement_step, statement}
 use Rattle.typing_laws.proofs.Tables.{stands_longer, cells_of_longer}
 use Rattle.typing_laws.proofs.WholeRanges.{IsWholeRange}
 use Rattle.typing_laws.proofs.Covers.{Covers, covers_both, covers_none, covers_behind, covers_skip, covers_lower, leads_first}
 use Rattle.typing_laws.proofs.Grown.{heads_of, both_true}
-use Rattle.typing_laws.proofs.Reached.{Signature, Reached, whole_of, IsFurther, further_still, Here, StandsIn, is_round_here, get_longer, stands_later}
-use Rattle.typing_laws.proofs.Sound.{IsVariable, IsRoutine, variable_later, or_right}
-use Rattle.typing_laws.proofs.Steps.{Does, Anything, Nothing, IsFound, joins, quietly, last, checks, checks_types, sited, further_answered, pure_does}
-use Rattle.typing_laws.proofs.Steps.{given_does}
-use Rattle.typing_laws.proofs.Steps.{by_types_does, fail_does, find_does, pass_does, enclosing_now_does, heading_at_does, variable_at_does, assign_result_does}
-use Rattle.typing_laws.proofs.Steps.{wants_output_does}
-use Rattle.typing_laws.proofs.Steps.{mark_does, enter_does, enter_loop_does, may_change_does, begin_control_does, end_control_does, site_does}
-use Rattle.typing_laws.proofs.Steps.{IsKnown}
+use Rattle.typing_laws.proofs.Reached.{Reached, whole_of, IsFurther, further_still, Here, StandsIn, get_longer}
+use Rattle.typing_laws.proofs.Sound.{IsRoutine, variable_later}
+use Rattle.typing_laws.proofs.Steps.{Does, Anything, Nothing, IsFound, joins, quietly, last, checks, checks_types, sited, pure_does, given_does, by_types_does}
+use Rattle.typing_laws.proofs.Steps.{fail_does, find_does, pass_does, wants_output_does, mark_does, enter_does, enter_loop_does, may_change_does}
+use Rattle.typing_laws.proofs.Steps.{begin_control_does, end_control_does, site_does, IsKnown, controlled_does}
 use Rattle.typing_laws.proofs.Leading.{IsLed, Types, lt_true, LawfulWritten, covers_test, led_covers}
-use Rattle.typing_laws.proofs.Accesses.{LeadsTo, AreLawfulRows, leads_nowhere, leads_later, selected_does, tests_ordinal_does, tested as tested_is}
-use Rattle.typing_laws.proofs.Accesses.{ordinal_formed, whole_formed}
-use Rattle.typing_laws.proofs.Calls.{IsLawfulWidth, LawfulActual, fitting_whole, copying_is, may_call_it, routine_is, routine_call_does}
+use Rattle.typing_laws.proofs.Accesses.{AreLawfulRows, leads_nowhere, leads_later, tests_ordinal_does, ordinal_formed}
+use Rattle.typing_laws.proofs.Calls.{IsLawfulWidth, LawfulActual, fitting_whole, copying_is, routine_is, routine_call_does}
 use Rattle.typing_laws.proofs.Expressions.{variable_is}
 use Rattle.typing_laws.proofs.Constants.{row_does}
 use Rattle.typing_laws.proofs.Strings.{there, fit_is}
 use Rattle.typing_laws.proofs.EveryExpression.{expression_lawful, actual_lawful, indexes_lawful, every_actual_lawful}
 use Rattle.typing_laws.specs.Controls.{mark_changes}
-use Rattle.typing_laws.proofs.Kept.{MayChange, change_later}
-use Rattle.typing_laws.proofs.Steps.{change_does, controlled_does}
 use Rattle.typing_laws.proofs.Targets.{target_does}
 
 -- ---- tests
@@ -422,7 +407,8 @@ module _ (here : Here) where
   case_head_does least place places w law =
       led_covers here 0 place places (kind.Case ∷ []) (omega arith, tt)
       (joins (leads_first 0 place (kind.Case ∷ []) places) (site_does kind.Case place) λ id there _ known.
-      quietly (enter_does (λ n. Case n id) (λ n. refl) (λ n. refl) (λ n. refl) (λ n. refl) (λ n m h. lt_true id m.sites (omega (arith, known, h.sites)))) λ _ now _ _.
+      quietly (enter_does (λ n. Case n id) (λ n. refl) (λ n. refl) (λ n. refl) (λ n. refl)
+      (λ n m h. lt_true id m.sites (omega (arith, known, h.sites)))) λ _ now _ _.
       checks {L = Anything} (typed_does now places w None law tt) λ types t b n more is _. tt)
 
   case_does : (place : Place) (tests inside : List Place) (w : Written) (arms : List (List Constant × Passing (Unit {0})))
@@ -485,7 +471,8 @@ module _ (here : Here) where
           (covers_behind 0 (flat_map constant_places row.items) (stmt_places y.0 ++ arms_row rows ys) sites has)
 
   statement_layer : (y : layer.Stmt-F WithStmt) → LawfulStmt (roll-Stmt (bare y))
-  statement_layer layer.Empty = from_layer layer.Empty (record { passes = λ least. enter_does Empty (λ n. refl) (λ n. refl) (λ n. refl) (λ n. refl) (λ n m h. refl) })
+  statement_layer layer.Empty =
+      from_layer layer.Empty (record { passes = λ least. enter_does Empty (λ n. refl) (λ n. refl) (λ n. refl) (λ n. refl) (λ n m h. refl) })
   statement_layer (layer.Assign name selectors indexes becomes value) =
       from_layer (layer.Assign name selectors indexes becomes value)
       (assignment_does name selectors.items (map expr_places indexes.items) (map expression indexes.items) becomes (expr_places value) (expression value)

@@ -1,9 +1,9 @@
 -- What the steps of typing do, and what they do one after another.
-use Rattle.std.proofs.Common.{◌≡◌, ℕ, ◌+◌, ◌-◌, ◌<◌, Bool, true, false, nat_eq, nat_le, take, Result, List, [], ◌∷◌, ◌++◌, length, Option, Some, None, Ok}
-use Rattle.std.proofs.Common.{Err, if◌then◌else◌, get_or, slice_get, ◌&&◌, not}
-use Rattle.std.proofs.Common.{append-nil, length-append, refl, sym, ap, subst, ◌∙◌, arith}
+use Rattle.std.proofs.Common.{◌≡◌, ℕ, ◌+◌, ◌-◌, ◌<◌, Bool, true, false, nat_eq, nat_le, take, Result, List, [], ◌∷◌, ◌++◌, length, Option, Some, None, Ok, Err}
+use Rattle.std.proofs.Common.{if◌then◌else◌, get_or, slice_get, ◌&&◌, not, append-nil, length-append, refl, sym, ap, subst, ◌∙◌, arith, ◌||◌, inl}
 use Rattle.std.specs.List.{range_with_len, list_any}
 use Rattle.std.proofs.lemmas.Bool.Decides.{nat_tests}
+use Rattle.std.proofs.lemmas.Bool.{eq-eqb}
 use Rattle.place.specs.declared.Place.{Place}
 use Rattle.syntax_tree.specs.declared.Name.{Name}
 use Rattle.types.specs.Forms.{Form}
@@ -22,23 +22,17 @@ use Rattle.typed_tree.specs.Look.{For, Mark, Look, mark_entries, mark_loops, mar
 use Rattle.typing.specs.Passing.{Passed, Checked, After, Passing, and_then, after, pure, fail, given, by_types, mark, behind_marks, ◌>>=◌, ◌>>?◌}
 use Rattle.typing.specs.Steps.{most_sites, most_entries, pass, enter, enter_as, number_loop, begin_loop, enter_loop, site, find, told, may_change}
 use Rattle.typing.specs.Steps.{begin_control, end_control, wants_output, host_type, text_at, keep_text, is_own, is_local, may_control, with_one}
-use Rattle.typing.specs.Steps.{with_threatened}
-use Rattle.typing.specs.Steps.{assign_result, enclosing_now, heading_at, variable_at, program_heading}
+use Rattle.typing.specs.Steps.{with_threatened, assign_result, enclosing_now, heading_at, variable_at, program_heading}
 use Rattle.typing.specs.Expressions.{behind}
 use Rattle.typing.specs.Names.{folded}
 use Rattle.typing_laws.proofs.Covers.{at_place}
-use Rattle.typing_laws.proofs.Grown.{heads_of, FitsHeading, Fine, Grown, further, fine_later, grown_then, both_true}
-use Rattle.typing_laws.proofs.Reached.{IsLonger, as_long, get_longer, get_mapped, get_or_is, Signature, signature_passed, Reached, reached}
-use Rattle.typing_laws.proofs.Reached.{whole_of, IsFurther, as_far, further_still, Here, StandsIn}
-use Rattle.typing_laws.proofs.Sound.{IsSound, found_holds}
+use Rattle.typing_laws.proofs.Grown.{heads_of, FitsHeading, Fine, Grown, further, fine_later, grown_then, both_true, IsFree}
+use Rattle.typing_laws.proofs.Reached.{IsLonger, as_long, get_longer, get_mapped, get_or_is, Signature, signature_passed, Reached, reached, whole_of, IsFurther}
+use Rattle.typing_laws.proofs.Reached.{as_far, further_still, Here, StandsIn}
+use Rattle.typing_laws.proofs.Sound.{IsSound, found_holds, IsVariable, or_right}
 use Rattle.typing_laws.proofs.Tables.{AreLawful, AreTexts, texts_more}
-use Rattle.std.proofs.Common.{◌||◌}
-use Rattle.std.proofs.lemmas.Bool.{eq-eqb}
 use Rattle.typing_laws.specs.Controls.{Each, mark_changes, mark_controls}
-use Rattle.typing_laws.proofs.Grown.{IsFree}
 use Rattle.typing_laws.proofs.Kept.{MayChange, change_later}
-use Rattle.typing_laws.proofs.Sound.{IsVariable, or_right}
-use Rattle.std.proofs.Common.{inl}
 
 -- a form has grown what is known, and its answer has this
 abbrev pub Leaves : {A : Type 0} → Here → (List Stands → Type 0) → Passed → (A → Reached → Type 0) → After A → Type 0
@@ -229,7 +223,8 @@ unfolding pass
 pass_does {here} place = record {
   does = λ s a is fine h.
       let same : after tt [] (record s { latest = place }) ≡ a = cc in
-      subst (Leaves here Nothing s Anything) same (grown_silent here s (record s { latest = place }) refl refl refl refl refl refl refl refl refl (λ root is. is) refl fine, tt);
+      subst (Leaves here Nothing s Anything) same
+      (grown_silent here s (record s { latest = place }) refl refl refl refl refl refl refl refl refl (λ root is. is) refl fine, tt);
 }
 
 pub pure_does : {here : Here} {least : Reached} {A : Type 0} {K : A → Reached → Type 0} (x : A)
@@ -246,7 +241,8 @@ given_does {here} {least} {A} checked = record {
   does = λ s a is fine h.
       let x = split checked (λ b. Ok (after b [] s)) a is in
       let same : after x.0 [] s ≡ a = cc in
-      subst (Leaves here Nothing s (λ x now. checked ≡ Ok x)) same (grown_silent here s s refl refl refl refl refl refl refl refl refl (λ root is. is) refl fine, x.1);
+      subst (Leaves here Nothing s (λ x now. checked ≡ Ok x)) same
+      (grown_silent here s s refl refl refl refl refl refl refl refl refl (λ root is. is) refl fine, x.1);
 }
 
 pub by_types_does : {here : Here} {least : Reached} {A : Type 0} (test : List Form → Checked A)
@@ -534,7 +530,8 @@ may_change_does {here} {least} place root type_id known = record {
       },
     )
     by s false own fine there = (
-      grown_silent here s (record s { threatened = with_one s.threatened root }) refl refl refl refl refl refl refl refl refl (kept_with s.threatened root) refl fine,
+      grown_silent here s (record s { threatened = with_one s.threatened root }) refl refl refl refl refl refl refl refl refl
+          (kept_with s.threatened root) refl fine,
       record {
         variable = known.variable;
         is_there = there;

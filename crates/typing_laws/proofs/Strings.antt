@@ -1,14 +1,13 @@
 -- What strings do: a string has at most as many characters as a type has cells, and its type leaves all others as they are.
-use Rattle.std.proofs.Common.{◌≡◌, ℕ, ℤ, ◌*◌, ◌≤◌, Bool, true, false, ◌&&◌, not, nat_le, List, [], ◌∷◌, ◌++◌, length, Option, Some, None}
-use Rattle.std.proofs.Common.{Result, Ok, Err, pos, refl, sym, ap, ap₂, subst, ◌∙◌, arith, slice_get, append-nil, append_assoc}
+use Rattle.std.proofs.Common.{◌≡◌, ℕ, ℤ, ◌*◌, ◌≤◌, Bool, true, false, ◌&&◌, not, nat_le, List, [], ◌∷◌, ◌++◌, length, Option, Some, None, Result, Ok, Err, pos}
+use Rattle.std.proofs.Common.{refl, sym, ap, ap₂, subst, ◌∙◌, arith, slice_get, append-nil, append_assoc, inl}
 use Rattle.std.specs.Prelude.{◌==◌, ◌-ℤ◌, ◌+ℤ◌}
 use Rattle.std.specs.List.{list_all}
 use Rattle.std.specs.Option.{option_and_then}
 use Rattle.std.proofs.lemmas.Bool.Decides.{nat_tests}
 use Rattle.std.proofs.lemmas.Int.{ints}
 use Rattle.place.specs.declared.Place.{Place}
-use Rattle.types.specs.Forms.{Form}
-use Rattle.types.specs.Forms.{Subrange, Array}
+use Rattle.types.specs.Forms.{Form, Subrange, Array}
 use Rattle.types.specs.declared.form.TypeId.{TypeId}
 use Rattle.types.specs.declared.refusal.TypeRefusal.{TypeRefusal}
 use Rattle.types.specs.Types.{integer, char, natural, admitted_cells, numbered, counted, cells_at, values_at, index_values, form_range, most_cells}
@@ -22,7 +21,6 @@ use Rattle.typing_laws.proofs.Tables.{AreLawful, admitted_few, char_cell, lawful
 use Rattle.typing_laws.proofs.Reached.{IsLonger, Here, Reached}
 use Rattle.typing_laws.proofs.Grown.{Grown, both_true}
 use Rattle.typing_laws.proofs.Steps.{Does, Nothing, Leaves, IsSoundThen, split, quietly, pure_does, keep_text_does}
-use Rattle.std.proofs.Common.{inl}
 
 -- ---- tests
 

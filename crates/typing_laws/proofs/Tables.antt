@@ -1,15 +1,13 @@
 -- Tables of types as a program makes them, each longer than the one before, and texts that are characters.
-use Rattle.std.proofs.Common.{◌≡◌, ℕ, zero, suc, ◌<◌, ◌≤◌, Bool, true, false, if◌then◌else◌, nat_lt, List, [], ◌∷◌, ◌++◌, length, sum_by}
-use Rattle.std.proofs.Common.{Some, None, Ok, Err, ok_or, slice_get, get_or, refl, sym, ap, subst, ◌∙◌, arith}
-use Rattle.std.proofs.Common.{length-append, append_assoc}
+use Rattle.std.proofs.Common.{◌≡◌, ℕ, zero, suc, ◌<◌, ◌≤◌, Bool, true, false, if◌then◌else◌, nat_lt, List, [], ◌∷◌, ◌++◌, length, sum_by, Some, None, Ok, Err}
+use Rattle.std.proofs.Common.{ok_or, slice_get, get_or, refl, sym, ap, subst, ◌∙◌, arith, length-append, append_assoc}
 use Rattle.std.proofs.lemmas.Bool.Decides.{nat_tests}
 use Rattle.std.proofs.lemmas.List.Sums.{sum_by-cons}
 use Rattle.types.specs.Forms.{Form}
 use Rattle.types.specs.declared.form.TypeId.{TypeId}
 use Rattle.types.specs.declared.refusal.TypeRefusal.TheVariants.{TooManyCells, FirstAboveLast}
 use Rattle.types.specs.Types.{Counted, admitted_cells, cells_of, char, counted, element_of, entry_cells, few, field_at, form_cells, form_range, is_ordinal}
-use Rattle.types.specs.Types.{range_of}
-use Rattle.types.specs.Types.{is_turned, most_cells, required_forms}
+use Rattle.types.specs.Types.{range_of, is_turned, most_cells, required_forms}
 use Rattle.types.proofs.Counts.{counted_more, one_cell}
 use Rattle.types.proofs.Longer.{cells_longer, element_longer, field_at_longer, ordinal_longer, range_longer}
 use Rattle.typed_tree.specs.declared.tree.Variable.{Variable}

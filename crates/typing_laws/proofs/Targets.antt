@@ -1,100 +1,51 @@
 -- What the target of an assignment does: a variable of the block or of one round it, or the result of a function inside its
 -- block, which is assigned then.
-use Rattle.std.proofs.Common.{◌≡◌, ℕ, ℤ, Vec, ◌<◌, ap, ap₂, ◌∙◌, ◌||◌, length, nat_eq, Bool, true, false, if◌then◌else◌, List, [], ◌∷◌, ◌++◌, map, Option}
-use Rattle.std.proofs.Common.{Some, None, Ok, refl, sym, slice_get}
-use Rattle.std.proofs.Common.{subst, append_assoc, arith, is_none, option_map, ◌&&◌}
-use Rattle.std.specs.List.{flat_map}
-use Rattle.std.specs.declared.alloc.Global.{Global}
+use Rattle.std.proofs.Common.{◌≡◌, ℕ, ◌<◌, ap, ap₂, ◌∙◌, ◌||◌, length, nat_eq, Bool, true, false, if◌then◌else◌, List, [], ◌∷◌, ◌++◌, Option, Some, None, Ok}
+use Rattle.std.proofs.Common.{refl, sym, slice_get, subst, Err, get_or, inl, inr, ◌⊎◌}
 use Rattle.std.proofs.lemmas.Bool.{eq-eqb, eqb-true}
+use Rattle.std.specs.List.{list_any}
 use Rattle.place.specs.declared.Place.{Place}
 use Rattle.syntax_tree.specs.declared.Name.{Name}
-use Rattle.syntax_tree.specs.declared.Expr.{Expr}
-use Rattle.syntax_tree.specs.declared.Actual.{Actual}
-use Rattle.syntax_tree.specs.declared.Link.{Link}
-use Rattle.syntax_tree.specs.declared.Constant.{Constant}
-use Rattle.syntax_tree.specs.declared.Direction.{Direction as SyntaxDirection}
-use Rattle.syntax_tree.specs.declared.Expr.TheOpen as expr_layer
-use Rattle.syntax_tree.specs.declared.Expr.TheViews.{out-Expr, out-Actual}
-use Rattle.syntax_tree.specs.declared.Stmt.{Stmt}
-use Rattle.syntax_tree.specs.declared.Stmt.TheOpen as layer
-use Rattle.syntax_tree.specs.declared.Stmt.TheViews.{roll-Stmt}
-use Rattle.syntax_tree.specs.declared.Stmt.TheFolds.{map-Stmt, fold-roll-Stmt, ind-Stmt}
 use Rattle.syntax_tree.specs.declared.Selector.{Selector}
-use Rattle.syntax_tree.specs.Places.{Places, selector_places, joined_places, expr_places, actual_places, stmt_places, arms_of, arm_places, constant_places}
-use Rattle.syntax_tree.specs.Places.{statement_step as statement_row}
-use Rattle.types.specs.Forms.{Form}
+use Rattle.syntax_tree.specs.Places.{selector_places}
 use Rattle.types.specs.declared.form.TypeId.{TypeId}
-use Rattle.types.specs.Types.{integer, cells_of, is_ordinal, is_string}
+use Rattle.types.specs.Types.{is_ordinal}
 use Rattle.scopes.specs.declared.denotation.Denotation.{Denotation}
-use Rattle.scopes.specs.declared.denotation.RequiredProcedure.{RequiredProcedure}
+use Rattle.scopes.specs.Scopes.{found}
 use Rattle.typed_tree.specs.declared.fault.TypeFault.TheVariants as fault
-use Rattle.typed_tree.specs.declared.site.SiteKind.{SiteKind}
-use Rattle.typed_tree.specs.declared.site.SiteKind.TheVariants as kind
-use Rattle.typed_tree.specs.declared.tree.Representation.{Representation}
 use Rattle.typed_tree.specs.Ids.{Stands}
 use Rattle.typed_tree.specs.declared.tree.Selector.{Selector as TreeSelector}
 use Rattle.typed_tree.specs.declared.tree.Variable.{Variable}
 use Rattle.typed_tree.specs.Accesses.{index_count}
-use Rattle.typed_tree.specs.Look.{Access, Assign, Target, WholeTarget, Copied, Fits, Write, Written as WrittenMark, Width, Empty, Compound, If, Then}
-use Rattle.typed_tree.specs.Look.{Else, While, Do, Repeat, Until, For}
-use Rattle.typed_tree.specs.Look.{Case, Arm, Ends, Mark, WrittenString, mark_entries, mark_loops, mark_blocks, is_formed_mark}
-use Rattle.typed_tree.specs.WellFormed.{Outline, is_declared, is_local_kind, is_one_of, of_one}
-use Rattle.typing.specs.Passing.{Enclosing, Passing, and_then, each, mark}
-use Rattle.typing.specs.Steps.{fits, is_local, or_mismatch}
-use Rattle.typing.specs.declared.typed.Typed.{Typed}
-use Rattle.typing.specs.Expressions.{Written, WrittenActual, is_of, as_routine, as_variable, expression, written_actual}
-use Rattle.typing.specs.Statements.{target_mark, result_target, or_no_variable, function_target, target_of, target, assigned, copied, assignment}
-use Rattle.typing.specs.Statements.{as_procedure, ends_line}
-use Rattle.typing.specs.Statements.{is_output, names_file, unless_wide, is_file, written_values}
-use Rattle.typing.specs.Statements.{has_values, representation_of, written_as, measured, width, parameter, write, required_call, declared_call, call_by}
-use Rattle.typing.specs.Statements.{procedure_call, compound, condition}
-use Rattle.typing.specs.Statements.{alternative, tested, choice, while_loop}
-use Rattle.typing.specs.Statements.{repeat_loop, way, bound, for_head, for_body, for_loop, case_arms, case_head, case_body, case_statement, statement_step}
-use Rattle.typing.specs.Statements.{statement}
-use Rattle.typing_laws.proofs.Tables.{stands_longer, cells_of_longer}
-use Rattle.typing_laws.proofs.WholeRanges.{IsWholeRange}
-use Rattle.typing_laws.proofs.Covers.{Covers, covers_both, covers_none, covers_behind, covers_skip, covers_lower, leads_first}
-use Rattle.typing_laws.proofs.Grown.{heads_of, both_true}
-use Rattle.typing_laws.proofs.Reached.{Signature, Reached, whole_of, IsFurther, further_still, Here, StandsIn, is_round_here, get_longer, stands_later}
-use Rattle.typing_laws.proofs.Sound.{IsVariable, IsRoutine, variable_later, or_right}
-use Rattle.typing_laws.proofs.Steps.{Does, Anything, Nothing, IsFound, joins, quietly, last, checks, checks_types, sited, further_answered, pure_does}
-use Rattle.typing_laws.proofs.Steps.{given_does}
-use Rattle.typing_laws.proofs.Steps.{by_types_does, fail_does, find_does, pass_does, enclosing_now_does, heading_at_does, variable_at_does, assign_result_does}
-use Rattle.typing_laws.proofs.Steps.{wants_output_does}
-use Rattle.typing_laws.proofs.Steps.{mark_does, enter_does, enter_loop_does, may_change_does, begin_control_does, end_control_does, site_does}
-use Rattle.typing_laws.proofs.Steps.{IsKnown}
-use Rattle.typing_laws.proofs.Leading.{IsLed, Types, lt_true, LawfulWritten, covers_test, led_covers}
+use Rattle.typed_tree.specs.Look.{Access, Target, WholeTarget, Look}
+use Rattle.typed_tree.specs.WellFormed.{is_one_of}
+use Rattle.typing.specs.Passing.{Enclosing, Passing, and_then, mark, After, Checked, Passed, given, after, behind_marks, pure, ◌>>=◌, ◌>>◌}
+use Rattle.typing.specs.Expressions.{Written, as_routine, as_variable, selected, tests_ordinal}
+use Rattle.typing.specs.Statements.{target_mark, result_target, or_no_variable, function_target, target_of, target}
+use Rattle.typing.specs.Names.{folded}
+use Rattle.typing.specs.Steps.{assign_result, enclosing_now, enter_as, find, heading_at, may_change, program_heading, told, variable_at, with_one}
+use Rattle.typing_laws.proofs.Tables.{stands_longer}
+use Rattle.typing_laws.proofs.Covers.{Covers}
+use Rattle.typing_laws.proofs.Grown.{heads_of, Fine, Grown, IsFree, fine_later, target_second}
+use Rattle.typing_laws.proofs.Reached.{Signature, Reached, further_still, Here, StandsIn, is_round_here, get_longer, stands_later, as_far, as_long, reached}
+use Rattle.typing_laws.proofs.Sound.{IsVariable, IsRoutine, variable_later, or_right, regions_later}
+use Rattle.typing_laws.proofs.Steps.{Does, Anything, Nothing, IsFound, quietly, last, further_answered, pure_does, given_does, fail_does, find_does}
+use Rattle.typing_laws.proofs.Steps.{enclosing_now_does, heading_at_does, variable_at_does, assign_result_does, enter_does, may_change_does, change_does, split}
+use Rattle.typing_laws.proofs.Steps.{split_behind}
 use Rattle.typing_laws.proofs.Accesses.{LeadsTo, AreLawfulRows, leads_nowhere, leads_later, selected_does, tests_ordinal_does, tested as tested_is}
 use Rattle.typing_laws.proofs.Accesses.{ordinal_formed, whole_formed}
-use Rattle.typing_laws.proofs.Calls.{IsLawfulWidth, LawfulActual, fitting_whole, copying_is, may_call_it, routine_is, routine_call_does}
+use Rattle.typing_laws.proofs.Calls.{may_call_it, routine_is}
 use Rattle.typing_laws.proofs.Expressions.{variable_is}
-use Rattle.typing_laws.proofs.Constants.{row_does}
-use Rattle.typing_laws.proofs.Strings.{there, fit_is}
-use Rattle.typing_laws.proofs.EveryExpression.{expression_lawful, actual_lawful, indexes_lawful, every_actual_lawful}
-use Rattle.typing_laws.specs.Controls.{mark_changes}
-use Rattle.typing_laws.proofs.Kept.{MayChange, change_later}
-use Rattle.typing_laws.proofs.Steps.{change_does, controlled_does}
-
-use Rattle.std.proofs.Common.{Err, get_or, inl, inr, ◌⊎◌}
-use Rattle.std.specs.List.{list_any}
-use Rattle.scopes.specs.Scopes.{found}
-use Rattle.typed_tree.specs.Look.{Look}
-use Rattle.typing.specs.Names.{folded}
-use Rattle.typing.specs.Passing.{After, Checked, Passed, given, after, behind_marks, pure, ◌>>=◌, ◌>>◌}
-use Rattle.typing.specs.Steps.{assign_result, enclosing_now, enter_as, find, heading_at, may_change, program_heading, told, variable_at, with_one}
-use Rattle.typing.specs.Expressions.{selected, tests_ordinal}
+use Rattle.typing_laws.proofs.Strings.{there}
+use Rattle.typing_laws.proofs.Kept.{MayChange, change_later, changes_of, controls_of, each_more}
 use Rattle.typing_laws.specs.Results.{is_target}
-use Rattle.typing_laws.proofs.Grown.{Fine, Grown, IsFree, fine_later, target_second}
-use Rattle.typing_laws.proofs.Kept.{changes_of, controls_of, each_more}
-use Rattle.typing_laws.proofs.Reached.{as_far, as_long, reached}
-use Rattle.typing_laws.proofs.Sound.{regions_later}
-use Rattle.typing_laws.proofs.Steps.{split, split_behind}
 
 module _ (here : Here) where
   target_formed : {least : Reached} (root : ℕ) (selectors : List TreeSelector) (id : TypeId) (ordinal : Bool) → LeadsTo here root selectors id least
       → is_ordinal least.types id ≡ ordinal → MayChange here least root → Does here least Nothing (mark (target_mark ordinal root selectors id)) Anything
   target_formed {least} root selectors id true l is may =
-      change_does (Target root selectors (index_count selectors)) root refl refl refl refl refl may (λ n h. ordinal_formed here root selectors id least n l is h)
+      change_does (Target root selectors (index_count selectors)) root refl refl refl refl refl may
+      (λ n h. ordinal_formed here root selectors id least n l is h)
   target_formed {least} root selectors id false l is may =
       change_does (WholeTarget root selectors (index_count selectors) id) root refl refl refl refl refl may
       (λ n h. whole_formed here root selectors id least n l is h)
@@ -415,26 +366,31 @@ module _ (here : Here) where
         let two = (target_of_does o {least = now} (as_routine d) name.place d refl one.1 refl).does x.0.passed u.0 u.1 fine1 as_far in
         let fine2 = fine_settled here u.0.passed (fine_later two.0 fine1) in
         let three =
-        (access_does here {least = reached u.0.passed} name selectors rows ws (laws here) u.0.answer
-        (record {
-          variable = two.1.0.variable;
-          is_there = two.1.0.is_there;
-          is_visible = two.1.0.is_visible;
-          of_type = two.1.0.of_type;
-          stands = two.1.0.stands;
-        }, two.1.1)).does u.0.passed v.0 v.1 fine2 as_far in
+        (access_does here {least = reached u.0.passed} name selectors rows ws (laws here) u.0.answer (
+          record {
+            variable = two.1.0.variable;
+            is_there = two.1.0.is_there;
+            is_visible = two.1.0.is_visible;
+            of_type = two.1.0.of_type;
+            stands = two.1.0.stands;
+          },
+          two.1.1,
+        )).does u.0.passed v.0 v.1 fine2 as_far in
         let told = access_told here name selectors ws u.0.answer u.0.passed v.0 v.1 in
         let from_name = find_assigned name s x.0 x.1 in
         let from_target = target_of_assigned (as_routine d) name.place d x.0.passed u.0 u.1 in
         let look : a.look ≡ x.0.look ++ (u.0.look ++ v.0.look) =
         ap (λ (z : After TypeId). z.look) (sym y.2) ∙ ap (λ (z : After TypeId). x.0.look ++ z.look) (sym v.2) in
         let passed : a.passed ≡ v.0.passed =
-        ap (λ (z : After TypeId). z.passed) (sym y.2) ∙ ap (λ (z : After TypeId). z.passed) (sym v.2) in
-        (settled k.0 (λ is root there.
-        let in_last = ap (λ (n : Passed). list_any (nat_eq root) n.assigned) (sym passed) ∙ there in
-        let in_look : is_target v.0.look root ≡ true → is_target a.look root ≡ true =
-        λ t. subst (λ l. is_target l root ≡ true) (sym look) (target_second x.0.look (u.0.look ++ v.0.look) root (target_second u.0.look v.0.look root t)) in
-        by s root x.0.passed.assigned u.0.answer.0 a.look v.0.look from_name (from_target root) told in_look (three.0.assigned is root in_last)), k.1);
+        ap (λ (z : After TypeId). z.passed) (sym y.2) ∙ ap (λ (z : After TypeId). z.passed) (sym v.2) in (
+          settled k.0 (λ is root there.
+              let in_last = ap (λ (n : Passed). list_any (nat_eq root) n.assigned) (sym passed) ∙ there in
+              let in_look : is_target v.0.look root ≡ true → is_target a.look root ≡ true =
+              λ t. subst (λ l. is_target l root ≡ true) (sym look)
+              (target_second x.0.look (u.0.look ++ v.0.look) root (target_second u.0.look v.0.look root t)) in
+              by s root x.0.passed.assigned u.0.answer.0 a.look v.0.look from_name (from_target root) told in_look (three.0.assigned is root in_last)),
+          k.1,
+        );
   }
     where
       by : (s : Passed) (root : ℕ) (first : List ℕ) (own : ℕ) (whole last : Look) {middle : Bool} → first ≡ s.assigned

@@ -1,7 +1,7 @@
 -- What the typed tree of a program has: by the laws of typing it is well formed, and its entries and its loops are numbered
 -- in the order of the text.
-use Rattle.std.proofs.Common.{◌≡◌, ℕ, ◌+◌, ◌<◌, ◌≤◌, true, nat_lt, List, [], ◌∷◌, ◌++◌, length, map, Option, Some, None, slice_get, refl, sym, ap, subst}
-use Rattle.std.proofs.Common.{◌∙◌, arith}
+use Rattle.std.proofs.Common.{◌≡◌, ℕ, ◌+◌, ◌<◌, ◌≤◌, true, nat_lt, List, [], ◌∷◌, ◌++◌, length, map, Option, Some, None, slice_get, refl, sym, ap, subst, ◌∙◌}
+use Rattle.std.proofs.Common.{arith}
 use Rattle.std.specs.Prelude.{IsPermutation, flat_map}
 use Rattle.std.specs.List.{list_all, range_with_len}
 use Rattle.std.proofs.lemmas.List.{length-map}
@@ -15,8 +15,7 @@ use Rattle.typed_tree.specs.declared.tree.Variable.{Variable}
 use Rattle.typed_tree.specs.Entries.{AreNumbered, of_block}
 use Rattle.typed_tree.specs.Ids.{AreByPlace}
 use Rattle.typed_tree.specs.Look.{Look, Mark, BlockEnds, are_formed, blocks_of_look, entries_of_look, loops_of_look, heading_look, look_block, look_stmt}
-use Rattle.typed_tree.specs.Look.{mark_blocks}
-use Rattle.typed_tree.specs.Look.{tree_look}
+use Rattle.typed_tree.specs.Look.{mark_blocks, tree_look}
 use Rattle.typed_tree.specs.Loops.{loops_of}
 use Rattle.typed_tree.specs.WellFormed.{IsWellFormed, heading_of, is_well_formed_block, most_variables, outline_of}
 use Rattle.typed_tree.proofs.Blocks.{are_well_formed, bodies_are_formed}

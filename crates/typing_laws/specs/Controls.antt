@@ -1,5 +1,5 @@
--- Control variables (ISO 7185:1990, 6.8.3.9): no other block than that whose for statement a variable controls assigns it,
--- passes it to a variable parameter, or uses it as a control variable. It says nothing of the statement of the for.
+-- Control variables (ISO 7185:1990, 6.8.3.9): no other block than that whose for statement a variable controls assigns
+-- it, passes it to a variable parameter, or uses it as a control variable. It says nothing of the statement of the for.
 use Rattle.std.specs.Prelude.{◌≡◌, ℕ, ◌++◌, List, [], ◌∷◌, map}
 use Rattle.typed_tree.specs.Look.{Look, Mark, For, ForVariable, Target, WholeTarget, blocks_of_look, next_of}
 

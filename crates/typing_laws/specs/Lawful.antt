@@ -1,8 +1,7 @@
 -- What a typed program has: by how its typed tree looks, and by what is known behind it. It says nothing of what the
 -- program does.
 use Rattle.std.specs.Prelude.{◌≡◌, ℕ, ◌<◌, ◌≤◌, ◌++◌, List, [], ◌∷◌, Option, Some, true, IsPermutation, nat_lt, length}
-use Rattle.std.specs.Prelude.{slice_get}
-use Rattle.std.specs.Prelude.{Ok}
+use Rattle.std.specs.Prelude.{slice_get, Ok}
 use Rattle.std.specs.List.{range_with_len, list_all}
 use Rattle.place.specs.Place.{ArePlacesInOrder}
 use Rattle.syntax_tree.specs.declared.Program.{Program}
@@ -18,6 +17,7 @@ use Rattle.typing.specs.Passing.{After}
 use Rattle.typing.specs.Steps.{most_sites, most_entries}
 use Rattle.typing.specs.Typing.{typing}
 use Rattle.typing_laws.specs.Controls.{AreUnthreatened}
+use Rattle.typing_laws.specs.Results.{are_assigned}
 
 -- the required types, and then a program's own
 abbrev pub BeginWithRequired : List Form → Type 0
@@ -68,6 +68,8 @@ pub record Lawful (program : Program) (a : After (Unit {0})) : Type 0 where
   pub few_cells : (outline : Outline) → IsOutlineOf a outline → (number : ℕ) → are_few_cells outline number ≡ true
   -- the variable of each for statement is changed in its block alone
   pub unthreatened : AreUnthreatened a.look
+  -- the result of each function is assigned somewhere
+  pub assigned : are_assigned a.look ≡ true
   pub few_variables : length a.passed.variables ≤ most_variables
   -- each variable is one that a block declares
   pub declared : list_all (λ variable. nat_lt variable.block (length a.passed.headings)) a.passed.variables ≡ true

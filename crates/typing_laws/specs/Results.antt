@@ -1,7 +1,7 @@
--- Results of functions (ISO 7185:1990, 6.6.2): each is assigned somewhere. It says nothing of whether a run comes there.
-use Rattle.std.specs.Prelude.{ℕ, List, [], ◌∷◌, Some, flat_map, nat_eq}
+-- Results of functions (ISO 7185:1990, 6.6.2): each is assigned somewhere. It says nothing of whether a run comes
+-- there.
+use Rattle.std.specs.Prelude.{ℕ, List, [], ◌∷◌, Some, flat_map, nat_eq, Bool}
 use Rattle.std.specs.List.{list_all, list_any}
-use Rattle.std.specs.Prelude.{◌≡◌, Bool, true}
 use Rattle.typed_tree.specs.Look.{Look, Mark, BlockEnds, Target, WholeTarget}
 
 -- the variable left of `:=`

@@ -1,4 +1,4 @@
-use Rattle.std.proofs.Common.{arith, ◌≡◌, ◌∙◌, ◌&&◌, ◌+◌, ◌-◌, ◌<◌, ap, sym, drop, length, Bool, true, false}
+use Rattle.std.proofs.Common.{arith, ◌≡◌, ◌∙◌, ◌&&◌, ◌+◌, ◌-◌, ◌<◌, ap, sym, drop, length, true, false}
 use Rattle.std.specs.List.{range_with_len}
 use Rattle.leaf_rows.specs.View.{numbers}
 use Rattle.leaf_rows.specs.Rows.{rows_of, values_at}
