@@ -15,9 +15,10 @@ returns-in_err-typer c =
 
 -- its block stops
 pub returns-in_err-program_blocks : goal.returns-in_err-program_blocks
+unfolding typing
 returns-in_err-program_blocks c =
     let stops : IsFault (typing c.args.program.now) c.in_err-program_blocks.field-0.0 = c.in_err-program_blocks.ensures in
-    search (rules, stops)
+    search (rules, stops, c.from_residual-in_err-program_blocks.ensures)
 
 -- the tree of the program
 pub returns : goal.returns
