@@ -147,24 +147,23 @@ none-given one plain parts result one_is none is = is ∙ sym (ap (λ p. p && pa
 
 -- ---- the program
 
+abbrev made : Tree → List Interval → List Claims → List BlockClaims → List (ℕ × ℕ) → List Round → Context
+made tree limits claims sections pairs rounds =
+    record { tree = tree; limits = limits; claims = claims; blocks = sections; pairs = pairs; block = 0; rounds = rounds }
+
 -- what the checker goes by before the first block
 pub program-context : (tree found : Tree) (certificate : Certificate) (limits : List Interval) (sections : List BlockClaims) (pairs : List (ℕ × ℕ))
     (rounds : List Round) (claims : List Claims)
     → found ≡ tree → limits ≡ all_limits found → sections ≡ all_block_claims found certificate → pairs ≡ all_pairs certificate → rounds ≡ []
     → claims ≡ all_claims found certificate
-    → ◌≡◌ {A = Context}
-    (record { tree = tree; limits = limits; claims = claims; blocks = sections; pairs = pairs; block = 0; rounds = rounds })
-    (first_context tree certificate)
+    → made tree limits claims sections pairs rounds ≡ first_context tree certificate
 program-context tree found certificate limits sections pairs rounds claims found_is limits_are sections_are pairs_are rounds_are claims_are =
-    let made = λ (limits : List Interval) (claims : List Claims) (sections : List BlockClaims) (pairs : List (ℕ × ℕ)) (rounds : List Round).
-    record { tree = tree; limits = limits; claims = claims; blocks = sections; pairs = pairs; block = 0; rounds = rounds } in
-    ap {B = Context} (λ (l : List Interval). made l claims sections pairs rounds) (limits_are ∙ ap all_limits found_is)
-    ∙ ap {B = Context} (λ (c : List Claims). made (all_limits tree) c sections pairs rounds) (claims_are ∙ ap (λ t. all_claims t certificate) found_is)
-    ∙ ap {B = Context} (λ (b : List BlockClaims). made (all_limits tree) (all_claims tree certificate) b pairs rounds)
-    (sections_are ∙ ap (λ t. all_block_claims t certificate) found_is)
-    ∙ ap {B = Context} (λ (p : List (ℕ × ℕ)). made (all_limits tree) (all_claims tree certificate) (all_block_claims tree certificate) p rounds) pairs_are
-    ∙ ap {B = Context} (λ (r : List Round). made (all_limits tree) (all_claims tree certificate) (all_block_claims tree certificate) (all_pairs certificate) r)
-    rounds_are
+    ap (λ (l : List Interval). made tree l claims sections pairs rounds) (limits_are ∙ ap all_limits found_is)
+    ∙ ap (λ (c : List Claims). made tree (all_limits tree) c sections pairs rounds) (claims_are ∙ ap (λ (t : Tree). all_claims t certificate) found_is)
+    ∙ ap (λ (b : List BlockClaims). made tree (all_limits tree) (all_claims tree certificate) b pairs rounds)
+    (sections_are ∙ ap (λ (t : Tree). all_block_claims t certificate) found_is)
+    ∙ ap (λ (p : List (ℕ × ℕ)). made tree (all_limits tree) (all_claims tree certificate) (all_block_claims tree certificate) p rounds) pairs_are
+    ∙ ap (made tree (all_limits tree) (all_claims tree certificate) (all_block_claims tree certificate) (all_pairs certificate)) rounds_are
 
 -- it has the aliases of the loops
 pub program-loops : (tree found : Tree) (certificate : Certificate) (context : Context) (pairs : List (ℕ × ℕ)) (claims : List Claims)
