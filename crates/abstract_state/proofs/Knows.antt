@@ -1,6 +1,6 @@
 -- What a state says of a run, with what the walk keeps of its states: a row for each variable. The steps of a run keep
 -- it.
-use Rattle.std.proofs.Common.{arith, ◌≡◌, ⊎_elim, ◌⊎◌, inl, inr, ◌∙◌, sym, ap, refl, subst, ℕ, zero, suc, ◌<◌, Bool, true, cond, List, [], ◌∷◌, get_or, length}
+use Rattle.std.proofs.Common.{arith, ◌≡◌, ⊎_elim, ◌⊎◌, inl, inr, ◌∙◌, sym, ap, refl, subst, ℕ, zero, suc, Bool, true, cond, List, [], ◌∷◌, get_or, length}
 use Rattle.std.proofs.Common.{set, Option, Some, None}
 use Rattle.std.specs.Prelude.{nat_lt}
 use Rattle.std.proofs.lemmas.Bool.{cond_both}

@@ -1,9 +1,9 @@
 -- What is known after turns of a loop, at its head and behind it holds there.
 use Rattle.std.proofs.Common.{arith, ◌≡◌, ◌⊎◌, ⊎_elim, inl, inr, ◌∙◌, sym, ap, refl, subst, ℕ, ℤ, ◌+ℤ◌, neg_ℤ, ◌<◌, ◌≤◌, Bool, true, false, not, cond, ◌||◌}
-use Rattle.std.proofs.Common.{nat_eq, List, [], ◌∷◌, ◌++◌, get_or, length, set, Option, Some, None}
-use Rattle.std.specs.List.{Contains, All, filter, filter_map, list_any}
+use Rattle.std.proofs.Common.{nat_eq, List, [], ◌∷◌, get_or, length, set, Option, Some, None}
+use Rattle.std.specs.List.{Contains, All, filter, filter_map}
 use Rattle.std.proofs.lemmas.Int.{ints}
-use Rattle.std.proofs.lemmas.Bool.{and_parts, cases_lt, eq-eqb, cond_both, eqb-true, or_parts}
+use Rattle.std.proofs.lemmas.Bool.{and_parts, cases_lt, eq-eqb, cond_both, eqb-true}
 use Rattle.std.proofs.lemmas.List.{get_or-set_same, get_or-set_other, length-set}
 use Rattle.std.proofs.lemmas.List.Elements.{All-cons, All-nil, All-contains, All-head, All-tail}
 use Rattle.domain.specs.Interval.{Interval, common, vacant}
@@ -12,10 +12,9 @@ use Rattle.domain.specs.Facts.{Path, Bound, Plus, Fact, Range, Defined, Stretch,
 use Rattle.meaning.specs.declared.store.Value.{Value}
 use Rattle.meaning.specs.Integers.{is_integer_number}
 use Rattle.types.specs.declared.form.Step.{Step}
-use Rattle.types.specs.declared.form.Step.TheVariants.{Element}
 use Rattle.meaning.specs.Store.{Environment, Place, Store}
 use Rattle.abstract_state.specs.State.{State, Facts, Dead, Live, gives_fact, is_entire, range_of, with_defined, with_facts, with_range}
-use Rattle.abstract_state.specs.Changes.{bound_rests_on, changed, ordered, raised_number, rests_on}
+use Rattle.abstract_state.specs.Changes.{changed, ordered, raised_number, rests_on}
 use Rattle.abstract_state.specs.Loops.{after_turns, all_forgotten, all_touched, defines, gives_all, head, in_place, is_among, replaced, with_claim, with_claims}
 use Rattle.abstract_state.specs.Loops.{with_forgotten, with_touched, with_undefined}
 use Rattle.abstract_state.specs.Holds.{Holds, HasNumber, HasValue, IsBound, IsIn, is_named, part_of, value_at}
@@ -222,7 +221,8 @@ loose-left variables env root aliases (Live facts) after loose left = record {
       left.ranges other (both-false (nat_eq root other) (is_among other aliases) (either-false (nat_eq root other) false apart) free) steps v named is)
       (either-so (is_among other aliases));
   facts = λ one listed rests says.
-      left.facts one listed (both-false (rests_on root one) (rests_on_any aliases one) (either-false (rests_on root one) false rests) (loose.facts one listed)) says;
+      left.facts one listed
+          (both-false (rests_on root one) (rests_on_any aliases one) (either-false (rests_on root one) false rests) (loose.facts one listed)) says;
 }
 
 -- what is known where a variable may have another value of its type, which its aliases may have then too

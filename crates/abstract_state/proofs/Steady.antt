@@ -6,7 +6,7 @@ use Rattle.domain.specs.Facts as fact
 use Rattle.domain.specs.Facts.{Bound, Plus, Fact, Range, Defined, Stretch, Order}
 use Rattle.types.specs.declared.form.Step.TheVariants.{Element}
 use Rattle.meaning.specs.Store.{Environment, Store}
-use Rattle.abstract_state.specs.Changes.{bound_rests_on, rests_on}
+use Rattle.abstract_state.specs.Changes.{bound_rests_on}
 use Rattle.abstract_state.specs.Loops.{defines, is_among}
 use Rattle.abstract_state.specs.Holds.{Holds, HasNumber, IsBound}
 use Rattle.abstract_state.specs.Knows.{IsKept, moment, rests_on_any}
@@ -34,7 +34,8 @@ module _ (env : Environment) (touched controls : List ℕ) (before after : Store
   bound-kept (Plus other m) n apart (number, has, is) = (number, number-kept other number apart has, is)
 
   -- a fact stays true that rests on no variable which is touched
-  pub fact-stays : (one : Fact) → rests_on_any touched one ≡ false → defines_any controls one ≡ false → Holds one (moment env before) → Holds one (moment env after)
+  pub fact-stays : (one : Fact) → rests_on_any touched one ≡ false → defines_any controls one ≡ false → Holds one (moment env before)
+      → Holds one (moment env after)
   fact-stays (Range path range) rests says holds = λ steps v named there. holds steps v named (sym (kept.values path.root rests steps) ∙ there)
   fact-stays (Defined path) rests says holds = (holds.0, holds.1, kept.defined path.root says holds.0 holds.2)
   fact-stays (Stretch path first last) rests says (from, to, from_is, to_is, steps, named, each) =

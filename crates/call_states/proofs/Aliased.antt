@@ -1,9 +1,9 @@
 -- What is known after a store through one variable of its aliases: it holds where the state did, before the store, and rests on no value that an alias may
 -- have got.
-use Rattle.std.proofs.Common.{arith, ◌≡◌, ⊎_elim, ◌⊎◌, inl, inr, ◌∙◌, sym, ap, refl, subst, ℕ, zero, suc, ◌<◌, Bool, true, false, cond, ◌||◌, nat_eq, List, []}
+use Rattle.std.proofs.Common.{arith, ◌≡◌, ⊎_elim, ◌⊎◌, ◌∙◌, sym, ap, refl, subst, ℕ, zero, suc, ◌<◌, Bool, true, false, cond, ◌||◌, nat_eq, List, []}
 use Rattle.std.proofs.Common.{◌∷◌, ◌≤◌, get_or, length, set, Option, Some, None}
 use Rattle.std.specs.Prelude.{slice_index_or}
-use Rattle.std.specs.List.{All, Contains, filter_map, list_any}
+use Rattle.std.specs.List.{All, Contains, filter_map}
 use Rattle.std.proofs.lemmas.Bool.{cases_lt, eqb-true, or_cases}
 use Rattle.std.proofs.lemmas.List.{get_or-set_same, length-set}
 use Rattle.std.proofs.lemmas.List.Elements.{All-contains, All-weaker}
@@ -11,7 +11,7 @@ use Rattle.std.proofs.lemmas.Option.{get_or_from_slice_get, slice_get_within}
 use Rattle.types.specs.declared.form.Step.{Step}
 use Rattle.typed_tree.specs.declared.tree.Tree.{Tree}
 use Rattle.domain.specs.Interval.{Interval, joined, vacant}
-use Rattle.domain.specs.Facts.{Bound, Fact, Plus}
+use Rattle.domain.specs.Facts.{Bound, Fact}
 use Rattle.meaning.specs.declared.store.Value.{Value}
 use Rattle.meaning.specs.Store.{Environment, Place, Store}
 use Rattle.abstract_state.specs.State as variables

@@ -1,13 +1,10 @@
 -- What stores of numbers to a variable, or to components of it, leave: they have them, aliases may have them too, and all else is as it was.
-use Rattle.std.proofs.Common.{arith, ◌≡◌, ◌≢◌, ⊎_elim, ◌⊎◌, inl, inr, ◌∙◌, sym, ap, refl, subst, ℕ, zero, suc, ◌<◌, ℤ, Bool, true, false, cond, ◌||◌}
-use Rattle.std.proofs.Common.{nat_eq, List, [], ◌∷◌, ◌++◌, Option, Some, None, append-nil}
-use Rattle.std.specs.Prelude.{flat_map}
+use Rattle.std.proofs.Common.{arith, ◌≡◌, ◌≢◌, ⊎_elim, ◌⊎◌, inl, inr, ◌∙◌, sym, ap, refl, subst, ℕ, zero, suc, ℤ, Bool, true, false, cond, ◌||◌}
+use Rattle.std.proofs.Common.{nat_eq, List, [], ◌∷◌, Option, Some, None}
 use Rattle.std.specs.List.{Contains, list_all}
-use Rattle.std.proofs.lemmas.Bool.{both_ways, cases_Bool, cases_eq, eq-eqb, eqb-true, false_from_ne_true, or_from, or_parts}
+use Rattle.std.proofs.lemmas.Bool.{both_ways, cases_Bool, cases_eq, eq-eqb, eqb-true, false_from_ne_true, or_parts}
 use Rattle.std.proofs.lemmas.List.Folds.{list_all_at, list_any-append}
 use Rattle.types.specs.declared.form.Step.{Step}
-use Rattle.typed_tree.specs.declared.tree.Tree.{Tree}
-use Rattle.typed_tree.specs.WellFormed.{is_visible, outline_of}
 use Rattle.meaning.specs.declared.store.Value.{Value}
 use Rattle.meaning.specs.declared.store.Value.TheVariants.{Number}
 use Rattle.meaning.specs.Store.{Environment, Place, Store, overlap, place_eq, stored, undefined, written}
@@ -15,11 +12,9 @@ use Rattle.meaning.specs.Store as store
 use Rattle.abstract_state.specs.Holds.{HasValue, Separate, part_of, value_at}
 use Rattle.abstract_state.specs.Knows.{IsKept, moment}
 use Rattle.abstract_state.specs.Loops.{is_among}
-use Rattle.abstract_state.proofs.Apart.{part, part-kept, entry-kept, parts-same, place-itself, place-same}
+use Rattle.abstract_state.proofs.Apart.{part, part-kept, parts-same, place-itself, place-same}
 use Rattle.component_states.specs.Laws.{OneChanges}
-use Rattle.structured_states.specs.Loops.{Round, all_control, all_list, touched}
 use Rattle.structured_states.specs.Pairs.{aliases_of, partner}
-use Rattle.call_states.specs.Environments.{Begun, LiesIn, Proper, Typed, place_type}
 
 -- ---- lists
 
@@ -141,10 +136,10 @@ none-some v is = cc
 -- ---- parts of variables
 
 -- what a part of a variable has is stored at its place
-stored-at : (s : Store) (found : Option Place) (steps : List Step) (v : Value) → part_of s found steps ≡ Some v
+pub stored-of : (s : Store) (found : Option Place) (steps : List Step) (v : Value) → part_of s found steps ≡ Some v
     → (home : Place) × (found ≡ Some home) × (stored s (part home steps) ≡ Some v)
-stored-at s None steps v is = absurd (none-some v is)
-stored-at s (Some home) steps v is = (home, refl, is)
+stored-of s None steps v is = absurd (none-some v is)
+stored-of s (Some home) steps v is = (home, refl, is)
 
 -- what is defined of a variable stays so
 defined-at : (before after : Store) → ((place : Place) (v : Value) → stored before place ≡ Some v → (w : Value) × (stored after place ≡ Some w))
@@ -159,7 +154,8 @@ part-steps home found first steps at is =
     let one : part home first ≡ part home steps = cc in
     parts-same home first steps (ap (λ (p : Place). place_eq (part home first) p) (sym one) ∙ place-itself (part home first))
 
-module _ (env : Environment) (aliases : List ℕ) (root : ℕ) (pairs : Pairs) (before after : Store) (written : AreWritten env aliases root pairs before after) where
+module _ (env : Environment) (aliases : List ℕ) (root : ℕ) (pairs : Pairs) (before after : Store)
+    (written : AreWritten env aliases root pairs before after) where
   pub value-defined : (other : ℕ) (steps : List Step) → HasValue (moment env before) other steps → HasValue (moment env after) other steps
   value-defined other steps has = defined-at before after written.defined (env.variables other) steps has
 
@@ -169,7 +165,7 @@ module _ (env : Environment) (aliases : List ℕ) (root : ℕ) (pairs : Pairs) (
       ⊎ ((pair : List Step × ℤ) × Contains pairs pair × (store.part (env.variables root) pair.0 ≡ store.part (env.variables other) steps)
       × (v ≡ Number pair.1))
   value-came other steps v is =
-      let at = stored-at after (env.variables other) steps v is in
+      let at = stored-of after (env.variables other) steps v is in
       ⊎_elim (λ was. inl (ap (λ (found : Option Place). part_of before found steps) at.1 ∙ was))
       (λ (own : (pair : List Step × ℤ) × Contains pairs pair × (store.part (env.variables root) pair.0 ≡ Some (part at.0 steps)) × (v ≡ Number pair.1)).
       inr (own.0, own.1, own.2 ∙ sym (ap (λ (found : Option Place). store.part found steps) at.1), own.3))
@@ -183,8 +179,12 @@ module _ (env : Environment) (aliases : List ℕ) (root : ℕ) (pairs : Pairs) (
       ⊎_elim (λ was. inl was)
       (λ (own : (pair : List Step × ℤ) × Contains pairs pair × (store.part (env.variables root) pair.0 ≡ store.part (env.variables root) steps)
       × (v ≡ Number pair.1)).
-      inr (own.0, own.1,
-      part-steps home (env.variables root) own.0.0 steps at (own.2 ∙ ap (λ (found : Option Place). store.part found steps) at), own.3))
+      inr (
+        own.0,
+        own.1,
+        part-steps home (env.variables root) own.0.0 steps at (own.2 ∙ ap (λ (found : Option Place). store.part found steps) at),
+        own.3,
+      ))
       (value-came root steps v is)
 
   -- the variable and its aliases alone are touched
@@ -304,8 +304,12 @@ module _ (env : Environment) (aliases : List ℕ) (root : ℕ) (home : Place) (a
         (λ differ. elsewhere other differ free (env.variables other) refl steps) (cases_eq root other);
     came = λ place v is. ⊎_elim (λ was. inl was)
         (λ (own : (place_eq (part home first) place ≡ true) × (v ≡ Number n)).
-        inr (pair, at-head pair [],
-        ap (λ (found : Option Place). store.part found first) at ∙ ap Some (place-same (part home first) place own.0), own.1))
+        inr (
+          pair,
+          at-head pair [],
+          ap (λ (found : Option Place). store.part found first) at ∙ ap Some (place-same (part home first) place own.0),
+          own.1,
+        ))
         (some-came (place_eq (part home first) place) (Number n) v (stored before place) is);
     defined = λ place v is. still-some (place_eq (part home first) place) (Number n) (stored before place) (v, is);
     has = λ own inside. ⊎_elim

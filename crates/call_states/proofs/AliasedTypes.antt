@@ -1,22 +1,21 @@
 -- In a store whose values lie in the types of their places, those of what is visible lie in the limits of its types; stores keep that, and what aliases get
 -- by them is what is stored to places of their types.
-use Rattle.std.proofs.Common.{arith, ◌≡◌, ◌≢◌, ⊎_elim, ◌⊎◌, inl, inr, ◌∙◌, sym, ap, refl, subst, ℕ, ◌+◌, ◌<◌, ◌≤◌, ℤ, Bool, true, false, cond, ◌&&◌, ◌||◌}
-use Rattle.std.proofs.Common.{nat_eq, List, [], ◌∷◌, ◌++◌, Option, Some, None, append-nil, get_or, length}
+use Rattle.std.proofs.Common.{arith, ◌≡◌, ⊎_elim, inl, inr, ◌∙◌, sym, ap, refl, subst, ℕ, ◌+◌, ◌<◌, ℤ, Bool, true, false, ◌&&◌, ◌||◌}
+use Rattle.std.proofs.Common.{nat_eq, List, [], ◌∷◌, ◌++◌, Option, Some, None, length}
 use Rattle.std.specs.Cmp.{int_eq_equiv}
 use Rattle.std.specs.Ordering.{int_eq}
-use Rattle.std.specs.List.{Contains, list_all}
+use Rattle.std.specs.List.{Contains}
 use Rattle.std.specs.Option.{option_and_then}
 use Rattle.std.specs.Prelude.{slice_get, slice_index_or}
 use Rattle.std.proofs.lemmas.Bool.{both_ways, cases_Bool, eqb-true, false_from_ne_true}
 use Rattle.std.proofs.lemmas.List.{get_or-map}
 use Rattle.std.proofs.lemmas.List.Folds.{list_any-append}
-use Rattle.std.proofs.lemmas.Option.{get_or_from_slice_get, none-some, same_Some, slice_get_within, slice_get_past}
+use Rattle.std.proofs.lemmas.Option.{get_or_from_slice_get, same_Some, slice_get_within, slice_get_past}
 use Rattle.types.specs.Forms.{Form}
 use Rattle.types.specs.Types.{range_of}
 use Rattle.types.specs.declared.form.OrdinalRange.{OrdinalRange}
 use Rattle.types.specs.declared.form.Step.{Step}
 use Rattle.types.specs.declared.form.TypeId.{TypeId}
-use Rattle.typed_tree.specs.Accesses.{are_values_of}
 use Rattle.typed_tree.specs.WellFormed.{is_round, is_visible, of_one, outline_of}
 use Rattle.typed_tree.specs.declared.tree.Tree.{Tree}
 use Rattle.typed_tree.specs.declared.tree.Variable.{Variable}
@@ -26,10 +25,10 @@ use Rattle.meaning.specs.declared.store.Value.{Value}
 use Rattle.meaning.specs.declared.store.Value.TheVariants.{Number}
 use Rattle.meaning.specs.Store.{Environment, Place, Store, stored}
 use Rattle.meaning.specs.Store as store
-use Rattle.abstract_state.specs.Holds.{HasValue, IsIn, part_of, value_at}
+use Rattle.abstract_state.specs.Holds.{IsIn, part_of, value_at}
 use Rattle.abstract_state.specs.Knows.{IsKept, Shows, moment}
 use Rattle.abstract_state.specs.Loops.{is_among}
-use Rattle.abstract_state.specs.State.{integer, limits_of}
+use Rattle.abstract_state.specs.State.{integer}
 use Rattle.abstract_state.proofs.Apart.{part}
 use Rattle.leaf_rows.specs.Rows.{Parts, Row, all_parts, no_parts, rows_of, values_at}
 use Rattle.leaf_rows.proofs.Accessed.{row-is}
@@ -39,7 +38,8 @@ use Rattle.structured_states.specs.Pairs.{aliases_of}
 use Rattle.call_states.specs.Aliases.{Stored, same_values, variable_values}
 use Rattle.call_states.specs.Environments.{Begun, LiesIn, Proper, Typed, place_type, type_led}
 use Rattle.call_states.proofs.Aliased.{AreAliased}
-use Rattle.call_states.proofs.AliasedStores.{AreWritten, Pairs, aliases-apart, all-pass, or-true, value-came, value-defined}
+use Rattle.call_states.proofs.AliasedStores.{AreWritten, Pairs, all-pass, or-true, value-came}
+pub use Rattle.call_states.proofs.AliasedStores.{stored-of}
 use Rattle.call_states.proofs.PlaceTypes.{leaf-typed, part-typed}
 
 -- ---- what is visible
@@ -119,12 +119,6 @@ pub record InTypes (tree : Tree) (env : Environment) (store : Store) : Type 0 wh
   pub components : (row : ℕ) (steps : List Step) (v : Value) → IsOfRow (all_parts tree) row steps
       → component_at (all_parts tree) (moment env store) row steps ≡ Some v → IsIn (row_limits (rows_of tree) row) v
   pub integers : (root : ℕ) (steps : List Step) (v : Value) → value_at (moment env store) root steps ≡ Some v → IsIn integer v
-
--- what a part of a variable has is stored at its place
-pub stored-of : (s : Store) (found : Option Place) (steps : List Step) (v : Value) → part_of s found steps ≡ Some v
-    → (home : Place) × (found ≡ Some home) × (stored s (part home steps) ≡ Some v)
-stored-of s None steps v is = absurd (none-some v is)
-stored-of s (Some home) steps v is = (home, refl, is)
 
 -- a value of an ordinal type is an integer
 pub type-integer : (types : List Form) (id : TypeId) (v : Value) → LiesIn types id v → IsIn integer v
@@ -225,8 +219,7 @@ module _ (tree : Tree) (pairs : List (ℕ × ℕ)) (block activations : ℕ) (en
       let place_is : store.part (env.variables root) pair.0 ≡ Some (part home steps) = same ∙ ap (λ (found : Option Place). store.part found steps) at in
       let own = typed pair (part home steps) inside place_is in
       let found = each pair (part home steps) own.0 inside place_is own.1 in
-      let equal : found.0.values ≡ values = found.2 ∙ sym (values_are own.0 own.1) in
-      (
+      let equal : found.0.values ≡ values = found.2 ∙ sym (values_are own.0 own.1) in (
         found.0,
         found.1,
         subst (λ (r : Option OrdinalRange). same_values found.0.values r ≡ true) equal (same-refl found.0.values),

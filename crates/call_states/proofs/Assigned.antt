@@ -1,12 +1,11 @@
 -- What value parameters hold behind the assignments with which an activation begins, and that all else is as it was.
-use Rattle.std.proofs.Common.{arith, ◌≡◌, ⊎_elim, ◌⊎◌, inl, inr, ◌∙◌, sym, ap, refl, subst, ℕ, zero, suc, ◌+◌, ◌<◌, ◌≤◌, ℤ, Bool, true, false, cond}
-use Rattle.std.proofs.Common.{◌&&◌, get_or, nat_eq, List, [], ◌∷◌, ◌++◌, length, Option, Some, None}
+use Rattle.std.proofs.Common.{arith, ◌≡◌, ◌⊎◌, inl, inr, ◌∙◌, sym, ap, refl, subst, ℕ, zero, suc, ℤ, Bool, true, false, cond}
+use Rattle.std.proofs.Common.{◌&&◌, nat_eq, List, [], ◌∷◌, ◌++◌, length, Option, Some, None}
 use Rattle.std.specs.Cmp.Lexicographic.{pointwise}
 use Rattle.std.specs.List.{Contains}
 use Rattle.std.specs.Ordering.{int_eq}
 use Rattle.std.specs.Prelude.{slice_get}
-use Rattle.std.proofs.lemmas.Bool.{and_parts, eqb-false, eqb-true, false≢true, false_from_ne_true}
-use Rattle.std.proofs.lemmas.Bool.Decides.{Decides-int_eq}
+use Rattle.std.proofs.lemmas.Bool.{and_parts, eqb-true, false≢true, false_from_ne_true}
 use Rattle.std.proofs.lemmas.Option.{get_or_from_slice_get, none-some, same_Some, slice_get-get_or, slice_get_within}
 use Rattle.types.specs.Components.{components_of}
 use Rattle.types.specs.Forms.{Form}
@@ -26,16 +25,14 @@ use Rattle.meaning.specs.Effect.{store_all}
 use Rattle.meaning.specs.Meaning as meaning
 use Rattle.meaning.specs.Meaning.{Argument, assign, assign_all, own_place}
 use Rattle.meaning.specs.Store.{Environment, Place, Store, kept, part, place_eq, step_eq, stored}
-use Rattle.abstract_state.specs.Holds.{HasValue, part_of, value_at}
-use Rattle.abstract_state.specs.Knows.{moment}
-use Rattle.abstract_state.proofs.Apart.{place-itself, written-stored}
+use Rattle.abstract_state.proofs.Apart.{written-stored}
 use Rattle.call_states.specs.Environments.{LiesIn, type_led}
 use Rattle.call_states.proofs.Callee.{not-both_kinds}
 use Rattle.call_states.proofs.Passed.{AllFit, Fits}
 
 -- ---- places that are the same
 
-same-step : (s t : Step) → step_eq s t ≡ true → s ≡ t
+pub same-step : (s t : Step) → step_eq s t ≡ true → s ≡ t
 same-step (step.Element i) (step.Element j) is = ap step.Element (numbers-same i j is)
   where
     numbers-same : (i j : ℤ) → int_eq i j ≡ true → i ≡ j
@@ -44,7 +41,7 @@ same-step (step.Field a) (step.Field b) is = ap step.Field (eqb-true a b is)
 same-step (step.Element i) (step.Field b) is = absurd (false≢true is)
 same-step (step.Field a) (step.Element j) is = absurd (false≢true is)
 
-same-steps : (ps qs : List Step) → pointwise step_eq ps qs ≡ true → ps ≡ qs
+pub same-steps : (ps qs : List Step) → pointwise step_eq ps qs ≡ true → ps ≡ qs
 same-steps [] [] is = refl
 same-steps [] (t ∷ qs) is = absurd (false≢true is)
 same-steps (s ∷ ps) [] is = absurd (false≢true is)
@@ -290,7 +287,8 @@ module _ (tree : Tree) (number activations : ℕ) (visible : Environment) where
   one-gets root formal (meaning.OfPlace (Some found)) store home is fits value empty = λ place v at rest same.
       absurd (none-some v (sym (empty rest) ∙ ap (stored store) (sym same) ∙ at))
   one-gets root formal (meaning.OfValue w) store home is fits value empty =
-      kept-each (λ place v. (rest : List Step) → place ≡ own_part root rest → Gets tree.types formal (meaning.OfValue w) rest v) store (visible.variables root) w
+      kept-each (λ place v. (rest : List Step) → place ≡ own_part root rest → Gets tree.types formal (meaning.OfValue w) rest v) store
+      (visible.variables root) w
       (λ place at rest same.
       (sym (steps-of root [] rest (same_Some (own_place number root) place (sym home ∙ at) ∙ same)), refl))
       (λ place v at rest same. absurd (none-some v (sym (empty rest) ∙ ap (stored store) (sym same) ∙ at)))
@@ -320,15 +318,19 @@ module _ (tree : Tree) (number activations : ℕ) (visible : Environment) where
       → (v : Value) × (stored (assigned_to root argument store) (own_part root rest) ≡ Some v)
   one-has root formal (meaning.OfPlace place) store home is fits value not_place rest inside = absurd (not_place place refl)
   one-has root formal (meaning.OfValue w) store home is fits value not_place rest inside =
-      let whole = only-whole tree.types formal fits.1.0 rest fits.1.1 inside in
-      (w, ap (λ (steps : List Step). stored (kept store (visible.variables root) w) (own_part root steps)) whole
-      ∙ ap (λ (found : Option Place). stored (kept store found w) (own_part root [])) home ∙ written-stored store (own_place number root) w)
+      let whole = only-whole tree.types formal fits.1.0 rest fits.1.1 inside in (
+        w,
+        ap (λ (steps : List Step). stored (kept store (visible.variables root) w) (own_part root steps)) whole
+            ∙ ap (λ (found : Option Place). stored (kept store found w) (own_part root [])) home ∙ written-stored store (own_place number root) w,
+      )
   one-has root formal (meaning.OfRow numbers) store home is fits value not_place rest (k, within, at) =
       let there : slice_get (components_of tree.types formal.type_id) k ≡ Some rest =
       slice_get-get_or (components_of tree.types formal.type_id) k rest within ∙ ap Some at in
-      let has = all_kept-has (own_place number root) (components_of tree.types formal.type_id) numbers k rest fits.1.count there store in
-      (has.0, ap (λ (found : Option Variable). stored (one_assigned tree.types (visible.variables root) found (meaning.OfRow numbers) store) (own_part root rest)) is
-      ∙ ap (λ (found : Option Place). stored (all_kept found (components_of tree.types formal.type_id) numbers store) (own_part root rest)) home ∙ has.1)
+      let has = all_kept-has (own_place number root) (components_of tree.types formal.type_id) numbers k rest fits.1.count there store in (
+        has.0,
+        ap (λ (found : Option Variable). stored (one_assigned tree.types (visible.variables root) found (meaning.OfRow numbers) store) (own_part root rest)) is
+            ∙ ap (λ (found : Option Place). stored (all_kept found (components_of tree.types formal.type_id) numbers store) (own_part root rest)) home ∙ has.1,
+      )
 
   -- an argument for a value parameter is no place
   no-place : (formal : Variable) (argument : Argument) → Fits tree activations argument formal → is_value_kind formal.kind ≡ true → (place : Option Place)
@@ -362,10 +364,12 @@ module _ (tree : Tree) (number activations : ℕ) (visible : Environment) where
       } in
       subst (λ (a : Argument). Received root formal a after) same_argument
       (subst (λ (v : Variable). Received root v one after) same (subst (λ (r : ℕ). Received r variable one after) same_root got))
-  received (first ∷ roots) (one ∷ arguments) (variable, variable_is, fits, others) homes distinct (suc i) root argument formal root_at argument_at is value store
+  received (first ∷ roots) (one ∷ arguments) (variable, variable_is, fits, others) homes distinct
+      (suc i) root argument formal root_at argument_at is value store
       empty =
       let inside : Contains roots root = (i, slice_get_within roots i root root_at, get_or_from_slice_get roots i root root root_at) in
-      received roots arguments others (homes-later first roots homes) distinct.1 i root argument formal root_at argument_at is value (assigned_to first one store)
+      received roots arguments others (homes-later first roots homes) distinct.1 i root argument formal root_at argument_at is value
+      (assigned_to first one store)
       (λ rest.
       one-other first variable one (own_part root rest) store (either-kind first roots variable homes variable_is) variable_is fits
       (λ own_value here at. distinct.0 (subst (Contains roots) at inside))

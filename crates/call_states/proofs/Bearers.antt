@@ -1,9 +1,9 @@
 -- What has the values of a leaf of a formal parameter for the caller, found among the bearers of what a path names.
-use Rattle.std.proofs.Common.{arith, ◌≡◌, ⊎_elim, ◌⊎◌, inl, inr, ◌∙◌, sym, ap, refl, subst, ℕ, zero, suc, ◌+◌, ◌<◌, Bool, true, false, cond, ◌&&◌, ◌||◌}
-use Rattle.std.proofs.Common.{nat_eq, List, [], ◌∷◌, length, map, Option, Some, None}
+use Rattle.std.proofs.Common.{arith, ◌≡◌, ◌∙◌, sym, ap, refl, subst, ℕ, zero, suc, Bool, true, false, cond}
+use Rattle.std.proofs.Common.{nat_eq, List, [], ◌∷◌, map, Option, Some, None}
 use Rattle.std.specs.List.{Contains}
 use Rattle.std.specs.Prelude.{slice_get, slice_index_or}
-use Rattle.std.proofs.lemmas.Bool.{and_parts, eq-eqb, eqb-true, false≢true, or_left, or_right}
+use Rattle.std.proofs.lemmas.Bool.{and_parts, eqb-true}
 use Rattle.std.proofs.lemmas.Option.{get_or_from_slice_get, none-some, same_Some, slice_get_within}
 use Rattle.types.specs.Types.{is_ordinal}
 use Rattle.types.specs.declared.form.Step.{Step}
@@ -15,44 +15,16 @@ use Rattle.typed_tree.specs.declared.tree.Variable.{Variable as DeclaredVariable
 use Rattle.domain.specs.Facts.{Path}
 use Rattle.abstract_state.specs.Loops.{is_among}
 use Rattle.leaf_rows.specs.Leaves.{LeafStep, begins}
-use Rattle.leaf_rows.specs.Rows.{Named, Parts, all_parts, is_structured, is_under, no_parts, part_named, rows_accessed, rows_of, rows_under}
-use Rattle.leaf_rows.proofs.Accessed.{IsOf, contains-has, has-contains, in-numbers, parts-at, row-is}
+use Rattle.leaf_rows.specs.Rows.{Named, Parts, all_parts, is_under, no_parts, part_named, rows_accessed, rows_of, rows_under}
+use Rattle.leaf_rows.proofs.Accessed.{IsOf, contains-has, in-numbers, parts-at, row-is}
 use Rattle.leaf_rows.proofs.Numbered.{number-under}
-use Rattle.component_states.specs.Components.{Entire, Reach}
-use Rattle.structured_states.specs.Loops.{has_ordinals, is_ordinal_variable, names_entire, rows_in, rows_named}
-use Rattle.call_states.specs.Actuals.{Actual, Bearer, Components, OfVariable, Variable, all_of_rows, bearers_at, bearers_of, borne_by}
+use Rattle.component_states.specs.Components.{Reach}
+use Rattle.structured_states.specs.Loops.{has_ordinals, is_ordinal_variable, rows_in, rows_named}
+use Rattle.call_states.specs.Actuals.{Bearer, Components, OfVariable, Variable, bearers_at, bearers_of}
 use Rattle.call_states.proofs.FormalRows.{not-both, row-structured, variable-accessed}
+use Rattle.call_states.proofs.Lists.{contains-more}
 
--- ---- lists
-
-pub among-contains : (items : List ℕ) (item : ℕ) → is_among item items ≡ true → Contains items item
-among-contains [] item is = absurd (false≢true is)
-among-contains (first ∷ items) item is = by (nat_eq first item) refl is (λ later. among-contains items item later)
-  where
-    by : (same : Bool) → nat_eq first item ≡ same → (same || is_among item items) ≡ true → (is_among item items ≡ true → Contains items item)
-        → Contains (first ∷ items) item
-    by true same is rest = (0, omega arith, eqb-true first item same)
-    by false same is rest = let later = rest is in let within = later.1 in (suc later.0, omega (arith, within), later.2)
-
-pub contains-among : (items : List ℕ) (item : ℕ) → Contains items item → is_among item items ≡ true
-contains-among [] item (k, within, at) = absurd (omega (arith, within))
-contains-among (first ∷ items) item (zero, within, at) = or_left (nat_eq first item) (is_among item items) (eq-eqb first item at)
-contains-among (first ∷ items) item (suc k, within, at) =
-    or_right (nat_eq first item) (is_among item items) (contains-among items item (k, omega (arith, within), at))
-
-pub contains-more : {A : Type 0} (first : A) (items : List A) (item : A) → Contains items item → Contains (first ∷ items) item
-contains-more first items item (k, within, at) = (suc k, omega (arith, within), at)
-
-pub in-map : {A B : Type 0} (f : A → B) (items : List A) (item : A) → Contains items item → Contains (map f items) (f item)
-in-map f [] item inside = absurd (omega (arith, inside.1))
-in-map f (first ∷ items) item (zero, within, at) = (0, omega arith, ap f at)
-in-map f (first ∷ items) item (suc k, within, at) = contains-more (f first) (map f items) (f item) (in-map f items item (k, omega (arith, within), at))
-
-pub of-map : {A B : Type 0} (f : A → B) (items : List A) (y : B) → Contains (map f items) y → (x : A) × Contains items x × (f x ≡ y)
-of-map f [] y inside = absurd (omega (arith, inside.1))
-of-map f (first ∷ items) y (zero, within, at) = (first, (0, omega arith, refl), at)
-of-map f (first ∷ items) y (suc k, within, at) =
-    let found = of-map f items y (k, omega (arith, within), at) in (found.0, contains-more first items found.0 found.1, found.2)
+-- ---- the bearers of rows
 
 -- the bearer at the place of a row that is wanted
 pub bearer-at : (wanted rows : List ℕ) (bearers : List Bearer) (j row : ℕ) (bearer : Bearer) → is_among row wanted ≡ true → slice_get rows j ≡ Some row

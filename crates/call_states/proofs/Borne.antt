@@ -1,16 +1,13 @@
 -- Where a call begins, each component of a variable that caller and callee know is borne by one of the bearers of what a path names: it has the value of
 -- what bears it.
-use Rattle.std.proofs.Common.{arith, ◌≡◌, ⊎_elim, ◌⊎◌, inl, inr, ◌∙◌, sym, ap, refl, subst, ℕ, zero, suc, ◌+◌, ◌<◌, Bool, true, false, cond, ◌&&◌, ◌||◌}
-use Rattle.std.proofs.Common.{nat_eq, List, [], ◌∷◌, ◌++◌, length, map, Option, Some, None}
+use Rattle.std.proofs.Common.{arith, ◌≡◌, ⊎_elim, ◌∙◌, sym, ap, refl, subst, ℕ, Bool, true, false, cond}
+use Rattle.std.proofs.Common.{List, [], ◌∷◌, ◌++◌, length, map, Option, Some, None}
 use Rattle.std.specs.List.{Contains}
 use Rattle.std.specs.Prelude.{is_some, slice_get, slice_index_or}
-use Rattle.std.proofs.lemmas.Bool.{and_parts, and_right, eqb-true, false≢true}
-use Rattle.std.proofs.lemmas.List.{length-map}
-use Rattle.std.proofs.lemmas.Option.{none-some, same_Some, slice_get_within}
-use Rattle.types.specs.Components.{components_of}
-use Rattle.types.specs.Types.{is_ordinal, range_of}
+use Rattle.std.proofs.lemmas.Bool.{and_parts, and_right, false≢true}
+use Rattle.std.proofs.lemmas.Option.{slice_get_within}
+use Rattle.types.specs.Types.{is_ordinal}
 use Rattle.types.specs.declared.form.Step.{Step}
-use Rattle.types.specs.declared.form.TypeId.{TypeId}
 use Rattle.types.proofs.Scalars.{ordinal_component}
 use Rattle.typed_tree.specs.Accesses.{accessed, led}
 use Rattle.typed_tree.specs.WellFormed.{is_value_kind, is_variable_kind}
@@ -21,10 +18,9 @@ use Rattle.typed_tree.specs.declared.tree.Variable.{Variable as DeclaredVariable
 use Rattle.domain.specs.Facts.{Path}
 use Rattle.domain.specs.Interval.{Interval}
 use Rattle.meaning.specs.declared.store.Value.{Value}
-use Rattle.meaning.specs.declared.store.Value.TheVariants.{Number}
 use Rattle.meaning.specs.Meaning as meaning
 use Rattle.meaning.specs.Meaning.{Argument, environment_of, home_of, place_for, place_passed}
-use Rattle.meaning.specs.Store.{Environment, Place, Store, part}
+use Rattle.meaning.specs.Store.{Environment, Place, Store}
 use Rattle.abstract_state.specs.Holds.{IsIn, Moment, part_of, value_at}
 use Rattle.abstract_state.specs.Knows.{moment}
 use Rattle.abstract_state.specs.State.{is_entire}
@@ -32,19 +28,21 @@ use Rattle.leaf_rows.specs.Leaves.{leaves_of}
 use Rattle.leaf_rows.specs.Rows.{all_parts, is_structured, no_parts, rows_accessed, rows_of, rows_under}
 use Rattle.abstract_state.specs.Loops.{is_among}
 use Rattle.leaf_rows.proofs.Accessed.{IsOf, contains-has, has-contains, row-leaf, rows-are, rows-count}
+use Rattle.leaf_rows.proofs.Components.{map-at}
 use Rattle.leaf_rows.proofs.Selected.{Matches}
 use Rattle.component_states.specs.Components.{Entire, Reach}
 use Rattle.component_states.specs.Holds.{component_at}
 use Rattle.structured_states.specs.Loops.{all_limits, is_ordinal_variable, names_entire, rows_named}
-use Rattle.call_states.specs.Actuals.{Actual, Bearer, Binding, Components, OfRows, OfValue, OfVariable, Passed, Variable, actual_of, all_of_rows, are_of_rows}
-use Rattle.call_states.specs.Actuals.{are_of_types, bearers_at, bearers_for, bearers_named, bearers_of, bound_to, is_copy_for, is_of_type, lies_among}
+use Rattle.call_states.specs.Actuals.{Actual, Bearer, Binding, Components, OfRows, OfValue, OfVariable, Passed, Variable, all_of_rows, are_of_rows}
+use Rattle.call_states.specs.Actuals.{are_of_types, bearers_at, bearers_for, bearers_named, bearers_of, bound_to, is_copy_for, is_of_type}
 use Rattle.call_states.specs.Environments.{Begun}
 use Rattle.call_states.proofs.Assigned.{Received}
-use Rattle.call_states.proofs.Bearers.{bearer-at, borne-rows, borne-variable, contains-among, in-map, named-root, not-ordinal, ordinal-variable, under-whole}
-use Rattle.call_states.proofs.Callee.{IsCalled, activation_of, not-both_kinds}
-use Rattle.call_states.proofs.Entered.{behind_assignments, outer-kept, own-home, parameter-own, passed-where}
-use Rattle.call_states.proofs.FormalRows.{LiesAt, actual-of_row, formal-row, not-both, ordinal-row, row-structured, same-value}
-use Rattle.call_states.proofs.Parameters.{IsOuter, IsOutward, IsParameter, outward-cases}
+use Rattle.call_states.proofs.Bearers.{bearer-at, borne-rows, borne-variable, named-root, not-ordinal, ordinal-variable, under-whole}
+use Rattle.call_states.proofs.Callee.{IsCalled, activation_of}
+use Rattle.call_states.proofs.Entered.{behind_assignments, outer-kept, own-home, passed-where}
+use Rattle.call_states.proofs.FormalRows.{LiesAt, actual-of_row, formal-row, no-way, not-both, ordinal-row, row-structured, same-value}
+use Rattle.call_states.proofs.Lists.{contains-among, in-map, some-there}
+use Rattle.call_states.proofs.Parameters.{IsOuter, IsOutward, IsParameter, outward-cases, parameter-block}
 use Rattle.call_states.proofs.Passed.{AreArguments, Fits, IsArgument, IsReachedBy}
 use Rattle.call_states.proofs.Started.{callee-received, value-home}
 
@@ -57,16 +55,6 @@ rows-many tree [] (range ∷ ranges) all = absurd (false≢true all)
 rows-many tree (row ∷ rows) [] all = absurd (false≢true all)
 rows-many tree (row ∷ rows) (range ∷ ranges) all =
     let rest = rows-many tree rows ranges (and_parts _ (are_of_rows tree rows ranges) all).1 in omega (arith, rest)
-
-some-there : {A : Type 0} (items : List A) (k : ℕ) → k < length items → (item : A) × (slice_get items k ≡ Some item)
-some-there [] k within = absurd (omega (arith, within))
-some-there (item ∷ items) zero within = (item, refl)
-some-there (item ∷ items) (suc k) within = some-there items k (omega (arith, within))
-
-mapped : {A B : Type 0} (f : A → B) (items : List A) (k : ℕ) (item : A) → slice_get items k ≡ Some item → slice_get (map f items) k ≡ Some (f item)
-mapped f [] k item is = absurd (none-some item is)
-mapped f (first ∷ items) zero item is = ap (λ x. Some (f x)) (same_Some first item is)
-mapped f (first ∷ items) (suc k) item is = mapped f items k item is
 
 -- a copy for a variable is one for a structured one
 pub copy-for : (tree : Tree) (root : ℕ) (ranges : List Interval) (variable : DeclaredVariable) → slice_get tree.variables.items root ≡ Some variable
@@ -156,25 +144,22 @@ module _ (tree : Tree) (pairs : List (ℕ × ℕ)) (number : ℕ) (block : Block
       → IsArgument tree caller store variable (OfVariable other selectors reach) (meaning.OfPlace (Some place))
       → (way : List Step) × LiesAt tree caller callee root other selectors way variable.type_id × IsReachedBy caller store selectors way reach
   lies-at root variable is kind_is own place found other selectors reach known =
-      let leads = known.0 in
-      (leads.way,
-      record {
-        formal_type = own-type tree root variable is;
-        actual_type = known.1;
-        place_is = own-home tree (activation_of number block arguments caller activations) root variable is own
-            ∙ passed-where (activation_of number block arguments caller activations) root variable.kind kind_is ∙ found ∙ leads.place_is;
-        matches = leads.matches;
-      },
-      leads.reached)
+      let leads = known.0 in (
+        leads.way,
+        record {
+          formal_type = own-type tree root variable is;
+          actual_type = known.1;
+          place_is = own-home tree (activation_of number block arguments caller activations) root variable is own
+              ∙ passed-where (activation_of number block arguments caller activations) root variable.kind kind_is ∙ found ∙ leads.place_is;
+          matches = leads.matches;
+        },
+        leads.reached,
+      )
 
-  parameter-block : (root : ℕ) (variable : DeclaredVariable) → slice_get tree.variables.items root ≡ Some variable → ParameterHere root variable
+  own-block : (root : ℕ) (variable : DeclaredVariable) → slice_get tree.variables.items root ≡ Some variable → ParameterHere root variable
       → variable.block ≡ number
-  parameter-block root variable is p =
-      let inside : Contains block.heading.parameters.items root =
-      (p.i, slice_get_within block.heading.parameters.items p.i root p.root_at,
-      Rattle.std.proofs.lemmas.Option.get_or_from_slice_get block.heading.parameters.items p.i root root p.root_at) in
-      let own = parameter-own tree call.well number block call.block_is root inside in
-      subst (λ (v : DeclaredVariable). v.block ≡ number) (same_Some own.0 variable (sym own.1 ∙ is)) own.2
+  own-block root variable is p =
+      parameter-block tree pairs number block arguments caller activations from call store actuals are typed root variable is p
 
   -- a value parameter has what is passed to it
   pub value-received : (root : ℕ) (variable : DeclaredVariable) → slice_get tree.variables.items root ≡ Some variable → (p : ParameterHere root variable)
@@ -215,10 +200,11 @@ module _ (tree : Tree) (pairs : List (ℕ × ℕ)) (number : ℕ) (block : Block
       let has = got.has steps inside in
       let gets = got.gets steps has.0 has.1 in
       let member = known.1 many.1 gets.0 j steps leaf.0 gets.1 range.0 gets.2 leaf.1 leaf.2 gets.3 range.1 in
-      let home = value-home tree pairs number block arguments caller activations from call path.root variable is (parameter-block path.root variable is p) fits.0 in
+      let home = value-home tree pairs number block arguments caller activations from call path.root variable is (own-block path.root variable is p) fits.0 in
       record {
         bearer = Passed range.0;
-        inside = bearer-at (rows_named tree path) (own_rows path.root) (map Passed ranges) j row (Passed range.0) among at (mapped Passed ranges j range.0 range.1);
+        inside = bearer-at (rows_named tree path) (own_rows path.root) (map Passed ranges) j row (Passed range.0) among at
+            (map-at Passed ranges j range.0 range.1);
         borne = (has.0, ap (λ (found : Option Place). part_of behind found steps) home ∙ has.1, subst (IsIn range.0) (sym gets.4) member);
       }
   row-borne path variable is row steps of_row root_is among j at p (OfVariable other selectors reach) (meaning.OfValue v) argument_is known fits of_type
@@ -229,7 +215,7 @@ module _ (tree : Tree) (pairs : List (ℕ × ℕ)) (number : ℕ) (block : Block
       place_is = absurd fits
   row-borne path variable is row steps of_row root_is among j at p (OfVariable other selectors reach) (meaning.OfPlace (Some place)) argument_is known fits
       of_type place_is =
-      let lies = lies-at path.root variable is fits.0 (parameter-block path.root variable is p) place place_is other selectors reach known in
+      let lies = lies-at path.root variable is fits.0 (own-block path.root variable is p) place place_is other selectors reach known in
       let structured = (row-structured tree path.root row steps variable of_row root_is is).0 in
       let own = actual-of_row tree caller callee path.root other selectors lies.0 variable.type_id lies.1 structured j row at in
       let of_own = formal-row tree caller callee path.root other selectors lies.0 variable.type_id lies.1 j row own.0 steps at own.1 of_row in
@@ -241,7 +227,7 @@ module _ (tree : Tree) (pairs : List (ℕ × ℕ)) (number : ℕ) (block : Block
         inside = bearer-at (rows_named tree path) (own_rows path.root) (bearers_of tree (OfVariable other selectors reach)) j row (Components own.0 reach) among
             at
             (ap (λ (all : List Bearer). slice_get all j) bearers
-            ∙ mapped (λ r. Components r reach) (rows_accessed (rows_of tree) other selectors) j own.0 own.1);
+            ∙ map-at (λ r. Components r reach) (rows_accessed (rows_of tree) other selectors) j own.0 own.1);
         borne = record {
           selectors = selectors;
           way = lies.0;
@@ -270,7 +256,8 @@ module _ (tree : Tree) (pairs : List (ℕ × ℕ)) (number : ℕ) (block : Block
       ∙ ap (λ (b : Bool). cond b (Variable path.root ∷ []) (all_of_rows (rows_named tree path))) (and_right (is_entire path.steps) _ plain) in
       record {
         bearer = Components row Entire;
-        inside = subst (λ (all : List Bearer). Contains all (Components row Entire)) (sym bearers) (in-map (λ r. Components r Entire) (rows_named tree path) row named);
+        inside = subst (λ (all : List Bearer). Contains all (Components row Entire)) (sym bearers)
+            (in-map (λ r. Components r Entire) (rows_named tree path) row named);
         borne = record {
           selectors = [];
           way = [];
@@ -299,9 +286,10 @@ module _ (tree : Tree) (pairs : List (ℕ × ℕ)) (number : ℕ) (block : Block
   whole-borne root variable is ordinal p (OfValue range form) (meaning.OfValue v) argument_is known fits of_type place_is =
       let got = subst (λ (a : Argument). Received tree activations activations callee root variable a behind) argument_is
       (value-received root variable is p fits.0) in
-      let has = got.has [] (subst (λ (all : List (List Step)). Contains all []) (sym (ordinal_component tree.types variable.type_id ordinal)) (0, omega arith, refl)) in
+      let has = got.has [] (subst (λ (all : List (List Step)). Contains all []) (sym (ordinal_component tree.types variable.type_id ordinal))
+      (0, omega arith, refl)) in
       let gets = got.gets [] has.0 has.1 in
-      let home = value-home tree pairs number block arguments caller activations from call root variable is (parameter-block root variable is p) fits.0 in
+      let home = value-home tree pairs number block arguments caller activations from call root variable is (own-block root variable is p) fits.0 in
       record {
         bearer = Passed range;
         inside = (0, omega arith, refl);
@@ -315,22 +303,21 @@ module _ (tree : Tree) (pairs : List (ℕ × ℕ)) (number : ℕ) (block : Block
   whole-borne root variable is ordinal p (OfVariable other selectors reach) (meaning.OfRow numbers) argument_is known fits of_type place_is = absurd known
   whole-borne root variable is ordinal p (OfVariable other selectors reach) (meaning.OfPlace None) argument_is known fits of_type place_is = absurd fits
   whole-borne root variable is ordinal p (OfVariable other [] reach) (meaning.OfPlace (Some place)) argument_is known fits of_type place_is =
-      let lies = lies-at root variable is fits.0 (parameter-block root variable is p) place place_is other [] reach known in
+      let lies = lies-at root variable is fits.0 (own-block root variable is p) place place_is other [] reach known in
       let bearers = borne-variable tree other reach variable.type_id lies.1.actual_type ordinal in
       record {
         bearer = Variable other;
         inside = subst (λ (all : List Bearer). Contains all (Variable other)) (sym bearers) (0, omega arith, refl);
-        borne = (refl,
-            same-value tree caller callee root other [] lies.0 variable.type_id lies.1 behind [] ∙ caller-kept other (lies.0 ++ [])
-            ∙ ap (value_at outer other) (no-way lies.0 lies.1.matches));
+        borne = (
+          refl,
+          same-value tree caller callee root other [] lies.0 variable.type_id lies.1 behind [] ∙ caller-kept other (lies.0 ++ [])
+              ∙ ap (value_at outer other) (no-way lies.0 lies.1.matches),
+        );
       }
-    where
-      no-way : (way : List Step) → Matches [] way → way ++ [] ≡ []
-      no-way [] matches = refl
-      no-way (s ∷ way) matches = absurd matches
-  whole-borne root variable is ordinal p (OfVariable other (selector ∷ selectors) reach) (meaning.OfPlace (Some place)) argument_is known fits of_type place_is =
+  whole-borne root variable is ordinal p (OfVariable other (selector ∷ selectors) reach) (meaning.OfPlace (Some place)) argument_is known fits of_type
+      place_is =
       let all = selector ∷ selectors in
-      let lies = lies-at root variable is fits.0 (parameter-block root variable is p) place place_is other all reach known in
+      let lies = lies-at root variable is fits.0 (own-block root variable is p) place place_is other all reach known in
       let own = ordinal-row tree caller callee root other all lies.0 variable.type_id lies.1 ordinal (λ none. absurd (cc)) in
       record {
         bearer = Components own.0 reach;

@@ -1,37 +1,25 @@
 -- What is visible in a block that is called: each variable of it has a place of its type, and two of them share one only where a pair is listed.
-use Rattle.std.proofs.Common.{arith, ◌≡◌, ⊎_elim, ◌⊎◌, inl, inr, ◌≢◌, ◌∙◌, sym, ap, refl, subst, ℕ, zero, suc, ◌+◌, ◌<◌, Bool, true, false, not, cond}
-use Rattle.std.proofs.Common.{◌&&◌, ◌||◌, get_or, nat_eq, List, [], ◌∷◌, ◌++◌, length, Option, Some, None}
-use Rattle.std.specs.List.{Contains, list_all}
+use Rattle.std.proofs.Common.{arith, ◌≡◌, ⊎_elim, ◌⊎◌, inl, inr, ◌∙◌, sym, ap, refl, subst, ℕ, zero, suc, ◌+◌, ◌<◌, Bool, true, false, cond}
+use Rattle.std.proofs.Common.{◌&&◌, ◌||◌, get_or, nat_eq, List, [], ◌∷◌, length, Option, Some, None}
+use Rattle.std.specs.List.{Contains}
 use Rattle.std.specs.Option.{option_and_then}
 use Rattle.std.specs.Prelude.{slice_get}
-use Rattle.std.proofs.lemmas.Bool.{and_from, and_parts, both_ways, cases_eq, eq-eqb, eqb-false, eqb-true, false≢true, ne_eqb, not_from_true, or_cases, or_left, or_right}
-use Rattle.std.proofs.lemmas.Bool.{or_parts}
-use Rattle.std.proofs.lemmas.List.Elements.{All-contains}
-use Rattle.std.proofs.lemmas.List.Sums.{AllPass-from_list_all}
+use Rattle.std.proofs.lemmas.Bool.{and_from, and_parts, both_ways, eq-eqb, eqb-false, eqb-true, false≢true, or_left, or_right}
 use Rattle.std.proofs.lemmas.Option.{none-some, same_Some}
 use Rattle.typed_tree.specs.WellFormed.{IsWellFormed, Outline, declarer, encloses, is_one_of, is_parameter_kind, is_round, is_value_kind, is_variable_kind}
 use Rattle.typed_tree.specs.WellFormed.{are_all, is_placed, is_result_kind, is_result_or_none, is_visible, of_one, outline_of, result_roots, roots_where}
 use Rattle.typed_tree.specs.declared.tree.Block.{Block}
-use Rattle.typed_tree.specs.declared.tree.Heading.{Heading}
-use Rattle.typed_tree.specs.declared.tree.Selector.{Selector}
 use Rattle.typed_tree.specs.declared.tree.Tree.{Tree}
 use Rattle.typed_tree.specs.declared.tree.Variable.{Variable}
 use Rattle.typed_tree.specs.declared.tree.VariableKind.{VariableKind}
 use Rattle.typed_tree.specs.declared.tree.VariableKind.TheVariants as kind
 use Rattle.meaning.specs.Meaning as meaning
 use Rattle.meaning.specs.Meaning.{Activation, Argument, environment_of, home_of, own_place, place_for, place_passed, seen_from}
-use Rattle.meaning.specs.Store.{Environment, Place, Store, overlap, part}
+use Rattle.meaning.specs.Store.{Environment, Place}
 use Rattle.abstract_state.specs.Holds.{Separate}
-use Rattle.abstract_state.specs.Loops.{is_among}
-use Rattle.component_states.specs.Components.{Reach}
-use Rattle.structured_states.specs.Pairs.{aliases_of}
-use Rattle.call_states.specs.Actuals.{Actual, Binding, OfRows, OfValue, OfVariable, bound_to}
 use Rattle.call_states.specs.Environments.{Proper, place_type}
-use Rattle.call_states.specs.Overlaps.{are_separate, is_actual_listed, is_actual_separate, is_declared_in, is_listed, is_listed_round, is_listed_with}
-use Rattle.call_states.specs.Overlaps.{may_overlap}
 use Rattle.call_states.proofs.Headings.{callable-round, heading-at, one-there, same-numbers, well-heading, well-placed}
-use Rattle.call_states.proofs.Passed.{AllFit, AreArguments, Fits, IsArgument, Leads}
-use Rattle.call_states.proofs.Places.{IsPair, Overlaps, listed-pair, may-overlap, overlap-back, overlaps-from, pair-back, pair-listed, part-there, parts-overlap}
+use Rattle.call_states.proofs.Passed.{AllFit, Fits}
 
 -- ---- formal parameters
 
@@ -102,7 +90,7 @@ place-for_there tree activations (first ∷ roots) (argument ∷ arguments) root
     by false same (suc k, within, at) more = more k (omega (arith, within)) at
 
 -- the roots of the variables of which a test holds
-in-roots : (test : Variable → Bool) (first : ℕ) (variables : List Variable) (k : ℕ) (variable : Variable) → slice_get variables k ≡ Some variable
+pub in-roots : (test : Variable → Bool) (first : ℕ) (variables : List Variable) (k : ℕ) (variable : Variable) → slice_get variables k ≡ Some variable
     → test variable ≡ true → Contains (roots_where test first variables) (first + k)
 in-roots test first [] k variable is passes = absurd (none-some variable is)
 in-roots test first (v ∷ variables) zero variable is passes =
@@ -176,7 +164,7 @@ seen-as tree activation root place is = by (slice_get tree.variables.items root)
           (λ (here : (nat_eq variable.block activation.block ≡ true) × (home_of activation root variable.kind ≡ Some place)).
           seen-own activation root variable place (eqb-true variable.block activation.block here.0) variable.kind refl here.1)
           (λ (there : (nat_eq variable.block activation.block ≡ false)
-              × (cond (is_one_of activation.heading.around.items variable.block) (activation.caller.variables root) None ≡ Some place)).
+          × (cond (is_one_of activation.heading.around.items variable.block) (activation.caller.variables root) None ≡ Some place)).
           ⊎_elim (λ around. Outer there.0 around.0 around.1) (λ none. absurd (none-some place none.1))
           (either-cond (is_one_of activation.heading.around.items variable.block) (activation.caller.variables root) None (Some place) there.1))
           (either-cond (nat_eq variable.block activation.block) (home_of activation root variable.kind)

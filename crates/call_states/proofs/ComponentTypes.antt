@@ -1,7 +1,7 @@
 -- A component of a type that one of its leaves names, whose values are known, has a type.
-use Rattle.std.proofs.Common.{arith, ◌≡◌, ⊎_elim, ◌∙◌, sym, ap, refl, subst, ℕ, zero, suc, ◌+◌, ◌<◌, ◌≤◌, ℤ, ◌≤ℤ◌, Bool, true, false, cond, ◌&&◌, nat_eq}
+use Rattle.std.proofs.Common.{arith, ◌≡◌, ⊎_elim, ◌∙◌, sym, ap, refl, subst, ℕ, zero, suc, ◌+◌, ◌<◌, ◌≤◌, ℤ, ◌≤ℤ◌, Bool, true, false, cond, ◌&&◌}
 use Rattle.std.proofs.Common.{nat_lt, List, [], ◌∷◌, length, take, Option, Some, None}
-use Rattle.std.proofs.lemmas.Bool.{and_from, and_parts, cases_lt, false≢true}
+use Rattle.std.proofs.lemmas.Bool.{and_from, cases_lt}
 use Rattle.std.proofs.lemmas.Bool.Decides.{nat_tests}
 use Rattle.std.proofs.lemmas.Int.{ints}
 use Rattle.std.proofs.lemmas.List.{length-take}
@@ -10,15 +10,14 @@ use Rattle.std.specs.Option.{option_and_then}
 use Rattle.std.specs.Prelude.{int_le, slice_get}
 use Rattle.types.specs.Components.{LaidOut, Steps, components_at, components_of, entry_values, form_components, laid_out, range_values, values_at}
 use Rattle.types.specs.Forms.{Array, Boolean, Char, Enumeration, FieldForm, Form, Integer, Record, Subrange}
-use Rattle.types.specs.Types.{Counted, before, cells_at, element_in, element_of, elements, field_at, fields_in, form_at, own_field, placed_fields, range_of}
+use Rattle.types.specs.Types.{Counted, before, cells_at, element_in, elements, fields_in, form_at, own_field, placed_fields, range_of}
 use Rattle.types.specs.declared.form.OrdinalRange.{OrdinalRange}
 use Rattle.types.specs.declared.form.RecordField.{RecordField}
-use Rattle.types.specs.declared.form.Step.{Step}
 use Rattle.types.specs.declared.form.Step.TheVariants as step
 use Rattle.types.specs.declared.form.TypeId.{TypeId}
 use Rattle.types.proofs.Laid.{components_before, components_of_form, components_of_none, first_laid, laid_before, values_before}
 use Rattle.meaning.specs.Integers.{is_within}
-use Rattle.leaf_rows.specs.Leaves.{FieldAt, Leaf, behind_elements, behind_field, fields_leaves, form_leaves, is_named, leaves_at, leaves_of, range_at, scalar}
+use Rattle.leaf_rows.specs.Leaves.{Leaf, behind_elements, form_leaves, is_named, leaves_at, leaves_of, range_at, scalar}
 use Rattle.leaf_rows.proofs.Components.{Has, in-element, in-field, in-range, mapped-at, only, own-field}
 use Rattle.leaf_rows.proofs.Leafed.{leafed_before, leaves_before, leaves_not_before, leaves_of_form}
 use Rattle.call_states.specs.Environments.{element_behind, field_behind, type_behind, type_led}
@@ -110,7 +109,8 @@ module _ (types : List Form) where
       of-form (Array packed indexes element) is rows leaves =
           let found = in-element (components_at (laid_before types id) element) (values_at (laid_before types id) indexes) rows.0 whole rows.1 in
           let same = same-element index found.0 steps found.1 found.2 in
-          let own = mapped-at (behind_elements (range_at (leafed_before types id) indexes)) (leaves_at (leafed_before types id) element) leaves.0 leaf leaves.1 in
+          let behind = behind_elements (range_at (leafed_before types id) indexes) in
+          let own = mapped-at behind (leaves_at (leafed_before types id) element) leaves.0 leaf leaves.1 in
           let known : own.0.values ≡ Some range = ap (λ (l : Leaf). l.values) own.2 ∙ values in
           let less = part-before id element own.0 range (leaves.0, own.1) known in
           let component : Has (components_of types element) steps =
@@ -141,12 +141,11 @@ module _ (types : List Form) where
   placed-there : (entries : List Counted) (position offset : ℕ) (fields : List FieldForm) (n : ℕ) (field : FieldForm) → slice_get fields n ≡ Some field
       → (f : RecordField) × (slice_get (placed_fields entries position offset fields) n ≡ Some f) × (f.type_id ≡ field.type_id)
   placed-there entries position offset [] n field is = absurd (none-some field is)
-  placed-there entries position offset (first ∷ fields) zero field is =
-      (
-        record { position = position; offset = offset; type_id = first.type_id },
-        refl,
-        ap (λ (f : FieldForm). f.type_id) (same_Some first field is),
-      )
+  placed-there entries position offset (first ∷ fields) zero field is = (
+    record { position = position; offset = offset; type_id = first.type_id },
+    refl,
+    ap (λ (f : FieldForm). f.type_id) (same_Some first field is),
+  )
   placed-there entries position offset (first ∷ fields) (suc n) field is =
       placed-there entries (position + 1) (offset + cells_at entries first.type_id) fields n field is
 

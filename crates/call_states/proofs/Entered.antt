@@ -1,15 +1,15 @@
 -- Where an activation begins: its value parameters lie in it, its variable parameters where their actual ones do; behind the assignments each value still
 -- lies among those of the type of its place, in an activation that has begun.
-use Rattle.std.proofs.Common.{arith, ◌≡◌, ⊎_elim, ◌⊎◌, inl, inr, ◌∙◌, sym, ap, refl, subst, ℕ, zero, suc, ◌+◌, ◌<◌, ◌≤◌, Bool, true, false, cond}
-use Rattle.std.proofs.Common.{◌&&◌, ◌||◌, get_or, nat_eq, List, [], ◌∷◌, ◌++◌, length, Option, Some, None}
+use Rattle.std.proofs.Common.{arith, ◌≡◌, ◌∙◌, sym, ap, refl, subst, ℕ, zero, suc, ◌+◌, ◌<◌, Bool, true, false, cond}
+use Rattle.std.proofs.Common.{◌&&◌, nat_eq, List, [], ◌∷◌, ◌++◌, Option, Some, None}
 use Rattle.std.specs.List.{Contains}
 use Rattle.std.specs.Option.{option_and_then}
 use Rattle.std.specs.Prelude.{slice_get}
-use Rattle.std.proofs.lemmas.Bool.{and_parts, eq-eqb, eqb-true, false≢true, or_cases}
-use Rattle.std.proofs.lemmas.Option.{none-some, same_Some}
+use Rattle.std.proofs.lemmas.Bool.{and_parts, eq-eqb, eqb-true, false≢true}
+use Rattle.std.proofs.lemmas.Option.{same_Some}
 use Rattle.types.specs.declared.form.Step.{Step}
 use Rattle.types.specs.declared.form.TypeId.{TypeId}
-use Rattle.typed_tree.specs.WellFormed.{IsWellFormed, are_all, is_local_kind, is_parameter_kind, is_placed, is_result_kind, is_result_or_none, is_value_kind}
+use Rattle.typed_tree.specs.WellFormed.{IsWellFormed, are_all, is_parameter_kind, is_placed, is_result_kind, is_result_or_none, is_value_kind}
 use Rattle.typed_tree.specs.WellFormed.{is_one_of, is_variable_kind, outline_of, result_roots, roots_where}
 use Rattle.typed_tree.specs.declared.tree.Block.{Block}
 use Rattle.typed_tree.specs.declared.tree.Tree.{Tree}
@@ -19,18 +19,15 @@ use Rattle.typed_tree.specs.declared.tree.VariableKind.TheVariants as kind
 use Rattle.meaning.specs.declared.store.Value.{Value}
 use Rattle.meaning.specs.Meaning.{Activation, Argument, environment_of, home_of, own_place, place_for, seen_from}
 use Rattle.meaning.specs.Store.{Environment, Place, Store, stored}
-use Rattle.abstract_state.specs.Holds.{part_of, value_at}
-use Rattle.abstract_state.specs.Knows.{moment}
-use Rattle.call_states.specs.Environments.{Begun, Fine, LiesIn, Typed, place_type, type_led}
+use Rattle.call_states.specs.Environments.{Begun, LiesIn, Typed, place_type, type_led}
 use Rattle.call_states.proofs.Assigned.{Distinct, Homes, IsEmpty, all-each, all-older, all-other, all_assigned, own_part}
 use Rattle.call_states.proofs.Callee.{IsCalled, activation_of}
 use Rattle.call_states.proofs.Headings.{same-numbers, well-heading}
-use Rattle.call_states.proofs.Passed.{AllFit}
 
 -- ---- the roots of the parameters
 
 -- the roots of variables of which a test holds are those of such variables
-roots-are : (test : Variable → Bool) (first : ℕ) (variables : List Variable) (root : ℕ) → Contains (roots_where test first variables) root
+pub roots-are : (test : Variable → Bool) (first : ℕ) (variables : List Variable) (root : ℕ) → Contains (roots_where test first variables) root
     → (k : ℕ) × (variable : Variable) × (root ≡ first + k) × (slice_get variables k ≡ Some variable) × (test variable ≡ true)
 roots-are test first [] root inside = absurd (omega (arith, inside.1))
 roots-are test first (v ∷ variables) root inside = by (test v) refl inside (λ later. roots-are test (suc first) variables root later)
@@ -151,7 +148,8 @@ module _ (tree : Tree) (pairs : List (ℕ × ℕ)) (number : ℕ) (block : Block
   -- what is older is as it was
   pub older-kept : (store : Store) (place : Place) → place.activation < activations → stored (behind_assignments store) place ≡ stored store place
   older-kept store place older =
-      all-older tree activations activations visible roots arguments place call.fit homes (λ (same : place.activation ≡ activations). omega (arith, older, same))
+      all-older tree activations activations visible roots arguments place call.fit homes
+      (λ (same : place.activation ≡ activations). omega (arith, older, same))
       store
 
   -- and so is each variable that the callee's block doesn't declare

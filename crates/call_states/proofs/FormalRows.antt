@@ -1,6 +1,6 @@
 -- A variable parameter and its actual one: the components of the one are those of the other, row by row.
-use Rattle.std.proofs.Common.{arith, ◌≡◌, ⊎_elim, ◌∙◌, sym, ap, refl, subst, ℕ, zero, suc, ◌+◌, ◌<◌, ℤ, Bool, true, false, List, [], ◌∷◌, ◌++◌, append_assoc}
-use Rattle.std.proofs.Common.{length, map, Option, Some, None}
+use Rattle.std.proofs.Common.{arith, ◌≡◌, ◌∙◌, sym, ap, refl, subst, ℕ, zero, suc, ◌+◌, true, List, [], ◌∷◌, ◌++◌, append_assoc}
+use Rattle.std.proofs.Common.{length, Option, Some, None}
 use Rattle.std.specs.List.{Contains}
 use Rattle.std.specs.Option.{option_and_then}
 use Rattle.std.specs.Prelude.{is_some, slice_get, slice_index_or}
@@ -18,15 +18,14 @@ use Rattle.typed_tree.specs.declared.tree.Selector.{Selector}
 use Rattle.typed_tree.specs.declared.tree.Selector.TheVariants.{Element, Field}
 use Rattle.typed_tree.specs.declared.tree.Tree.{Tree}
 use Rattle.typed_tree.specs.declared.tree.Variable.{Variable}
-use Rattle.meaning.specs.declared.store.Value.{Value}
 use Rattle.meaning.specs.Store.{Environment, Place, Store, part, stored}
 use Rattle.abstract_state.specs.Holds.{part_of, value_at}
 use Rattle.abstract_state.specs.Knows.{moment}
-use Rattle.leaf_rows.specs.Leaves.{leaves_of}
 use Rattle.leaf_rows.specs.Rows.{all_parts, first_index, has_components, is_structured, no_parts, rows_accessed, rows_of, rows_under}
-use Rattle.leaf_rows.proofs.Accessed.{IsOf, RowsAre, contains-has, has-contains, row-is, row-leaf, rows-are, rows-count}
+use Rattle.leaf_rows.proofs.Accessed.{IsOf, contains-has, has-contains, row-is, row-leaf, rows-are, rows-count}
 use Rattle.leaf_rows.proofs.Components.{Has}
 use Rattle.leaf_rows.proofs.Selected.{Matches}
+use Rattle.call_states.proofs.Lists.{some-there}
 
 -- ---- ways
 
@@ -47,6 +46,11 @@ same-rest (Field position offset ∷ selectors) (step.Element i ∷ way) (t ∷ 
 same-rest (Field position offset ∷ selectors) (step.Field p ∷ way) (step.Element j ∷ other) a b one two is = absurd two
 same-rest (Field position offset ∷ selectors) (step.Field p ∷ way) (step.Field q ∷ other) a b one two is =
     same-rest selectors way other a b one.1 two.1 (cc)
+
+-- no selectors go no way
+pub no-way : (way : List Step) → Matches [] way → way ++ [] ≡ []
+no-way [] matches = refl
+no-way (s ∷ way) matches = absurd matches
 
 -- without an index there is one way
 pub one-way : (selectors : List Selector) (way other : List Step) → index_count selectors ≡ 0 → Matches selectors way → Matches selectors other → way ≡ other
@@ -105,10 +109,11 @@ row-structured tree root row steps variable of_row root_is is =
     (let e : found.leaf.root ≡ 0 + found.leaf.root = omega arith in e) ∙ sym found.leaf.root_is
     ∙ sym (ap (λ (p : Rattle.leaf_rows.specs.Rows.Parts). p.root) found.parts_are) ∙ root_is in
     let same : found.leaf.variable ≡ variable =
-    same_Some found.leaf.variable variable (sym found.leaf.variable_is ∙ ap (slice_get tree.variables.items) own ∙ is) in
-    (subst (λ (v : Variable). is_structured tree.types v.type_id ≡ true) same found.leaf.structured,
-    subst (λ (v : Variable). Contains (components_of tree.types v.type_id) steps) same
-    (has-contains (components_of tree.types found.leaf.variable.type_id) steps found.of_type))
+    same_Some found.leaf.variable variable (sym found.leaf.variable_is ∙ ap (slice_get tree.variables.items) own ∙ is) in (
+      subst (λ (v : Variable). is_structured tree.types v.type_id ≡ true) same found.leaf.structured,
+      subst (λ (v : Variable). Contains (components_of tree.types v.type_id) steps) same
+          (has-contains (components_of tree.types found.leaf.variable.type_id) steps found.of_type),
+    )
 
 -- ---- a formal parameter and its actual one
 
@@ -161,11 +166,6 @@ module _ (tree : Tree) (env callee : Environment) (formal root : ℕ) (selectors
   rows-alike structured =
       rows-count tree formal [] id at.formal_type (λ none. structured) ∙ sym (rows-count tree root selectors id at.actual_type (λ none. structured))
 
-  some-there : (items : List ℕ) (k : ℕ) → k < length items → (item : ℕ) × (slice_get items k ≡ Some item)
-  some-there [] k within = absurd (omega (arith, within))
-  some-there (item ∷ items) zero within = (item, refl)
-  some-there (item ∷ items) (suc k) within = some-there items k (omega (arith, within))
-
   pub actual-of_row : is_structured tree.types id ≡ true → (j row : ℕ) → slice_get own_rows j ≡ Some row → (own : ℕ) × (slice_get actual_rows j ≡ Some own)
   actual-of_row structured j row row_at =
       let many = rows-alike structured in
@@ -188,7 +188,8 @@ module _ (tree : Tree) (env callee : Environment) (formal root : ℕ) (selectors
       → (other : List Step) × (steps ≡ other ++ []) × Matches selectors other
   ordinal-steps ordinal own steps inside of_row =
       let lies = (rows-are tree root selectors id at.actual_type).lies own steps inside of_row in
-      let one = subst (λ (all : List (List Step)). Has all lies.1) (ordinal_component tree.types id ordinal) (contains-has (components_of tree.types id) lies.1 lies.4) in
+      let one = subst (λ (all : List (List Step)). Has all lies.1) (ordinal_component tree.types id ordinal)
+      (contains-has (components_of tree.types id) lies.1 lies.4) in
       (lies.0, lies.2 ∙ ap (λ (s : List Step). lies.0 ++ s) (sym (only one.0 lies.1 one.1)), lies.3)
     where
       only : (k : ℕ) (rest : List Step) → slice_get ([] ∷ []) k ≡ Some rest → [] ≡ rest

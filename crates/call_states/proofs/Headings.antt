@@ -1,14 +1,14 @@
 -- Which blocks stand round which: where one stands round another, those round it stand round the other too.
-use Rattle.std.proofs.Common.{arith, ◌≡◌, ⊎_elim, ◌⊎◌, inl, inr, ◌∙◌, sym, ap, refl, subst, ℕ, zero, suc, ◌+◌, ◌<◌, Bool, true, false, cond, ◌&&◌, ◌||◌}
-use Rattle.std.proofs.Common.{nat_eq, List, [], ◌∷◌, ◌++◌, length, map, Option, Some, None}
+use Rattle.std.proofs.Common.{arith, ◌≡◌, ⊎_elim, ◌∙◌, sym, ap, refl, subst, ℕ, zero, suc, ◌+◌, ◌<◌, Bool, true, false, ◌&&◌}
+use Rattle.std.proofs.Common.{nat_eq, List, [], ◌∷◌, ◌++◌, length, Option, Some, None}
 use Rattle.std.specs.Cmp.Lexicographic.{pointwise}
-use Rattle.std.specs.List.{list_any}
 use Rattle.std.specs.Option.{option_map}
 use Rattle.std.specs.Prelude.{nat_lt, slice_get}
 use Rattle.std.proofs.lemmas.Bool.{and_parts, eq-eqb, eqb-true, false≢true, ltb-true, or_cases, or_left, or_right}
 use Rattle.std.proofs.lemmas.List.Folds.{list_any-append}
 use Rattle.std.proofs.lemmas.Option.{same_Some, slice_get-map}
-use Rattle.typed_tree.specs.WellFormed.{IsWellFormed, Outline, declarer, encloses, heading_of, is_declared_by, is_heading, is_one_of, is_placed, is_round, of_one}
+use Rattle.typed_tree.specs.WellFormed.{IsWellFormed, Outline, declarer, encloses, heading_of, is_declared_by, is_heading, is_one_of, is_placed, is_round}
+use Rattle.typed_tree.specs.WellFormed.{of_one}
 use Rattle.typed_tree.specs.WellFormed.{are_all, are_few_cells, is_parameter_kind, is_result_kind, is_result_or_none, is_well_formed_block, is_well_formed_stmt}
 use Rattle.typed_tree.specs.WellFormed.{most_blocks, outline_of, result_roots}
 use Rattle.typed_tree.specs.declared.tree.Block.{Block}

@@ -1,20 +1,18 @@
 -- Each parameter of a block that is called with its actual one; and which variables of the callee the caller knows too.
-use Rattle.std.proofs.Common.{arith, ◌≡◌, ⊎_elim, ◌⊎◌, inl, inr, ◌∙◌, sym, ap, refl, subst, ℕ, zero, suc, ◌+◌, ◌<◌, Bool, true, false, cond, ◌&&◌, ◌||◌}
-use Rattle.std.proofs.Common.{nat_eq, List, [], ◌∷◌, length, Option, Some, None}
+use Rattle.std.proofs.Common.{arith, ◌≡◌, ◌⊎◌, inl, inr, ◌∙◌, sym, ap, refl, subst, ℕ, zero, suc, Bool, true, false, cond, ◌&&◌, ◌||◌}
+use Rattle.std.proofs.Common.{nat_eq, List, [], ◌∷◌, Option, Some, None}
 use Rattle.std.specs.List.{Contains}
 use Rattle.std.specs.Prelude.{slice_get}
-use Rattle.std.proofs.lemmas.Bool.{and_parts, both_ways, eq-eqb, eqb-false, eqb-true, false≢true, ne_eqb}
-use Rattle.std.proofs.lemmas.Option.{none-some, same_Some}
+use Rattle.std.proofs.lemmas.Bool.{and_parts, eqb-false, eqb-true, false≢true}
+use Rattle.std.proofs.lemmas.Option.{get_or_from_slice_get, none-some, same_Some, slice_get_within}
 use Rattle.typed_tree.specs.WellFormed.{encloses, is_local_kind, is_one_of, is_parameter_kind, is_result_kind, is_round, of_one, outline_of}
 use Rattle.typed_tree.specs.declared.tree.Block.{Block}
 use Rattle.typed_tree.specs.declared.tree.Tree.{Tree}
 use Rattle.typed_tree.specs.declared.tree.Variable.{Variable}
 use Rattle.typed_tree.specs.declared.tree.VariableKind.{VariableKind}
 use Rattle.typed_tree.specs.declared.tree.VariableKind.TheVariants as kind
-use Rattle.domain.specs.Interval.{Interval}
-use Rattle.meaning.specs.Meaning as meaning
 use Rattle.meaning.specs.Meaning.{Argument, environment_of, home_of, place_for, place_passed, seen_from}
-use Rattle.meaning.specs.Store.{Environment, Place, Store}
+use Rattle.meaning.specs.Store.{Environment, Store}
 use Rattle.structured_states.specs.Loops.{all_limits}
 use Rattle.call_states.specs.Actuals.{Actual, Binding, actual_of, are_of_types, bound_to, is_of_type}
 use Rattle.call_states.specs.Starts.{is_own}
@@ -48,7 +46,8 @@ module _ (tree : Tree) (env : Environment) (store : Store) (activations : ℕ) w
   parameter-at [] actuals arguments are fit typed root variable is inside = absurd (omega (arith, inside.1))
   parameter-at (first ∷ roots) [] arguments are fit typed root variable is inside = absurd are
   parameter-at (first ∷ roots) (actual ∷ actuals) [] are fit typed root variable is inside = absurd are
-  parameter-at (first ∷ roots) (actual ∷ actuals) (argument ∷ arguments) (formal, formal_is, own, others) (fitting, fitting_is, fits, fit) typed root variable is
+  parameter-at (first ∷ roots) (actual ∷ actuals) (argument ∷ arguments) (formal, formal_is, own, others)
+      (fitting, fitting_is, fits, fit) typed root variable is
       inside =
       by (nat_eq first root) refl inside
       (λ later.
@@ -178,3 +177,15 @@ module _ (tree : Tree) (pairs : List (ℕ × ℕ)) (number : ℕ) (block : Block
           (parameter-listed tree call.well number block call.block_is root variable is (eqb-true variable.block number own) (other-kind variable.kind kinds)))
       by false own =
           inl (outer-is root variable is own (sym (ap (λ (b : Bool). b || is_one_of block.heading.around.items variable.block) own) ∙ encloses-it))
+
+  -- a parameter is declared by the callee's block
+  pub parameter-block : (root : ℕ) (variable : Variable) → slice_get tree.variables.items root ≡ Some variable → Parameter root variable
+      → variable.block ≡ number
+  parameter-block root variable is p =
+      let inside : Contains block.heading.parameters.items root = (
+        p.i,
+        slice_get_within block.heading.parameters.items p.i root p.root_at,
+        get_or_from_slice_get block.heading.parameters.items p.i root root p.root_at,
+      ) in
+      let own = parameter-own tree call.well number block call.block_is root inside in
+      subst (λ (v : Variable). v.block ≡ number) (same_Some own.0 variable (sym own.1 ∙ is)) own.2

@@ -1,8 +1,8 @@
 -- What is passed to the formal parameters of a block, as the meaning has it, as it fits them, and as the checker knows it.
-use Rattle.std.proofs.Common.{arith, ◌≡◌, ◌∙◌, sym, ap, refl, subst, ℕ, ◌<◌, ℤ, ◌≤ℤ◌, Bool, true, false, List, [], ◌∷◌, length, map, Option, Some, None}
+use Rattle.std.proofs.Common.{arith, ◌≡◌, sym, refl, subst, ℕ, ◌<◌, ℤ, ◌≤ℤ◌, Bool, true, false, List, [], ◌∷◌, length, map, Option, Some, None}
 use Rattle.std.specs.Prelude.{int_le, nat_lt, neg_ℤ, slice_get, ◌&&◌}
 use Rattle.std.specs.List.{list_all}
-use Rattle.std.proofs.lemmas.Bool.{and_parts, eqb-true}
+use Rattle.std.proofs.lemmas.Bool.{and_parts}
 use Rattle.std.proofs.lemmas.Int.{ints}
 use Rattle.std.proofs.lemmas.Option.{none-some}
 use Rattle.types.specs.Components.{components_of}
@@ -18,7 +18,6 @@ use Rattle.typed_tree.specs.declared.tree.Tree.{Tree}
 use Rattle.typed_tree.specs.declared.tree.Variable.{Variable}
 use Rattle.domain.specs.Facts.{Bound}
 use Rattle.domain.specs.Interval.{HasMember, Interval}
-use Rattle.meaning.specs.declared.store.Value.{Value}
 use Rattle.meaning.specs.declared.store.Value.TheVariants.{Number}
 use Rattle.meaning.specs.Integers.{maxint}
 use Rattle.meaning.specs.Meaning as meaning
@@ -142,7 +141,7 @@ indexes-integer outline block (Element fits cells ∷ selectors) (step.Element i
 -- ---- an actual parameter that was evaluated before a call
 
 module _ (tree : Tree) (env : Environment) (before after : Store) where
-  reached-later : (selectors : List Selector) (way : List Step) (reach : Reach) → ((n : ℤ) → first_index way ≡ Some n → HasMember integer n)
+  pub reached-later : (selectors : List Selector) (way : List Step) (reach : Reach) → ((n : ℤ) → first_index way ≡ Some n → HasMember integer n)
       → IsReachedBy env before selectors way reach → IsReachedBy env after selectors way (unknown_reach reach)
   reached-later selectors way Entire integers reached = reached
   reached-later selectors way (At index) integers reached =
@@ -162,13 +161,16 @@ module _ (tree : Tree) (env : Environment) (before after : Store) where
   after-call_argument formal (OfRows ranges) (meaning.OfPlace place) is = absurd is
   after-call_argument formal (OfVariable root selectors reach) (meaning.OfValue v) is = absurd is
   after-call_argument formal (OfVariable root selectors reach) (meaning.OfRow numbers) is = absurd is
-  after-call_argument formal (OfVariable root selectors reach) (meaning.OfPlace place) (leads, typed, integers) =
-      (record {
-        way = leads.way;
-        place_is = leads.place_is;
-        matches = leads.matches;
-        reached = reached-later selectors leads.way reach (λ n first. integers leads.way n leads.matches first) leads.reached;
-      }, typed, integers)
+  after-call_argument formal (OfVariable root selectors reach) (meaning.OfPlace place) (leads, typed, integers) = (
+    record {
+      way = leads.way;
+      place_is = leads.place_is;
+      matches = leads.matches;
+      reached = reached-later selectors leads.way reach (λ n first. integers leads.way n leads.matches first) leads.reached;
+    },
+    typed,
+    integers,
+  )
 
   pub after-call_arguments : (roots : List ℕ) (actuals : List Actual) (arguments : List Argument) → AreArguments tree env before roots actuals arguments
       → AreArguments tree env after roots (map after_call actuals) arguments

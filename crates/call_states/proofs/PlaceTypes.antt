@@ -1,5 +1,5 @@
 -- The types of places: those of parts of a place, of what is accessed, and of the components that leaves name.
-use Rattle.std.proofs.Common.{arith, ◌≡◌, ◌∙◌, sym, ap, refl, subst, ℕ, ◌+◌, ℤ, ◌≤ℤ◌, Bool, true, false, cond, ◌&&◌, nat_eq, List, [], ◌∷◌, ◌++◌, Option, Some, None}
+use Rattle.std.proofs.Common.{arith, ◌≡◌, ◌∙◌, sym, ap, refl, subst, ℕ, ◌+◌, ℤ, ◌≤ℤ◌, Bool, true, false, cond, nat_eq, List, [], ◌∷◌, ◌++◌, Option, Some, None}
 use Rattle.std.proofs.lemmas.Bool.{and_parts, eqb-true, false≢true}
 use Rattle.std.proofs.lemmas.Int.{ints}
 use Rattle.std.proofs.lemmas.Option.{cond_some, none-some, same_Some}
@@ -17,14 +17,13 @@ use Rattle.types.specs.declared.form.TypeId.{TypeId}
 use Rattle.types.proofs.Elements.{IsArray, is_array}
 use Rattle.types.proofs.Fields.{IsField, is_field}
 use Rattle.typed_tree.specs.Accesses.{field_type, led, selected}
-use Rattle.typed_tree.specs.declared.tree.RangeTest.{RangeTest}
 use Rattle.typed_tree.specs.declared.tree.Selector.{Selector}
 use Rattle.typed_tree.specs.declared.tree.Selector.TheVariants.{Element, Field}
 use Rattle.typed_tree.specs.declared.tree.Tree.{Tree}
 use Rattle.typed_tree.specs.declared.tree.Variable.{Variable}
 use Rattle.meaning.specs.Integers.{is_within}
 use Rattle.meaning.specs.Store.{Place}
-use Rattle.leaf_rows.specs.Leaves.{Elements, FieldAt, Leaf, LeafStep, behind_elements, fields_leaves, form_leaves, is_named, leaves_at, leaves_of, range_at, scalar}
+use Rattle.leaf_rows.specs.Leaves.{Elements, FieldAt, Leaf, LeafStep, behind_elements, form_leaves, is_named, leaves_at, leaves_of, range_at, scalar}
 use Rattle.leaf_rows.proofs.Components.{Has, in-field_leaf, mapped-at, only}
 use Rattle.leaf_rows.proofs.Leafed.{leafed_before, leaves_before, leaves_of_form, leaves_of_none}
 use Rattle.leaf_rows.proofs.Selected.{IsElement, Matches, is-element, led-on, placed-field}

@@ -1,7 +1,7 @@
 -- Places that overlap, and pairs of variables that are listed.
-use Rattle.std.proofs.Common.{arith, ◌≡◌, ⊎_elim, ◌⊎◌, inl, inr, ◌≢◌, ◌∙◌, sym, ap, refl, subst, ℕ, zero, suc, ◌<◌, Bool, true, false, not, cond, ◌&&◌, ◌||◌}
-use Rattle.std.proofs.Common.{nat_eq, List, [], ◌∷◌, ◌++◌, length, Option, Some, None}
-use Rattle.std.specs.List.{Contains, list_all, list_any}
+use Rattle.std.proofs.Common.{arith, ◌≡◌, ⊎_elim, ◌⊎◌, inl, inr, ◌∙◌, sym, ap, refl, ℕ, zero, suc, Bool, true, false, not, cond, ◌&&◌, ◌||◌}
+use Rattle.std.proofs.Common.{nat_eq, List, [], ◌∷◌, ◌++◌, Option, Some, None}
+use Rattle.std.specs.List.{Contains}
 use Rattle.std.specs.Ordering.{int_eq}
 use Rattle.std.proofs.lemmas.Bool.{and_from, and_parts, cases_eq, eq-eqb, eqb-true, false≢true, or_cases, or_left, or_right}
 use Rattle.std.specs.Cmp.{int_eq_equiv}
@@ -26,7 +26,7 @@ step-back (step.Field a) (step.Field b) is = eq-eqb b a (sym (eqb-true a b is))
 step-back (step.Element i) (step.Field b) is = is
 step-back (step.Field a) (step.Element j) is = is
 
-step-itself : (s : Step) → step_eq s s ≡ true
+pub step-itself : (s : Step) → step_eq s s ≡ true
 step-itself (step.Element index) = int_eq_equiv.refl index
 step-itself (step.Field position) = eq-eqb position position refl
 
@@ -75,7 +75,7 @@ both-share false b c d a_is b_is is = absurd (false≢true a_is)
 both-share true false c d a_is b_is is = absurd (false≢true b_is)
 
 -- what goes on alike begins alike
-begin-share : (ps qs more others : List Step) → is_beginning (ps ++ more) (qs ++ others) ≡ true → share ps qs ≡ true
+pub begin-share : (ps qs more others : List Step) → is_beginning (ps ++ more) (qs ++ others) ≡ true → share ps qs ≡ true
 begin-share [] qs more others is = refl
 begin-share (s ∷ ps) [] more others is = refl
 begin-share (s ∷ ps) (t ∷ qs) more others is =
@@ -179,6 +179,7 @@ partner-is first a b is = by (nat_eq first.0 a) (nat_eq first.1 a) refl refl is
   where
     alone : (x : ℕ) → (nat_eq x b || false) ≡ true → x ≡ b
     alone x is = ⊎_elim (λ same. eqb-true x b same) (λ none. absurd (false≢true none)) (or_cases (nat_eq x b) false is)
+
     by : (x y : Bool) → nat_eq first.0 a ≡ x → nat_eq first.1 a ≡ y → is_among b (cond x (first.1 ∷ []) (cond y (first.0 ∷ []) [])) ≡ true
         → (first ≡ (a, b)) ⊎ (first ≡ (b, a))
     by true y x_is y_is is = inl (λ i. (eqb-true first.0 a x_is i, alone first.1 is i))

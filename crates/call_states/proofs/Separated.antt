@@ -1,12 +1,12 @@
 -- What a call passes makes only listed pairs of variables that share a place in the callee.
-use Rattle.std.proofs.Common.{arith, ◌≡◌, ⊎_elim, ◌⊎◌, inl, inr, ◌≢◌, ◌∙◌, sym, ap, refl, subst, ℕ, zero, suc, ◌+◌, ◌<◌, Bool, true, false, not, cond}
-use Rattle.std.proofs.Common.{◌&&◌, ◌||◌, append-nil, nat_eq, List, [], ◌∷◌, ◌++◌, length, Option, Some, None}
+use Rattle.std.proofs.Common.{arith, ◌≡◌, ⊎_elim, ◌≢◌, ◌∙◌, sym, ap, refl, subst, ℕ, suc, ◌<◌, Bool, true, false, not}
+use Rattle.std.proofs.Common.{◌&&◌, append-nil, nat_eq, List, [], ◌∷◌, Option, Some}
 use Rattle.std.specs.List.{Contains, list_all}
 use Rattle.std.specs.Prelude.{slice_get}
 use Rattle.std.proofs.lemmas.Bool.{and_parts, both_ways, eqb-true, false≢true, not_from_true, or_cases, or_left, or_right}
 use Rattle.std.proofs.lemmas.List.Elements.{All-contains}
 use Rattle.std.proofs.lemmas.List.Sums.{AllPass-from_list_all}
-use Rattle.std.proofs.lemmas.Option.{none-some, same_Some}
+use Rattle.std.proofs.lemmas.Option.{none-some}
 use Rattle.typed_tree.specs.WellFormed.{is_one_of}
 use Rattle.typed_tree.specs.declared.tree.Block.{Block}
 use Rattle.typed_tree.specs.declared.tree.Selector.{Selector}
@@ -21,11 +21,11 @@ use Rattle.component_states.specs.Components.{Reach}
 use Rattle.structured_states.specs.Pairs.{aliases_of}
 use Rattle.call_states.specs.Actuals.{Actual, Binding, OfRows, OfValue, OfVariable, bound_to}
 use Rattle.call_states.specs.Environments.{Proper}
-use Rattle.call_states.specs.Overlaps.{are_parted, are_separate, is_actual_listed, is_actual_separate, is_declared_in, is_listed, is_listed_round, is_listed_with}
+use Rattle.call_states.specs.Overlaps.{are_parted, are_separate, is_actual_separate, is_declared_in, is_listed, is_listed_round, is_listed_with}
 use Rattle.call_states.specs.Overlaps.{may_overlap}
 use Rattle.call_states.proofs.Callee.{IsCalled, Outer, Own, PassedTo, Seen, activation_of, callee-proper, either-cond, place-for_fits, seen-as}
 use Rattle.call_states.proofs.Passed.{AreArguments, IsArgument, Leads}
-use Rattle.call_states.proofs.Places.{IsPair, listed-pair, may-overlap, overlap-back, overlaps-from, pair-back, pair-listed}
+use Rattle.call_states.proofs.Places.{IsPair, listed-pair, may-overlap, overlap-back, overlaps-from, pair-back}
 
 -- a test that holds of all of some numbers holds of one among them
 pub all-among : (test : ℕ → Bool) (items : List ℕ) (item : ℕ) → list_all test items ≡ true → is_among item items ≡ true → test item ≡ true
@@ -112,7 +112,8 @@ module _ (tree : Tree) (env : Environment) (store : Store) where
         (ap (is_actual_separate pairs tree around others one) (sym first.is) ∙ tested) in
         let binding : Binding = record { root = other; actual = OfVariable last.root last.selectors last.reach } in
         let test = λ (b : Binding). is_listed_with pairs one first.root first.selectors b ≡ true in
-        let listed = All-contains test others binding (AllPass-from_list_all (is_listed_with pairs one first.root first.selectors) others tests.1) last.inside in
+        let listed = All-contains test others binding (AllPass-from_list_all (is_listed_with pairs one first.root first.selectors) others tests.1)
+        last.inside in
         let may = may-overlap pairs env separate first.root first.selectors first.leads.way last.root last.selectors last.leads.way p q first.leads.matches
         last.leads.matches (sym first.leads.place_is) (sym last.leads.place_is) over in
         ⊎_elim (λ never. absurd (both_ways (not (may_overlap pairs first.root first.selectors last.root last.selectors)) (not_from_true _ may) never))
@@ -181,7 +182,8 @@ module _ (tree : Tree) (env : Environment) (store : Store) where
     passed-outer [] actuals arguments are tested one outer variable p q p_is is among q_is over = absurd (none-some p p_is)
     passed-outer (root ∷ roots) [] arguments are tested one outer variable p q p_is is among q_is over = absurd are
     passed-outer (root ∷ roots) (actual ∷ actuals) [] are tested one outer variable p q p_is is among q_is over = absurd are
-    passed-outer (root ∷ roots) (actual ∷ actuals) (argument ∷ arguments) (formal, formal_is, own, others) tested one outer variable p q p_is is among q_is over =
+    passed-outer (root ∷ roots) (actual ∷ actuals) (argument ∷ arguments) (formal, formal_is, own, others) tested one outer variable p q p_is is among q_is
+        over =
         let bindings = bound_to roots actuals in
         let tests = and_parts (is_actual_separate pairs tree around bindings root actual) (are_separate pairs tree around bindings) tested in
         ⊎_elim
@@ -236,7 +238,8 @@ module _ (tree : Tree) (pairs : List (ℕ × ℕ)) (number : ℕ) (block : Block
           other_at over
       by v w v_is w_is (Outer other around at) (PassedTo other_own other_kind other_at) =
           pair-back pairs b a
-          (passed-outer tree caller store pairs call.proper.separate block.heading.around.items roots actuals arguments are tested b a v q p other_at v_is around
+          (passed-outer tree caller store pairs call.proper.separate block.heading.around.items roots actuals arguments are tested b a v q p other_at v_is
+          around
           at (overlap-back p q over))
       by v w v_is w_is (Outer one_other one_around at) (Outer other around other_at) = call.proper.separate a b p q at other_at differ over
 

@@ -1,14 +1,14 @@
 -- What is known where an activation of a block begins: its own variables and its result are undefined, its value parameters are defined, each other
 -- variable has a value of its type or none, and what is claimed holds.
-use Rattle.std.proofs.Common.{arith, ◌≡◌, ◌≢◌, ⊎_elim, ◌⊎◌, inl, inr, ◌∙◌, sym, ap, refl, subst, ℕ, zero, suc, ◌+◌, ◌<◌, ◌≤◌, Bool, true, false, cond, not}
-use Rattle.std.proofs.Common.{◌&&◌, ◌||◌, get_or, nat_eq, List, [], ◌∷◌, ◌++◌, length, map, Option, Some, None}
+use Rattle.std.proofs.Common.{arith, ◌≡◌, ⊎_elim, ◌∙◌, sym, ap, refl, subst, ℕ, zero, suc, ◌+◌, ◌<◌, true, false, cond, not}
+use Rattle.std.proofs.Common.{◌&&◌, ◌||◌, nat_eq, List, [], ◌∷◌, length, map, Option, Some, None}
 use Rattle.std.specs.Cmp.Lexicographic.{pointwise}
 use Rattle.std.specs.List.{All, Contains}
 use Rattle.std.specs.Prelude.{slice_get, slice_index_or}
-use Rattle.std.proofs.lemmas.Bool.{and_from, and_parts, both_ways, cases_Bool, cond_both, eq-eqb, eqb-true, false≢true, not-true, or_cases, or_left}
+use Rattle.std.proofs.lemmas.Bool.{and_parts, both_ways, cond_both, eq-eqb, eqb-true, false≢true, not-true, or_cases, or_left}
 use Rattle.std.proofs.lemmas.List.{get_or-map, length-map}
 use Rattle.std.proofs.lemmas.List.Elements.{All-nil}
-use Rattle.std.proofs.lemmas.Option.{get_or_from_slice_get, none-some, same_Some, slice_get_within}
+use Rattle.std.proofs.lemmas.Option.{get_or_from_slice_get, none-some, slice_get_within}
 use Rattle.types.specs.Components.{components_of}
 use Rattle.types.specs.Types.{is_ordinal}
 use Rattle.types.specs.declared.form.OrdinalRange.{OrdinalRange}
@@ -25,7 +25,7 @@ use Rattle.domain.specs.Facts.{Fact}
 use Rattle.domain.specs.Interval.{Interval, vacant}
 use Rattle.meaning.specs.declared.store.Value.{Value}
 use Rattle.meaning.specs.Meaning.{Activation, Argument, environment_of, home_of, own_place, place_for, program_activation}
-use Rattle.meaning.specs.Store.{Environment, Place, Store, stored}
+use Rattle.meaning.specs.Store.{Environment, Place, Store}
 use Rattle.abstract_state.specs.Holds.{HasValue, IsIn, part_of, value_at}
 use Rattle.abstract_state.specs.Knows as entire
 use Rattle.abstract_state.specs.Knows.{moment}
@@ -33,22 +33,22 @@ use Rattle.abstract_state.specs.State as variables
 use Rattle.abstract_state.proofs.Given.{named-entire}
 use Rattle.abstract_state.proofs.Knows.{defined-known}
 use Rattle.abstract_state.proofs.Looped.{claims-known}
-use Rattle.leaf_rows.specs.Rows.{Parts, Row, all_parts, index_at, no_parts, parts_of, rows_of, values_at}
+use Rattle.leaf_rows.specs.Rows.{Parts, Row, all_parts, no_parts, parts_of, rows_of, values_at}
 use Rattle.leaf_rows.proofs.Accessed.{IsRow, contains-has, has-contains, indexes-are, row-is}
-use Rattle.component_states.specs.Components.{Components, RowState, no_row, row_at}
-use Rattle.component_states.specs.Holds.{ComponentsHold, IsOfRow, Knows}
+use Rattle.component_states.specs.Components.{RowState, no_row, row_at}
+use Rattle.component_states.specs.Holds.{ComponentsHold, Knows}
 use Rattle.component_states.proofs.Looped.{with_claims-hold}
-use Rattle.structured_states.specs.Loops.{all_limits, component_facts, limits_at, limits_or_integer, plain_facts, row_limits, type_limits}
+use Rattle.structured_states.specs.Loops.{component_facts, limits_or_integer, plain_facts, type_limits}
 use Rattle.call_states.specs.Environments.{Begun, Proper, Typed, place_type}
 use Rattle.call_states.specs.Starts.{block_start, components_start, is_own, is_passed_value, is_undefined_at_start, row_start, start_range, values_defined}
 use Rattle.call_states.specs.Starts.{variable_start, variables_start}
 use Rattle.call_states.proofs.AliasedTypes.{InTypes, declared-limits, in-types, seen, stored-of}
-use Rattle.call_states.proofs.Assigned.{Gets, Received, received}
+use Rattle.call_states.proofs.Assigned.{Received, received}
 use Rattle.call_states.proofs.Callee.{IsCalled, Outer, Own, PassedTo, Seen, activation_of, parameter-listed, seen-as}
 use Rattle.call_states.proofs.Claimed.{AllHold}
 use Rattle.call_states.proofs.Entered.{behind_assignments, distinct, homes, nothing-begun, own-home, own-undefined, own-where, typed-behind, value-not_variable}
 use Rattle.call_states.proofs.Headings.{heading-at, one-there, same-numbers, well-placed}
-use Rattle.call_states.proofs.Passed.{AllFit, Fits}
+use Rattle.call_states.proofs.Passed.{AllFit}
 use Rattle.call_states.proofs.Places.{overlaps-from}
 
 -- ---- a block where it begins
@@ -142,7 +142,8 @@ module _ (tree : Tree) (pairs : List (ℕ × ℕ)) (number activations : ℕ) (v
   -- ---- rows
 
   -- what is known of a row that has a component
-  row-state : (row : ℕ) (steps : List Step) (is : IsRow tree row steps) → row_at (components_start tree number) row ≡ row_start tree number is.row (Some is.leaf.variable)
+  row-state : (row : ℕ) (steps : List Step) (is : IsRow tree row steps)
+      → row_at (components_start tree number) row ≡ row_start tree number is.row (Some is.leaf.variable)
   row-state row steps is =
       let own = λ (r : Row). row_start tree number r (slice_get declared r.root) in
       let e : 0 + is.leaf.root ≡ is.leaf.root = omega arith in
@@ -256,7 +257,8 @@ module _ (tree : Tree) (pairs : List (ℕ × ℕ)) (number : ℕ) (block : Block
       let parts = and_parts (nat_eq variable.block number) (is_value_kind variable.kind) passed in
       let own = eqb-true variable.block number parts.0 in
       let listed = contains-has block.heading.parameters.items root
-      (parameter-listed tree call.well number block call.block_is root variable is own (or_left (is_value_kind variable.kind) (is_variable_kind variable.kind) parts.1))
+      (parameter-listed tree call.well number block call.block_is root variable is own
+      (or_left (is_value_kind variable.kind) (is_variable_kind variable.kind) parts.1))
       in
       let argument = argument-at tree activations block.heading.parameters.items arguments call.fit listed.0 root listed.1 in
       let got = callee-received store begun listed.0 root argument.0 variable listed.1 argument.1 is parts.1 in
@@ -371,7 +373,8 @@ module _ (tree : Tree) (pairs : List (ℕ × ℕ)) (well : IsWellFormed tree) (b
       (λ root variable rest v is own at. none-some v (sym (nothing-there root rest) ∙ at))
       (λ root variable rest is passed inside.
       let parts = and_parts (nat_eq variable.block 0) (is_value_kind variable.kind) passed in
-      absurd (no-parameter root variable is (eqb-true variable.block 0 parts.0) (or_left (is_value_kind variable.kind) (is_variable_kind variable.kind) parts.1)))
+      absurd (no-parameter root variable is (eqb-true variable.block 0 parts.0)
+      (or_left (is_value_kind variable.kind) (is_variable_kind variable.kind) parts.1)))
       facts hold
     where
       nothing-there : (root : ℕ) (rest : List Step) → value_at (moment main []) root rest ≡ None

@@ -1,6 +1,6 @@
 -- The facts that hold where a called block begins, as they are given where it is called (ISO 7185:1990, 6.6.3): each
 -- formal parameter stands for its actual one. It does not say what the block goes by then.
-use Rattle.std.specs.Prelude.{ℕ, ℤ, pos, ◌+ℤ◌, Bool, true, false, ◌&&◌, ◌||◌, List, [], ◌∷◌, Option, Some, None, nat_eq}
+use Rattle.std.specs.Prelude.{ℕ, ℤ, pos, Bool, true, false, ◌&&◌, ◌||◌, List, [], ◌∷◌, Option, Some, None, nat_eq}
 use Rattle.std.specs.List.{list_all, list_any}
 use Rattle.std.specs.Option.{option_and_then}
 use Rattle.typed_tree.specs.declared.tree.Tree.{Tree}
@@ -12,7 +12,8 @@ use Rattle.leaf_rows.specs.Rows.{index_at, rows_of}
 use Rattle.component_states.specs.Components as components
 use Rattle.component_states.specs.Components.{Entire, At, Inside, Reach, moved_bound, row_at}
 use Rattle.component_states.specs.States.{State, gives_reached, is_dead}
-use Rattle.call_states.specs.Actuals.{Actual, OfValue, OfRows, OfVariable, Bearer, Passed, Variable, Components, Binding}
+use Rattle.call_states.specs.Actuals.{Actual, OfValue, OfRows, OfVariable, Bearer, Passed, Variable, Components}
+use Rattle.call_states.specs.Actuals.{Binding}
 use Rattle.call_states.specs.Actuals.{actual_of, bearers_named, bearers_of}
 
 -- ---- what bears a leaf
@@ -32,8 +33,8 @@ is_defined_borne tree state (Components row reach) =
 
 -- ---- bounds
 
--- what a bound of the callee is where it is called: a bound form, if there is one; where it lies; whether it is known to
--- have a value
+-- what a bound of the callee is where it is called: a bound form, if there is one; where it lies; whether it is known
+-- to have a value
 pub record Limit : Type 0 where
   pub form : Option Bound
   pub range : Interval

@@ -20,7 +20,9 @@ use Rattle.meaning.specs.Effect as effect
 use Rattle.meaning.specs.Integers.{is_within}
 use Rattle.meaning.specs.Store.{Environment, Place, Store, is_beginning, stored}
 use Rattle.abstract_state.specs.Holds.{IsIn, Separate}
+use Rattle.abstract_state.specs.Loops.{is_among}
 use Rattle.abstract_state.specs.State.{limits_of}
+use Rattle.call_states.specs.Starts.{is_passed_value}
 
 -- ---- the types of places
 
@@ -107,3 +109,11 @@ pub record Leaves (number : ℕ) (changes : List ℕ) (visible : Environment) (b
       → IsListed changes visible place ⊎ (stored after place ≡ stored before place)
   pub defined : (place : Place) (v : Value) → place.activation < number → stored before place ≡ Some v
       → (w : Value) × (stored after place ≡ Some w)
+
+-- what was passed as a value in an activation of a block, and isn't listed, it left as it was
+abbrev pub LeavesPassed : Tree → (activation block : ℕ) → (changes : List ℕ) → (before after : Store) → Type 0
+LeavesPassed tree activation block changes before after =
+    (root : ℕ) (variable : Variable) (steps : List Step) → slice_get tree.variables.items root ≡ Some variable
+    → is_passed_value block variable ≡ true → is_among root changes ≡ false
+    → stored after (record { activation = activation; variable = root; steps = steps })
+    ≡ stored before (record { activation = activation; variable = root; steps = steps })

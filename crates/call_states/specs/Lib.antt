@@ -5,5 +5,4 @@ pub mod Starts
 pub mod Actuals
 pub mod Entry
 pub mod Overlaps
-pub mod Exit
 pub mod View

@@ -1,6 +1,6 @@
 -- What is known where an activation of a block begins (ISO 7185:1990, 6.2.3.2, 6.6.3.2): its own variables and its
--- result are undefined, its value parameters are defined, each other variable that is visible has a value of its type or
--- none; and what a certificate claims beside that. It does not say that calls keep to these claims.
+-- result are undefined, its value parameters are defined, each other variable that is visible has a value of its type
+-- or none; and what a certificate claims beside that. It does not say that calls keep to these claims.
 use Rattle.std.specs.Prelude.{ℕ, suc, ◌&&◌, ◌||◌, Bool, not, List, [], ◌∷◌, Option, Some, None, if◌then◌else◌, map}
 use Rattle.std.specs.Prelude.{nat_eq, slice_get}
 use Rattle.domain.specs.Interval.{Interval, vacant}

@@ -1,13 +1,19 @@
 -- Calls of the program as the definitions see them: what is passed, what is claimed of blocks, what calls change. It
 -- does not say what is known of them.
-use Rattle.std.specs.Prelude.{ℕ, ℤ, neg_ℤ, pos, ◌≡◌, ◌<◌, ◌≤ℤ◌, Bool, false, List, [], ◌∷◌, ◌++◌, Option, Some, None, get_or}
-use Rattle.std.specs.Prelude.{if◌then◌else◌, filter, length, map, nat_eq}
-use Rattle.types.specs.declared.form.OrdinalRange.{OrdinalRange}
+use Rattle.std.specs.Prelude.{ℕ, suc, ◌⊎◌, ◌≤◌, ℤ, neg_ℤ, pos, ◌≡◌, ◌<◌, ◌≤ℤ◌, Bool, false, List, [], ◌∷◌, Option}
+use Rattle.std.specs.Prelude.{Some, None, get_or}
+use Rattle.std.specs.Prelude.{if◌then◌else◌, length, map, nat_eq, slice_get}
 use denote.Ref.{Bor}
+use Rattle.typed_tree.specs.declared.tree.Selector.{Selector}
+use Rattle.typed_tree.specs.declared.tree.Tree.{Tree}
+use Rattle.typed_tree.specs.declared.tree.Variable.{Variable}
+use Rattle.abstract_state.specs.State as variables
+use Rattle.leaf_rows.specs.Rows.{Row, rows_of}
+use Rattle.component_states.specs.Components.{RowState, no_row, undefined_row}
+use Rattle.call_states.specs.Starts.{row_start, variable_start}
+use Rattle.structured_states.specs.Loops.{is_ordinal_variable}
 use Rattle.certificate.specs.declared.Section.{Section as KeptSection}
 use Rattle.certificate.specs.Contents.{said_fact}
-use Rattle.domain.specs.Interval.{Interval, common}
-use Rattle.domain.specs.Facts.{Bound, Fact, Plus}
 use Rattle.abstract_state.specs.View.{said_form}
 use Rattle.component_states.specs.View.{said_reach}
 use Rattle.call_states.specs.declared.actuals.Actual.{Actual as KeptActual}
@@ -16,17 +22,14 @@ use Rattle.call_states.specs.declared.actuals.Bearer.{Bearer as KeptBearer}
 use Rattle.call_states.specs.declared.actuals.Bearer.TheVariants as borne
 use Rattle.call_states.specs.declared.actuals.Bindings.{Bindings}
 use Rattle.call_states.specs.declared.aliases.Stored.{Stored as KeptStored}
-use Rattle.call_states.specs.declared.changes.Change.{Change as KeptChange}
-use Rattle.call_states.specs.declared.exit.Touches.{Touches as KeptTouches}
 use Rattle.call_states.specs.declared.limits.Limit.{Limit as KeptLimit}
 use Rattle.call_states.specs.Sections.{BlockClaims, no_block_claims}
 use Rattle.call_states.specs.Aliases.{Stored}
-use Rattle.call_states.specs.Actuals.{Actual, Bearer, Binding, OfRows, OfValue, OfVariable, Passed, Variable, Components}
+use Rattle.call_states.specs.Actuals.{Actual, Bearer, Binding, OfRows, OfValue, OfVariable, Passed, Components}
+use Rattle.call_states.specs.Actuals as actuals
 use Rattle.call_states.specs.Actuals.{bound_to}
 use Rattle.call_states.specs.Entry.{Limit}
-use Rattle.call_states.specs.Exit.{Change, Touches, all_common, is_row, is_steady, is_variable, range_behind}
-use Rattle.call_states.specs.Exit.{roots_changed}
-use Rattle.structured_states.specs.Pairs.{all_aliases}
+use Rattle.component_states.specs.States.{State}
 
 -- ---- what is claimed of a block
 
@@ -66,6 +69,44 @@ pub record AreFound (old new : List (Option (Bor KeptSection))) (found : ℕ →
   pub each : (number : ℕ) → number < length old
       → found_as (get_or new number None) ≡ or_else (found_as (get_or old number None)) (found number)
 
+-- ---- where a block begins
+
+-- variables, of which the first has this root, have their ranges
+abbrev pub with_starts : Tree → ℕ → ℕ → List Variable → variables.State → variables.State
+with_starts tree block root [] state = state
+with_starts tree block root (variable ∷ declared) state =
+    with_starts tree block (suc root) declared (variables.with_range root (variable_start tree block variable) state)
+
+-- the row of a number in a program, where there is one; what is known of it where nothing has a value, and where a
+-- block begins
+abbrev pub no_leaf : Row
+no_leaf = record { root = 0; leaf = record { steps = []; values = None; index = None } }
+
+abbrev pub numbered : Tree → ℕ → Row
+numbered tree number = get_or (rows_of tree) number no_leaf
+
+abbrev pub begun_row : Tree → ℕ → ℕ → RowState
+begun_row tree block number =
+    row_start tree block (numbered tree number) (slice_get tree.variables.items (numbered tree number).root)
+
+-- of each row it is known what is where a block begins, or it is still to come and has no value
+pub record AreBegun (tree : Tree) (block : ℕ) (IsToCome : ℕ → Type 0) (rows : List RowState) : Type 0 where
+  pub count : length rows ≡ length (rows_of tree)
+  pub each : (number : ℕ) → number < length (rows_of tree)
+      → (get_or rows number no_row ≡ begun_row tree block number)
+      ⊎ ((get_or rows number no_row ≡ undefined_row (numbered tree number).leaf.index) × IsToCome number)
+
+-- the rows of a variable and of those behind it are still to come
+abbrev pub ComeFrom : Tree → ℕ → ℕ → Type 0
+ComeFrom tree root number = root ≤ (numbered tree number).root
+
+-- the rows of a variable begin
+pub record RowsBegin (tree : Tree) (block root : ℕ) (old new : State) : Type 0 where
+  pub variables_are : new.variables ≡ old.variables
+  pub stretches_are : new.components.stretches ≡ old.components.stretches
+  pub rows_are : AreBegun tree block (ComeFrom tree root) old.components.rows
+      → AreBegun tree block (ComeFrom tree (suc root)) new.components.rows
+
 -- ---- what is passed
 
 abbrev pub said_actual : KeptActual → Actual
@@ -73,13 +114,18 @@ said_actual (kept.Value range form) = OfValue range (said_form form)
 said_actual (kept.Rows ranges) = OfRows ranges.items
 said_actual (kept.Variable root selectors reach) = OfVariable root selectors.now (said_reach reach)
 
+-- an access leads to an entire ordinal variable
+abbrev pub is_entire : Tree → ℕ → List Selector → Bool
+is_entire tree root [] = is_ordinal_variable tree root
+is_entire tree root (selector ∷ selectors) = false
+
 abbrev pub said_found : Option (Bor KeptActual) → Option Actual
 said_found None = None
 said_found (Some actual) = Some (said_actual actual.now)
 
 abbrev pub said_bearer : KeptBearer → Bearer
 said_bearer (borne.Passed range) = Passed range
-said_bearer (borne.Variable root) = Variable root
+said_bearer (borne.Variable root) = actuals.Variable root
 said_bearer (borne.Components row reach) = Components row (said_reach reach)
 
 abbrev pub said_bindings : Bindings → List Binding
@@ -89,43 +135,6 @@ said_bindings bindings = bound_to bindings.roots.now (map said_actual bindings.a
 
 abbrev pub said_stored : KeptStored → Stored
 said_stored stored = record { values = stored.values; range = stored.range }
-
-abbrev pub said_change : KeptChange → Change
-said_change change =
-    record { bearer = said_bearer change.bearer; values = change.values; range = change.range }
-
--- the variables of the caller that a call may change, and their aliases
-abbrev pub touched_by : List (ℕ × ℕ) → List Binding → List ℕ → List ℕ
-touched_by pairs bindings changes =
-    roots_changed bindings changes ++ all_aliases pairs (roots_changed bindings changes)
-
-abbrev pub said_touches : KeptTouches → Touches
-said_touches touches = record { touched = touches.touched.now; changes = map said_change touches.changes.now }
-
--- a bearer is all of an entire ordinal variable, or all of a row
-abbrev pub is_of : Bearer → Bearer → Bool
-is_of (Variable root) bearer = is_variable root bearer
-is_of (Components row reach) bearer = is_row row bearer
-is_of (Passed range) bearer = false
-
--- a range beside one that is known, if one is
-abbrev pub met : Option Interval → Interval → Interval
-met None range = range
-met (Some known) range = common known range
-
--- the values of all of some changes, if there are any
-abbrev pub common_of : List Change → Option Interval
-common_of [] = None
-common_of (change ∷ changes) = Some (all_common changes change.range)
-
--- where the values lie of what was in a range
-abbrev pub behind : Option OrdinalRange → List Change → Bearer → Interval → Interval
-behind values changes subject range =
-    range_behind values changes (filter (λ change. is_of subject change.bearer) changes) range
-
--- a variable with a number more, if it is steady
-abbrev pub steady_at : Touches → ℕ → ℤ → Option Bound
-steady_at touches root n = if is_steady touches root then Some (Plus root n) else None
 
 -- ---- bounds
 

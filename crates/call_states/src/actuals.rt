@@ -1,4 +1,4 @@
-ghost use Rattle.std.specs.Prelude.{◌≡◌, ◌∷◌, [], IfOk, None, Some, if◌then◌else◌, map};
+ghost use Rattle.std.specs.Prelude.{◌≡◌, ◌∷◌, [], IfOk, None, Some, if◌then◌else◌, map, slice_get};
 ghost use Rattle.abstract_state.specs.Loops.{is_among};
 ghost use Rattle.certificate.specs.Contents.{said_path};
 ghost use Rattle.component_states.specs.View.{said_reach};
@@ -6,18 +6,23 @@ ghost use Rattle.leaf_rows.specs.Rows.{rows_of, rows_under};
 ghost use Rattle.leaf_rows.specs.View.{numbers};
 ghost use Rattle.structured_states.specs.Loops.{is_ordinal_variable};
 ghost use Rattle.call_states.specs.Actuals.{Components, Passed, Variable, actual_of, after_call, all_of_rows};
-ghost use Rattle.call_states.specs.Actuals.{bearers_at, bearers_for, bearers_named};
-ghost use Rattle.call_states.specs.Actuals.{bearers_of, borne_by, settled, unknown_reach};
-ghost use Rattle.call_states.specs.View.{said_actual, said_bearer, said_bindings, said_found};
+ghost use Rattle.call_states.specs.Actuals.{are_of_rows, are_of_types, bearers_at, bearers_for, bearers_named};
+ghost use Rattle.call_states.specs.Actuals.{bearers_of, borne_by, is_copy_for, is_of_type, lies_among, settled};
+ghost use Rattle.call_states.specs.Actuals.{unknown_reach};
+ghost use Rattle.call_states.specs.View.{is_entire, said_actual, said_bearer, said_bindings, said_found};
 
+use abstract_state::limits;
 use certificate::Path;
 use component_states::{Index, Reach};
+use domain::Domain;
 use domain::facts::Bound;
 use domain::interval::Interval;
 use leaf_rows::{Rows, Span};
 use std::alloc::{AllocError, Global};
 use structured_states::kept_claims::{is_ordinal_variable, names_entire, rows_named};
-use typed_tree::tree::Selector;
+use structured_states::rounds::limits_at;
+use typed_tree::tree::{Selector, Tree};
+use types::OrdinalRange;
 
 /// What is passed to a formal parameter (ISO 7185:1990, 6.6.3).
 #[derive(Drop)]
@@ -46,13 +51,13 @@ impl<'a> Actual<'a> {
         match self {
             Actual::Value { form, .. } => *form = None,
             Actual::Rows(_) => {}
-            Actual::Variable { reach, .. } => *reach = unknown(*reach),
+            Actual::Variable { reach, .. } => *reach = unknown_reach(*reach),
         }
     }
 }
 
 /// What is reached by an index of which nothing is known.
-fn unknown(reach: Reach) -> Reach
+pub fn unknown_reach(reach: Reach) -> Reach
     ensures { said_reach result ≡ unknown_reach (said_reach reach) }
 {
     let index = Index {
@@ -99,7 +104,7 @@ pub struct Bindings<'b, 'a> {
 
 impl<'b, 'a> Bindings<'b, 'a> {
     /// The actual parameter of a formal one, if a root is that of one.
-    pub(crate) fn actual(&self, root: u32) -> Option<&'b Actual<'a>>
+    pub fn actual(&self, root: u32) -> Option<&'b Actual<'a>>
         ensures { said_found result ≡ actual_of (said_bindings self.now) root }
     {
         let roots = self.roots;
@@ -114,7 +119,7 @@ impl<'b, 'a> Bindings<'b, 'a> {
 }
 
 /// What has the values of the leaves of a formal parameter, leaf by leaf.
-pub(crate) fn bearers_of(
+pub fn bearers_of(
     alloc: Global,
     rows: &Rows,
     actual: &Actual,
@@ -123,7 +128,13 @@ pub(crate) fn bearers_of(
 {
     match actual {
         Actual::Value { range, .. } => alone(alloc, Bearer::Passed(*range)),
-        Actual::Rows(ranges) => passed_rows(alloc, ranges),
+        Actual::Rows(ranges) => {
+            let mut bearers = Vec::with_capacity(alloc, ranges.len())?;
+            for range in ranges {
+                bearers.push(Bearer::Passed(*range))?;
+            }
+            Ok(bearers)
+        }
         Actual::Variable {
             root,
             selectors,
@@ -138,18 +149,8 @@ fn alone(alloc: Global, bearer: Bearer) -> Result<Vec<Bearer>, AllocError>
     Vec::from_slice(alloc, &[bearer])
 }
 
-/// Those of a copy.
-fn passed_rows(alloc: Global, ranges: &[Interval]) -> Result<Vec<Bearer>, AllocError>
-    ensures { IfOk result (λ bearers. map said_bearer bearers.items ≡ map Passed ranges.now) }
-{
-    ranges
-        .iter()
-        .map(|range| Bearer::Passed(*range))
-        .collect(alloc)
-}
-
 /// Those of what an access leads to: an entire ordinal variable, or components.
-pub(crate) fn borne_by(
+pub fn borne_by(
     alloc: Global,
     rows: &Rows,
     root: u32,
@@ -159,10 +160,17 @@ pub(crate) fn borne_by(
     ensures { IfOk result
         (λ bearers. map said_bearer bearers.items ≡ borne_by rows.now root selectors.now (said_reach reach)) }
 {
-    if selectors.is_empty() && is_ordinal_variable(rows.tree(), root) {
+    if is_entire(rows.tree(), root, selectors) {
         return alone(alloc, Bearer::Variable(root));
     }
     in_rows(alloc, rows.accessed(root, selectors), &reach)
+}
+
+/// Whether an access leads to an entire ordinal variable.
+pub fn is_entire(tree: &Tree, root: u32, selectors: &[Selector]) -> bool
+    ensures { result ≡ is_entire tree.now root selectors.now }
+{
+    selectors.is_empty() && is_ordinal_variable(tree, root)
 }
 
 /// What is reached in some rows.
@@ -178,7 +186,7 @@ fn in_rows(alloc: Global, span: Span, reach: &Reach) -> Result<Vec<Bearer>, Allo
 }
 
 /// Those of all of a variable that is no formal parameter.
-pub(crate) fn all_bearers(alloc: Global, rows: &Rows, root: u32) -> Result<Vec<Bearer>, AllocError>
+pub fn all_bearers(alloc: Global, rows: &Rows, root: u32) -> Result<Vec<Bearer>, AllocError>
     ensures { IfOk result (λ bearers. map said_bearer bearers.items ≡ (if is_ordinal_variable rows.now root
         then Variable root ∷ [] else all_of_rows (rows_under (rows_of rows.now) root []))) }
 {
@@ -189,7 +197,7 @@ pub(crate) fn all_bearers(alloc: Global, rows: &Rows, root: u32) -> Result<Vec<B
 }
 
 /// The bearers of what a path names, as the callee knows it.
-pub(crate) fn bearers_named(
+pub fn bearers_named(
     alloc: Global,
     rows: &Rows,
     bindings: Bindings,
@@ -258,8 +266,75 @@ fn bearers_at(
 }
 
 /// Whether a row is one of some.
-pub(crate) fn has(span: Span, row: u32) -> bool
+pub fn has(span: Span, row: u32) -> bool
     ensures { result ≡ is_among row (numbers span) }
 {
     span.first <= row && row < span.end()
+}
+
+/// Whether a range lies among the values of an ordinal type.
+pub fn lies_among(values: Option<OrdinalRange>, range: Interval) -> bool
+    ensures { result ≡ lies_among values range }
+{
+    match values {
+        None => false,
+        Some(values) => range.leq(&limits(values)),
+    }
+}
+
+/// Whether what is passed as values lies in the types of the formal parameters, by the values of all variables' types.
+pub fn are_of_types(rows: &Rows, limits: &[Interval], bindings: Bindings) -> bool
+    ensures { result ≡ are_of_types rows.now limits.now (said_bindings bindings.entry) }
+{
+    let roots = bindings.roots;
+    let actuals = bindings.actuals;
+    for i in 0..roots.len() {
+        match actuals.get(i) {
+            None => return true,
+            Some(actual) => {
+                if !is_of_type(rows, limits, roots[i], actual) {
+                    return false;
+                }
+            }
+        }
+    }
+    true
+}
+
+/// Whether what is passed as a value lies in the type of a formal parameter.
+fn is_of_type(rows: &Rows, limits: &[Interval], root: u32, actual: &Actual) -> bool
+    ensures { result ≡ is_of_type rows.now limits.now root (said_actual actual.now) }
+{
+    match actual {
+        Actual::Value { range, .. } => range.leq(&limits_at(limits, root)),
+        Actual::Rows(ranges) => is_copy_for(rows, root, ranges),
+        Actual::Variable { .. } => true,
+    }
+}
+
+/// Whether a copy of ranges lies in the type of a structured variable.
+fn is_copy_for(rows: &Rows, root: u32, ranges: &[Interval]) -> bool
+    ensures { result ≡ is_copy_for rows.now root ranges.now (slice_get rows.now.variables.items root) }
+{
+    match rows.tree().variables.get(root as usize) {
+        None => false,
+        Some(variable) => {
+            rows.is_structured(variable.type_id) && are_of_rows(rows, rows.of_variable(root), ranges)
+        }
+    }
+}
+
+/// Whether the ranges of a copy lie in those of the types of some rows.
+fn are_of_rows(rows: &Rows, span: Span, ranges: &[Interval]) -> bool
+    ensures { result ≡ are_of_rows rows.now (numbers span) ranges.now }
+{
+    if ranges.len() != span.count as usize {
+        return false;
+    }
+    for i in 0..span.count {
+        if !lies_among(rows.values(span.first + i), ranges[i as usize]) {
+            return false;
+        }
+    }
+    true
 }

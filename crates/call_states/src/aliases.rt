@@ -3,8 +3,10 @@ ghost use Rattle.abstract_state.specs.Loops.{is_among};
 ghost use Rattle.abstract_state.specs.View.{said_form};
 ghost use Rattle.component_states.specs.View.{said_index, said_reach, viewed};
 ghost use Rattle.leaf_rows.specs.View.{numbers};
-ghost use Rattle.call_states.specs.Aliases.{alias_joined, aliases_joined, all_dropped, all_joined_to, index_unless_alias};
-ghost use Rattle.call_states.specs.Aliases.{reach_unless_alias, rows_joined, same_values, unless_alias, variable_values};
+ghost use Rattle.call_states.specs.Aliases.{alias_joined, aliases_joined, all_dropped, all_joined_to};
+ghost use Rattle.call_states.specs.Aliases.{index_unless_alias};
+ghost use Rattle.call_states.specs.Aliases.{reach_unless_alias, rows_joined, same_values, unless_alias};
+ghost use Rattle.call_states.specs.Aliases.{variable_values};
 ghost use Rattle.call_states.specs.Aliases.{with_aliases_stored};
 ghost use Rattle.call_states.specs.View.{said_stored};
 
@@ -40,7 +42,7 @@ pub fn store(state: &mut State, rows: &Rows, aliases: &[u32], stored: &[Stored])
 }
 
 /// Facts that rest on some variables are known no longer.
-pub(crate) fn drop_all(state: &mut State, roots: &[u32])
+pub fn drop_all(state: &mut State, roots: &[u32])
     ensures { viewed state.new ≡ all_dropped roots.now (viewed state.old) }
 {
     for root in roots {
@@ -81,7 +83,7 @@ fn join_rows(state: &mut State, rows: &Rows, stored: &Stored, span: Span)
 }
 
 /// Whether the values of two types are the same.
-pub(crate) fn is_same(one: Option<OrdinalRange>, other: Option<OrdinalRange>) -> bool
+pub fn is_same(one: Option<OrdinalRange>, other: Option<OrdinalRange>) -> bool
     ensures { result ≡ same_values one other }
 {
     match (one, other) {
@@ -112,7 +114,7 @@ pub fn form_unless_alias(aliases: &[u32], form: Option<Bound>) -> Option<Bound>
 }
 
 /// Whether a variable is among some.
-pub(crate) fn is_among(roots: &[u32], root: u32) -> bool
+pub fn is_among(roots: &[u32], root: u32) -> bool
     ensures { result ≡ is_among root roots.now }
 {
     roots.contains(&root)

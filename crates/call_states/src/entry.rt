@@ -1,4 +1,4 @@
-ghost use Rattle.std.specs.Prelude.{◌≡◌, IfOk, IfSome, map};
+ghost use Rattle.std.specs.Prelude.{◌≡◌, ◌||◌, IfOk, IfSome, map, pos};
 ghost use Rattle.std.specs.List.{list_all, list_any};
 ghost use Rattle.certificate.specs.Contents.{said_fact};
 ghost use Rattle.component_states.specs.View.{said_reach, said_stretch, viewed};
@@ -6,7 +6,8 @@ ghost use Rattle.abstract_state.specs.View as variables;
 ghost use Rattle.domain.specs.Facts.{Plus, said_bound};
 ghost use Rattle.domain.specs.Interval.{is_included};
 ghost use Rattle.call_states.specs.Entry.{are_borne_between, are_given, are_ordered, are_reached, has_between};
-ghost use Rattle.call_states.specs.Entry.{is_borne_between, is_defined_borne, is_given, range_borne};
+ghost use Rattle.call_states.specs.Entry.{is_at_most, is_borne_between, is_defined_borne, is_given, limit_moved};
+ghost use Rattle.call_states.specs.Entry.{range_borne};
 ghost use Rattle.call_states.specs.View.{AreBounded, said_bearer, said_bindings, said_limit, said_some_limit};
 
 use crate::actuals::{Bearer, Bindings, bearers_named};
@@ -156,13 +157,21 @@ fn are_between(
 {
     match (first, last) {
         (Some(first), Some(last)) => {
-            first.has_value
-                && last.has_value
-                && (last.moved(1).is_at_most(&state.variables, &first)
-                    || all_between(rows, state, bearers, first, last))
+            first.has_value && last.has_value && lie_between(rows, state, bearers, first, last)
         }
         _ => false,
     }
+}
+
+/// Whether there are none between the limits, or they are defined.
+fn lie_between(rows: &Rows, state: &State, bearers: &[Bearer], first: Limit, last: Limit) -> bool
+    requires { AreBounded last }
+    ensures { result ≡ (is_at_most (viewed state.now).variables (limit_moved (pos 1) (said_limit last))
+        (said_limit first) || list_all (is_borne_between rows.now (viewed state.now) (said_limit first)
+        (said_limit last)) (map said_bearer bearers.now)) }
+{
+    last.moved(1).is_at_most(&state.variables, &first)
+        || all_between(rows, state, bearers, first, last)
 }
 
 fn all_between(rows: &Rows, state: &State, bearers: &[Bearer], first: Limit, last: Limit) -> bool

@@ -3,9 +3,8 @@
 
 pub mod actuals;
 pub mod aliases;
-mod changes;
 pub mod entry;
-pub mod exit;
 mod limits;
 pub mod overlaps;
 pub mod sections;
+pub mod starts;

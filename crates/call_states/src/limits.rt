@@ -1,4 +1,4 @@
-ghost use Rattle.std.specs.Prelude.{◌≡◌, ℕ, Some, pos, true};
+ghost use Rattle.std.specs.Prelude.{◌≡◌, ◌+ℤ◌, ℕ, Some, pos, true};
 ghost use Rattle.std.specs.Option.{option_and_then};
 ghost use Rattle.abstract_state.specs.View.{IsFar, said_form, viewed};
 ghost use Rattle.component_states.specs.Components.{moved_bound};
@@ -8,12 +8,11 @@ ghost use Rattle.call_states.specs.Entry.{forms_at_most, is_at_most, limit_moved
 ghost use Rattle.call_states.specs.Entry.{limit_of_bound};
 ghost use Rattle.call_states.specs.View.{AreBounded, AreNear, IsLimit, said_actual, said_bindings, said_limit};
 
-use crate::actuals::{Actual, Bindings};
+use crate::actuals::{Actual, Bindings, is_entire};
 use abstract_state::{Ends, State};
 use component_states::{has_value, moved};
 use domain::facts::Bound;
 use domain::interval::Interval;
-use structured_states::kept_claims::is_ordinal_variable;
 use typed_tree::tree::Tree;
 
 /// What a bound of a callee is where it is called.
@@ -58,12 +57,11 @@ impl Limit {
         ensures is { said_limit result ≡ limit_moved by (said_limit self) }
         ensures bounded { AreNear self → AreBounded result }
     {
-        let by = i64::from(by);
         Limit {
-            form: moved_form(self.form, by),
+            form: moved_form(self.form, i64::from(by)),
             ends: Ends {
-                first: self.ends.first + by,
-                last: self.ends.last + by,
+                first: moved_end(self.ends.first, by),
+                last: moved_end(self.ends.last, by),
             },
             has_value: self.has_value,
         }
@@ -75,6 +73,14 @@ impl Limit {
     {
         are_at_most(state, self.form, other.form) || self.ends.is_below(other.ends)
     }
+}
+
+/// An end plus a number.
+fn moved_end(end: i64, by: i32) -> i64
+    requires { IsFar end }
+    ensures { result ≡ end +ℤ by }
+{
+    end + i64::from(by)
 }
 
 /// A form plus a number, if it is one that bounds have.
@@ -110,10 +116,23 @@ pub(crate) fn limit_of(
 {
     match bound {
         Bound::Number(_) => Some(Limit::of(state, bound)),
-        Bound::Plus { root, number } => Some(limit_of_root(tree, state, bindings, root)?.moved(
-            number,
-        )),
+        Bound::Plus { root, number } => limit_above(tree, state, bindings, root, number),
     }
+}
+
+/// A variable of the callee with a number more.
+fn limit_above(
+    tree: &Tree,
+    state: &State,
+    bindings: Bindings,
+    root: u32,
+    number: i32,
+) -> Option<Limit>
+    ensures { IsLimit AreBounded result
+        (limit_of_bound tree.now (viewed state.now) (said_bindings bindings.entry) (Plus root number)) }
+{
+    let limit = limit_of_root(tree, state, bindings, root)?;
+    Some(limit.moved(number))
 }
 
 /// A variable of the callee.
@@ -140,7 +159,7 @@ fn limit_of_actual(tree: &Tree, state: &State, actual: &Actual) -> Option<Limit>
             selectors,
             ..
         } => {
-            if selectors.is_empty() && is_ordinal_variable(tree, *root) {
+            if is_entire(tree, *root, selectors) {
                 return Some(of_variable(state, *root));
             }
             None

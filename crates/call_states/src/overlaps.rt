@@ -62,9 +62,16 @@ fn are_listed_round(pairs: &Pairs, tree: &Tree, around: &[u32], formal: u32, roo
         (root ∷ aliases_of pairs.now root) }
 {
     is_listed_round(pairs, tree, around, formal, root)
-        && pairs.aliases(root).iter().all(|alias| is_listed_round(
-            pairs, tree, around, formal, *alias,
-        ))
+        && are_listed(pairs, tree, around, formal, pairs.aliases(root))
+}
+
+/// The same of some variables.
+fn are_listed(pairs: &Pairs, tree: &Tree, around: &[u32], formal: u32, roots: &[u32]) -> bool
+    ensures { result ≡ list_all (is_listed_round pairs.now tree.now around.now formal) roots.now }
+{
+    roots
+        .iter()
+        .all(|root| is_listed_round(pairs, tree, around, formal, *root))
 }
 
 fn is_listed_round(pairs: &Pairs, tree: &Tree, around: &[u32], formal: u32, root: u32) -> bool

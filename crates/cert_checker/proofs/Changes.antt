@@ -1,19 +1,18 @@
 -- What is known behind a change of an entire variable holds, of variables and of components.
-use Rattle.std.proofs.Common.{◌≡◌, ◌≢◌, ⊎_elim, ◌⊎◌, inl, inr, ◌∙◌, sym, ap, refl, subst, ℕ, ◌<◌, ℤ, Bool, true, false, cond, List, [], ◌∷◌, Option, Some, None, length}
+use Rattle.std.proofs.Common.{◌≡◌, ⊎_elim, ◌∙◌, sym, ap, refl, subst, ℕ, ◌<◌, ℤ, Bool, true, false, cond, List, [], ◌∷◌, Option, Some, None, length}
 use Rattle.std.proofs.Common.{arith, append-nil}
 use Rattle.std.specs.List.{Contains}
 use Rattle.std.specs.Option.{option_and_then}
 use Rattle.std.specs.Ordering.{int_eq}
-use Rattle.std.specs.Prelude.{is_some, slice_get}
+use Rattle.std.specs.Prelude.{is_some}
 use Rattle.std.proofs.lemmas.Option.{none-some, same_Some, slice_get_within}
-use Rattle.types.specs.Types.{is_ordinal, range_of}
+use Rattle.types.specs.Types.{range_of}
 use Rattle.types.specs.Forms.{Form}
 use Rattle.types.specs.declared.form.OrdinalRange.{OrdinalRange}
 use Rattle.types.specs.declared.form.Step.{Step}
 use Rattle.types.specs.declared.form.TypeId.{TypeId}
 use Rattle.typed_tree.specs.declared.tree.Tree.{Tree}
 use Rattle.typed_tree.specs.declared.tree.Variable.{Variable}
-use Rattle.typed_tree.specs.WellFormed.{is_visible, outline_of}
 use Rattle.domain.specs.Facts as fact
 use Rattle.domain.specs.Facts.{Bound, Plus}
 use Rattle.domain.specs.Interval.{HasMember, Interval}
@@ -22,11 +21,9 @@ use Rattle.meaning.specs.declared.store.Value.{Value}
 use Rattle.meaning.specs.declared.store.Value.TheVariants.{Number}
 use Rattle.meaning.specs.Store.{Environment, Place, Store, written}
 use Rattle.meaning.specs.Store as store
-use Rattle.abstract_state.specs.Changes.{assigned}
-use Rattle.abstract_state.specs.Holds.{HasNumber, IsBound, IsIn, part_of, value_at}
+use Rattle.abstract_state.specs.Holds.{HasNumber, IsBound, IsIn, value_at}
 use Rattle.abstract_state.specs.Knows.{IsFormApart, IsKept, IsOfForm, Shows, moment}
 use Rattle.abstract_state.specs.Loops.{is_among, replaced, with_undefined}
-use Rattle.abstract_state.specs.State.{limits_of}
 use Rattle.abstract_state.proofs.Apart.{part}
 use Rattle.abstract_state.proofs.Changed.{assigned-known}
 use Rattle.abstract_state.proofs.Looped.{replaced-known, undefined-known}
@@ -43,7 +40,7 @@ use Rattle.structured_states.proofs.OnWay.{Between, MayBe, ended-known, next-of_
 use Rattle.call_states.specs.Aliases.{Stored, unless_alias, variable_values, with_aliases_stored}
 use Rattle.call_states.specs.Environments.{LiesIn, Proper, place_type}
 use Rattle.call_states.proofs.Aliased.{IsReady, aliases-ready}
-use Rattle.call_states.proofs.AliasedStores.{AreWritten, IsApart, Pairs, aliases-apart, at-head, head-or_tail, hidden-apart, one-kept, one-written, whole-changes}
+use Rattle.call_states.proofs.AliasedStores.{AreWritten, IsApart, Pairs, at-head, head-or_tail, one-kept, one-written, whole-changes}
 use Rattle.call_states.proofs.AliasedTypes.{AreStoredAs, AreTyped, are-aliased, declared, seen, shows, values-limits, whole-type}
 use Rattle.cert_checker.specs.Walk.{assigned_to}
 
@@ -150,8 +147,7 @@ module _ (tree : Tree) (pairs : List (ℕ × ℕ)) (block activations : ℕ) (en
         (sym (ap (λ (found : Option Place). store.part found []) at)
         ∙ ap (λ (p : List Step × ℤ). store.part (env.variables root) p.0) same ∙ place_is) in
         let values : variable_values tree root ≡ range_of tree.types own =
-        whole-type tree pairs block activations env proper root home own at (ap (place_type tree) there ∙ type_is) in
-        (
+        whole-type tree pairs block activations env proper root home own at (ap (place_type tree) there ∙ type_is) in (
           record { values = variable_values tree root; range = range },
           at-head (record { values = variable_values tree root; range = range }) [],
           values,

@@ -1,8 +1,10 @@
 -- The formal parameters of a block: each is a variable that the block declares, and they are apart from one another; so where
 -- values are passed to them, no place is written but those of the activation.
-use Rattle.std.specs.Prelude.{if◌then◌else◌, slice_get}
+use Rattle.std.specs.Prelude.{◌≤◌, if◌then◌else◌, slice_get}
 use Rattle.std.specs.Cmp.Lexicographic.{pointwise}
-use Rattle.std.proofs.Common.{arith, ◌≡◌, ◌⊎◌, inl, inr, ⊎_elim, ℕ, suc, ◌+◌, zero-add, List, [], ◌∷◌, Bool, true, false, ◌&&◌, ◌||◌}
+use Rattle.std.specs.List.{Contains}
+use Rattle.std.proofs.lemmas.List.Elements.{Contains-append_left, Contains-append_right}
+use Rattle.std.proofs.Common.{arith, ◌≡◌, ◌⊎◌, inl, inr, ⊎_elim, ℕ, suc, ◌+◌, zero-add, List, [], ◌∷◌, ◌++◌, Bool, true, false, ◌&&◌, ◌||◌}
 use Rattle.std.proofs.Common.{Option, Some, None, nat_eq, refl, sym, ap, ◌∙◌, subst}
 use Rattle.std.proofs.lemmas.Bool.{and_parts, cases_Bool, eq-eqb, eqb-true, false≢true, or_cases}
 use Rattle.types.specs.Components.{components_of}
@@ -21,8 +23,11 @@ use Rattle.meaning.specs.Effect as effect
 use Rattle.meaning.specs.Meaning.{Activation, Argument, OfPlace, OfRow, OfValue, assign, assign_all, home_of, own_place, place_for}
 use Rattle.meaning.specs.Meaning.{place_passed, seen_from}
 use Rattle.abstract_state.specs.Loops.{is_among}
-use Rattle.call_states.specs.Sections.{BlockClaims}
-use Rattle.expression_checker.proofs.EffectsKept.{IsOwn, Keeps, MayWriteTo, Standing, keeps-give, keeps-store, keeps-store_all, keeps-then, own-write}
+use Rattle.call_states.specs.Sections.{BlockClaims, block_claims_at}
+use Rattle.call_states.specs.Starts.{is_own}
+use Rattle.call_states.proofs.Callee.{in-roots}
+use Rattle.expression_checker.proofs.EffectsKept.{IsOwn, Keeps, MayWriteTo, Standing, keeps-give, keeps-store, keeps-store_all, keeps-then, lies-itself}
+use Rattle.expression_checker.proofs.EffectsKept.{own-write}
 use Rattle.expression_checker.proofs.EffectsCalls.{DeclareTheirs, Grounds, activation_from, not-among, standing_from}
 
 -- ---- blocks of a well formed tree
@@ -134,12 +139,14 @@ pub declare-theirs : (tree : Tree) → IsWellFormed tree → DeclareTheirs tree
 declare-theirs tree well number block root is among =
     let test = declares_parameter number in
     let found = found-where test 0 tree.variables.items root
-        (subst (λ (roots : List ℕ). is_among root roots ≡ true) (parameters-are tree well number block is) among) in
+    (subst (λ (roots : List ℕ). is_among root roots ≡ true) (parameters-are tree well number block is) among) in
     let own = (and_parts (nat_eq found.variable.block number) (is_parameter_kind found.variable.kind) found.passes).0 in
     let root_is = found.root_is in
-    let position_is : found.position ≡ root = omega (arith, root_is) in
-    (found.variable, subst (λ (k : ℕ). slice_get tree.variables.items k ≡ Some found.variable) position_is found.there,
-    eqb-true found.variable.block number own)
+    let position_is : found.position ≡ root = omega (arith, root_is) in (
+      found.variable,
+      subst (λ (k : ℕ). slice_get tree.variables.items k ≡ Some found.variable) position_is found.there,
+      eqb-true found.variable.block number own,
+    )
 
 parameters-apart : (tree : Tree) → IsWellFormed tree → (number : ℕ) (block : Block) → slice_get tree.blocks.items number ≡ Some block
     → AreApart block.heading.parameters.items
@@ -202,7 +209,7 @@ keeps-assign_all at tree visible (root ∷ roots) [] apart placed = keeps-give a
 keeps-assign_all at tree visible (root ∷ roots) (argument ∷ arguments) apart placed =
     let found = visible.variables root in
     let first : IsPlaced at found (place_passed argument) =
-        subst (IsPlaced at found) (first-passed root roots argument arguments) (placed root (among-first root roots)) in
+    subst (IsPlaced at found) (first-passed root roots argument arguments) (placed root (among-first root roots)) in
     keeps-then at _ _ (keeps-assign at tree.types found (slice_get tree.variables.items root) argument first)
     (λ _. keeps-assign_all at tree visible roots arguments apart.1
     (λ other among.
@@ -220,11 +227,11 @@ seen-own activation root variable own =
     else (if is_one_of activation.heading.around.items variable.block then activation.caller.variables root else None))
     (eq-eqb variable.block activation.block own)
 
-own-at : (at : Standing) (root : ℕ) → IsOwn at (Some (own_place at.number root))
-own-at at root place is =
+own-at : (at : Standing) (root : ℕ) → at.settled ≤ at.number → IsOwn at (Some (own_place at.number root))
+own-at at root few place is =
     let same : own_place at.number root ≡ place = cc in
     let number_is : at.number ≡ place.activation = ap (λ (p : Place). p.activation) same in
-    omega (arith, number_is)
+    (omega (arith, number_is, few), λ earlier. absurd (omega (arith, number_is, earlier)))
 
 module _ (tree : Tree) (blocks : List BlockClaims) (number : ℕ) (block : Block) (arguments : List Argument) (caller : Environment) (s : effect.State) where
   abbrev activation : Activation
@@ -236,9 +243,9 @@ module _ (tree : Tree) (blocks : List BlockClaims) (number : ℕ) (block : Block
   home-placed : (root : ℕ) (one : VariableKind)
       → IsPlaced at (home_of activation root one) (place_for root block.heading.parameters.items arguments)
   home-placed root kind.VariableParameter = inr refl
-  home-placed root kind.Local = inl (own-at at root)
-  home-placed root kind.ValueParameter = inl (own-at at root)
-  home-placed root kind.Result = inl (own-at at root)
+  home-placed root kind.Local = inl (own-at at root (omega arith))
+  home-placed root kind.ValueParameter = inl (own-at at root (omega arith))
+  home-placed root kind.Result = inl (own-at at root (omega arith))
 
   visible-home : (root : ℕ) (variable : Variable) → slice_get tree.variables.items root ≡ Some variable → variable.block ≡ number
       → at.visible.variables root ≡ home_of activation root variable.kind
@@ -265,8 +272,40 @@ module _ (tree : Tree) (blocks : List BlockClaims) (number : ℕ) (block : Block
   -- an activation that begins stands on the claims of its block
   pub activation-grounds : Grounds tree blocks number at
   activation-grounds = record {
-    lists = refl;
+    few = omega arith;
+    lists = λ root inside. inside;
     own = λ root variable home found owns seen.
         let parts = and_parts (nat_eq variable.block number) (is_local_kind variable.kind || is_result_kind variable.kind) owns in
-        own-home root home variable.kind parts.1 (sym (visible-home root variable found (eqb-true variable.block number parts.0)) ∙ seen);
+        let at_home = own-home root home variable.kind parts.1 (sym (visible-home root variable found (eqb-true variable.block number parts.0)) ∙ seen) in
+        (omega (arith, at_home), λ earlier. absurd (omega (arith, at_home, earlier)));
+  }
+
+  -- so does what it does behind the assignments of its value parameters: its own variables are listed too
+  abbrev pub behind : Standing
+  behind = record {
+    number = suc s.activations;
+    settled = s.activations;
+    changes = (block_claims_at blocks number).changes ++ roots_where (is_own number) 0 tree.variables.items;
+    visible = at.visible;
+  }
+
+  pub behind-grounds : Grounds tree blocks number behind
+  behind-grounds = record {
+    few = omega arith;
+    lists = λ root inside. Contains-append_left (block_claims_at blocks number).changes (roots_where (is_own number) 0 tree.variables.items) root inside;
+    own = λ root variable home found owns seen.
+        let parts = and_parts (nat_eq variable.block number) (is_local_kind variable.kind || is_result_kind variable.kind) owns in
+        let at_home = own-home root home variable.kind parts.1 (sym (visible-home root variable found (eqb-true variable.block number parts.0)) ∙ seen) in
+        let here : 0 + root ≡ root = omega arith in (
+          omega (arith, at_home),
+          λ earlier. (
+            root,
+            home,
+            Contains-append_right (block_claims_at blocks number).changes (roots_where (is_own number) 0 tree.variables.items) root
+                (subst (Contains (roots_where (is_own number) 0 tree.variables.items)) here
+                (in-roots (is_own number) 0 tree.variables.items root variable found owns)),
+            seen,
+            lies-itself home,
+          ),
+        );
   }

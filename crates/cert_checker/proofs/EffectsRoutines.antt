@@ -36,10 +36,10 @@ use Rattle.cert_checker.proofs.EffectsStatements.{statement-kept}
 -- ---- the walk over a program
 
 -- the statement of a block is walked in a context of the block
-record BodyYields (tree : Tree) (blocks : List BlockClaims) (number : ℕ) (block : Block) : Type 0 where
-  inner : Context
-  stands : StandsIn tree blocks number inner
-  yields : Yields inner (statement_walk block.body) tt
+pub record BodyYields (tree : Tree) (blocks : List BlockClaims) (number : ℕ) (block : Block) : Type 0 where
+  pub inner : Context
+  pub stands : StandsIn tree blocks number inner
+  pub yields : Yields inner (statement_walk block.body) tt
 
 body-yields : (context : Context) (number : ℕ) (block : Block) → Yields context (block_walk number block) tt
     → BodyYields context.tree context.blocks number block
@@ -48,7 +48,7 @@ body-yields context number block yields =
     let claims = block_claims_at context.blocks number in
     let end = flow.◌>>=◌ (result_use block.heading.result) (λ _. facts_given Exit block.end claims.exit) in
     let one = yields-then inner (begin number claims.entry) (λ _. flow.◌>>=◌ (statement_walk block.body) (λ _. end)) tt
-        (record { state = yields.state; unbroken = yields.unbroken; value_is = yields.value_is }) in
+    (record { state = yields.state; unbroken = yields.unbroken; value_is = yields.value_is }) in
     let two = yields-then inner (statement_walk block.body) (λ _. end) tt one.2 in
     record { inner = inner; stands = record { tree_is = refl; blocks_are = refl; block_is = refl }; yields = two.1 }
 
@@ -85,7 +85,7 @@ module _ (tree : Tree) (well : IsWellFormed tree) (certificate : Certificate) (u
   abbrev blocks : List BlockClaims
   blocks = all_block_claims tree certificate
 
-  body-here : (number : ℕ) (block : Block) → slice_get tree.blocks.items number ≡ Some block → BodyYields tree blocks number block
+  pub body-here : (number : ℕ) (block : Block) → slice_get tree.blocks.items number ≡ Some block → BodyYields tree blocks number block
   body-here number block is =
       subst (λ (n : ℕ). BodyYields tree blocks n block) (zero-add number)
       (bodies-yield (first_context tree certificate) 0 tree.blocks.items (record { state = dead; unbroken = unbroken; value_is = refl }) number block is)
@@ -115,7 +115,7 @@ module _ (tree : Tree) (well : IsWellFormed tree) (certificate : Certificate) (u
     begun-leaves (suc left) =
         let begun : State = record s { turns = left; activations = suc s.activations; living = number ∷ s.living } in
         let kept : Keeps at (inner s.activations) =
-            keeps-then at _ _ keeps-executed (λ v. keeps-then at _ _ (keeps-end at s.living) (λ _. keeps-give at v)) in
+        keeps-then at _ _ keeps-executed (λ v. keeps-then at _ _ (keeps-end at s.living) (λ _. keeps-give at v)) in
         leaves-then at s begun (state_after (inner s.activations begun)) (leaves-begun at s begun refl refl) (kept.left begun (omega arith))
 
     activated-leaves : Leaving at s (state_after (activated tree calls number (Some block) arguments caller s))
@@ -138,7 +138,7 @@ module _ (tree : Tree) (well : IsWellFormed tree) (certificate : Certificate) (u
 
   -- ---- by the sections of the certificate
 
-  claims-are : (number : ℕ) (block : Block) → slice_get tree.blocks.items number ≡ Some block
+  pub claims-are : (number : ℕ) (block : Block) → slice_get tree.blocks.items number ≡ Some block
       → block_claims_at blocks number ≡ block_claims_in number (contents certificate)
   claims-are number block is =
       get_or-map-range_with_len (λ (n : ℕ). block_claims_in n (contents certificate)) 0 (length tree.blocks.items) number number no_block_claims
@@ -161,7 +161,7 @@ module _ (tree : Tree) (well : IsWellFormed tree) (certificate : Certificate) (u
         (environment_of tree (activation_from number block arguments caller s)) s.store after.store
     call-leaves =
         subst (λ (claims : BlockClaims). Leaves s.activations claims.changes (environment_of tree (activation_from number block arguments caller s))
-        s.store after.store) (claims-are number block is) left.leaves
+        s.store after.store) (claims-are number block is) (record { values = left.leaves.values; defined = left.leaves.defined })
 
   pub calls-change-what-they-list : CallsChangeWhatTheyList tree certificate
   calls-change-what-they-list depth number block arguments caller s place is changed =

@@ -2,7 +2,7 @@
 -- undefined, is one of the block's own.
 use Rattle.std.specs.Prelude.{if◌then◌else◌, nat_lt, slice_get}
 use Rattle.std.specs.List.{list_all}
-use Rattle.std.proofs.Common.{arith, ◌≡◌, ℕ, ℤ, List, [], ◌∷◌, ◌++◌, Bool, true, false, ◌&&◌, ◌||◌, Option, Some, None}
+use Rattle.std.proofs.Common.{◌≡◌, ℕ, ℤ, List, [], ◌∷◌, ◌++◌, Bool, true, false, ◌&&◌, ◌||◌, Option, Some, None}
 use Rattle.std.proofs.Common.{Vec, Global, drop, map, nat_eq, length}
 use Rattle.std.proofs.Common.{refl, sym, ap, ◌∙◌, subst}
 use Rattle.std.proofs.lemmas.Bool.{and_from, and_parts}
@@ -70,7 +70,7 @@ may-store context place root reach fits stores yields =
     let one = yields-then context (component_change place root fits stores) (λ _. stores_made root reach stores) tt yields in
     let rest = fits && are_typed context stores in
     let rule : Yields context (asked (may_change context root && rest) Changes place) tt =
-        record { state = one.1.state; unbroken = one.1.unbroken; value_is = one.1.value_is } in
+    record { state = one.1.state; unbroken = one.1.unbroken; value_is = one.1.value_is } in
     (and_parts (may_change context root) rest (yields-asked context (may_change context root && rest) Changes place tt rule)).0
 
 may-assign : (context : Context) (place : SourcePlace) (root : ℕ) (selectors : List Selector) (reach : Reach) (values : Interval) (form : Option Bound)
@@ -79,7 +79,7 @@ may-assign context place root [] reach values form passed yields =
     let one = yields-then context (walk.change place root values) (λ _. assign root form passed) tt yields in
     let rest = is_included values (limits_at context.limits root) in
     let rule : Yields context (asked (may_change context root && rest) Changes place) tt =
-        record { state = one.1.state; unbroken = one.1.unbroken; value_is = one.1.value_is } in
+    record { state = one.1.state; unbroken = one.1.unbroken; value_is = one.1.value_is } in
     (and_parts (may_change context root) rest (yields-asked context (may_change context root && rest) Changes place tt rule)).0
 may-assign context place root (selector ∷ selectors) reach values form (Ordinal range) yields =
     may-store context place root reach true (walk.alike range (walk.target_rows context root (selector ∷ selectors)))
@@ -89,7 +89,7 @@ may-copy : (context : Context) (place : SourcePlace) (root : ℕ) (selectors : L
     (ranges : List Interval) → Yields context (walk.copy_to place root selectors reach type_id value ranges) tt → may_change context root ≡ true
 may-copy context place root selectors reach type_id value ranges yields =
     let rows = walk.target_rows context root selectors in
-    may-store context place root reach (walk.fits_whole context.tree.types type_id value && nat_eq (length rows) (length ranges))
+    may-store context place root reach (flow.fits_whole context.tree.types type_id value && nat_eq (length rows) (length ranges))
     (walk.paired rows ranges) (record { state = yields.state; unbroken = yields.unbroken; value_is = yields.value_is })
 
 -- both ways break no rule
@@ -99,9 +99,10 @@ yields-parted context one_state other_state one other yields =
     let first = one context (one_state yields.state) in
     let second = other context (other_state yields.state) in
     let both = yields-then context (λ around state. first) (λ _ around state. second) tt
-        (record { state = yields.state; unbroken = yields.unbroken; value_is = refl }) in
-    (record { state = one_state yields.state; unbroken = both.1.unbroken; value_is = refl },
-    record { state = other_state yields.state; unbroken = both.2.unbroken; value_is = refl })
+    (record { state = yields.state; unbroken = yields.unbroken; value_is = refl }) in (
+      record { state = one_state yields.state; unbroken = both.1.unbroken; value_is = refl },
+      record { state = other_state yields.state; unbroken = both.2.unbroken; value_is = refl },
+    )
 
 -- a round of a loop is walked in a context of the same block
 record RoundYields (tree : Tree) (blocks : List BlockClaims) (block : ℕ) (walking : Walking State) : Type 0 where
@@ -119,8 +120,8 @@ yields-round tree blocks block context stands number place control walking yield
     let round = without_own control loop in
     let end = λ (behind : State). flow.◌>>=◌ (walk.facts_given LoopTurn place facts) (λ _. flow.with_state behind) in
     let one = yields-then context (walk.facts_given LoopEntry place facts)
-        (λ _. flow.◌>>=◌ (walk.enter_head (with_own control loop) facts) (λ _. flow.◌>>=◌ (walk.inside round walking) end)) tt
-        (record { state = yields.state; unbroken = yields.unbroken; value_is = yields.value_is }) in
+    (λ _. flow.◌>>=◌ (walk.enter_head (with_own control loop) facts) (λ _. flow.◌>>=◌ (walk.inside round walking) end)) tt
+    (record { state = yields.state; unbroken = yields.unbroken; value_is = yields.value_is }) in
     let two = yields-then context (walk.enter_head (with_own control loop) facts) (λ _. flow.◌>>=◌ (walk.inside round walking) end) tt one.2 in
     let three = yields-then context (walk.inside round walking) end tt two.2 in
     record {
@@ -193,13 +194,13 @@ module _ (tree : Tree) (blocks : List BlockClaims) (declares : DeclareTheirs tre
       (λ v. effect.◌>>=◌ (effect.require (is_in fits.range v) fits.site) (λ _. effect.store place v))))
   keeps-assignment becomes target indexes fits value context stands yields =
       let assigned = λ (reach : Reach) (passed : Known).
-          assign_to becomes target.root target.selectors.items (walk.reach_before (holds_call value) reach) (limits_of fits.range) (bound_form value) passed in
+      assign_to becomes target.root target.selectors.items (walk.reach_before (holds_call value) reach) (limits_of fits.range) (bound_form value) passed in
       let one = yields-then context (flow.access_walk target (flow.index_pieces indexes))
-          (λ reach. flow.◌>>=◌ (value_walk value) (λ known. flow.◌>>=◌ (flow.fitting fits known) (assigned reach))) tt yields in
+      (λ reach. flow.◌>>=◌ (value_walk value) (λ known. flow.◌>>=◌ (flow.fitting fits known) (assigned reach))) tt yields in
       let two = yields-then context (value_walk value) (λ known. flow.◌>>=◌ (flow.fitting fits known) (assigned one.0)) tt one.2 in
       let three = yields-then context (flow.fitting fits two.0) (assigned one.0) tt two.2 in
       let may = may-assign context becomes target.root target.selectors.items (walk.reach_before (holds_call value) one.0) (limits_of fits.range)
-          (bound_form value) three.0 three.2 in
+      (bound_form value) three.0 three.2 in
       keeps-when at _ _ (access-kept tree blocks declares block at grounds calls leave target indexes context one.0 stands one.1)
       (λ place given. keeps-then at _ _ (keeps-value value context two.0 stands two.1)
       (λ v. keeps-then at _ _ (keeps-require at (is_in fits.range v) fits.site)
@@ -211,12 +212,12 @@ module _ (tree : Tree) (blocks : List BlockClaims) (declares : DeclareTheirs tre
       (λ numbers. effect.store_all place (components_of at.visible.types type_id) numbers)))
   keeps-copying becomes target indexes type_id value value_indexes context stands yields =
       let copied = λ (reach : Reach) (ranges : List Interval).
-          walk.copy_to becomes target.root target.selectors.items (walk.reach_before (whole_holds_call value value_indexes) reach) type_id value ranges in
+      walk.copy_to becomes target.root target.selectors.items (walk.reach_before (whole_holds_call value value_indexes) reach) type_id value ranges in
       let one = yields-then context (flow.access_walk target (flow.index_pieces indexes))
-          (λ reach. flow.◌>>=◌ (flow.whole_walk value (flow.index_pieces value_indexes)) (copied reach)) tt yields in
+      (λ reach. flow.◌>>=◌ (flow.whole_walk value (flow.index_pieces value_indexes)) (copied reach)) tt yields in
       let two = yields-then context (flow.whole_walk value (flow.index_pieces value_indexes)) (copied one.0) tt one.2 in
       let may = may-copy context becomes target.root target.selectors.items (walk.reach_before (whole_holds_call value value_indexes) one.0)
-          type_id value two.0 two.2 in
+      type_id value two.0 two.2 in
       keeps-when at _ _ (access-kept tree blocks declares block at grounds calls leave target indexes context one.0 stands one.1)
       (λ place given. keeps-then at _ _ (whole-kept tree blocks declares block at grounds calls leave value value_indexes context two.0 stands two.1)
       (λ numbers. keeps-store_all at place (components_of at.visible.types type_id) numbers
@@ -236,11 +237,11 @@ module _ (tree : Tree) (blocks : List BlockClaims) (declares : DeclareTheirs tre
       let round = yields-round tree blocks block context stands number place None (walk.while_round condition walking) yields in
       let end = λ (known : Known) (tested : State) (_ : Unit {0}). flow.give (walk.where_so false condition known tested) in
       let from_tested = λ (known : Known) (tested : State).
-          flow.◌>>=◌ (flow.with_state (walk.where_so true condition known tested)) (λ _. flow.◌>>=◌ walking (end known tested)) in
+      flow.◌>>=◌ (flow.with_state (walk.where_so true condition known tested)) (λ _. flow.◌>>=◌ walking (end known tested)) in
       let one = yields-then round.inner (value_walk condition) (λ known. flow.◌>>=◌ walk.here (from_tested known)) round.behind round.yields in
       let two = yields-then round.inner walk.here (from_tested one.0) round.behind one.2 in
       let three = yields-then round.inner (flow.with_state (walk.where_so true condition one.0 two.0))
-          (λ _. flow.◌>>=◌ walking (end one.0 two.0)) round.behind two.2 in
+      (λ _. flow.◌>>=◌ walking (end one.0 two.0)) round.behind two.2 in
       let four = yields-then round.inner walking (end one.0 two.0) round.behind three.2 in
       let body = kept round.inner round.stands four.1 in
       keeps-looped at (meaning.while_round (value_of condition) execution here)
@@ -254,7 +255,7 @@ module _ (tree : Tree) (blocks : List BlockClaims) (declares : DeclareTheirs tre
   keeps-repeat condition execution walking kept number place context stands yields =
       let round = yields-round tree blocks block context stands number place None (walk.repeat_round walking condition) yields in
       let from_tested = λ (known : Known) (tested : State).
-          flow.◌>>=◌ (flow.with_state (walk.where_so false condition known tested)) (λ _. flow.give (walk.where_so true condition known tested)) in
+      flow.◌>>=◌ (flow.with_state (walk.where_so false condition known tested)) (λ _. flow.give (walk.where_so true condition known tested)) in
       let from_known = λ (known : Known). flow.◌>>=◌ walk.here (from_tested known) in
       let one = yields-then round.inner walking (λ _. flow.◌>>=◌ (value_walk condition) from_known) round.behind round.yields in
       let two = yields-then round.inner (value_walk condition) from_known round.behind one.2 in
@@ -272,19 +273,21 @@ module _ (tree : Tree) (blocks : List BlockClaims) (declares : DeclareTheirs tre
       → (variable : DeclaredVariable) × (found ≡ Some variable) × (is_own block variable ≡ true)
   declared-local None is = absurd (cc)
   declared-local (Some variable) is =
-      let parts = and_parts (nat_eq variable.block block) (is_local_kind variable.kind) is in
-      (variable, refl, and_from (nat_eq variable.block block) (is_local_kind variable.kind || is_result_kind variable.kind) parts.0
-      (ap (λ (local : Bool). local || is_result_kind variable.kind) parts.1))
+      let parts = and_parts (nat_eq variable.block block) (is_local_kind variable.kind) is in (
+        variable,
+        refl,
+        and_from (nat_eq variable.block block) (is_local_kind variable.kind || is_result_kind variable.kind) parts.0
+            (ap (λ (local : Bool). local || is_result_kind variable.kind) parts.1),
+      )
 
   -- a control variable lies in the activation
   control-own : (control : ℕ) → is_control (outline_of tree) block control ≡ true → IsOwn at (at.visible.variables control)
   control-own control is place seen =
       let declared = of_one (λ (variable : DeclaredVariable). nat_eq variable.block block && is_local_kind variable.kind)
-          (slice_get tree.variables.items control) in
+      (slice_get tree.variables.items control) in
       let local = (and_parts declared (leads_to_ordinal (outline_of tree) block control [] 0) is).0 in
       let (variable, found, own) = declared-local (slice_get tree.variables.items control) local in
-      let number_is = grounds.own control variable place found own seen in
-      omega (arith, number_is)
+      grounds.own control variable place found own seen
 
   keeps-between : (control : ℕ) (first_fits : RangeTest) (direction : Direction) (last_fits : RangeTest) (execution : Execution)
       → IsOwn at (at.visible.variables control) → Keeps at (execution here) → (first last : Value)
@@ -292,13 +295,13 @@ module _ (tree : Tree) (blocks : List BlockClaims) (declares : DeclareTheirs tre
   keeps-between control first_fits direction last_fits execution own kept (Number first) (Number last) =
       let found = at.visible.variables control in
       let round = λ (n : ℤ). keeps-then at (effect.store found (Number n))
-          (λ _. effect.◌>>=◌ effect.use_turn (λ _. effect.◌>>=◌ (execution here) (λ _. give (value_behind direction last n))))
-          (keeps-store at found (Number n) (own-write at found own))
-          (λ _. keeps-then at _ _ (keeps-turn at) (λ _. keeps-then at _ _ kept (λ _. keeps-give at (value_behind direction last n)))) in
+      (λ _. effect.◌>>=◌ effect.use_turn (λ _. effect.◌>>=◌ (execution here) (λ _. give (value_behind direction last n))))
+      (keeps-store at found (Number n) (own-write at found own))
+      (λ _. keeps-then at _ _ (keeps-turn at) (λ _. keeps-then at _ _ kept (λ _. keeps-give at (value_behind direction last n)))) in
       let rounds : Keeps at (meaning.for_rounds control first_fits direction last_fits execution here first last) =
-          keeps-then at _ _ (keeps-require at (is_in first_fits.range (Number first)) first_fits.site)
-          (λ _. keeps-then at _ _ (keeps-require at (is_in last_fits.range (Number last)) last_fits.site)
-          (λ _. keeps-looped at (meaning.for_round control direction last execution here) round first)) in
+      keeps-then at _ _ (keeps-require at (is_in first_fits.range (Number first)) first_fits.site)
+      (λ _. keeps-then at _ _ (keeps-require at (is_in last_fits.range (Number last)) last_fits.site)
+      (λ _. keeps-looped at (meaning.for_round control direction last execution here) round first)) in
       keeps-chosen (has_values direction first last) (meaning.for_rounds control first_fits direction last_fits execution here first last) (give tt)
       rounds (keeps-give at tt)
 
@@ -307,21 +310,21 @@ module _ (tree : Tree) (blocks : List BlockClaims) (declares : DeclareTheirs tre
       → Yields context (walk.for_walk number place walking way) tt → Keeps at (execution here)
   kept-turns number place way execution walking kept context stands yields =
       let ways = walk.parted (over_variables (where_counts true way)) (over_variables (where_counts false way))
-          (walk.for_turns number place walking way) (flow.give tt) in
+      (walk.for_turns number place walking way) (flow.give tt) in
       let one = yields-then context ways (λ _. flow.changed_by (over_change way.control None (with_undefined way.control))) tt yields in
       let turns = (yields-parted context (over_variables (where_counts true way)) (over_variables (where_counts false way))
-          (walk.for_turns number place walking way) (flow.give tt) one.1).0 in
+      (walk.for_turns number place walking way) (flow.give tt) one.1).0 in
       let assigned = λ (tested : Way). assign tested.control tested.first.form (Ordinal tested.first.values) in
       let two = yields-then context (walk.tested_way place way)
-          (λ tested. flow.◌>>=◌ (assigned tested) (λ _. walk.rounds_of number place walking tested)) tt turns in
+      (λ tested. flow.◌>>=◌ (assigned tested) (λ _. walk.rounds_of number place walking tested)) tt turns in
       let three = yields-then context (assigned two.0) (λ _. walk.rounds_of number place walking two.0) tt two.2 in
       let steady = walk.steady_in context number two.0 in
       let round = yields-round tree blocks block context stands number place (Some two.0.control) (walk.for_round steady walking)
-          (record { state = three.2.state; unbroken = three.2.unbroken; value_is = three.2.value_is }) in
+      (record { state = three.2.state; unbroken = three.2.unbroken; value_is = three.2.value_is }) in
       let end = λ (ended : State). flow.◌>>=◌ (flow.with_state (over_change steady.control (next steady) (turn_ended steady) ended))
-          (λ _. flow.give (over_bound steady.control steady.last.form (way_out steady) ended)) in
+      (λ _. flow.give (over_bound steady.control steady.last.form (way_out steady) ended)) in
       let four = yields-then round.inner (flow.changed_by (over_variables (turn_begun steady)))
-          (λ _. flow.◌>>=◌ walking (λ _. flow.◌>>=◌ walk.here end)) round.behind round.yields in
+      (λ _. flow.◌>>=◌ walking (λ _. flow.◌>>=◌ walk.here end)) round.behind round.yields in
       let five = yields-then round.inner walking (λ _. flow.◌>>=◌ walk.here end) round.behind four.2 in
       kept round.inner round.stands five.1
 
@@ -369,7 +372,7 @@ module _ (tree : Tree) (blocks : List BlockClaims) (declares : DeclareTheirs tre
       let walked = map statement_walk (bodies arms) in
       let root = root_of (condition_of index).form in
       let one = yields-then context (walk.index_test site (constants_before (length walked) rows) range) (λ base. walk.arms_walk base root rows walked)
-          tt yields in
+      tt yields in
       keeps-arm site one.0 root rows rows arms n well context stands one.2
 
   -- ---- the forms
@@ -390,7 +393,7 @@ module _ (tree : Tree) (blocks : List BlockClaims) (declares : DeclareTheirs tre
       keeps-then at _ _ (keeps-enter at number at.visible) (λ _. keeps-assignment becomes target indexes.items fits value context stands one.2)
   layer (Copy number becomes target indexes type_id value value_indexes) well context stands yields =
       let one = yields-then context (flow.enter number)
-          (λ _. walk.copying becomes target (flow.index_pieces indexes.items) type_id value value_indexes.items) tt yields in
+      (λ _. walk.copying becomes target (flow.index_pieces indexes.items) type_id value value_indexes.items) tt yields in
       keeps-then at _ _ (keeps-enter at number at.visible)
       (λ _. keeps-copying becomes target indexes.items type_id value value_indexes.items context stands one.2)
   layer (Write number name parameters ends_line) well context stands yields =
@@ -442,7 +445,7 @@ module _ (tree : Tree) (blocks : List BlockClaims) (declares : DeclareTheirs tre
       let is_test = is_well_formed_test (outline_of tree) block in
       let is_body = well_stmt body.value.0 in
       let controls = and_parts (is_control (outline_of tree) block control)
-          (well_expr first && (is_test first_fits && (well_expr last && (is_test last_fits && is_body)))) well in
+      (well_expr first && (is_test first_fits && (well_expr last && (is_test last_fits && is_body)))) well in
       let two = and_parts (well_expr first) (is_test first_fits && (well_expr last && (is_test last_fits && is_body))) controls.1 in
       let three = and_parts (is_test first_fits) (well_expr last && (is_test last_fits && is_body)) two.1 in
       let four = and_parts (well_expr last) (is_test last_fits && is_body) three.1 in
@@ -450,7 +453,7 @@ module _ (tree : Tree) (blocks : List BlockClaims) (declares : DeclareTheirs tre
       let walking = statement_walk body.value.0 in
       let whole = λ (from to : Known). walk.for_walk loop_number place walking (way_of control direction first first_fits last last_fits from to) in
       let one = yields-then context (flow.enter number) (λ _. flow.◌>>=◌ (value_walk first) (λ from. flow.◌>>=◌ (value_walk last) (whole from)))
-          tt yields in
+      tt yields in
       keeps-then at _ _ (keeps-enter at number at.visible)
       (λ _. keeps-for loop_number place control first first_fits direction last last_fits (effect_of body.value.0) walking (body.value.1 five.1)
       (control-own control controls.0) context stands one.2)

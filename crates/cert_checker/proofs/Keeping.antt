@@ -1,27 +1,24 @@
 -- A variable becomes undefined: no other changes, and values lie in their types as before.
-use Rattle.std.proofs.Common.{◌≡◌, ◌≢◌, ⊎_elim, ◌∙◌, sym, ap, refl, subst, ℕ, ◌<◌, Bool, true, false, cond, ◌||◌, nat_eq, List, [], ◌∷◌, Option, Some, None}
-use Rattle.std.proofs.Common.{append-nil, inl, inr, ◌⊎◌, ◌++◌, not, ◌&&◌}
-use Rattle.std.specs.List.{Contains, list_all}
+use Rattle.std.proofs.Common.{◌≡◌, ◌≢◌, ⊎_elim, ◌∙◌, sym, ap, refl, subst, ℕ, Bool, true, false, cond, ◌||◌, nat_eq, List, [], ◌∷◌, Option, Some, None}
+use Rattle.std.proofs.Common.{append-nil, inl, inr, ◌⊎◌, ◌++◌, not}
+use Rattle.std.specs.List.{list_all}
 use Rattle.std.proofs.lemmas.Bool.{and_parts, both_ways, cases_eq, eq-eqb, eqb-true, false_from_ne_true, or_cases}
-use Rattle.std.proofs.lemmas.List.Folds.{list_any-append, list_all_at}
+use Rattle.std.proofs.lemmas.List.Folds.{list_any-append}
 use Rattle.std.proofs.lemmas.Option.{none-some}
 use Rattle.types.specs.declared.form.Step.{Step}
 use Rattle.typed_tree.specs.WellFormed.{is_visible, outline_of}
 use Rattle.typed_tree.specs.declared.tree.Tree.{Tree}
 use Rattle.meaning.specs.declared.store.Value.{Value}
 use Rattle.meaning.specs.Store.{Environment, Place, Store, place_eq, stored, undefined}
-use Rattle.abstract_state.specs.Holds.{HasValue, part_of, value_at}
+use Rattle.abstract_state.specs.Holds.{part_of, value_at}
 use Rattle.abstract_state.specs.Knows.{IsKept, moment}
 use Rattle.abstract_state.specs.Loops.{is_among}
 use Rattle.abstract_state.proofs.Apart.{entire-stored, entry-kept, part, parts-same, place-itself}
 use Rattle.component_states.specs.Laws.{OneChanges}
 use Rattle.structured_states.specs.Loops.{Round, all_control, touched}
-use Rattle.structured_states.specs.Pairs.{aliases_of}
-use Rattle.expression_checker.specs.Walk.{Context}
 use Rattle.expression_checker.proofs.Keeping.{Keeps}
 use Rattle.call_states.specs.Environments.{Begun, Proper, Typed}
 use Rattle.call_states.proofs.AliasedStores.{IsApart, all-pass}
-use Rattle.cert_checker.specs.Walk.{are_hidden}
 
 -- ---- what no block shows
 

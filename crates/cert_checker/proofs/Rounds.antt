@@ -1,17 +1,17 @@
 -- What the turns of a loop change, the loop touches, and the aliases of that: at its head, and inside it as far as they are visible.
-use Rattle.std.proofs.Common.{◌≡◌, ⊎_elim, ◌∙◌, sym, ap, ap₂, refl, subst, ℕ, Bool, true, false, not, cond, ◌&&◌, ◌||◌, nat_eq, List, [], ◌∷◌, ◌++◌, Option, Some}
+use Rattle.std.proofs.Common.{◌≡◌, ⊎_elim, ◌∙◌, sym, ap, refl, subst, ℕ, Bool, true, false, not, ◌&&◌, ◌||◌, nat_eq, List, [], ◌∷◌, ◌++◌, Some}
 use Rattle.std.proofs.Common.{None}
-use Rattle.std.specs.Prelude.{flat_map}
-use Rattle.std.specs.List.{Contains, list_all}
-use Rattle.std.proofs.lemmas.Bool.{and_parts, eqb-true, eq-eqb, or_cases}
+use Rattle.std.specs.List.{list_all}
+use Rattle.std.proofs.lemmas.Bool.{and_parts, eqb-true, or_cases}
 use Rattle.std.proofs.lemmas.List.Folds.{list_any-append}
 use Rattle.std.proofs.lemmas.List.Elements.{Contains-push_cases}
 use Rattle.typed_tree.specs.WellFormed.{is_visible, outline_of}
 use Rattle.abstract_state.specs.Loops.{is_among}
-use Rattle.structured_states.specs.Loops.{Round, all_but, round_of, touched, with_own, without_own}
-use Rattle.structured_states.specs.Pairs.{aliases_of, all_aliases, partner}
+use Rattle.structured_states.specs.Loops.{Round, all_but, round_of, without_own}
+use Rattle.structured_states.specs.Pairs.{aliases_of, all_aliases}
 use Rattle.structured_states.proofs.Touched.{among-but, inside-parts, touched_parts}
-use Rattle.expression_checker.specs.Walk.{Context, may_change}
+use Rattle.call_states.proofs.Places.{listed-pair, pair-back, pair-listed}
+use Rattle.expression_checker.specs.Walk.{Context}
 use Rattle.expression_checker.proofs.Sound.{Goes, IsClosed, World, is_seen}
 use Rattle.cert_checker.specs.Walk.{are_hidden}
 
@@ -44,60 +44,8 @@ among-all pairs (other ∷ roots) root alias among is =
     (or_cases (nat_eq other root) (is_among root roots) among)
 
 -- an alias of a variable has it as an alias
-partner-back : (pair : ℕ × ℕ) (root alias : ℕ) → is_among alias (partner root pair) ≡ true → is_among root (partner alias pair) ≡ true
-partner-back pair root alias is =
-    by (nat_eq pair.0 root) (nat_eq pair.1 root) refl refl is
-  where
-    single : (x y : ℕ) → is_among x (y ∷ []) ≡ true → y ≡ x
-    single x y among = ⊎_elim (λ (same : nat_eq y x ≡ true). eqb-true y x same) (λ (none : ◌≡◌ {A = Bool} false true). absurd (false-true none))
-        (or_cases (nat_eq y x) false among)
-
-    own : (x : ℕ) → is_among x (x ∷ []) ≡ true
-    own x = or-first (nat_eq x x) false (eq-eqb x x refl)
-
-    first-of : (x y : ℕ) → is_among x (partner y (x, y)) ≡ true
-    first-of x y = by-first (nat_eq x y) refl
-      where
-        by-first : (b : Bool) → nat_eq x y ≡ b → is_among x (partner y (x, y)) ≡ true
-        by-first true same =
-            ap (λ (b : Bool). is_among x (cond b (y ∷ []) (cond (nat_eq y y) (x ∷ []) []))) same
-            ∙ or-first (nat_eq y x) false (eq-eqb y x (sym (eqb-true x y same)))
-        by-first false apart =
-            ap (λ (b : Bool). is_among x (cond b (y ∷ []) (cond (nat_eq y y) (x ∷ []) []))) apart
-            ∙ ap (λ (b : Bool). is_among x (cond b (x ∷ []) [])) (eq-eqb y y refl) ∙ own x
-
-    second-of : (x y : ℕ) → is_among y (partner x (x, y)) ≡ true
-    second-of x y = ap (λ (b : Bool). is_among y (cond b (y ∷ []) (cond (nat_eq y x) (x ∷ []) []))) (eq-eqb x x refl) ∙ own y
-
-    by : (first second : Bool) → nat_eq pair.0 root ≡ first → nat_eq pair.1 root ≡ second → is_among alias (partner root pair) ≡ true
-        → is_among root (partner alias pair) ≡ true
-    by true second one other among =
-        let same : pair.1 ≡ alias = single alias pair.1
-        (sym (ap (λ (b : Bool). is_among alias (cond b (pair.1 ∷ []) (cond (nat_eq pair.1 root) (pair.0 ∷ []) []))) one) ∙ among) in
-        subst (λ (r : ℕ). is_among r (partner alias pair) ≡ true) (eqb-true pair.0 root one)
-        (subst (λ (a : ℕ). is_among pair.0 (partner a pair) ≡ true) same (first-of pair.0 pair.1))
-    by false true one other among =
-        let same : pair.0 ≡ alias = single alias pair.0
-        (sym (ap (λ (b : Bool). is_among alias (cond b (pair.1 ∷ []) (cond (nat_eq pair.1 root) (pair.0 ∷ []) []))) one
-        ∙ ap (λ (b : Bool). is_among alias (cond b (pair.0 ∷ []) [])) other) ∙ among) in
-        subst (λ (r : ℕ). is_among r (partner alias pair) ≡ true) (eqb-true pair.1 root other)
-        (subst (λ (a : ℕ). is_among pair.1 (partner a pair) ≡ true) same (second-of pair.0 pair.1))
-    by false false one other among =
-        absurd (false-true
-        (sym (ap (λ (b : Bool). is_among alias (cond b (pair.1 ∷ []) (cond (nat_eq pair.1 root) (pair.0 ∷ []) []))) one
-        ∙ ap (λ (b : Bool). is_among alias (cond b (pair.0 ∷ []) [])) other) ∙ among))
-
 pub aliases-back : (pairs : List (ℕ × ℕ)) (root alias : ℕ) → is_among alias (aliases_of pairs root) ≡ true → is_among root (aliases_of pairs alias) ≡ true
-aliases-back [] root alias is = absurd (false-true is)
-aliases-back (pair ∷ pairs) root alias is =
-    list_any-append (λ (x : ℕ). nat_eq x root) (partner alias pair) (aliases_of pairs alias)
-    ∙ ⊎_elim
-    (λ (here : is_among alias (partner root pair) ≡ true).
-    or-first (is_among root (partner alias pair)) (is_among root (aliases_of pairs alias)) (partner-back pair root alias here))
-    (λ (later : is_among alias (aliases_of pairs root) ≡ true).
-    or-second (is_among root (partner alias pair)) (is_among root (aliases_of pairs alias)) (aliases-back pairs root alias later))
-    (or_cases (is_among alias (partner root pair)) (is_among alias (aliases_of pairs root))
-    (sym (list_any-append (λ (x : ℕ). nat_eq x alias) (partner root pair) (aliases_of pairs root)) ∙ is))
+aliases-back pairs root alias is = pair-listed pairs alias root (pair-back pairs root alias (listed-pair pairs root alias is))
 
 -- ---- a loop
 

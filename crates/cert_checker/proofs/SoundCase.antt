@@ -12,7 +12,7 @@ use Rattle.domain.proofs.Numbers.{among-hull}
 use Rattle.meaning.specs.declared.store.Value.TheVariants.{Number}
 use Rattle.meaning.specs.declared.outcome.Ending.TheVariants.{Error}
 use Rattle.meaning.specs.Effect as effect
-use Rattle.meaning.specs.Meaning.{Execution, arm_of, is_among}
+use Rattle.meaning.specs.Meaning.{Execution, Surroundings, arm_of, is_among}
 use Rattle.meaning.specs.Store.{Environment, Store}
 use Rattle.abstract_state.specs.State as variables
 use Rattle.abstract_state.specs.State.{range_of}
@@ -71,7 +71,7 @@ neither-one false b is = (refl, is)
 neither-one true b is = absurd (cc)
 
 -- where no constant is the value, it is an error
-pub arm-missing : (site : ℕ) (rows : List (Vec ℤ Global)) (arms : List Execution) (n : ℤ) (env : Environment) (t : effect.State)
+pub arm-missing : (site : ℕ) (rows : List (Vec ℤ Global)) (arms : List Execution) (n : ℤ) (env : Surroundings) (t : effect.State)
     → is_among (constants_before (length arms) rows) n ≡ false → arm_of site rows arms n env t ≡ effect.Stops (Error site) t
 arm-missing site [] arms n env t missing = refl
 arm-missing site (row ∷ rows) [] n env t missing = refl

@@ -4,7 +4,6 @@ use Rattle.std.proofs.Common.{arith, ◌≡◌, ◌∙◌, sym, refl, subst, ℕ
 use Rattle.std.specs.Prelude.{◌≤◌}
 use Rattle.std.proofs.lemmas.List.Elements.{Contains-append_left, Contains-append_right}
 use Rattle.domain.specs.Interval.{Interval}
-use Rattle.expression_checker.specs.declared.fault.Rule.{Rule}
 use Rattle.expression_checker.specs.declared.fault.Rule.TheVariants.{LoopEntry, LoopTurn}
 use Rattle.typed_tree.specs.declared.tree.Expr.{Expr}
 use Rattle.typed_tree.specs.declared.tree.Tree.{Tree}
@@ -25,7 +24,7 @@ use Rattle.abstract_state.proofs.Ranged.{IsKnown}
 use Rattle.abstract_state.proofs.Refined.{branched-known}
 use Rattle.component_states.specs.States.{State, joined_states}
 use Rattle.component_states.specs.Holds.{Knows}
-use Rattle.component_states.specs.Laws.{AreComponents, AreEntire}
+use Rattle.component_states.specs.Laws.{AreEntire}
 use Rattle.component_states.proofs.Joins.{join-holds}
 use Rattle.structured_states.specs.Loops.{Round, all_limits, claims_at, controls_inside, gives_claims, head_of, round_of, touched, with_own, without_own}
 use Rattle.call_states.specs.Environments.{Fine, Proper}
@@ -36,11 +35,12 @@ use Rattle.cert_checker.specs.Walk as walk
 use Rattle.expression_checker.specs.Walk.{Context, Walked, Walking, followed, value_walk}
 use Rattle.cert_checker.specs.Walk.{where_so}
 use Rattle.expression_checker.proofs.Keeping.{Keeps, keeps-itself, keeps-then}
-use Rattle.expression_checker.proofs.Sound.{Any_value, Behind, Good, Goes, Here, IsForetold, IsPartOf, IsValue, Sound, Stands, World, good-give, good-then, good-weaker}
+use Rattle.expression_checker.proofs.Sound.{Any_value, Good, Goes, Here, IsForetold, IsPartOf, IsValue, Sound, Stands, World, good-give, good-then, good-weaker}
 use Rattle.expression_checker.proofs.Sound.{here-behind, nothing-new, over-known, part-left, part-right, parts_in, proper-grown, stands-as, unbroken-left}
 use Rattle.expression_checker.proofs.Sound.{unbroken-right, variables_in}
 use Rattle.cert_checker.proofs.Heads.{head-of_known}
 use Rattle.cert_checker.proofs.Rounds.{goes-inside, loop-closed}
+use Rattle.cert_checker.proofs.Written.{Foretold, kept-rule}
 
 -- ---- where a walk stands
 
@@ -76,9 +76,6 @@ chosen-here world block env condition (Ordinal range) v s t context state is ins
     (branched-known (variables_in world) env condition s t v range state.variables is inside here.stands.known.variables))
 
 -- behind one of two ways the joined state holds
-abbrev pub Foretold : World → Environment → Context → Walked (Unit {0}) → Store → Unit {0} → Store → Type 0
-Foretold world env context walked start = IsForetold {A = Unit {0}} {B = Unit {0}} world env Any_value context walked start
-
 one-way : (world : World) (env : Environment) (context : Context) (one other : Walked (Unit {0})) (start store : Store) (done : Unit {0})
     → Foretold world env context one start done store → Foretold world env context (walk.either_of one other) start done store
 one-way world env context one other start store done told = record {
@@ -219,13 +216,6 @@ RoundEnds world env context rounds at Fits again out start =
 
 -- ---- the head of a loop
 
--- what a rule asks for, where it isn't broken
-pub kept-rule : (kept : Bool) (rule : Rule) (place : SourcePlace) → flow.breach_unless kept rule place ≡ [] → kept ≡ true
-kept-rule true rule place is = refl
-kept-rule false rule place is = absurd (cc)
-
--- ---- the loops
-
 -- of the loops round a round of a loop, the last is the loop itself
 pub rounds-own : (env : Environment) (rounds : List Round) (own : Round) (before after : Store) → Keeps env (rounds ++ own ∷ []) before after
     → IsKept env (touched own) own.controls before after
@@ -260,7 +250,7 @@ module _ {A : Type 0} (world : World) (ranges : world.limits ≡ all_limits worl
     (proper : Proper world.tree world.pairs block few env) (context : Context) (number : ℕ) (control : Option ℕ) (state : State)
     (start : Store) (at : A → Store → Store) (Fits : A → Store → Type 0) (at_fine : AreFine world few at Fits) (again out : State)
     (stands : Stands world env context state start) (goes : Goes world (inner context number control))
-    (inner_are : AreComponents (parts_in world)) (controls_are : AreEntire (parts_in world) (at_head context number control).controls) where
+    (controls_are : AreEntire (parts_in world) (at_head context number control).controls) where
   abbrev facts : List Fact
   facts = (claims_at context.claims number).facts
 
@@ -293,7 +283,7 @@ module _ {A : Type 0} (world : World) (ranges : world.limits ≡ all_limits worl
         Knows (parts_in world) (variables_in world) env (head_of tree limits own facts state) t.store in
         subst (λ (tree : Tree). Known tree context.limits) (sym stands.goes.tree_is)
         (subst (λ (limits : List Interval). Known world.tree limits) (sym (stands.goes.limits_are ∙ ranges))
-        (head-of_known world.tree inner_are (variables_in world) env (shows world.tree world.pairs block few env proper) own facts state start t.store controls_are
+        (head-of_known world.tree env (shows world.tree world.pairs block few env proper) own facts state start t.store controls_are
         (rounds-own env context.rounds own start t.store kept) (in-types world.tree world.pairs block few env t.store proper fine.typed) hold
         stands.known));
   }
@@ -319,7 +309,7 @@ module _ {A : Type 0} (world : World) (ranges : world.limits ≡ all_limits worl
 pub loop-good : {A : Type 0} (world : World) → world.limits ≡ all_limits world.tree → (block : ℕ) (env : Environment) (number : ℕ) (place : SourcePlace)
     (control : Option ℕ) (round : effect.Round A) (walking : Walking State) (at : A → Store → Store) (Fits : A → Store → Type 0) (context : Context)
     (state : State) (a : A) (s : effect.State) → AreFine world s.activations at Fits → Goes world (inner context number control)
-    → AreComponents (parts_in world) → AreEntire (parts_in world) (at_head context number control).controls
+    → AreEntire (parts_in world) (at_head context number control).controls
     → ((b : A) (t : effect.State) → s.activations ≤ t.activations → Fine world.tree t
     → (walking (inner context number control) (loop_begun context number control state)).broken ≡ []
     → IsPartOf world (walking (inner context number control) (loop_begun context number control state))
@@ -331,7 +321,7 @@ pub loop-good : {A : Type 0} (world : World) → world.limits ≡ all_limits wor
     → Fine world.tree s → Proper world.tree world.pairs block s.activations env
     → Stands world env context state (at a s.store) → Fits a (at a s.store)
     → Good world (Foretold world env context (walk.loop_walk number place control walking context state) (at a s.store)) s (effect.looped round a s)
-loop-good {A} world ranges block env number place control round walking at Fits context state a s at_fine goes inner_are controls_are each unbroken part
+loop-good {A} world ranges block env number place control round walking at Fits context state a s at_fine goes controls_are each unbroken part
     fine proper stands fits =
     let facts = (claims_at context.claims number).facts in
     let own = at_head context number control in
@@ -348,20 +338,20 @@ loop-good {A} world ranges block env number place control round walking at Fits 
     let whole = walk.loop_walk number place control walking context state in
     let few = s.activations in
     let from_entry = unbroken-right entry.broken (turn.broken ++ (turned.broken ++ [])) unbroken in
-    let given = given-there world ranges block env few proper context number control state start at Fits at_fine turn.after turn.value stands goes inner_are
+    let given = given-there world ranges block env few proper context number control state start at Fits at_fine turn.after turn.value stands goes
     controls_are state start stands.known (kept-rule (gives_claims context.tree state facts) LoopEntry place
     (unbroken-left entry.broken (turn.broken ++ (turned.broken ++ [])) unbroken)) in
     let given_again = kept-rule (gives_claims context.tree turn.after facts) LoopTurn place
     (unbroken-left turned.broken [] (unbroken-right turn.broken (turned.broken ++ []) from_entry)) in
     let turn_part : IsPartOf world turn = part-left world turn after_turn
     (part-right world entering from_head (part-right world entry (followed entering from_head) part)) in
-    let P = AtHead world ranges block env few proper context number control state start at Fits at_fine turn.after turn.value stands goes inner_are
+    let P = AtHead world ranges block env few proper context number control state start at Fits at_fine turn.after turn.value stands goes
     controls_are in
     let Q : Store → Type 0 = AtOut world ranges block env few proper context number control state start at Fits at_fine turn.after turn.value stands goes
-    inner_are controls_are in
+    controls_are in
     let begun_kept = keeps-itself env rounds start in
     let first : P a s.store = (
-      head-stands world ranges block env few proper context number control state start at Fits at_fine turn.after turn.value stands goes inner_are controls_are
+      head-stands world ranges block env few proper context number control state start at Fits at_fine turn.after turn.value stands goes controls_are
           (record s { store = start }) (at_fine a s (omega arith) fine fits) begun_kept given,
       begun_kept,
       fits,
@@ -370,7 +360,7 @@ loop-good {A} world ranges block env number place control round walking at Fits 
     λ b t now grown holds.
     good-weaker world (RoundEnds world env within rounds at Fits turn.after turn.value (at b t.store)) (Turns P Q) t (round b t)
     (λ more u is told.
-    round-turns world ranges block env few proper context number control state start at Fits at_fine turn.after turn.value stands goes inner_are controls_are
+    round-turns world ranges block env few proper context number control state start at Fits at_fine turn.after turn.value stands goes controls_are
     given_again (at b t.store) holds.1 more u (let later = told.grown in omega (arith, grown, later)) told.fine told.so)
     (each b t grown now (unbroken-left turn.broken (turned.broken ++ []) from_entry) turn_part holds.0 holds.2) in
     good-weaker world (λ (done : Unit {0}) store. Q store) (Foretold world env context whole start) s (effect.looped round a s)
@@ -387,10 +377,10 @@ plain-ends world env context again out start (Some a) store (stood, kept) = (sto
 -- a loop that is no for statement
 pub sound-loop : {A : Type 0} (world : World) → world.limits ≡ all_limits world.tree → (block : ℕ) (env : Environment)
     (number : ℕ) (place : SourcePlace) (round : effect.Round A) (a : A)
-    (walking : Walking State) → AreComponents (parts_in world) → AreEntire (parts_in world) (controls_inside world.tree number)
+    (walking : Walking State) → AreEntire (parts_in world) (controls_inside world.tree number)
     → ((b : A) → SoundRound world block env (round b) walking)
     → Sound {A = Unit {0}} {B = Unit {0}} world block env Any_value (effect.looped round a) (walk.loop_walk number place None walking)
-sound-loop {A} world ranges block env number place round a walking inner_are controls_are each context state s unbroken part here =
+sound-loop {A} world ranges block env number place round a walking controls_are each context state s unbroken part here =
     let within = inner context number None in
     let begun = loop_begun context number None state in
     let turn = walking within begun in
@@ -398,7 +388,6 @@ sound-loop {A} world ranges block env number place round a walking inner_are con
     loop-good world ranges block env number place None round walking (λ b store. store) (λ b store. Unit {0}) context state a s
     (λ b t grown fine fits. record { typed = fine.typed; begun = fine.begun })
     (goes-inside world context (round_of context.tree context.pairs context.claims number) (loop-closed world context.block context number goes.pairs_are) goes)
-    inner_are
     (subst (λ (tree : Tree). AreEntire (parts_in world) (controls_inside tree number)) (sym goes.tree_is) controls_are)
     (λ b t grown fine unbroken part holds fits.
     good-weaker world (EndsHold world env within turn.after turn.value t.store {A = A})

@@ -1,20 +1,17 @@
 -- Stores to components of rows are sound: what is known behind them holds.
-use Rattle.std.proofs.Common.{◌≡◌, ⊎_elim, ◌⊎◌, inl, inr, ◌∙◌, sym, ap, refl, subst, ℕ, ℤ, ◌+ℤ◌, Bool, true, false, cond, ◌+◌, length, arith, List, [], ◌∷◌}
+use Rattle.std.proofs.Common.{◌≡◌, ⊎_elim, inl, inr, ◌∙◌, sym, ap, refl, subst, ℕ, ℤ, ◌+ℤ◌, Bool, true, false, cond, ◌+◌, length, arith, List, [], ◌∷◌}
 use Rattle.std.proofs.Common.{Option, Some, None}
 use Rattle.std.specs.Option.{option_and_then}
 use Rattle.std.specs.Prelude.{map, slice_get, slice_index_or}
 use Rattle.std.specs.List.{Contains, list_all}
 use Rattle.std.proofs.lemmas.Option.{none-some, same_Some}
-use Rattle.types.specs.Types.{range_of}
 use Rattle.types.specs.declared.form.OrdinalRange.{OrdinalRange}
 use Rattle.types.specs.declared.form.Step.{Step}
-use Rattle.types.specs.declared.form.TypeId.{TypeId}
 use Rattle.typed_tree.specs.declared.tree.Selector.{Selector}
 use Rattle.typed_tree.specs.declared.tree.Tree.{Tree}
-use Rattle.typed_tree.specs.declared.tree.Variable.{Variable}
 use Rattle.domain.specs.Facts as fact
 use Rattle.domain.specs.Facts.{Bound, Plus}
-use Rattle.domain.specs.Interval.{HasMember, Interval, is_included}
+use Rattle.domain.specs.Interval.{HasMember, Interval}
 use Rattle.meaning.specs.declared.store.Value.{Value}
 use Rattle.meaning.specs.declared.store.Value.TheVariants.{Number}
 use Rattle.meaning.specs.Store.{Environment, Place, Store}
@@ -39,8 +36,8 @@ use Rattle.structured_states.specs.Loops.{all_limits, limits_at}
 use Rattle.structured_states.specs.Pairs.{aliases_of}
 use Rattle.call_states.specs.Actuals.{lies_among}
 use Rattle.call_states.specs.Aliases.{Stored, index_unless_alias, reach_unless_alias, unless_alias, with_aliases_stored}
-use Rattle.call_states.specs.Environments.{LiesIn, Proper, Typed, place_type, type_led}
-use Rattle.call_states.proofs.Aliased.{IsReady, aliases-ready}
+use Rattle.call_states.specs.Environments.{Proper, Typed, place_type}
+use Rattle.call_states.proofs.Aliased.{aliases-ready}
 use Rattle.call_states.proofs.AliasedStores.{AreWritten, Pairs, all-pass, at-head, head-or_tail, in-tail, one-kept, own-came, value-defined}
 use Rattle.call_states.proofs.AliasedTypes.{AreStoredAs, AreTyped, are-aliased, in-types, part-type, row-type, shows, written-typed}
 use Rattle.call_states.proofs.ComponentTypes.{component-typed}
@@ -107,7 +104,8 @@ module _ (rows : List Parts) (env : Environment) (aliases : List ℕ) (root : �
 unless-some : (aliases : List ℕ) (form : Option Bound) (b : Bound) → unless_alias aliases form ≡ Some b
     → (form ≡ Some b) × (bound_rests aliases b ≡ false)
 unless-some aliases None b is = absurd (none-some b is)
-unless-some aliases (Some (fact.Number n)) b is = (is, subst (λ (c : Bound). bound_rests aliases c ≡ false) (same_Some (fact.Number n) b is) (none-rest aliases))
+unless-some aliases (Some (fact.Number n)) b is =
+    (is, subst (λ (c : Bound). bound_rests aliases c ≡ false) (same_Some (fact.Number n) b is) (none-rest aliases))
   where
     none-rest : (aliases : List ℕ) → bound_rests aliases (fact.Number n) ≡ false
     none-rest [] = refl
@@ -232,8 +230,7 @@ module _ (tree : Tree) (pairs : List (ℕ × ℕ)) (block activations : ℕ) (en
       let row = targets.in_rows pair listed in
       let one = row.0 in
       let values = row-type tree pairs block activations env proper one.0 pair.0 home own row.2 (home-at one row.1)
-      (ap (place_type tree) (place-is pair.0 place place_is) ∙ type_is) in
-      (
+      (ap (place_type tree) (place-is pair.0 place place_is) ∙ type_is) in (
         record { values = values_at (rows_of tree) one.0; range = one.1 },
         mapped (λ (o : ℕ × Interval). record { values = values_at (rows_of tree) o.0; range = o.1 }) stores one row.1,
         values,
@@ -268,7 +265,8 @@ pub made-knows : (tree : Tree) (pairs : List (ℕ × ℕ)) (block activations : 
           (with_aliases_stored tree (aliases_of pairs root)
           (map (λ (one : ℕ × Interval). record { values = values_at (rows_of tree) one.0; range = one.1 }) stores) state).components;
     }) after
-made-knows tree pairs block activations env proper root home at numbers stores targets before after written typed typed_store reach is_reach reached state known =
+made-knows tree pairs block activations env proper root home at numbers stores targets before after written typed typed_store reach is_reach reached state
+    known =
     let aliases = aliases_of pairs root in
     let parts = all_parts tree in
     let variables = length tree.variables.items in

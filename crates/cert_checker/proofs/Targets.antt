@@ -19,7 +19,7 @@ use Rattle.leaf_rows.specs.Rows.{all_parts, first_index, is_structured, rows_acc
 use Rattle.component_states.specs.Components.{At, Entire, Inside, Reach}
 use Rattle.component_states.specs.Holds.{IsOfRow}
 use Rattle.component_states.specs.Laws.{IsReach, IsReached}
-XX
+use Rattle.expression_checker.proofs.SoundRows.{IsReachedBy, LieIn, Matches, RowsAre, first-then, one-way}
 use Rattle.cert_checker.specs.Walk.{Stores, alike, paired}
 use Rattle.cert_checker.proofs.SoundStores.{AreReached, AreTargets, IsFormed, bound-once}
 use Rattle.call_states.proofs.AliasedStores.{Pairs, at-head, head-or_tail, in-tail}

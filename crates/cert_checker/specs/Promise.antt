@@ -17,7 +17,7 @@ use Rattle.meaning.specs.Store.{Environment, Place, stored}
 use Rattle.component_states.specs.States.{State}
 use Rattle.expression_checker.specs.declared.fault.CheckFault.{CheckFault}
 use Rattle.expression_checker.specs.declared.fault.CheckFault.TheVariants.{Memory, Foreign, Broken}
-use Rattle.cert_checker.specs.Names.{is_known}
+use Rattle.certificate_names.specs.Names.{is_known}
 use Rattle.expression_checker.specs.Visits.{moment_of, visits_of}
 use Rattle.expression_checker.specs.Walk.{Context, IsBreachOf, Linked, numbers_of}
 use Rattle.cert_checker.specs.Walk.{block_walk, program_walk}

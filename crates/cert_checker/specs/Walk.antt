@@ -1,8 +1,8 @@
 -- The walk of the checker over a program, one equation a form: the state after it, the sites that it leaves open, the
 -- rules that are broken, and the state at each entry into a statement or expression (ISO 7185:1990, 6.7, 6.8).
 -- It does not say that a program does what the walk says of it.
-use Rattle.std.specs.Prelude.{ℕ, suc, ℤ, drop, slice_get, Bool, true, false, ◌&&◌, List, [], ◌∷◌, ◌++◌, Option, Some, None}
-use Rattle.std.specs.Prelude.{◌||◌, if◌then◌else◌, map, length, nat_eq, not}
+use Rattle.std.specs.Prelude.{ℕ, suc, ℤ, drop, slice_get, Bool, true, false, ◌&&◌, List, [], ◌∷◌, ◌++◌, Option, Some}
+use Rattle.std.specs.Prelude.{None, if◌then◌else◌, map, length, nat_eq, not}
 use Rattle.std.specs.List.{list_all}
 use Rattle.std.specs.declared.alloc.Global.{Global}
 use Rattle.std.specs.declared.boxed.Box.{Box}
@@ -52,7 +52,8 @@ use Rattle.call_states.specs.Actuals.{lies_among, unknown_reach}
 use Rattle.expression_checker.specs.declared.fault.Rule.{Rule}
 use Rattle.expression_checker.specs.declared.fault.Rule.TheVariants.{LoopEntry, LoopTurn, Exit, Changes}
 use Rattle.expression_checker.specs.Walk.{Context, Piece, Walked, Walking, ◌>>=◌, access_walk, asked, call_walk}
-use Rattle.expression_checker.specs.Walk.{changed_by, enter, fits_whole, fitting, followed, give, index_pieces, left_open}
+use Rattle.expression_checker.specs.Walk.{changed_by, enter, fits_whole, fitting, followed, give, index_pieces}
+use Rattle.expression_checker.specs.Walk.{left_open}
 use Rattle.expression_checker.specs.Walk.{may_change, parameter_walk, passed_piece_of, tested, value_walk, whole_walk}
 use Rattle.expression_checker.specs.Walk.{with_state, within}
 

@@ -247,7 +247,8 @@ module _ (g : Setting) where
       → are_well_formed_indexes indexes ≡ true → are_selectors selectors ≡ true → length (expressions indexes) ≡ index_count selectors
       → led g.tree.types selectors t ≡ Some last → PartAt p t d → Based g s base
       → g.below + length held + fold max depth (map (λ i. i + 1) (depths indexes)) ≤ g.limit → g.below + length held < g.limit
-      → Addresses (on g ((base ++ held) ++ Number (pos d) ∷ []) place s.output) held (place + length (selectors_code selectors (codes indexes))) last (selected selectors (map value_of (expressions indexes)) (around g) (Some p)) s
+      → Addresses (on g ((base ++ held) ++ Number (pos d) ∷ []) place s.output) held (place + length (selectors_code selectors (codes indexes))) last
+      (selected selectors (map value_of (expressions indexes)) (around g) (Some p)) s
 
   -- an index that was evaluated: its test, the address of the element, and what is selected from there
   indexed_by : (good : Bool) (fits : RangeTest) (cells : ℕ) (selectors : List Selector) (indexes : Indexes) (depth place d : ℕ) (base held : List Cell) (n : ℤ)
@@ -258,7 +259,9 @@ module _ (g : Setting) where
       → led g.tree.types selectors part ≡ Some last
       → PartAt p t d → Based g s base → g.below + length held + fold max depth (map (λ i. i + 1) (depths indexes)) ≤ g.limit
       → g.below + length held < g.limit → Fits n
-      → Addresses (on g (((base ++ held) ++ Number (pos d) ∷ []) ++ Number n ∷ []) place s.output) held (place + 1 + 1 + length (selectors_code selectors (codes indexes))) last (require good fits.site >>= (λ _. selected selectors (map value_of (expressions indexes)) (around g)
+      → Addresses (on g (((base ++ held) ++ Number (pos d) ∷ []) ++ Number n ∷ []) place s.output) held
+      (place + 1 + 1 + length (selectors_code selectors (codes indexes))) last
+      (require good fits.site >>= (λ _. selected selectors (map value_of (expressions indexes)) (around g)
       (Some (inner p (step.Element n ∷ []))))) s
   indexed_by true fits cells selectors indexes depth place d base held n p t part last s holds runs stands wells test well counts is ends whole based deep
       room fit =
@@ -288,7 +291,8 @@ module _ (g : Setting) where
       let rest = runs depth (place + 1 + 1) (d + far.0 * cells) base held (inner p (step.Element n ∷ [])) part last s stands.1.1 wells well counts ends
       lies.0 based
       deep room in
-      addresses_from 1 _ _ held (place + 1 + 1 + length (selectors_code selectors (codes indexes))) last (selected selectors (map value_of (expressions indexes)) (around g) (Some (inner p (step.Element n ∷ [])))) s
+      addresses_from 1 _ _ held (place + 1 + 1 + length (selectors_code selectors (codes indexes))) last
+      (selected selectors (map value_of (expressions indexes)) (around g) (Some (inner p (step.Element n ∷ [])))) s
       (comes_on g.target 0 1 _ _ _ passed reached) rest
   indexed_by false fits cells selectors indexes depth place d base held n p t part last s holds runs stands wells test well counts is ends whole based deep
       room fit =
@@ -319,8 +323,10 @@ module _ (g : Setting) where
       let runs = selectors_run selectors indexes depth (place + length c) (d + before) base held q on_led.0 last s
       (stands_back g.target place c rest stands) wells
       well counts on_led.2 inside based deep room in
-      subst (λ there. Addresses (on g ((base ++ held) ++ Number (pos d) ∷ []) place s.output) held there last (selected selectors (map value_of (expressions indexes)) (around g) (Some q)) s) e
-      (addresses_from 0 _ _ held (place + length c + length rest) last (selected selectors (map value_of (expressions indexes)) (around g) (Some q)) s stepped runs)
+      subst (λ there. Addresses (on g ((base ++ held) ++ Number (pos d) ∷ []) place s.output) held there last
+      (selected selectors (map value_of (expressions indexes)) (around g) (Some q)) s) e
+      (addresses_from 0 _ _ held (place + length c + length rest) last (selected selectors (map value_of (expressions indexes)) (around g) (Some q)) s stepped
+      runs)
   selectors_run (Element fits cells ∷ selectors) [] depth place d base held p t last s stands wells well counts ends whole based deep room =
       absurd (omega arith)
   selectors_run (Element fits cells ∷ selectors) (index ∷ indexes) depth place d base held p t last s stands wells well counts ends whole based deep room =
@@ -346,7 +352,8 @@ module _ (g : Setting) where
       (λ base2 n s2 based2 fit2 room2.
       subst (λ cs. Addresses (on g (cs ++ Number n ∷ []) (place + length c) s2.output) held end last (next (value.Number n)) s2)
       (sym (one_held g base2 held (pos d)))
-      (subst (λ test. Addresses (on g (((base2 ++ held) ++ Number (pos d) ∷ []) ++ Number n ∷ []) (place + length c) s2.output) held end last (require test fits.site >>= (λ _. selected selectors (map value_of (expressions indexes)) (around g)
+      (subst (λ test. Addresses (on g (((base2 ++ held) ++ Number (pos d) ∷ []) ++ Number n ∷ []) (place + length c) s2.output) held end last
+      (require test fits.site >>= (λ _. selected selectors (map value_of (expressions indexes)) (around g)
       (Some (inner p (step.Element n ∷ []))))) s2) (sym (same_range fits.range n fit2))
       (indexed_by _ fits cells selectors indexes (max depth (expr_depth index.0 + 1)) (place + length c) d base2 held n p t on_led.0 last s2 refl
       (selectors_run selectors indexes) (stands_back g.target place c rest stands) parts.1 selector_parts.0 selector_parts.1
@@ -404,10 +411,26 @@ module _ (g : Setting) where
       → led g.tree.types selectors t ≡ Some last → IsPart g.tree.types g.world end p t d → Ahead end selectors p d last
   ahead end [] p t d last well ends whole =
       let same : d ≡ d + 0 = omega arith in
-      record { there = p; its = t; part = subst (IsPart g.tree.types g.world end p t) same whole; ends = ends; counts = refl; well = well; meant = λ evaluations. refl }
+      record {
+        there = p;
+        its = t;
+        part = subst (IsPart g.tree.types g.world end p t) same whole;
+        ends = ends;
+        counts = refl;
+        well = well;
+        meant = λ evaluations. refl;
+      }
   ahead end (Element fits cells ∷ selectors) p t d last well ends whole =
       let same : d ≡ d + 0 = omega arith in
-      record { there = p; its = t; part = subst (IsPart g.tree.types g.world end p t) same whole; ends = ends; counts = refl; well = well; meant = λ evaluations. refl }
+      record {
+        there = p;
+        its = t;
+        part = subst (IsPart g.tree.types g.world end p t) same whole;
+        ends = ends;
+        counts = refl;
+        well = well;
+        meant = λ evaluations. refl;
+      }
   ahead end (Field position before ∷ selectors) p t d last well ends whole =
       let on_led = led_on g.tree.types (Field position before) selectors t last ends in
       let rest = ahead end selectors (inner p (step.Field position ∷ [])) on_led.0 (d + before) last well on_led.2
@@ -478,7 +501,8 @@ module _ (g : Setting) where
       (loads_address g.frame g.limit g.size (base ++ held) level start owner (omega arith) (frame_found level owner base held s based l) (omega arith))
 
   -- the address that a cell in a frame holds
-  reference_pushed : (level start owner address : ℕ) → Leads g.fixed level g.frame owner → slice_get g.fixed (owner + start) ≡ Some (Some (Number (pos address)))
+  reference_pushed : (level start owner address : ℕ) → Leads g.fixed level g.frame owner → slice_get g.fixed (owner + start)
+      ≡ Some (Some (Number (pos address)))
       → PushesAddress (instr.Load level start) address
   reference_pushed level start owner address l at place base held s stands based room =
       let full = based.full in
@@ -495,74 +519,77 @@ module _ (g : Setting) where
   reached_there level start owner (x ∷ rest) indexes l = refl
 
   module _ (access : Access) (wanted : TypeId → Bool) (count : ℕ) (indexes : List (List Instr)) (l : LeadsTo wanted access.root access.selectors.items count)
-      where
-    abbrev home : Home
-    home = variable_home g.scope access.root
+    where
+      abbrev home : Home
+      home = variable_home g.scope access.root
 
-    abbrev level : ℕ
-    level = links_to g.scope home.level
+      abbrev level : ℕ
+      level = links_to g.scope home.level
 
-    abbrev selectors : List Selector
-    selectors = access.selectors.items
+      abbrev selectors : List Selector
+      selectors = access.selectors.items
 
-    abbrev shown : Shown g.tree g.world g.fixed g.below g.frame g.scope g.environment access.root l.variable
-    shown = g.shows access.root l.variable l.declared l.visible
+      abbrev shown : Shown g.tree g.world g.fixed g.below g.frame g.scope g.environment access.root l.variable
+      shown = g.shows access.root l.variable l.declared l.visible
 
-    entry_meant : (evaluations : List Evaluation) → meaning.accessed access evaluations (around g)
-        ≡ (λ s. selected selectors evaluations (around g) (Some shown.place) (entered access.number s))
-    entry_meant evaluations = ap {B = Action (Option Place)} (λ (o : Option Place) (s : effect.State). selected selectors evaluations (around g) o (entered access.number s)) shown.place_is
+      entry_meant : (evaluations : List Evaluation) → meaning.accessed access evaluations (around g)
+          ≡ (λ s. selected selectors evaluations (around g) (Some shown.place) (entered access.number s))
+      entry_meant evaluations = ap {B = Action (Option Place)} (λ (o : Option Place) (s : effect.State). selected selectors evaluations (around g) o
+          (entered access.number s)) shown.place_is
 
-    begins_by : (way : Way) → Reaches g.tree g.world g.fixed g.below shown.place l.variable (shown.owner + home.start) home.refers way
-        → Begins access l.last indexes
-    begins_by Direct r =
-        let whole = r.1 in
-        let near = g.near access.root l.variable l.declared r.0 in
-        let start = shown.owner + home.start in
-        let close = part_up_to g.tree.types g.world g.below shown.place l.variable.type_id start whole in
-        let all = ahead (start + cells_of g.tree.types l.variable.type_id) selectors shown.place l.variable.type_id start l.last l.well l.ends close in
-        let within = all.part.within in
-        let inside = whole.within in
-        let at : start + fields_offset selectors ≡ shown.owner + access_offset g.scope access = omega arith in
-        let part = part_later g.tree.types g.world (start + cells_of g.tree.types l.variable.type_id) g.below all.there all.its (start + fields_offset selectors)
-        (omega arith) all.part in
-        record {
-          rest = behind_fields selectors;
-          there = all.there;
-          its = all.its;
-          cell = shown.owner + access_offset g.scope access;
-          part = subst (PartAt all.there all.its) at part;
-          ends = all.ends;
-          counts = all.counts;
-          well = all.well;
-          meant = λ evaluations. entry_meant evaluations
-              ∙ ap {B = Action (Option Place)} (λ (action : Action (Option Place)) (s : effect.State). action (entered access.number s)) (all.meant evaluations);
-          first = instr.LoadAddress level (access_offset g.scope access);
-          pushes = address_pushed level (access_offset g.scope access) shown.owner shown.leads (omega arith);
-          way = reached_from level (access_offset g.scope access) (behind_fields selectors) indexes;
-          way_is = ap (λ b. if b then By (instr.Load level home.start ∷ selectors_code selectors indexes)
-              else reached_from level (access_offset g.scope access) (behind_fields selectors) indexes) r.0;
-          reaches = reached_there level (access_offset g.scope access) shown.owner (behind_fields selectors) indexes shown.leads;
-        }
-    begins_by (ByAddress address) r = record {
-      rest = selectors;
-      there = shown.place;
-      its = l.variable.type_id;
-      cell = address;
-      part = r.2;
-      ends = l.ends;
-      counts = refl;
-      well = l.well;
-      meant = entry_meant;
-      first = instr.Load level home.start;
-      pushes = reference_pushed level home.start shown.owner address shown.leads r.1;
-      way = By (instr.Load level home.start ∷ selectors_code selectors indexes);
-      way_is = ap (λ b. if b then By (instr.Load level home.start ∷ selectors_code selectors indexes)
-          else reached_from level (access_offset g.scope access) (behind_fields selectors) indexes) r.0;
-      reaches = refl;
-    }
+      begins_by : (way : Way) → Reaches g.tree g.world g.fixed g.below shown.place l.variable (shown.owner + home.start) home.refers way
+          → Begins access l.last indexes
+      begins_by Direct r =
+          let whole = r.1 in
+          let near = g.near access.root l.variable l.declared r.0 in
+          let start = shown.owner + home.start in
+          let close = part_up_to g.tree.types g.world g.below shown.place l.variable.type_id start whole in
+          let all = ahead (start + cells_of g.tree.types l.variable.type_id) selectors shown.place l.variable.type_id start l.last l.well l.ends close in
+          let within = all.part.within in
+          let inside = whole.within in
+          let at : start + fields_offset selectors ≡ shown.owner + access_offset g.scope access = omega arith in
+          let part = part_later g.tree.types g.world (start + cells_of g.tree.types l.variable.type_id) g.below all.there all.its
+          (start + fields_offset selectors)
+          (omega arith) all.part in
+          record {
+            rest = behind_fields selectors;
+            there = all.there;
+            its = all.its;
+            cell = shown.owner + access_offset g.scope access;
+            part = subst (PartAt all.there all.its) at part;
+            ends = all.ends;
+            counts = all.counts;
+            well = all.well;
+            meant = λ evaluations. entry_meant evaluations
+                ∙ ap {B = Action (Option Place)} (λ (action : Action (Option Place)) (s : effect.State). action (entered access.number s))
+                (all.meant evaluations);
+            first = instr.LoadAddress level (access_offset g.scope access);
+            pushes = address_pushed level (access_offset g.scope access) shown.owner shown.leads (omega arith);
+            way = reached_from level (access_offset g.scope access) (behind_fields selectors) indexes;
+            way_is = ap (λ b. if b then By (instr.Load level home.start ∷ selectors_code selectors indexes)
+                else reached_from level (access_offset g.scope access) (behind_fields selectors) indexes) r.0;
+            reaches = reached_there level (access_offset g.scope access) shown.owner (behind_fields selectors) indexes shown.leads;
+          }
+      begins_by (ByAddress address) r = record {
+        rest = selectors;
+        there = shown.place;
+        its = l.variable.type_id;
+        cell = address;
+        part = r.2;
+        ends = l.ends;
+        counts = refl;
+        well = l.well;
+        meant = entry_meant;
+        first = instr.Load level home.start;
+        pushes = reference_pushed level home.start shown.owner address shown.leads r.1;
+        way = By (instr.Load level home.start ∷ selectors_code selectors indexes);
+        way_is = ap (λ b. if b then By (instr.Load level home.start ∷ selectors_code selectors indexes)
+            else reached_from level (access_offset g.scope access) (behind_fields selectors) indexes) r.0;
+        reaches = refl;
+      }
 
-    pub begins : Begins access l.last indexes
-    begins = begins_by shown.way shown.reaches
+      pub begins : Begins access l.last indexes
+      begins = begins_by shown.way shown.reaches
 
   module _ (access : Access) (indexes : Indexes) (last : TypeId) (start : Begins access last (codes indexes))
       (good : are_well_formed_indexes indexes ≡ true) (counts : length (expressions indexes) ≡ index_count access.selectors.items) where
@@ -623,9 +650,6 @@ module _ (g : Setting) where
       scalar_there none =
           let same : start.its ≡ last = same_Some start.its last (ap (λ rest. led g.tree.types rest start.its) (sym none) ∙ start.ends) in
           ordinal_part g.tree.types g.world g.below start.there last start.cell ordinal (subst (λ u. PartAt start.there u start.cell) same start.part)
-
-      found_there : start.rest ≡ [] → (s : effect.State) → found s ≡ Gives (Some start.there) s
-      found_there none s = ap (λ rest. selected rest (map value_of (expressions indexes)) (around g) (Some start.there) s) none
 
       fetch_by : (way : Reached) → reached g.scope access (codes indexes) ≡ way → IsReached way start.cell start.first start.rest (codes indexes)
           → (defined place : ℕ) (base held : List Cell) (s : effect.State) → defined < sites g

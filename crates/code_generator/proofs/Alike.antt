@@ -3,13 +3,13 @@
 -- meanwhile; static links lead from frame to frame over such cells. It says nothing of cells that are neither.
 use Rattle.std.proofs.Common.{◌≡◌, ℕ, zero, suc, ◌+◌, ◌<◌, ◌≤◌, ◌⊎◌, List, [], ◌∷◌, ◌++◌, length, Option, Some, None, Ok, Err, refl, sym, ap, ◌∙◌, subst}
 use Rattle.std.proofs.Common.{⊎_elim, arith, length-append, Bool, true, false}
-use Rattle.std.specs.Prelude.{slice_get, slice_set, ℤ, pos, if◌then◌else◌}
+use Rattle.std.specs.Prelude.{slice_get, slice_set, pos, if◌then◌else◌}
 use Rattle.std.proofs.lemmas.Bool.{cases_eq, lt-ltb}
 use Rattle.std.proofs.lemmas.Option.{slice_get_within}
 use Rattle.meaning.specs.declared.store.Value.{Value}
 use Rattle.meaning.specs.declared.store.Value.TheVariants as value
 use Rattle.types.specs.Components.{Steps}
-use Rattle.meaning.specs.Store.{Place, Store, place_eq, stored, written, undefined}
+use Rattle.meaning.specs.Store.{Place, Store, place_eq, stored}
 use Rattle.stack_machine.specs.declared.cell.Cell.{Cell}
 use Rattle.stack_machine.specs.declared.cell.Cell.TheVariants.{Undefined, Number}
 use Rattle.stack_machine.specs.declared.stop.MachineFault.TheVariants.{OutOfBounds}
@@ -220,8 +220,7 @@ leads_once fixed (suc level) frame last other l m =
 pub leads_above : (fixed more : Fixed) (level frame last : ℕ) → Leads fixed level frame last → Leads (fixed ++ more) level frame last
 leads_above fixed more zero frame last l = l
 leads_above fixed more (suc level) frame last l =
-    let inside = l.2 in
-    (
+    let inside = l.2 in (
       l.0,
       slice_get-front fixed more frame (Some (Number (pos l.0))) l.1,
       omega (arith, length-append fixed more),

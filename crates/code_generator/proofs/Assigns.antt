@@ -1,10 +1,9 @@
 -- The code of an assignment, to an ordinal or of a whole value: the target is accessed first, then comes the value, and the
 -- components of the target get it; or it stops as the assignment does.
-use Rattle.std.proofs.Common.{◌≡◌, ℕ, ◌+◌, ◌<◌, ◌≤◌, max, List, [], ◌∷◌, ◌++◌, length, map, Option, Some, None, Ok, inr, refl, sym, ap, ◌∙◌, subst, arith}
+use Rattle.std.proofs.Common.{◌≡◌, ℕ, ◌+◌, ◌<◌, ◌≤◌, max, List, [], ◌∷◌, ◌++◌, length, map, Option, Some, Ok, inr, refl, sym, ap, ◌∙◌, subst, arith}
 use Rattle.std.proofs.Common.{length-append, Bool, true, false}
-use Rattle.std.specs.Prelude.{slice_set, ℤ, pos, int_le, nat_eq, nat_lt, not, ◌&&◌}
+use Rattle.std.specs.Prelude.{slice_set, ℤ, pos, int_le, nat_lt, not, ◌&&◌}
 use Rattle.std.proofs.lemmas.Bool.{and_parts, eqb-true, ltb-true}
-use Rattle.std.proofs.lemmas.Option.{same_Some}
 use Rattle.pcode_assembler.specs.declared.instr.Instr.{Instr}
 use Rattle.pcode_assembler.specs.declared.instr.Instr.TheVariants as instr
 use Rattle.types.specs.Forms.{Form}
@@ -100,7 +99,8 @@ module _ (g : Setting) (known : CallsAt g) where
         after_value g _ held held' (place + length c) end (value_of v (around g)) (tested next) s (exact_value (around g) (exact_around g) v)
         (expr_runs g known v place base held s (stands_front g.target place c check stands) good based deep)
         (λ base2 n t based2 fit.
-        subst (λ test. Executes g (on g ((base2 ++ held) ++ Number n ∷ []) (place + length c) t.output) held' end (require test fits.site >>= (λ _. next (value.Number n))) t) (sym (same_range fits.range n fit))
+        subst (λ test. Executes g (on g ((base2 ++ held) ++ Number n ∷ []) (place + length c) t.output) held' end
+        (require test fits.site >>= (λ _. next (value.Number n))) t) (sym (same_range fits.range n fit))
         (tested_by _ fits (place + length c) end (base2 ++ held) held' n t (next (value.Number n)) refl (stands_back g.target place c check stands) site_within
         (linked g t base2 held based2)
         (subst (λ p. Executes g (on g ((base2 ++ held) ++ Number n ∷ []) p t.output) held' end (next (value.Number n)) t) e
@@ -241,7 +241,8 @@ module _ (g : Setting) (known : CallsAt g) where
   -- a row gives way to the components that got it
   row_stored : (p : Place) (type_id : TypeId) (d count place : ℕ) (base held : List Cell) (ns : List ℤ) (s : effect.State) → PartAt g p type_id d
       → cells_of g.tree.types type_id ≡ count → length ns ≡ count → AllFit ns → Stands g.target place (instr.StoreMany count ∷ []) → Based g s base
-      → Executes g (on g (((base ++ held) ++ Number (pos d) ∷ []) ++ number_cells ns) place s.output) held (place + 1) (store_all (Some p) (components_of g.tree.types type_id) ns) s
+      → Executes g (on g (((base ++ held) ++ Number (pos d) ∷ []) ++ number_cells ns) place s.output) held (place + 1)
+      (store_all (Some p) (components_of g.tree.types type_id) ns) s
   row_stored p type_id d count place base held ns s part cells long fit stands based =
       let below = base ++ held in
       let components = components_of g.tree.types type_id in
@@ -324,10 +325,12 @@ module _ (g : Setting) (known : CallsAt g) where
         let taller = length_one held (Number (pos a)) in
         let part = subst (λ t. PartAt g p t a) its part1 in
         subst (λ cs. Executes g (on g cs from s1.output) held (there + 1) (next g.tree.types (Some p)) s1) (one_held g base1 held (pos a))
-        (row_executes g _ above held there (there + 1) n (whole_of v (map value_of (expressions g value_indexes)) (around g)) (λ ns. store_all (Some p) (components_of g.tree.types type_id) ns) s1 (exact_whole (around g) (exact_around g) v (expressions g value_indexes))
+        (row_executes g _ above held there (there + 1) n (whole_of v (map value_of (expressions g value_indexes)) (around g))
+        (λ ns. store_all (Some p) (components_of g.tree.types type_id) ns) s1 (exact_whole (around g) (exact_around g) v (expressions g value_indexes))
         (whole_runs g v value_indexes from base1 above s1 (stands_front g.target from d store behind) four.0 four.1 based1 (omega arith))
         (λ base2 ns t based2 long fit.
-        subst (λ cs. Executes g (on g (cs ++ number_cells ns) there t.output) held (there + 1) (store_all (Some p) (components_of g.tree.types type_id) ns) t) (sym (one_held g base2 held (pos a)))
+        subst (λ cs. Executes g (on g (cs ++ number_cells ns) there t.output) held (there + 1) (store_all (Some p) (components_of g.tree.types type_id) ns) t)
+        (sym (one_held g base2 held (pos a)))
         (row_stored p type_id a n there base2 held ns t part cells long fit storing based2)))))))
 
     pub copy_runs : (es vs : List Expr) → CopyRuns es vs

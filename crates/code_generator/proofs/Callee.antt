@@ -1,26 +1,26 @@
 -- A routine that was called: its activation is the latest, its frame begins behind what its caller holds, and all that stands
 -- below it but the scalars is fixed while it runs.
 use Rattle.std.proofs.Common.{◌≡◌, ℕ, zero, suc, ◌+◌, ◌-◌, ◌<◌, ◌≤◌, ◌⊎◌, inl, inr, ⊎_elim, List, [], ◌∷◌, ◌++◌, length, map, take, Option, Some, None}
-use Rattle.std.proofs.Common.{refl, sym, ap, ◌∙◌, subst, arith, Bool, true, false, length-append, replicate, eq-eqb}
+use Rattle.std.proofs.Common.{refl, sym, ap, ◌∙◌, subst, arith, Bool, true, false, length-append, append_assoc, replicate, eq-eqb}
 use Rattle.std.specs.Prelude.{if◌then◌else◌, nat_eq, nat_lt, slice_get, pos, ◌&&◌, ◌||◌}
 use Rattle.std.specs.List.{list_all}
 use Rattle.std.proofs.lemmas.Bool.{and_parts, eqb-true, false≢true, false_from_ne_true, ltb-true}
 use Rattle.std.proofs.lemmas.List.{length-map}
 use Rattle.std.proofs.lemmas.List.Sums.{sum_by-cons}
 use Rattle.std.proofs.lemmas.Option.{none-some, same_Some, slice_get_within}
-use Rattle.types.specs.Components.{Steps, components_of}
+use Rattle.types.specs.Components.{components_of}
 use Rattle.types.specs.Types.{cells_of}
 use Rattle.types.proofs.Laid.{length_components}
 use Rattle.typed_tree.specs.declared.tree.Block.{Block}
-use Rattle.typed_tree.specs.declared.tree.Tree.{Tree}
 use Rattle.typed_tree.specs.declared.tree.Variable.{Variable}
 use Rattle.typed_tree.specs.declared.tree.VariableKind.{VariableKind}
 use Rattle.typed_tree.specs.declared.tree.VariableKind.TheVariants as kinds
-use Rattle.typed_tree.specs.WellFormed.{encloses, heading_of, is_one_of, is_parameter_kind, is_round, is_value_kind, is_variable_kind, is_visible, of_one}
+use Rattle.typed_tree.specs.WellFormed.{encloses, heading_of, is_one_of, is_parameter_kind, is_round, is_variable_kind, is_visible, of_one}
 use Rattle.typed_tree.specs.WellFormed.{outline_of, roots_where}
 use Rattle.meaning.specs.declared.store.Value.TheVariants as value
 use Rattle.meaning.specs.Store.{Environment, Place, place_eq}
-use Rattle.meaning.specs.Meaning.{Activation as Begun, Argument, OfValue, OfRow, OfPlace, environment_of, home_of as home_in, own_place, place_for, place_passed}
+use Rattle.meaning.specs.Meaning.{Activation as Begun, Argument, OfValue, OfRow, OfPlace, environment_of, home_of as home_in, own_place, place_for}
+use Rattle.meaning.specs.Meaning.{place_passed}
 use Rattle.meaning.specs.Meaning.{seen_from}
 use Rattle.stack_machine.specs.declared.cell.Cell.{Cell}
 use Rattle.stack_machine.specs.declared.cell.Cell.TheVariants.{Undefined, Number}
@@ -29,17 +29,18 @@ use Rattle.code_scheme.specs.declared.routine.Routine.{Routine}
 use Rattle.code_scheme.specs.Code.{routine_at, routines_of}
 use Rattle.code_scheme.specs.Depth.{block_depth}
 use Rattle.code_scheme.specs.Need.{block_need, living_need}
-use Rattle.code_scheme.specs.Scopes.{Scope, block_level, block_scope, called_routine, cells_where, count, home_of, is_other_of, is_parameter_of, level_of, links}
+use Rattle.code_scheme.specs.Scopes.{Scope, block_level, block_scope, called_routine, cells_where, count, home_of, is_other_of, is_parameter_of, level_of}
+use Rattle.code_scheme.specs.Scopes.{links}
 use Rattle.code_scheme.specs.Scopes.{links_to, offset, other_cells, parameter_cells, routine_or_none, slot_cells, start_of, variable_home}
 use Rattle.code_scheme.proofs.Depths.{block_within}
-use Rattle.code_scheme.proofs.Routines.{Standing, block_stands}
+use Rattle.code_scheme.proofs.Routines.{block_stands}
 use Rattle.code_generator.proofs.Alike.{Activation, World, Lives, Fixed, Lies, LiesIn, IsApart, Leads, leads_above, leads_once, leads_split, leads_within}
 use Rattle.code_generator.proofs.Alike.{slice_get-front}
 use Rattle.code_generator.proofs.Cells.{Owned, home_is, lies_inside, other_ends, others_few, own_scalars, owned, owned_back, owned_in, parameter_ends}
-use Rattle.code_generator.proofs.Cells.{slot_of, small_block, start_near, starts_as_other, starts_as_parameter, variable_ends, where_within}
-use Rattle.code_generator.proofs.Laying.{Found, Laid, fitted_length, found, marked, marked_long, no_reference}
-use Rattle.code_generator.proofs.Nesting.{Callable, Declared, WellBlock, heading_at, one_there, shallow, well_block}
-use Rattle.code_generator.proofs.Parts.{IsPart, inner, part_above}
+use Rattle.code_generator.proofs.Cells.{slot_of, small_block, start_near, starts_as_other, starts_as_parameter, variable_ends}
+use Rattle.code_generator.proofs.Laying.{Laid, fitted_length, found, marked, marked_long, no_reference}
+use Rattle.code_generator.proofs.Nesting.{Callable, heading_at, shallow, well_block}
+use Rattle.code_generator.proofs.Parts.{IsPart, part_above}
 use Rattle.code_generator.proofs.Passing.{Fitted}
 use Rattle.code_generator.proofs.Places.{place_apart}
 use Rattle.code_generator.proofs.Repeats.{repeats}
@@ -77,7 +78,7 @@ pub length_replicate : {A : Type 0} (n : ℕ) (x : A) → length (replicate n x)
 length_replicate zero x = refl
 length_replicate (suc n) x = ap suc (length_replicate n x)
 
-all_at : {A : Type 0} (test : A → Bool) (xs : List A) (i : ℕ) (x : A) → list_all test xs ≡ true → slice_get xs i ≡ Some x → test x ≡ true
+pub all_at : {A : Type 0} (test : A → Bool) (xs : List A) (i : ℕ) (x : A) → list_all test xs ≡ true → slice_get xs i ≡ Some x → test x ≡ true
 all_at test [] i x all at = absurd (none-some x at)
 all_at test (y ∷ xs) zero x all at = ap test (sym (same_Some y x at)) ∙ (and_parts (test y) (list_all test xs) all).0
 all_at test (y ∷ xs) (suc i) x all at = all_at test xs i x (and_parts (test y) (list_all test xs) all).1 at
@@ -162,7 +163,7 @@ module _ (g : Setting) (number : ℕ) (block : Block) (block_is : slice_get g.tr
       )
 
   -- what is fixed at a place in the frame
-  link_at : (i : ℕ) (cell : Cell) → slice_get new_links i ≡ Some cell → slice_get new_fixed (new_frame + i) ≡ Some (Some cell)
+  pub link_at : (i : ℕ) (cell : Cell) → slice_get new_links i ≡ Some cell → slice_get new_fixed (new_frame + i) ≡ Some (Some cell)
   link_at i cell at =
       let there = slice_map (λ c. Some c) new_links i cell at in
       slice_behind under (map Some new_links ++ inside) i (new_frame + i) (omega (arith, under_long))
@@ -210,54 +211,76 @@ module _ (g : Setting) (number : ℕ) (block : Block) (block_is : slice_get g.tr
       inr (λ e. differ.0 (sym e), place_apart p q (λ e. differ.1 (sym e)))
   apart_by p q c d l m (inr mine) (inr its) = g.apart.scalars p q c d (old_lies p c l mine) (old_lies q d m its)
 
-  -- an element of a row of which all are free
-  free_at : (v : Variable) (first : List Cell) (i : ℕ) → is_variable_kind v.kind ≡ false → i < length first
-      → slice_get (map (fixed_mark v) first) i ≡ Some None
-  free_at v first i plain h =
-      let x = slice_there first i h in
-      slice_map (fixed_mark v) first i x.0 x.1 ∙ ap (λ b. Some (if b then Some x.0 else None)) plain
+  -- the cell of a scalar of the frame, in rows that fill each such cell alike
+  module _ {A : Type 0} (front : List A) (front_long : length front ≡ new_frame + 4) (mark : Variable → Cell → A) (fill : A)
+      (fills : (v : Variable) (cell : Cell) → is_variable_kind v.kind ≡ false → mark v cell ≡ fill) where
+    abbrev row : List A
+    row = marked g number mark variables cells
+
+    filled_at : (v : Variable) (first : List Cell) (i : ℕ) → is_variable_kind v.kind ≡ false → i < length first
+        → slice_get (map (mark v) first) i ≡ Some fill
+    filled_at v first i plain h =
+        let x = slice_there first i h in slice_map (mark v) first i x.0 x.1 ∙ ap Some (fills v x.0 plain)
+
+    pub own_filled : (p : Place) (c : ℕ) → Lies new_activation p c → slice_get (front ++ (row ++ replicate others fill)) c ≡ Some fill
+    own_filled p c l = by (is_parameter_kind o.variable.kind) refl
+      where
+        o : Owned g.tree number p.variable l.extent
+        o = owned g.tree number p.variable l.extent l.owned
+
+        start : start_of g.tree p.variable o.variable ≡ l.extent.start
+        start = ap (λ e. e.start) o.extent_is
+
+        inward : l.inward < slot_cells g.tree.types o.variable
+        inward =
+            let long : length (components_of g.tree.types o.variable.type_id) ≡ length l.extent.components = ap (λ e. length e.components) o.extent_is in
+            omega (arith, long, slice_get_within l.extent.components l.inward p.steps l.reached, slot_of g.tree o.variable o.no_reference)
+
+        row_long : length row ≡ parameters
+        row_long = (marked_long g number mark variables arguments cells laid).0 ∙ cells_long
+
+        by : (kind : Bool) → is_parameter_kind o.variable.kind ≡ kind → slice_get (front ++ (row ++ replicate others fill)) c ≡ Some fill
+        by true is =
+            let its : is_parameter_of number o.variable ≡ true = ap (λ b. b && is_parameter_kind o.variable.kind) (eq-eqb o.variable.block number o.own) ∙ is in
+            let f = found g number mark 0 variables arguments cells p.variable o.variable laid o.declared its in
+            let begins = starts_as_parameter g.tree p.variable o.variable is in
+            let mine = ap (λ n. cells_where g.tree.types (is_parameter_of n) (take p.variable variables)) o.own in
+            let cell = l.cell_is in
+            let long = fitted_length g number o.variable f.argument f.first f.fitted in
+            slice_behind front (row ++ replicate others fill) (length f.marks_front + l.inward) c
+            (omega (arith, front_long, cell, start, begins, mine, f.front_is, f.marks_front_is))
+            ∙ slice_before row (replicate others fill) (length f.marks_front + l.inward)
+            (omega (
+              arith,
+              ap length f.marks,
+              length-append f.marks_front (map (mark o.variable) f.first ++ f.marks_behind),
+              length-append (map (mark o.variable) f.first) f.marks_behind,
+              length-map f.first (mark o.variable),
+              long,
+              inward,
+            ))
+            ∙ ap (λ l'. slice_get l' (length f.marks_front + l.inward)) f.marks
+            ∙ slice_behind f.marks_front (map (mark o.variable) f.first ++ f.marks_behind) l.inward (length f.marks_front + l.inward) refl
+            ∙ slice_get-front (map (mark o.variable) f.first) f.marks_behind l.inward fill
+            (filled_at o.variable f.first l.inward o.no_reference (omega (arith, long, inward)))
+        by false is =
+            let begins = starts_as_other g.tree p.variable o.variable is in
+            let mine = ap (λ n. cells_where g.tree.types (is_other_of n) (take p.variable variables)) o.own in
+            let front_is = ap (parameter_cells g.tree) o.own in
+            let ends = other_ends g.tree p.variable o.variable o.declared is in
+            let rest = ap (other_cells g.tree) o.own in
+            let cell = l.cell_is in
+            let at = cells_where g.tree.types (is_other_of number) (take p.variable variables) + l.inward in
+            slice_behind front (row ++ replicate others fill) (parameters + at) c (omega (arith, front_long, cell, start, begins, mine, front_is))
+            ∙ slice_behind row (replicate others fill) at (parameters + at) (omega (arith, row_long))
+            ∙ slice_replicate others at fill (omega (arith, begins, mine, front_is, ends, rest, inward))
 
   own_free : (p : Place) (c : ℕ) → Lies new_activation p c → slice_get new_fixed c ≡ Some None
-  own_free p c l = by (is_parameter_kind o.variable.kind) refl
-    where
-      o : Owned g.tree number p.variable l.extent
-      o = owned g.tree number p.variable l.extent l.owned
-
-      start : start_of g.tree p.variable o.variable ≡ l.extent.start
-      start = ap (λ e. e.start) o.extent_is
-
-      inward : l.inward < slot_cells g.tree.types o.variable
-      inward =
-          let long : length (components_of g.tree.types o.variable.type_id) ≡ length l.extent.components = ap (λ e. length e.components) o.extent_is in
-          omega (arith, long, slice_get_within l.extent.components l.inward p.steps l.reached, slot_of g.tree o.variable o.no_reference)
-
-      by : (kind : Bool) → is_parameter_kind o.variable.kind ≡ kind → slice_get new_fixed c ≡ Some None
-      by true is =
-          let its : is_parameter_of number o.variable ≡ true = ap (λ b. b && is_parameter_kind o.variable.kind) (eq-eqb o.variable.block number o.own) ∙ is in
-          let f = found g number fixed_mark 0 variables arguments cells p.variable o.variable laid o.declared its in
-          let begins = starts_as_parameter g.tree p.variable o.variable is in
-          let mine = ap (λ n. cells_where g.tree.types (is_parameter_of n) (take p.variable variables)) o.own in
-          let cell = l.cell_is in
-          let long = fitted_length g number o.variable f.argument f.first f.fitted in
-          inside_at (length f.marks_front + l.inward) c (omega (arith, cell, start, begins, mine, f.front_is, f.marks_front_is))
-          ∙ slice_before shape (replicate others None) (length f.marks_front + l.inward)
-          (omega (arith, ap length f.marks, length-append f.marks_front (map (fixed_mark o.variable) f.first ++ f.marks_behind),
-          length-append (map (fixed_mark o.variable) f.first) f.marks_behind, length-map f.first (fixed_mark o.variable), long, inward))
-          ∙ ap (λ l'. slice_get l' (length f.marks_front + l.inward)) f.marks
-          ∙ slice_behind f.marks_front (map (fixed_mark o.variable) f.first ++ f.marks_behind) l.inward (length f.marks_front + l.inward) refl
-          ∙ slice_get-front (map (fixed_mark o.variable) f.first) f.marks_behind l.inward None
-          (free_at o.variable f.first l.inward o.no_reference (omega (arith, long, inward)))
-      by false is =
-          let begins = starts_as_other g.tree p.variable o.variable is in
-          let mine = ap (λ n. cells_where g.tree.types (is_other_of n) (take p.variable variables)) o.own in
-          let front = ap (parameter_cells g.tree) o.own in
-          let ends = other_ends g.tree p.variable o.variable o.declared is in
-          let rest = ap (other_cells g.tree) o.own in
-          let cell = l.cell_is in
-          let at = cells_where g.tree.types (is_other_of number) (take p.variable variables) + l.inward in
-          inside_at (parameters + at) c (omega (arith, cell, start, begins, mine, front))
-          ∙ slice_behind shape (replicate others None) at (parameters + at) (omega (arith, shape_long))
-          ∙ slice_replicate others at None (omega (arith, begins, mine, front, ends, rest, inward))
+  own_free p c l =
+      let front = under ++ map Some new_links in
+      let long : length front ≡ new_frame + 4 = omega (arith, under_long, length-append under (map Some new_links)) in
+      ap (λ l'. slice_get l' c) (sym (append_assoc under (map Some new_links) inside))
+      ∙ own_filled front long fixed_mark None (λ v cell plain. ap (λ b. if b then Some cell else None) plain) p c l
 
   pub new_apart : IsApart new_world new_fixed
   new_apart = record {
@@ -290,7 +313,8 @@ module _ (g : Setting) (number : ℕ) (block : Block) (block_is : slice_get g.tr
   routine_of = routine_at g.tree number (0 + length (block_stands g.tree number block block_is).before)
 
   pub routine_is : called_routine g.scope number ≡ routine_of
-  routine_is = ap (λ (rs : List Routine). routine_or_none (slice_get rs number)) g.routines_are ∙ ap routine_or_none (block_stands g.tree number block block_is).known
+  routine_is = ap (λ (rs : List Routine). routine_or_none (slice_get rs number)) g.routines_are
+      ∙ ap routine_or_none (block_stands g.tree number block block_is).known
 
   routine_level : (called_routine g.scope number).level ≡ outer_level
   routine_level =
@@ -345,7 +369,7 @@ module _ (g : Setting) (number : ℕ) (block : Block) (block_is : slice_get g.tr
   few_outer : outer_level + 1 < 16
   few_outer = let few = shallow g.tree g.well number block block_is in omega (arith, few, own_level)
 
-  new_chain : Leads new_fixed (links_to new_scope 0) new_frame g.bottom
+  pub new_chain : Leads new_fixed (links_to new_scope 0) new_frame g.bottom
   new_chain =
       let level = g.level_is in
       let few = few_levels in
@@ -356,7 +380,7 @@ module _ (g : Setting) (number : ℕ) (block : Block) (block_is : slice_get g.tr
 
   -- ---- what is visible
 
-  abbrev its_home : (root : ℕ) (v : Variable) → slice_get variables root ≡ Some v → variable_home new_scope root ≡ home_of g.tree root v
+  abbrev pub its_home : (root : ℕ) (v : Variable) → slice_get variables root ≡ Some v → variable_home new_scope root ≡ home_of g.tree root v
   its_home root v at = home_is g.tree new_scope root v refl at
 
   abbrev NewShown : ℕ → Variable → Type 0
@@ -367,7 +391,7 @@ module _ (g : Setting) (number : ℕ) (block : Block) (block_is : slice_get g.tr
     its_level : (variable_home new_scope root).level ≡ new_scope.level
     its_level = ap (λ (h : Home). h.level) (its_home root v at) ∙ ap (block_level g.tree) own
 
-    its_start : (variable_home new_scope root).start ≡ start_of g.tree root v
+    pub its_start : (variable_home new_scope root).start ≡ start_of g.tree root v
     its_start = ap (λ (h : Home). h.start) (its_home root v at) ∙ (start_near g.tree g.well g.short number block block_is root v at own).1
 
     its_refers : (variable_home new_scope root).refers ≡ is_variable_kind v.kind
@@ -378,14 +402,14 @@ module _ (g : Setting) (number : ℕ) (block : Block) (block_is : slice_get g.tr
         let none : new_scope.level - new_scope.level ≡ 0 = omega arith in
         subst (λ n. Leads new_fixed n new_frame new_frame) (sym (ap (links_to new_scope) its_level ∙ ap links none)) refl
 
-    seen : new_environment.variables root ≡ home_in begun root v.kind
+    pub seen : new_environment.variables root ≡ home_in begun root v.kind
     seen =
         ap (seen_from begun root) at
         ∙ ap (λ b. if b then home_in begun root v.kind else (if is_one_of block.heading.around.items v.block then g.environment.variables root else None))
         (eq-eqb v.block number own)
 
     -- one that is no variable parameter lies in the frame
-    own_part : is_variable_kind v.kind ≡ false → IsPart g.tree.types new_world new_below (own_place activation root) v.type_id
+    pub own_part : is_variable_kind v.kind ≡ false → IsPart g.tree.types new_world new_below (own_place activation root) v.type_id
         (new_frame + (variable_home new_scope root).start)
     own_part plain =
         let slot = slot_of g.tree v plain in
@@ -415,7 +439,8 @@ module _ (g : Setting) (number : ℕ) (block : Block) (block_is : slice_get g.tr
           few = few_of v at own plain;
         }
       where
-        few_of : (v : Variable) → slice_get variables root ≡ Some v → v.block ≡ number → is_variable_kind v.kind ≡ false → cells_of g.tree.types v.type_id ≤ 65536
+        few_of : (v : Variable) → slice_get variables root ≡ Some v → v.block ≡ number → is_variable_kind v.kind ≡ false
+            → cells_of g.tree.types v.type_id ≤ 65536
         few_of v at own plain = by (is_parameter_kind v.kind) refl
           where
             by : (kind : Bool) → is_parameter_kind v.kind ≡ kind → cells_of g.tree.types v.type_id ≤ 65536
@@ -469,8 +494,14 @@ module _ (g : Setting) (number : ℕ) (block : Block) (block_is : slice_get g.tr
         inside_at (length f.marks_front + 0) (new_frame + (variable_home new_scope root).start)
         (omega (arith, its_start, begins, mine, f.front_is, f.marks_front_is))
         ∙ slice_before shape (replicate others None) (length f.marks_front + 0)
-        (omega (arith, ap length f.marks, length-append f.marks_front (map (fixed_mark v) f.first ++ f.marks_behind),
-        length-append (map (fixed_mark v) f.first) f.marks_behind, length-map f.first (fixed_mark v), ap length r.3))
+        (omega (
+          arith,
+          ap length f.marks,
+          length-append f.marks_front (map (fixed_mark v) f.first ++ f.marks_behind),
+          length-append (map (fixed_mark v) f.first) f.marks_behind,
+          length-map f.first (fixed_mark v),
+          ap length r.3,
+        ))
         ∙ ap (λ l. slice_get l (length f.marks_front + 0)) f.marks
         ∙ slice_behind f.marks_front (map (fixed_mark v) f.first ++ f.marks_behind) 0 (length f.marks_front + 0) refl
         ∙ ap (λ first. slice_get (map (fixed_mark v) first ++ f.marks_behind) 0) r.3
@@ -481,8 +512,11 @@ module _ (g : Setting) (number : ℕ) (block : Block) (block_is : slice_get g.tr
           owner = new_frame;
           leads = its_leads;
           way = ByAddress r.1;
-          reaches = (its_refers ∙ refers, fixed,
-              part_above g.tree.types new_activation g.world g.below new_below r.0 v.type_id r.1 (omega arith) r.4);
+          reaches = (
+            its_refers ∙ refers,
+            fixed,
+            part_above g.tree.types new_activation g.world g.below new_below r.0 v.type_id r.1 (omega arith) r.4,
+          );
         }
 
     shown_own : (kind : VariableKind) → v.kind ≡ kind → NewShown root v
@@ -509,7 +543,8 @@ module _ (g : Setting) (number : ℕ) (block : Block) (block_is : slice_get g.tr
     -- its block, whose level isn't greater than the declarer's
     its_block : (b : Block) × (slice_get g.tree.blocks.items v.block ≡ Some b)
     its_block = slice_there g.tree.blocks.items v.block
-        (ltb-true v.block (length g.tree.blocks.items) (all_at (λ (w : Variable). nat_lt w.block (length g.tree.blocks.items)) variables root v g.well.declared at))
+        (ltb-true v.block (length g.tree.blocks.items) (all_at (λ (w : Variable). nat_lt w.block (length g.tree.blocks.items)) variables root v g.well.declared
+        at))
 
     abbrev far : ℕ
     far = length its_block.0.heading.around.items
@@ -543,11 +578,16 @@ module _ (g : Setting) (number : ℕ) (block : Block) (block_is : slice_get g.tr
     reaches_outside : (way : Way) → Reaches g.tree g.world g.fixed g.below x.place v (x.owner + (variable_home g.scope root).start)
         (variable_home g.scope root).refers way
         → Reaches g.tree new_world new_fixed new_below x.place v (x.owner + (variable_home g.scope root).start) (variable_home g.scope root).refers way
-    reaches_outside Direct r =
-        (r.0, part_above g.tree.types new_activation g.world g.below new_below x.place v.type_id (x.owner + (variable_home g.scope root).start) (omega arith) r.1)
-    reaches_outside (ByAddress address) r =
-        (r.0, outer_fixed (x.owner + (variable_home g.scope root).start) (Some (Number (pos address))) r.1,
-        part_above g.tree.types new_activation g.world g.below new_below x.place v.type_id address (omega arith) r.2)
+    reaches_outside Direct r = (
+      r.0,
+      part_above g.tree.types new_activation g.world g.below new_below x.place v.type_id (x.owner + (variable_home g.scope root).start) (omega arith)
+          r.1,
+    )
+    reaches_outside (ByAddress address) r = (
+      r.0,
+      outer_fixed (x.owner + (variable_home g.scope root).start) (Some (Number (pos address))) r.1,
+      part_above g.tree.types new_activation g.world g.below new_below x.place v.type_id address (omega arith) r.2,
+    )
 
     shown_outside : NewShown root v
     shown_outside = record {
@@ -560,7 +600,7 @@ module _ (g : Setting) (number : ℕ) (block : Block) (block_is : slice_get g.tr
           (reaches_outside x.way x.reaches);
     }
 
-  new_shows : (root : ℕ) (v : Variable) → slice_get variables root ≡ Some v → is_visible (outline_of g.tree) number root ≡ true → NewShown root v
+  pub new_shows : (root : ℕ) (v : Variable) → slice_get variables root ≡ Some v → is_visible (outline_of g.tree) number root ≡ true → NewShown root v
   new_shows root v at visible = by (nat_eq v.block number) refl
     where
       there : encloses v.block number (heading_of block) ≡ true
@@ -575,11 +615,12 @@ module _ (g : Setting) (number : ℕ) (block : Block) (block_is : slice_get g.tr
           (ap (λ b. b || is_one_of block.heading.around.items v.block) (sym is) ∙ there)
 
   -- an offset reaches all of a variable, whichever block declares it
-  new_near : (root : ℕ) (v : Variable) → slice_get variables root ≡ Some v → (variable_home new_scope root).refers ≡ false
+  pub new_near : (root : ℕ) (v : Variable) → slice_get variables root ≡ Some v → (variable_home new_scope root).refers ≡ false
       → (variable_home new_scope root).start + cells_of g.tree.types v.type_id ≤ 16777215
   new_near root v at plain =
       let b = slice_there g.tree.blocks.items v.block
-      (ltb-true v.block (length g.tree.blocks.items) (all_at (λ (w : Variable). nat_lt w.block (length g.tree.blocks.items)) variables root v g.well.declared at)) in
+      (ltb-true v.block (length g.tree.blocks.items) (all_at (λ (w : Variable). nat_lt w.block (length g.tree.blocks.items)) variables root v g.well.declared
+      at)) in
       let near = start_near g.tree g.well g.short v.block b.0 b.1 root v at refl in
       let refers : is_variable_kind v.kind ≡ false = sym (ap (λ (h : Home). h.refers) (its_home root v at)) ∙ plain in
       let start : (variable_home new_scope root).start ≡ offset (start_of g.tree root v) = ap (λ (h : Home). h.start) (its_home root v at) in
@@ -587,15 +628,20 @@ module _ (g : Setting) (number : ℕ) (block : Block) (block_is : slice_get g.tr
 
   -- ---- the setting
 
-  new_low : new_frame ≤ living_need g.tree (g.number ∷ g.callers)
+  pub new_low : new_frame ≤ living_need g.tree (g.number ∷ g.callers)
   new_low =
       let low = g.low in
       let limit = g.limit_is in
       omega (arith, low, limit, room, sum_by-cons (block_need g.tree) g.number g.callers, block_within g.tree g.number g.block g.block_is)
 
-  pub callee : Setting
+  pub above : new_below ≡ new_frame + (4 + count parameters + count others)
+  above = let whole = (small_block g.tree g.short number block block_is).whole in omega (arith, whole)
+
+  pub links_inside : new_frame + 4 ≤ new_below
+  links_inside = omega arith
+
+  abbrev pub callee : Setting
   callee =
-      let small = small_block g.tree g.short number block block_is in
       record {
         tree = g.tree;
         well = g.well;
@@ -603,6 +649,7 @@ module _ (g : Setting) (number : ℕ) (block : Block) (block_is : slice_get g.tr
         target = g.target;
         sites_are = g.sites_are;
         stands = g.stands;
+        comes_back = g.comes_back;
         repeats_are_few = g.repeats_are_few;
         input = g.input;
         size = g.size;
@@ -618,7 +665,7 @@ module _ (g : Setting) (number : ℕ) (block : Block) (block_is : slice_get g.tr
         below = new_below;
         fixed_is = new_fixed_long;
         frame = new_frame;
-        frame_within = omega arith;
+        frame_within = links_inside;
         callers = g.number ∷ g.callers;
         low = new_low;
         limit_is = refl;
@@ -629,7 +676,7 @@ module _ (g : Setting) (number : ℕ) (block : Block) (block_is : slice_get g.tr
         routines_are = refl;
         level_is = refl;
         near = new_near;
-        above_is = above small.whole;
+        above_is = above;
         environment = new_environment;
         types_are = refl;
         shows = new_shows;
@@ -637,6 +684,3 @@ module _ (g : Setting) (number : ℕ) (block : Block) (block_is : slice_get g.tr
         chain = new_chain;
         blank = outer_fixed (g.bottom + 2) (Some Undefined) g.blank;
       }
-    where
-      above : 4 + parameters + others + block_depth block ≤ 16777216 → new_below ≡ new_frame + (4 + count parameters + count others)
-      above whole = omega (arith, whole)

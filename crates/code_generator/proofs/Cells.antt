@@ -1,7 +1,7 @@
 -- Where the variables of a block lie in its frame: each behind those before it, within the cells that the block has.
-use Rattle.std.proofs.Common.{◌≡◌, ℕ, zero, suc, ◌+◌, ◌-◌, ◌<◌, ◌≤◌, ◌⊎◌, inl, inr, ⊎_elim, List, [], ◌∷◌, length, take, Option, Some, None, refl, sym, ap, ◌∙◌}
+use Rattle.std.proofs.Common.{◌≡◌, ℕ, zero, suc, ◌+◌, ◌<◌, ◌≤◌, ◌⊎◌, inl, inr, ⊎_elim, List, [], ◌∷◌, length, take, Option, Some, None, refl, sym, ap, ◌∙◌}
 use Rattle.std.proofs.Common.{subst, arith, Bool, true, false, eq-eqb}
-use Rattle.std.specs.Prelude.{filter, if◌then◌else◌, nat_eq, nat_lt, not, slice_get, sum_by, ◌&&◌, ◌||◌}
+use Rattle.std.specs.Prelude.{filter, if◌then◌else◌, nat_eq, nat_lt, not, slice_get, sum_by, ◌&&◌}
 use Rattle.std.proofs.lemmas.Bool.{and_parts, cases_eq, cases_lt, eqb-true, false≢true, ltb-false, or_parts}
 use Rattle.std.proofs.lemmas.List.Sums.{sum_by-cons}
 use Rattle.std.proofs.lemmas.Option.{cond_some, none-some, same_Some, slice_get_within}
@@ -23,7 +23,7 @@ use Rattle.code_scheme.specs.Scopes.{Scope, cells_where, home_of, home_or_none, 
 use Rattle.code_scheme.specs.Scopes.{parameter_cells, slot_cells, start_of, variable_home}
 use Rattle.code_generator.specs.Large.{frame_cells, has_large_frame, is_large_block, is_too_large}
 use Rattle.code_generator.proofs.Alike.{Activation, Extent, Lies}
-use Rattle.code_generator.proofs.Nesting.{WellBlock, well_block}
+use Rattle.code_generator.proofs.Nesting.{well_block}
 use Rattle.code_generator.proofs.Places.{place_other, place_same}
 
 -- ---- the cells of those variables of which a test holds
@@ -330,7 +330,8 @@ module _ (tree : Tree) where
         let inside' = slice_get_within m.extent.components m.inward q.steps m.reached in
         let start : start_of tree p.variable first.variable ≡ l.extent.start = ap (λ (e : Extent). e.start) first.extent_is in
         let start' : start_of tree q.variable second.variable ≡ m.extent.start = ap (λ (e : Extent). e.start) second.extent_is in
-        let long : length (components_of tree.types first.variable.type_id) ≡ length l.extent.components = ap (λ (e : Extent). length e.components) first.extent_is in
+        let long : length (components_of tree.types first.variable.type_id)
+        ≡ length l.extent.components = ap (λ (e : Extent). length e.components) first.extent_is in
         let long' : length (components_of tree.types second.variable.type_id) ≡ length m.extent.components =
         ap (λ (e : Extent). length e.components) second.extent_is in
         let slot = slot_of first.variable first.no_reference in

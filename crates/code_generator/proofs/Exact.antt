@@ -1,8 +1,6 @@
 -- Pieces of a program use their turns exactly: where one gave a value, the turns that it used are enough for that.
 use Rattle.std.proofs.Common.{ℕ, List, [], ◌∷◌, Option, Some, None, map, Bool, ℤ, if◌then◌else◌}
 use Rattle.types.specs.declared.form.Step.TheVariants as step
-use Rattle.types.specs.Components.{Steps}
-use Rattle.typed_tree.specs.declared.tree.Access.{Access}
 use Rattle.typed_tree.specs.declared.tree.Call.{Call}
 use Rattle.typed_tree.specs.declared.tree.Direction.{Direction}
 use Rattle.typed_tree.specs.declared.tree.Dyadic.{Dyadic}
@@ -19,27 +17,21 @@ use Rattle.meaning.specs.declared.store.Value.{Value}
 use Rattle.meaning.specs.declared.store.Value.TheVariants.{Number}
 use Rattle.meaning.specs.Counting.{value_behind}
 use Rattle.meaning.specs.Store.{Environment, Place, part}
-use Rattle.meaning.specs.Effect.{enter, fetch_all, is_in, number_of, require, store, use_turn}
+use Rattle.meaning.specs.Effect.{enter, is_in, number_of, require, store, use_turn}
 use Rattle.meaning.specs.Laws.{UsesTurnsExactly}
-use Rattle.meaning.specs.Meaning.{Evaluation, Passing, Surroundings, accessed, all_of, all_passed, combined, effect_of, link_step, passing_of, selected, value_of}
+use Rattle.meaning.specs.Meaning.{Evaluation, Surroundings, all_of, all_passed, effect_of, link_step, passing_of, selected, value_of}
 use Rattle.meaning.specs.Meaning.{call_of, for_round, for_rounds, is_so, parameter_of, repeat_round, while_round, whole_of, width_of}
 use Rattle.meaning.proofs.Used.{Exact, ExactCalls, exact_closed, exact_give, exact_then, exact_turn, exact_turn_if, exact_value}
-use Rattle.meaning.proofs.Walks.{of_access, of_called, of_combined, of_effect, of_fetch_all, of_for_rounds, of_parameters, of_passing, of_require}
+use Rattle.meaning.proofs.Walks.{of_called, of_combined, of_effect, of_for_rounds, of_parameters, of_passing, of_require}
 use Rattle.meaning.proofs.Walks.{of_statements, of_value, of_whole_value, of_width, of_written}
 
 pub exact_require : (b : Bool) (site : ℕ) → UsesTurnsExactly (require b site)
 exact_require b site = (of_require Exact exact_closed b site).1
 
-pub exact_fetch_all : (p : Option Place) (components : List Steps) (site : ℕ) → UsesTurnsExactly (fetch_all p components site)
-exact_fetch_all p components site = (of_fetch_all Exact exact_closed p components site).1
-
 pub exact_enter : (number : ℕ) (visible : Environment) → UsesTurnsExactly (enter number visible)
 exact_enter number visible = (exact_closed.enters number visible).1
 
 module _ (env : Surroundings) (exact : ExactCalls env.calls) where
-  pub exact_access : (access : Access) (indexes : List Expr) → UsesTurnsExactly (accessed access (map value_of indexes) env)
-  exact_access access indexes = (of_access Exact exact_closed env.visible env.calls env.calls exact access indexes).1
-
   pub exact_whole : (v : Whole) (indexes : List Expr) → UsesTurnsExactly (whole_of v (map value_of indexes) env)
   exact_whole v indexes = (of_whole_value Exact exact_closed env.visible env.calls env.calls exact v indexes).1
 

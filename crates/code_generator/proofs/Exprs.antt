@@ -75,7 +75,8 @@ use Rattle.code_generator.proofs.Passing.{AllPass, CallsAt, PassedRuns, Passes, 
 use Rattle.code_generator.proofs.Passing.{returns_from, row_passes, then_pass, then_returns, value_passes}
 use Rattle.code_generator.proofs.Reach.{StandsAt, Stands, obeys, stands_front, stands_back, Comes, comes_less, comes_on, stays_here}
 use Rattle.code_generator.proofs.Rows.{cells_of, length-cells_of, compares, same_order, order_fits}
-use Rattle.code_generator.proofs.Setting.{Setting, outline, around, exact_around, on, Based, linked, Here, acts, passes, fails, Evaluates, gives, evaluates_from, then_evaluates}
+use Rattle.code_generator.proofs.Setting.{Setting, outline, around, exact_around, on, Based, linked, Here, acts, passes, fails, Evaluates, gives}
+use Rattle.code_generator.proofs.Setting.{evaluates_from, then_evaluates}
 use Rattle.code_generator.proofs.Accesses.{Indexes, expressions, wells, as_many_wells, codes, depths, leads, begins, entered, fetch_runs, found as place_found}
 use Rattle.code_generator.proofs.Accesses.{PartAt, address_runs, exact_found, frame_found}
 use Rattle.code_generator.proofs.Evaluating.{sites, frames_of, fetched_at, RunsAs, CombinesAs, ExprRuns, LinkRuns, one_held}
@@ -111,7 +112,8 @@ module _ (g : Setting) where
   number_runs n place base held s here fit based room =
       let full = based.full in
       let long = length-append base held in
-      inr (gives g 1 _ base held (place + 1) n s based (acts g (instr.LoadConstant n) (base ++ held) ((base ++ held) ++ Number n ∷ []) place s.output _ here refl
+      inr (gives g 1 _ base held (place + 1) n s based (acts g (instr.LoadConstant n) (base ++ held) ((base ++ held) ++ Number n ∷ []) place s.output _ here
+      refl
       (pushes g.frame g.limit g.size (base ++ held) n (omega arith))) fit (omega arith))
 
   -- a constant
@@ -144,7 +146,8 @@ module _ (g : Setting) where
       → attempt ≡ Ok (frames_of g ((base ++ held) ++ Number d ∷ [])) → d ≡ c → Fits c → Based g s base → g.below + length held < g.limit
       → Evaluates g (on g stack place s.output) held (place + 1) (give (value.Number c)) s
   given_runs apply place stack base held c d s attempt here rule does same fit based room =
-      inr (gives g 1 _ base held (place + 1) c s based (acts g apply stack ((base ++ held) ++ Number c ∷ []) place s.output attempt here rule (does ∙ ap (λ v. Ok
+      inr (gives g 1 _ base held (place + 1) c s based (acts g apply stack ((base ++ held) ++ Number c ∷ []) place s.output attempt here rule
+      (does ∙ ap (λ v. Ok
       (frames_of g ((base ++ held) ++ Number v ∷ []))) same)) fit room)
 
   -- a test of the number on top, which stays there
@@ -460,8 +463,10 @@ module _ (g : Setting) where
       let next' : List ℤ → List ℤ → Action Value = λ ns ms. give (meaning.compared r ns ms) in
       let next : List ℤ → Action Value = λ ns. effect.enter number g.environment >>= λ _.
       meaning.whole_of right (map value_of (expressions g right_indexes)) (around g) >>= next' ns in
-      subst (λ p. Evaluates g (on g (base ++ held) place s.output) held p (meaning.whole_of left (map value_of (expressions g left_indexes)) (around g) >>= next) s) e
-      (row_evaluates g _ held held there end n (meaning.whole_of left (map value_of (expressions g left_indexes)) (around g)) next s (exact_whole (around g) (exact_around g) left (expressions g left_indexes))
+      subst (λ p. Evaluates g (on g (base ++ held) place s.output) held p
+      (meaning.whole_of left (map value_of (expressions g left_indexes)) (around g) >>= next) s) e
+      (row_evaluates g _ held held there end n (meaning.whole_of left (map value_of (expressions g left_indexes)) (around g)) next s
+      (exact_whole (around g) (exact_around g) left (expressions g left_indexes))
       (whole_runs g left left_indexes place base held s (stands_front g.target place c (d ++ last) stands) one.0 left_well based (omega arith))
       (λ base2 ns s2 based2 long fits.
       let above = held ++ cells_of ns in
@@ -469,7 +474,8 @@ module _ (g : Setting) where
       let s3 = entered g number s2 in
       let wide = length-cells_of ns in
       subst (λ cells. Evaluates g (on g cells there s2.output) held end (next ns) s2) (sym (append_assoc base2 held (cells_of ns)))
-      (row_evaluates g _ above held (there + length d) end (length_of right) (meaning.whole_of right (map value_of (expressions g right_indexes)) (around g)) (next' ns) s3 (exact_whole (around g) (exact_around g) right (expressions g right_indexes))
+      (row_evaluates g _ above held (there + length d) end (length_of right) (meaning.whole_of right (map value_of (expressions g right_indexes)) (around g))
+      (next' ns) s3 (exact_whole (around g) (exact_around g) right (expressions g right_indexes))
       (whole_runs g right right_indexes there base2 above s3 (stands_front g.target there d last behind) three.0 right_well
       based2 (omega arith))
       (λ base3 ms s4 based4 long' fits'.
@@ -507,7 +513,8 @@ module _ (g : Setting) where
       let next : Value → Action Value = combined operation (value.Number a) in
       let operand = runs place base (held ++ Number a ∷ []) s' (stands_front g.target place c (dyadic_code operation) stands) parts.1 based (omega arith) in
       subst (λ p. Evaluates g (on g ((base ++ held) ++ Number a ∷ []) place s.output) held p (v (around g) >>= next) s') e
-      (subst (λ cells. Evaluates g (on g cells place s.output) held (place + length c + length (dyadic_code operation)) (v (around g) >>= next) s') (one_held g base held a)
+      (subst (λ cells. Evaluates g (on g cells place s.output) held (place + length c + length (dyadic_code operation)) (v (around g) >>= next) s')
+      (one_held g base held a)
       (above_one _ held a held (place + length c) (place + length c + length (dyadic_code operation)) (v (around g)) next s' exact operand
       (λ base2 n s2 based2 fit2 room2. combined_runs (place + length c) base2 held a n s2 based2 room2 fit fit2 operation rest parts.0)))
 
@@ -516,10 +523,12 @@ module _ (g : Setting) where
       → Stands g.target place (joined (map (link_code g.scope) (map (λ l. l.0) links)))
       → all_hold (map (is_well_formed_link (outline g) g.number) (map (λ l. l.0) links)) ≡ true → Based g s base
       → g.below + length held + fold max depth (map link_depth (map (λ l. l.0) links)) ≤ g.limit → g.below + length held < g.limit → Fits a
-      → Evaluates g (on g ((base ++ held) ++ Number a ∷ []) place s.output) held (place + length (joined (map (link_code g.scope) (map (λ l. l.0) links)))) (in_turn (map link_of (map (λ l. l.0) links)) (around g) (value.Number a)) s
+      → Evaluates g (on g ((base ++ held) ++ Number a ∷ []) place s.output) held (place + length (joined (map (link_code g.scope) (map (λ l. l.0) links))))
+      (in_turn (map link_of (map (λ l. l.0) links)) (around g) (value.Number a)) s
   links_run [] depth place base held a s stands good based deep room fit =
       let e : place ≡ place + 0 = omega arith in
-      inr (gives g 0 _ base held (place + 0) a s based (subst (λ p. Comes g.target 0 (on g ((base ++ held) ++ Number a ∷ []) place s.output) (on g ((base ++ held)
+      inr (gives g 0 _ base held (place + 0) a s based (subst (λ p. Comes g.target 0 (on g ((base ++ held) ++ Number a ∷ []) place s.output) (on g ((base ++
+      held)
       ++ Number a ∷ []) p s.output)) e (stays_here g.target _)) fit room)
   links_run (l ∷ links) depth place base held a s stands good based deep room fit =
       let c = link_code g.scope l.0 in
@@ -528,7 +537,8 @@ module _ (g : Setting) where
       let e : place + length c + length rest ≡ place + length (c ++ rest) = omega (arith, length-append c rest) in
       let next : Value → Action Value = λ w. in_turn (map link_of (map (λ k. k.0) links)) (around g) w in
       subst (λ p. Evaluates g (on g ((base ++ held) ++ Number a ∷ []) place s.output) held p (link_of l.0 (around g) (value.Number a) >>= next) s) e
-      (then_evaluates g _ held held (place + length c) (place + length c + length rest) (link_of l.0 (around g) (value.Number a)) next s (l.1.1 (value.Number a))
+      (then_evaluates g _ held held (place + length c) (place + length c + length rest) (link_of l.0 (around g) (value.Number a)) next s
+      (l.1.1 (value.Number a))
       (l.1.0 place base held a s (stands_front g.target place c rest stands) (and_parts _ _ good).0 based (omega arith) fit)
       (λ base2 n s2 based2 fit2 room2. links_run links (max depth (link_depth l.0)) (place + length c) base2 held n s2
       (stands_back g.target place c rest stands) (and_parts _ _ good).1 based2 deep room2 fit2))
@@ -545,7 +555,8 @@ module _ (g : Setting) where
       let e : place + length c + length rest ≡ place + length (c ++ rest) = omega (arith, length-append c rest) in
       let next : Value → Action Value = λ w. in_turn (map link_of (map (λ k. k.0) links)) (around g) w in
       subst (λ p. Evaluates g (on g (base ++ held) place s.output) held p (value_of first.0 (around g) >>= next) s) e
-      (then_evaluates g _ held held (place + length c) (place + length c + length rest) (value_of first.0 (around g)) next s (exact_value (around g) (exact_around g) first.0)
+      (then_evaluates g _ held held (place + length c) (place + length c + length rest) (value_of first.0 (around g)) next s
+      (exact_value (around g) (exact_around g) first.0)
       (first.1 place base held s (stands_front g.target place c rest stands) (and_parts _ _ good).0 based (omega arith))
       (λ base2 n s2 based2 fit2 room2. links_run links (expr_depth first.0) (place + length c) base2 held n s2 (stands_back g.target place c rest stands)
       (and_parts _ _ good).1 based2 deep room2 fit2))
@@ -587,8 +598,17 @@ module _ (g : Setting) where
       let parts' = and_parts _ _ parts.1 in
       let passed = passes g (range_check fits) ((base ++ held) ++ Number n ∷ []) place fits.site s.output _ refl refl stands
       (is_in_range g.frame g.limit g.size (base ++ held) (linked g s base held based) fits.range.first fits.range.last n ∙ ap Ok holds) in
-      inr (base, based, Number n ∷ [], formal, is, (parts.0, parts'.0, fit, refl), refl, comes_less g.target (s.turns - s.turns) 0 _ _ (omega arith) passed,
-      omega arith)
+      inr (
+        base,
+        based,
+        Number n ∷ [],
+        formal,
+        is,
+        (parts.0, parts'.0, fit, refl),
+        refl,
+        comes_less g.target (s.turns - s.turns) 0 _ _ (omega arith) passed,
+        omega arith,
+      )
   tested_passes false fits callee position place base held n s formal holds stands within is takes based fit =
       inr (fails g (range_check fits) ((base ++ held) ++ Number n ∷ []) place fits.site s.output _ refl refl s.turns stands within
       (is_in_range g.frame g.limit g.size (base ++ held) (linked g s base held based) fits.range.first fits.range.last n ∙ ap Ok holds))
@@ -638,8 +658,17 @@ module _ (g : Setting) where
       (λ ns. give (OfRow ns)) s (exact_whole (around g) (exact_around g) v (expressions g indexes))
       (whole_runs g v indexes place base held s stands one.0 well based deep)
       (λ base2 ns t based2 long fits.
-      inr (base2, based2, cells_of ns, formal.0, formal.1, (takes.0, long ∙ sym many, fits, refl), length-cells_of ns ∙ long,
-      comes_less g.target (t.turns - t.turns) 0 _ _ (omega arith) (stays_here g.target _), omega arith))
+      inr (
+        base2,
+        based2,
+        cells_of ns,
+        formal.0,
+        formal.1,
+        (takes.0, long ∙ sym many, fits, refl),
+        length-cells_of ns ∙ long,
+        comes_less g.target (t.turns - t.turns) 0 _ _ (omega arith) (stays_here g.target _),
+        omega arith,
+      ))
 
   reference_is_passed : (type_id : TypeId) (access : Access) (indexes : Indexes g)
       → PassesAs g (address_code g.scope access (codes g indexes)) (record { depth = access_depth (depths g indexes); cells = 1 })
@@ -666,8 +695,17 @@ module _ (g : Setting) where
       (exact_found g access indexes led_to.last start one.0 led_to.counts)
       (address_runs g access indexes led_to.last start one.0 led_to.counts place base held (entered g access.number s) stands based deep)
       (λ base2 d p t based2 part.
-      inr (base2, based2, Number (pos d) ∷ [], formal.0, formal.1, (d, takes.0, subst (λ u. PartAt g p u d) its part, refl), refl,
-      comes_less g.target (t.turns - t.turns) 0 _ _ (omega arith) (stays_here g.target _), omega arith)))
+      inr (
+        base2,
+        based2,
+        Number (pos d) ∷ [],
+        formal.0,
+        formal.1,
+        (d, takes.0, subst (λ u. PartAt g p u d) its part, refl),
+        refl,
+        comes_less g.target (t.turns - t.turns) 0 _ _ (omega arith) (stays_here g.target _),
+        omega arith,
+      )))
 
   -- ---- a call
 
@@ -714,11 +752,18 @@ module _ (g : Setting) where
       (actuals_pass actuals callee (suc position) below (height + d.cells) (place + length c) base2 above t (omega (arith, high, taller, long))
       (stands_back g.target place c rest stands) parts.1 based2 (omega arith))
       (λ base3 arguments cells3 u based3 fitted3 room many.
-      inr (base3, based3, cells ++ cells3, (formal, is, cells, cells3, refl, fitted, fitted3), omega (arith, room, taller, length-append cells cells3),
-      ap suc many,
-      subst (λ stack. Comes g.target (u.turns - u.turns) (on g ((base3 ++ above) ++ cells3) end u.output) (on g stack end u.output))
-      (ap (λ l. l ++ cells3) (sym (append_assoc base3 held cells)) ∙ append_assoc (base3 ++ held) cells cells3)
-      (comes_less g.target (u.turns - u.turns) 0 _ _ (omega arith) (stays_here g.target _)), omega arith)))))
+      inr (
+        base3,
+        based3,
+        cells ++ cells3,
+        (formal, is, cells, cells3, refl, fitted, fitted3),
+        omega (arith, room, taller, length-append cells cells3),
+        ap suc many,
+        subst (λ stack. Comes g.target (u.turns - u.turns) (on g ((base3 ++ above) ++ cells3) end u.output) (on g stack end u.output))
+            (ap (λ l. l ++ cells3) (sym (append_assoc base3 held cells)) ∙ append_assoc (base3 ++ held) cells cells3)
+            (comes_less g.target (u.turns - u.turns) 0 _ _ (omega arith) (stays_here g.target _)),
+        omega arith,
+      )))))
 
   -- the mark of a new frame, whose static link leads to this frame
   marked_runs : (level outer place : ℕ) (base held : List Cell) (s : effect.State) → Leads g.fixed level g.frame outer → Here g place (instr.MarkStack level)
@@ -773,7 +818,7 @@ module _ (g : Setting) where
         known is_function call.block block.0 outer (place + 1 + length c) base2 held cells arguments t block.1
         (subst (λ n. is_callable (outline g) g.number is_function n (heading_of block.0) ≡ true) (many ∙ sym counted)
         (ap (is_callable (outline g) g.number is_function (length wf)) block.2 ∙ callee.2))
-        way.1 jumping.0 based2 fitted (omega (arith, room, taller)))))
+        way.1 jumping.0 jumping.2 based2 fitted (omega (arith, room, taller)))))
 
     call_evaluates : (call : Call) (actuals : List ((p : Passed) × PassedRuns g p))
         → RunsAs g (call_code g.scope call (map (passed_code g.scope) (bare actuals))) (call_depth (map passed_depth (bare actuals)))
@@ -782,7 +827,8 @@ module _ (g : Setting) where
     call_evaluates call actuals place base held s stands good based deep =
         let more = actuals_deep 4 (map passed_depth (bare actuals)) in
         function_evaluates g _ held (place + length (call_code g.scope call (map (passed_code g.scope) (bare actuals))))
-        (meaning.call_of call (map passing_of (bare actuals)) (around g)) s (omega arith) (call_returns true call actuals place base held s stands good based deep)
+        (meaning.call_of call (map passing_of (bare actuals)) (around g)) s (omega arith)
+        (call_returns true call actuals place base held s stands good based deep)
 
   -- ---- all forms
 
@@ -924,7 +970,8 @@ module _ (g : Setting) where
         let e : place + length c + 1 ≡ place + length (c ++ check ∷ []) = omega (arith, length-append c (check ∷ [])) in
         let next : Value → Action Value = λ w. require (effect.is_positive w) width.site >>= λ _. give w in
         subst (λ p. Evaluates g (on g (base ++ held) place s.output) held p (value_of width.value (around g) >>= next) s) e
-        (then_evaluates g _ held held (place + length c) (place + length c + 1) (value_of width.value (around g)) next s (exact_value (around g) (exact_around g) width.value)
+        (then_evaluates g _ held held (place + length c) (place + length c + 1) (value_of width.value (around g)) next s
+        (exact_value (around g) (exact_around g) width.value)
         (expr_runs width.value place base held s (stands_front g.target place c (check ∷ []) stands) parts.1 based room)
         (λ base2 n s2 based2 fit room2.
         tested_runs check width.site (place + length c) base2 held n s2 _ (int_le (pos 1) n) (stands_back g.target place c (check ∷ []) stands).0 refl refl

@@ -1,6 +1,6 @@
 -- Frames that are larger than a machine, as loops over variables and blocks go on.
 use Rattle.std.proofs.Common.{◌≡◌, ℕ, ◌+◌, ◌≤◌, Bool, true, false, ◌&&◌, ◌||◌, nat_eq, List, [], ◌∷◌, if◌then◌else◌, ap, sym, ◌∙◌, arith}
-use Rattle.std.specs.Prelude.{filter, nat_lt, not, suc, sum_by}
+use Rattle.std.specs.Prelude.{filter, not, suc, sum_by}
 use Rattle.std.proofs.lemmas.List.Sums.{sum_by-cons}
 use Rattle.types.specs.Forms.{Form}
 use Rattle.typed_tree.specs.declared.tree.Block.{Block}
@@ -8,7 +8,7 @@ use Rattle.typed_tree.specs.declared.tree.Tree.{Tree}
 use Rattle.typed_tree.specs.declared.tree.Variable.{Variable}
 use Rattle.typed_tree.specs.WellFormed.{is_parameter_kind}
 use Rattle.code_scheme.specs.Scopes.{cells_where, is_other_of, is_parameter_of, slot_cells}
-use Rattle.code_generator.specs.Large.{frame_cells, has_large_frame}
+use Rattle.code_generator.specs.Large.{has_large_frame, is_large_block}
 
 -- the cells of a block's variables are among those of all
 one_within : (own kind : Bool) (cells : ℕ) → (if own && kind then cells else 0) + (if own && not kind then cells else 0) ≤ cells
@@ -36,13 +36,13 @@ block_within types number (variable ∷ variables) =
     )
 
 -- a block further
-pub next_frame : (tree : Tree) (number : ℕ) (block : Block) (blocks : List Block) → false ≡ nat_lt 16777216 (frame_cells tree number block)
+pub next_frame : (tree : Tree) (number : ℕ) (block : Block) (blocks : List Block) → false ≡ is_large_block tree number block
     → has_large_frame tree number (block ∷ blocks) ≡ has_large_frame tree (number + 1) blocks
 next_frame tree number block blocks few =
     let next : suc number ≡ number + 1 = omega arith in
     ap (λ large. large || has_large_frame tree (suc number) blocks) (sym few) ∙ ap (λ n. has_large_frame tree n blocks) next
 
 -- and the last one
-pub found_frame : (tree : Tree) (number : ℕ) (block : Block) (blocks : List Block) → true ≡ nat_lt 16777216 (frame_cells tree number block)
+pub found_frame : (tree : Tree) (number : ℕ) (block : Block) (blocks : List Block) → true ≡ is_large_block tree number block
     → true ≡ has_large_frame tree number (block ∷ blocks)
 found_frame tree number block blocks large = ap (λ l. l || has_large_frame tree (suc number) blocks) large

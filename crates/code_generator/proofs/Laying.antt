@@ -1,8 +1,8 @@
 -- The cells of what is passed to a routine are those of its parameters: one behind the other, in the order in which the
 -- parameters are declared.
-use Rattle.std.proofs.Common.{◌≡◌, ℕ, zero, suc, ◌+◌, ◌<◌, ◌≤◌, List, [], ◌∷◌, ◌++◌, length, map, take, drop, Option, Some, None, refl, sym, ap, ◌∙◌, subst}
+use Rattle.std.proofs.Common.{◌≡◌, ℕ, zero, suc, ◌+◌, List, [], ◌∷◌, ◌++◌, length, map, take, drop, Some, None, refl, sym, ap, ◌∙◌, subst}
 use Rattle.std.proofs.Common.{arith, Bool, true, false, length-append, append_assoc, eq-eqb}
-use Rattle.std.specs.Prelude.{if◌then◌else◌, nat_eq, slice_get, ◌&&◌}
+use Rattle.std.specs.Prelude.{if◌then◌else◌, nat_eq, slice_get}
 use Rattle.std.specs.Option.{option_and_then}
 use Rattle.std.proofs.Math.Seq.{take-append_seam, drop-append_seam}
 use Rattle.std.proofs.lemmas.Bool.{false≢true, false_from_ne_true, eqb-true}
@@ -16,7 +16,6 @@ use Rattle.typed_tree.specs.declared.tree.VariableKind.{VariableKind}
 use Rattle.typed_tree.specs.declared.tree.VariableKind.TheVariants as kinds
 use Rattle.typed_tree.specs.WellFormed.{formal_of, is_value_kind, is_variable_kind, roots_where}
 use Rattle.meaning.specs.declared.store.Value.TheVariants as value
-use Rattle.meaning.specs.Store.{Place}
 use Rattle.meaning.specs.Meaning.{Argument, OfValue, OfRow, OfPlace, place_for, place_passed}
 use Rattle.stack_machine.specs.declared.cell.Cell.{Cell}
 use Rattle.code_scheme.specs.Scopes.{cells_where, is_parameter_of, slot_cells}
@@ -100,8 +99,7 @@ module _ (g : Setting) (number : ℕ) where
           let start : position + 0 ≡ position = omega arith in
           let same : Some fitted.0 ≡ Some v = sym fitted.1 ∙ ap (formal_of (outline g) number) (sym start) ∙ formals 0
           ∙ ap (slice_get g.tree.variables.items) (sym here) ∙ there 0 v refl in
-          let formal : fitted.0 ≡ v = same_Some fitted.0 v same in
-          (
+          let formal : fitted.0 ≡ v = same_Some fitted.0 v same in (
             argument,
             rest,
             fitted.2,
@@ -116,17 +114,21 @@ module _ (g : Setting) (number : ℕ) where
 
       by : LaidFrom (suc k) variables → (b : Bool) → test v ≡ b
           → ((i : ℕ) → formal_of (outline g) number (position + i)
-          ≡ option_and_then (λ root. slice_get g.tree.variables.items root) (slice_get (if test v then k ∷ roots_where test (suc k) variables else roots_where test (suc k) variables) i))
-          → length arguments ≡ length (if test v then k ∷ roots_where test (suc k) variables else roots_where test (suc k) variables) → Takes (test v) v arguments cells (Laid variables)
+          ≡ option_and_then (λ root. slice_get g.tree.variables.items root)
+          (slice_get (if test v then k ∷ roots_where test (suc k) variables else roots_where test (suc k) variables) i))
+          → length arguments ≡ length (if test v then k ∷ roots_where test (suc k) variables else roots_where test (suc k) variables)
+          → Takes (test v) v arguments cells (Laid variables)
       by recur true is formals long =
           subst (λ b. Takes b v arguments cells (Laid variables)) (sym is)
           (taken recur arguments fitted
-          (λ i. formals i ∙ ap (λ b. option_and_then (λ root. slice_get g.tree.variables.items root) (slice_get (if b then k ∷ roots_where test (suc k) variables else roots_where test (suc k) variables) i)) is)
+          (λ i. formals i ∙ ap (λ b. option_and_then (λ root. slice_get g.tree.variables.items root)
+          (slice_get (if b then k ∷ roots_where test (suc k) variables else roots_where test (suc k) variables) i)) is)
           (long ∙ ap (λ b. length (if b then k ∷ roots_where test (suc k) variables else roots_where test (suc k) variables)) is))
       by recur false is formals long =
           subst (λ b. Takes b v arguments cells (Laid variables)) (sym is)
           (recur position arguments cells next_there
-          (λ i. formals i ∙ ap (λ b. option_and_then (λ root. slice_get g.tree.variables.items root) (slice_get (if b then k ∷ roots_where test (suc k) variables else roots_where test (suc k) variables) i)) is)
+          (λ i. formals i ∙ ap (λ b. option_and_then (λ root. slice_get g.tree.variables.items root)
+          (slice_get (if b then k ∷ roots_where test (suc k) variables else roots_where test (suc k) variables) i)) is)
           (long ∙ ap (λ b. length (if b then k ∷ roots_where test (suc k) variables else roots_where test (suc k) variables)) is) fitted)
 
   -- ---- what is told of each cell of a parameter
@@ -168,8 +170,7 @@ module _ (g : Setting) (number : ℕ) where
           ∙ marked_first mark v (marked mark variables) t.0 t.2 t.3 t.6 in
           let own : (if test v then slot_cells g.tree.types v else 0) ≡ slot_cells g.tree.types v = ap (λ b. if b then slot_cells g.tree.types v else 0) is in
           let cells_long = ap length t.5 ∙ length-append t.2 t.3 in
-          let marks_long = ap length whole ∙ length-append (map (mark v) t.2) (marked mark variables t.3) in
-          (
+          let marks_long = ap length whole ∙ length-append (map (mark v) t.2) (marked mark variables t.3) in (
             omega (arith, cells_long, marks_long, rest.0, length-map t.2 (mark v)),
             omega (arith, cells_long, rest.1, own, where_cons g.tree.types test v variables, fitted_length v t.0 t.2 t.6),
           )
@@ -242,7 +243,8 @@ module _ (g : Setting) (number : ℕ) where
       further : k + suc i ≡ suc k + i
       further = omega arith
 
-      by : ((rest : List Argument) (behind : List Cell) → Laid variables rest behind → Found mark (suc k) variables rest behind i v) → (b : Bool) → test w ≡ b → Takes (test w) w arguments cells (Laid variables) → Found mark k (w ∷ variables) arguments cells (suc i) v
+      by : ((rest : List Argument) (behind : List Cell) → Laid variables rest behind → Found mark (suc k) variables rest behind i v) → (b : Bool) → test w ≡ b
+          → Takes (test w) w arguments cells (Laid variables) → Found mark k (w ∷ variables) arguments cells (suc i) v
       by recur true is l =
           let t = subst (λ b. Takes b w arguments cells (Laid variables)) is l in
           let r = recur t.1 t.3 t.7 in
@@ -254,8 +256,14 @@ module _ (g : Setting) (number : ℕ) where
             behind = r.behind;
             split = t.5 ∙ ap (λ l. t.2 ++ l) r.split ∙ sym (append_assoc t.2 r.front (r.first ++ r.behind));
             fitted = r.fitted;
-            front_is = omega (arith, length-append t.2 r.front, r.front_is, own, where_cons g.tree.types test w (take i variables),
-                fitted_length w t.0 t.2 t.6);
+            front_is = omega (
+              arith,
+              length-append t.2 r.front,
+              r.front_is,
+              own,
+              where_cons g.tree.types test w (take i variables),
+              fitted_length w t.0 t.2 t.6,
+            );
             place_is = ap (λ n. place_for n (roots_where test k (w ∷ variables)) arguments) further
                 ∙ ap (λ b. place_for (suc k + i) (if b then k ∷ roots_where test (suc k) variables else roots_where test (suc k) variables) arguments) is
                 ∙ ap (place_for (suc k + i) (k ∷ roots_where test (suc k) variables)) t.4
@@ -266,8 +274,13 @@ module _ (g : Setting) (number : ℕ) where
             marks = ap (λ b. marked_by mark b w cells (marked mark variables)) is ∙ ap (λ cs. marked_by mark true w cs (marked mark variables)) t.5
                 ∙ marked_first mark w (marked mark variables) t.0 t.2 t.3 t.6 ∙ ap (λ l. map (mark w) t.2 ++ l) r.marks
                 ∙ sym (append_assoc (map (mark w) t.2) r.marks_front (map (mark v) r.first ++ r.marks_behind));
-            marks_front_is = omega (arith, length-append (map (mark w) t.2) r.marks_front, length-append t.2 r.front, r.marks_front_is,
-                length-map t.2 (mark w));
+            marks_front_is = omega (
+              arith,
+              length-append (map (mark w) t.2) r.marks_front,
+              length-append t.2 r.front,
+              r.marks_front_is,
+              length-map t.2 (mark w),
+            );
           }
       by recur false is l =
           let t = subst (λ b. Takes b w arguments cells (Laid variables)) is l in
@@ -289,3 +302,8 @@ module _ (g : Setting) (number : ℕ) where
             marks = ap (λ b. marked_by mark b w cells (marked mark variables)) is ∙ r.marks;
             marks_front_is = r.marks_front_is;
           }
+
+-- what is laid is as long as the parameters
+pub laid_cells : (g : Setting) (number : ℕ) (variables : List Variable) (arguments : List Argument) (cells : List Cell)
+    → Laid g number variables arguments cells → length cells ≡ cells_where g.tree.types (is_parameter_of number) variables
+laid_cells g number variables arguments cells laid = (marked_long g number (λ v cell. cell) variables arguments cells laid).1

@@ -1,6 +1,6 @@
 -- Loops: a head where each round begins, and a round that comes back to it or leaves the loop. Each round behind which
 -- another follows uses a turn, so a run with as many turns as a bound takes no more rounds than that.
-use Rattle.std.proofs.Common.{◌≡◌, ℕ, zero, suc, ◌+◌, ◌-◌, ◌<◌, ◌≤◌, ◌⊎◌, List, ◌++◌, [], ◌∷◌, Option, Some, None, inl, inr, refl, sym, arith}
+use Rattle.std.proofs.Common.{◌≡◌, ℕ, zero, suc, ◌+◌, ◌-◌, ◌<◌, ◌≤◌, ◌⊎◌, List, ◌++◌, [], ◌∷◌, Option, Some, None, inl, inr, refl, arith}
 use Rattle.std.specs.Prelude.{ℤ}
 use Rattle.meaning.specs.declared.outcome.Ending.{Ending}
 use Rattle.meaning.specs.declared.outcome.Ending.TheVariants as ending
@@ -15,7 +15,8 @@ use Rattle.stack_machine.specs.declared.cell.Cell.TheVariants.{Number}
 use Rattle.stack_machine.specs.Machine.{State}
 use Rattle.code_generator.proofs.Reach.{Comes, comes_on, comes_less, stays_here}
 use Rattle.code_generator.proofs.Numbers.{Fits}
-use Rattle.code_generator.proofs.Setting.{Setting, Shown, on, Based, Halts, Ends, ends_on, Starves, starves_on, starves_first, starves_behind, Valued, Evaluates, Executed}
+use Rattle.code_generator.proofs.Setting.{Setting, on, Based, Halts, Ends, ends_on, Starves, starves_on, starves_first, starves_behind, Valued, Evaluates}
+use Rattle.code_generator.proofs.Setting.{Executed}
 use Rattle.code_generator.proofs.Setting.{Executes, executes_behind, executes_same}
 
 -- in a setting, a loop with what is held at its head where a round begins with this, its head and its end, and what is
@@ -106,14 +107,14 @@ module _ (g : Setting) {A : Type 0} (fit : A → Type 0) (hold : A → List Cell
       → Rounds 0 bound m (use_turn >>= next) s
   turned bound s m next same h = by s.turns refl
     where
-      behind : (left : ℕ) → RoundsBehind 0 bound s.turns m (next tt) (record s { turns = left })
+      behind : (left : ℕ) → s.turns ≡ suc left → RoundsBehind 0 bound s.turns m (next tt) (record s { turns = left })
           → Starves g m (use_turn >>= next) s ⊎ Rounded 0 bound s.turns m (next tt (record s { turns = left }))
-      behind left (inl x) = inl (suc x.0, x.1, x.2, x.3, x.4)
-      behind left (inr e) = inr e
+      behind left is (inl x) = inl (suc x.0, x.1, x.2, x.3, x.4, omega (arith, is, x.5))
+      behind left is (inr e) = inr e
 
       by : (k : ℕ) → s.turns ≡ k → Starves g m (use_turn >>= next) s ⊎ Rounded 0 bound s.turns m (effect.and_then (effect.take_turn k s) next)
       by zero is = inr (m, comes_less g.target (s.turns - g.slack) 0 m m (omega (arith, is)) (stays_here g.target m), same)
-      by (suc left) is = behind left (h left is)
+      by (suc left) is = behind left is (h left is)
 
   -- behind a round the next one comes, or the loop is over
   round_then : (m : State) (first : Action (Option A)) (next : A → Action (Unit {0})) (s : effect.State) → UsesTurnsExactly first

@@ -1,10 +1,9 @@
 -- Blocks in one another: what a well formed tree says of each of its blocks, of those round it, and of a routine that may be
 -- called in it.
 use Rattle.std.proofs.Common.{◌≡◌, ℕ, zero, suc, ◌+◌, ◌<◌, ◌≤◌, ◌⊎◌, inl, inr, ⊎_elim, List, [], ◌∷◌, ◌++◌, length, map, Option, Some, None, refl, sym, ap, ◌∙◌}
-use Rattle.std.proofs.Common.{subst, arith, Bool, true, false, length-append, eq-eqb}
-use Rattle.std.specs.Prelude.{slice_get, nat_eq, nat_le, nat_lt, sum_by, ◌&&◌, ◌||◌}
+use Rattle.std.proofs.Common.{subst, arith, Bool, true, false, length-append}
+use Rattle.std.specs.Prelude.{slice_get, nat_eq, sum_by, ◌&&◌, ◌||◌}
 use Rattle.std.specs.Cmp.Lexicographic.{pointwise}
-use Rattle.std.specs.List.{list_any}
 use Rattle.std.proofs.lemmas.Bool.{and_parts, eqb-true, false≢true, ltb-true, leb-true}
 use Rattle.std.proofs.lemmas.Bool.Decides.{Decides-eqb}
 use Rattle.std.proofs.lemmas.List.Folds.{list_any-append}
@@ -16,7 +15,7 @@ use Rattle.typed_tree.specs.declared.tree.Heading.{Heading}
 use Rattle.typed_tree.specs.declared.tree.Tree.{Tree}
 use Rattle.typed_tree.specs.declared.tree.Variable.{Variable}
 use Rattle.typed_tree.specs.WellFormed.{IsWellFormed, Outline, are_all, are_few_cells, are_well_formed_blocks, declarer, encloses, heading_of, is_callable}
-use Rattle.typed_tree.specs.WellFormed.{is_declared_by, is_heading, is_kind_of, is_one_of, is_parameter_kind, is_placed, is_result_kind, is_result_or_none}
+use Rattle.typed_tree.specs.WellFormed.{is_declared_by, is_heading, is_one_of, is_parameter_kind, is_placed, is_result_kind, is_result_or_none}
 use Rattle.typed_tree.specs.WellFormed.{is_round, is_well_formed_block, is_well_formed_stmt, of_one, outline_of, result_roots, roots_where, variables_of}
 
 -- the same numbers
@@ -62,15 +61,6 @@ last_is_declarer (block ∷ inner ∷ around) last = last_is_declarer (inner ∷
 -- one of two lists
 in_first : (xs ys : List ℕ) (n : ℕ) → is_one_of xs n ≡ true → is_one_of (xs ++ ys) n ≡ true
 in_first xs ys n e = list_any-append (λ one. nat_eq one n) xs ys ∙ ap (λ b. b || is_one_of ys n) e
-
-in_last : (xs : List ℕ) (n : ℕ) → is_one_of (xs ++ n ∷ []) n ≡ true
-in_last xs n =
-    list_any-append (λ one. nat_eq one n) xs (n ∷ [])
-    ∙ ap (λ b. is_one_of xs n || (b || false)) (eq-eqb n n refl) ∙ or_true (is_one_of xs n)
-  where
-    or_true : (b : Bool) → (b || (true || false)) ≡ true
-    or_true true = refl
-    or_true false = refl
 
 in_either : (xs : List ℕ) (last n : ℕ) → is_one_of (xs ++ last ∷ []) n ≡ true → (is_one_of xs n ≡ true) ⊎ (last ≡ n)
 in_either xs last n e = by (is_one_of xs n) refl (sym (list_any-append (λ one. nat_eq one n) xs (last ∷ [])) ∙ e)
@@ -207,9 +197,6 @@ module _ (tree : Tree) (well : IsWellFormed tree) where
     pub no_deeper : (n : ℕ) (other : Block) → is_one_of (around_of block) n ≡ true → slice_get tree.blocks.items n ≡ Some other
         → length (around_of other) ≤ length (around_of its.its_block)
 
-  or_left : (a b : Bool) → a ≡ true → (a || b) ≡ true
-  or_left a b e = ap (λ x. x || b) e
-
   or_right : (a b : Bool) → b ≡ true → (a || b) ≡ true
   or_right true b e = refl
   or_right false b e = e
@@ -219,12 +206,12 @@ module _ (tree : Tree) (well : IsWellFormed tree) where
   or_either false b e = inr e
 
   module _ (caller : ℕ) (caller_block : Block) (caller_is : slice_get tree.blocks.items caller ≡ Some caller_block) where
-    callable_by : (is_function : Bool) (count number : ℕ) (block : Block) → slice_get tree.blocks.items number ≡ Some block
+    pub callable : (is_function : Bool) (count number : ℕ) (block : Block) → slice_get tree.blocks.items number ≡ Some block
         → is_callable outline caller is_function count (heading_of block) ≡ true → Callable caller caller_block number block
-    callable_by is_function count zero block at e =
+    callable is_function count zero block at e =
         let parts = and_parts _ _ e in
         absurd (false≢true (ap (λ around. of_one (is_round outline caller) (declarer around)) (sym (nothing_round_program block at)) ∙ parts.0))
-    callable_by is_function count (suc number) block at e =
+    callable is_function count (suc number) block at e =
         let parts = and_parts (of_one (is_round outline caller) (declarer (around_of block))) _ e in
         let d = declared number block at in
         let declarer_is : declarer (around_of block) ≡ Some d.its = ap declarer d.around_is ∙ last_is_declarer (around_of d.its_block) d.its in
@@ -267,11 +254,8 @@ module _ (tree : Tree) (well : IsWellFormed tree) where
               let further = r.further in
               omega (arith, levels))
               (λ (same : d.its ≡ n).
-              let levels = ap (λ (b : Block). length (around_of b)) (same_Some d.its_block other (sym d.its_is ∙ ap (slice_get tree.blocks.items) same ∙ at')) in
+              let levels = ap (λ (b : Block). length (around_of b)) (same_Some d.its_block other
+              (sym d.its_is ∙ ap (slice_get tree.blocks.items) same ∙ at')) in
               omega (arith, levels))
               (split n inside);
         }
-
-    pub callable : (is_function : Bool) (count number : ℕ) (block : Block) → slice_get tree.blocks.items number ≡ Some block
-        → is_callable outline caller is_function count (heading_of block) ≡ true → Callable caller caller_block number block
-    callable = callable_by

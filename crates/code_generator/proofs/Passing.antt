@@ -1,7 +1,7 @@
 -- Actual parameters, and calls: what is shown of the code of an actual parameter, that it leaves the cells of what is passed;
 -- and of a call, that the machine comes back with the result on top of what was held.
-use Rattle.std.proofs.Common.{◌≡◌, ℕ, zero, suc, ◌+◌, ◌-◌, ◌<◌, ◌≤◌, ◌⊎◌, inl, inr, List, [], ◌∷◌, ◌++◌, length, map, Option, Some, None, refl, sym, ap, ◌∙◌, subst}
-use Rattle.std.proofs.Common.{arith, append-nil, Bool, true, false, length-append}
+use Rattle.std.proofs.Common.{◌≡◌, ℕ, suc, ◌+◌, ◌-◌, ◌<◌, ◌≤◌, ◌⊎◌, inl, inr, List, [], ◌∷◌, ◌++◌, length, Option, Some, None, refl, sym, subst}
+use Rattle.std.proofs.Common.{arith, append-nil, Bool, true, false}
 use Rattle.std.specs.Prelude.{slice_get, ℤ, pos}
 use Rattle.pcode_assembler.specs.declared.instr.Instr.{Instr}
 use Rattle.pcode_assembler.specs.declared.instr.Instr.TheVariants as instr
@@ -17,7 +17,7 @@ use Rattle.meaning.specs.Store.{Place}
 use Rattle.meaning.specs.Effect as effect
 use Rattle.meaning.specs.Effect.{Reply, Gives, Action, ◌>>=◌}
 use Rattle.meaning.specs.Laws.{UsesTurnsExactly}
-use Rattle.meaning.specs.Meaning.{Argument, OfValue, OfRow, OfPlace, Passing, all_passed, calls_of, passing_of}
+use Rattle.meaning.specs.Meaning.{Argument, OfValue, OfRow, OfPlace, Passing, calls_of, passing_of}
 use Rattle.stack_machine.specs.declared.cell.Cell.{Cell}
 use Rattle.stack_machine.specs.declared.cell.Cell.TheVariants.{Undefined, Number}
 use Rattle.stack_machine.specs.Machine.{State}
@@ -29,8 +29,9 @@ use Rattle.code_generator.proofs.Alike.{Leads}
 use Rattle.code_generator.proofs.Numbers.{Fits}
 use Rattle.code_generator.proofs.Reach.{Stands, StandsAt, Comes, comes_on, comes_less}
 use Rattle.code_generator.proofs.Rows.{cells_of as number_cells}
-use Rattle.code_generator.proofs.Setting.{Setting, outline, around, on, Based, Ends, ends_on, Starves, starves_on, starves_first, starves_behind, Evaluates, Valued}
-use Rattle.code_generator.proofs.Setting.{Executes, Executed, executes_behind}
+use Rattle.code_generator.proofs.Setting.{Setting, outline, around, on, Based, Ends, ends_on, Starves, starves_on, starves_first, starves_behind, Evaluates}
+use Rattle.code_generator.proofs.Setting.{Valued}
+use Rattle.code_generator.proofs.Setting.{Executes, Executed}
 use Rattle.code_generator.proofs.Wholes.{AllFit, Pushed, Pushes}
 
 module _ (g : Setting) where
@@ -252,7 +253,8 @@ module _ (g : Setting) where
       → Comes g.target least a b → Returns b held place is_function action s → Returns a held place is_function action s
   returns_from least a b held place is_function action s l (inl x) = inl (starves_on g least a b action s l x)
   returns_from least a b held place is_function action s l (inr e) =
-      inr (returned_on s.turns s.turns a b held place is_function (action s) (omega arith) (comes_less g.target (s.turns - s.turns) least a b (omega arith) l) e)
+      inr (returned_on s.turns s.turns a b held place is_function (action s) (omega arith) (comes_less g.target (s.turns - s.turns) least a b (omega arith) l)
+      e)
 
   -- a call behind its actual parameters
   pub then_returns : (m : State) (held held' : List Cell) (place place' callee position total : ℕ) (is_function : Bool) (first : Action (List Argument))
@@ -274,6 +276,38 @@ module _ (g : Setting) where
           → Starves g m (first >>= next) s ⊎ Returned s.turns m held' place' is_function (effect.and_then r next)
       by (Gives arguments t) is e = behind t arguments _ is e.7 e.6 (h e.0 arguments e.2 t e.1 e.3 e.4 e.5)
       by (effect.Stops end t) is e = inr e
+
+  -- behind a piece that gave something, and behind a statement
+  pub returns_behind : {A : Type 0} (m there : State) (held : List Cell) (place : ℕ) (is_function : Bool) (first : Action A) (next : A → Action Value)
+      (s t : effect.State) (v : A) → UsesTurnsExactly first → first s ≡ Gives v t → t.turns ≤ s.turns → Comes g.target (s.turns - t.turns) m there
+      → Returns there held place is_function (next v) t → Returns m held place is_function (first >>= next) s
+  returns_behind m there held place is_function first next s t v exact is le l (inl x) =
+      inl (starves_behind g (s.turns - t.turns) m there first next s t v exact is l x)
+  returns_behind m there held place is_function first next s t v exact is le l (inr e) =
+      inr (subst (λ r. Returned s.turns m held place is_function (effect.and_then r next)) (sym is)
+      (returned_on s.turns t.turns m there held place is_function (next v t) le l e))
+
+  pub executed_returns : (m : State) (held held' : List Cell) (place place' : ℕ) (is_function : Bool) (first : Action (Unit {0}))
+      (next : Unit {0} → Action Value) (s : effect.State) → UsesTurnsExactly first → Executes g m held place first s
+      → ((base : List Cell) (t : effect.State) → Based g t base → Returns (on g (base ++ held) place t.output) held' place' is_function (next tt) t)
+      → Returns m held' place' is_function (first >>= next) s
+  executed_returns m held held' place place' is_function first next s exact (inl x) h = inl (starves_first g m first next s x)
+  executed_returns m held held' place place' is_function first next s exact (inr e) h = by (first s) refl e
+    where
+      by : (r : Reply (Unit {0})) → first s ≡ r → Executed g s.turns m held place r → Returns m held' place' is_function (first >>= next) s
+      by (Gives done t) is e = returns_behind m _ held' place' is_function first next s t done exact is e.3 e.2 (h e.0 t e.1)
+      by (effect.Stops end t) is e =
+          inr (subst (λ r. Returned s.turns m held' place' is_function (effect.and_then r next)) (sym is) e)
+
+  -- a value is what a function leaves
+  pub evaluated_returns : (m : State) (held : List Cell) (place : ℕ) (action : Action Value) (s : effect.State) → Evaluates g m held place action s
+      → Returns m held place true action s
+  evaluated_returns m held place action s (inl x) = inl x
+  evaluated_returns m held place action s (inr e) = inr (by (action s) e)
+    where
+      by : (r : Reply Value) → Valued g s.turns m held place r → Returned s.turns m held place true r
+      by (Gives (value.Number n) t) e = (e.0, e.1, e.2, e.3, e.5)
+      by (effect.Stops end t) e = e
 
   -- the call of a function is a value
   pub function_evaluates : (m : State) (held : List Cell) (place : ℕ) (action : Action Value) (s : effect.State) → g.below + length held < g.limit
@@ -309,6 +343,8 @@ module _ (g : Setting) where
       → is_callable (outline g) g.number is_function (length arguments) (heading_of block) ≡ true
       → Leads g.fixed (links_to g.scope (called_routine g.scope callee).level) g.frame outer
       → StandsAt g.target place (instr.CallProcedure (row_length (called_routine g.scope callee).cells) (called_routine g.scope callee).place) true
+      → slice_get g.target.whole place
+      ≡ Some (instr.CallProcedure (row_length (called_routine g.scope callee).cells) (called_routine g.scope callee).place)
       → Based g s base → AllFitted callee 0 arguments cells → g.below + length held + 4 + length cells ≤ g.limit
       → Returns (on g ((base ++ (held ++ links_of outer)) ++ cells) place s.output) held (place + 1) is_function
       (calls_of g.tree g.depth callee arguments g.environment) s

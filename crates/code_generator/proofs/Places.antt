@@ -1,5 +1,5 @@
 -- Places that are told apart: by their activations, their variables, and the steps to their components.
-use Rattle.std.proofs.Common.{◌≡◌, ℕ, ℤ, refl, sym, ap, ◌∙◌, true, false, eq-eqb}
+use Rattle.std.proofs.Common.{◌≡◌, ℕ, ℤ, refl, ap, true, false, eq-eqb}
 use Rattle.std.specs.Prelude.{nat_eq, ◌&&◌}
 use Rattle.std.specs.Bool.{Decides}
 use Rattle.std.specs.Cmp.Lexicographic.{pointwise}

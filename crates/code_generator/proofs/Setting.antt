@@ -1,6 +1,6 @@
 -- One activation of a block, whose code runs: what stays as it is meanwhile, and what the machine does of what the
 -- program does.
-use Rattle.std.proofs.Common.{◌≡◌, ℕ, zero, suc, ◌+◌, ◌-◌, ◌<◌, ◌≤◌, ◌⊎◌, inl, inr, List, [], ◌∷◌, ◌++◌, length, map, Option, Some, None, Ok, Err, refl, sym, ap}
+use Rattle.std.proofs.Common.{◌≡◌, ℕ, zero, suc, ◌+◌, ◌-◌, ◌<◌, ◌≤◌, ◌⊎◌, inl, inr, List, [], ◌∷◌, ◌++◌, length, map, Some, None, Ok, Err, refl, sym, ap}
 use Rattle.std.proofs.Common.{subst, arith, length-append, Bool, true, false, ◌∙◌}
 use Rattle.std.specs.Prelude.{slice_get, ℤ, pos, if◌then◌else◌}
 use Rattle.pcode_assembler.specs.declared.instr.Instr.{Instr}
@@ -20,7 +20,7 @@ use Rattle.meaning.specs.Effect as effect
 use Rattle.meaning.specs.Effect.{Reply, Gives, Action, ◌>>=◌}
 use Rattle.meaning.specs.Laws.{UsesTurnsExactly}
 use Rattle.meaning.specs.Meaning.{Surroundings, calls_of}
-use Rattle.meaning.proofs.Used.{ExactCalls, exact_calls, reached}
+use Rattle.meaning.proofs.Used.{ExactCalls, exact_calls}
 use Rattle.stack_machine.specs.declared.stop.Stop.{Stop}
 use Rattle.stack_machine.specs.declared.stop.Stop.TheVariants as stop
 use Rattle.stack_machine.specs.declared.cell.Cell.{Cell}
@@ -38,7 +38,7 @@ use Rattle.code_generator.specs.Large.{is_too_large}
 use Rattle.code_generator.specs.Tables.{site_table, in_plain_numbers}
 use Rattle.code_generator.proofs.Reach.{Target, Stands, StandsAt, Comes, obeys, Stops, comes_on, comes_less, stays_here, comes_by, stops_on, stops_by}
 use Rattle.code_generator.proofs.Acts.{framed, branches}
-use Rattle.code_generator.proofs.Alike.{World, Lives, Fixed, IsApart, Alike, Keeps, Leads, keeps_above, alike_above, Activation}
+use Rattle.code_generator.proofs.Alike.{World, Lives, Fixed, IsApart, Alike, Keeps, Leads, Activation}
 use Rattle.code_generator.proofs.Numbers.{Fits}
 use Rattle.code_generator.proofs.Parts.{IsPart}
 use Rattle.code_generator.proofs.Repeats.{repeats}
@@ -56,13 +56,13 @@ Reaches tree world fixed end p variable cell refers (ByAddress address) =
 
 -- a variable is visible, and code finds it, or its address, in a frame to which static links lead
 pub record Shown (tree : Tree) (world : World) (fixed : Fixed) (end frame : ℕ) (scope : Scope) (env : Environment) (root : ℕ) (variable : Variable) : Type 0
-    where
-  pub place : Place
-  pub place_is : env.variables root ≡ Some place
-  pub owner : ℕ
-  pub leads : Leads fixed (links_to scope (variable_home scope root).level) frame owner
-  pub way : Way
-  pub reaches : Reaches tree world fixed end place variable (owner + (variable_home scope root).start) (variable_home scope root).refers way
+  where
+    pub place : Place
+    pub place_is : env.variables root ≡ Some place
+    pub owner : ℕ
+    pub leads : Leads fixed (links_to scope (variable_home scope root).level) frame owner
+    pub way : Way
+    pub reaches : Reaches tree world fixed end place variable (owner + (variable_home scope root).start) (variable_home scope root).refers way
 
 -- an activation of a block that runs on the machine
 pub record Setting : Type 0 where
@@ -73,6 +73,9 @@ pub record Setting : Type 0 where
   pub target : Target
   pub sites_are : target.sites ≡ site_table tree.sites.items
   pub stands : Stands target 0 (program_code tree)
+  -- behind each call an instruction follows, whose index is a number
+  pub comes_back : (place count routine : ℕ) → slice_get target.whole place ≡ Some (instr.CallProcedure count routine)
+      → (target.to place + 1 < length target.code) × (target.to place + 1 ≤ 1000000)
   pub repeats_are_few : (number : ℕ) (block : Block) → slice_get tree.blocks.items number ≡ Some block → suc (repeats block.body) ≤ target.rate
   pub input : List ℕ
   -- how many cells the machine has, and how far the frame's pushes go
@@ -310,23 +313,29 @@ module _ (g : Setting) where
   abbrev pub Starves : {A : Type 0} → State → Action A → effect.State → Type 0
   Starves m action s =
       (used : ℕ) × (there : effect.State) × (action (record s { turns = used }) ≡ effect.Stops ending.More there)
-      × Stops g.target m (record { output = there.output; stop = stop.StoreFull }) × (g.size < living_need g.tree there.starved)
+      × Stops g.target m (record { output = there.output; stop = stop.StoreFull }) × (g.size < living_need g.tree there.starved) × (used ≤ s.turns)
 
   pub starves_on : {A : Type 0} (least : ℕ) (a b : State) (action : Action A) (s : effect.State) → Comes g.target least a b → Starves b action s
       → Starves a action s
-  starves_on least a b action s l x = (x.0, x.1, x.2, stops_on g.target least a b _ l x.3, x.4)
+  starves_on least a b action s l x = (x.0, x.1, x.2, stops_on g.target least a b _ l x.3, x.4, x.5)
 
   -- the first of two pieces
   pub starves_first : {A B : Type 0} (m : State) (first : Action A) (next : A → Action B) (s : effect.State) → Starves m first s
       → Starves m (first >>= next) s
-  starves_first m first next s x = (x.0, x.1, ap (λ r. effect.and_then r next) x.2, x.3, x.4)
+  starves_first m first next s x = (x.0, x.1, ap (λ r. effect.and_then r next) x.2, x.3, x.4, x.5)
 
   -- the second
   pub starves_behind : {A B : Type 0} (least : ℕ) (m there : State) (first : Action A) (next : A → Action B) (s t : effect.State) (v : A)
       → UsesTurnsExactly first → first s ≡ Gives v t → Comes g.target least m there → Starves there (next v) t → Starves m (first >>= next) s
   starves_behind least m there first next s t v exact is l x =
-      let from = reached first next exact s t v is x.0 in
-      (from.0 + x.0, x.1, from.1 ∙ x.2, stops_on g.target least m there _ l x.3, x.4)
+      let from = exact s t v is in (
+        from.0 + x.0,
+        x.1,
+        ap (λ r. effect.and_then r next) (from.2 x.0) ∙ x.2,
+        stops_on g.target least m there _ l x.3,
+        x.4,
+        omega (arith, from.1, x.5),
+      )
 
   -- ---- the code of an expression
 
@@ -431,7 +440,7 @@ module _ (g : Setting) where
   -- the same action
   pub executes_same : (m : State) (held : List Cell) (place : ℕ) (action other : Action (Unit {0})) (s : effect.State)
       → ((t : effect.State) → action t ≡ other t) → Executes m held place other s → Executes m held place action s
-  executes_same m held place action other s same (inl x) = inl (x.0, x.1, same (record s { turns = x.0 }) ∙ x.2, x.3, x.4)
+  executes_same m held place action other s same (inl x) = inl (x.0, x.1, same (record s { turns = x.0 }) ∙ x.2, x.3, x.4, x.5)
   executes_same m held place action other s same (inr e) = inr (subst (Executed s.turns m held place) (sym (same s)) e)
 
   -- behind a piece that gave something

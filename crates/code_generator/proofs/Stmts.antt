@@ -10,8 +10,6 @@ use Rattle.std.specs.Fmt.{signed_decimal}
 use Rattle.std.proofs.lemmas.Bool.{ltb-true, and_parts}
 use Rattle.pcode_assembler.specs.declared.instr.Instr.{Instr}
 use Rattle.pcode_assembler.specs.declared.instr.Instr.TheVariants as instr
-use Rattle.std.specs.declared.alloc.Global.{Global}
-use Rattle.std.specs.declared.boxed.Box.{Box}
 use Rattle.typed_tree.specs.declared.tree.Call.{Call}
 use Rattle.typed_tree.specs.declared.tree.Passed.{Passed}
 use Rattle.typed_tree.specs.declared.tree.RangeTest.{RangeTest}
@@ -55,7 +53,8 @@ use Rattle.code_scheme.specs.Scopes.{Scope, count, held_offset, holding, row_len
 use Rattle.code_scheme.specs.Code.{Placed, placed, if_code, if_else_code, while_code, repeat_code, for_code, for_entry, for_begin, for_next, for_end}
 use Rattle.code_scheme.specs.Code.{order_instr, next_instr, row_code, arms_code, case_code, expr_code, width_code, write_instr, parameter_code, line_end_code}
 use Rattle.code_scheme.specs.Code.{call_code, passed_code, write_code, stmt_code, stmt_step, default_width, ordinal_instr, ordinal_width, whole_code}
-use Rattle.code_scheme.specs.Depth.{call_depth, greatest, passed_depth, stmt_depth, stmt_depth_step, arms_depth, expr_depth, parameter_depth, width_depth, whole_depth}
+use Rattle.code_scheme.specs.Depth.{call_depth, greatest, passed_depth, stmt_depth, stmt_depth_step, arms_depth, expr_depth, parameter_depth, width_depth}
+use Rattle.code_scheme.specs.Depth.{whole_depth}
 use Rattle.typed_tree.specs.WellFormed.{all_hold, is_well_formed_expr, is_well_formed_width, is_well_formed_parameter, is_well_formed_test, is_well_formed_stmt}
 use Rattle.typed_tree.specs.WellFormed.{stmt_is_well_formed, is_control, is_well_formed_call, is_well_formed_passed, is_well_formed_whole, length_of}
 use Rattle.typed_tree.specs.WellFormed.{whole_indexes}
@@ -121,7 +120,6 @@ placed_flat code_of scope [] place = refl
 placed_flat code_of scope (x ∷ xs) place = ap (λ rest. code_of scope x ++ rest) (placed_flat code_of scope xs (place + length (code_of scope x)))
 
 module _ (g : Setting) (known : CallsAt g) where
-
   -- a value and its width give way to a text
   text_runs : (write : Instr) (text : List ℕ) (place : ℕ) (cells after : List Cell) (output : List ℕ) (attempt : Attempt (frames.Frames × List ℕ))
       → Here g place write → obeys g.target write (fetched_at g cells place output) ≡ machine.and_then attempt
@@ -170,7 +168,8 @@ module _ (g : Setting) (known : CallsAt g) where
       → g.below + length held + (width_depth width + length row) ≤ g.limit
       → ((there : ℕ) (cells : List Cell) (w : ℤ) (output : List ℕ) → Stands g.target there (write_instr v ∷ []) → g.frame + 4 ≤ length cells
       → Comes g.target 1 (on g ((cells ++ cells_of row) ++ Number w ∷ []) there output) (on g cells (there + 1) (output ++ text (value.Number w))))
-      → Executes g (on g ((base ++ held) ++ cells_of row) place s.output) held (place + length (width_code g.scope width v) + 1) (width_of width default (around g) >>= (λ w. effect.write (text w))) s
+      → Executes g (on g ((base ++ held) ++ cells_of row) place s.output) held (place + length (width_code g.scope width v) + 1)
+      (width_of width default (around g) >>= (λ w. effect.write (text w))) s
   width_writes width v default row text place base held s is fit stands good based deep writes =
       let wide = width_code g.scope width v in
       let writing = write_instr v ∷ [] in
@@ -182,7 +181,8 @@ module _ (g : Setting) (known : CallsAt g) where
       (omega (arith, length-cells_of row)) in
       subst (λ cells. Executes g (on g cells place s.output) held end (width_of width default (around g) >>= next) s)
       (sym (append_assoc base held (cells_of row)))
-      (after_value g _ more held (place + length wide) end (width_of width default (around g)) next s (exact_width (around g) (exact_around g) width default) runs
+      (after_value g _ more held (place + length wide) end (width_of width default (around g)) next s (exact_width (around g) (exact_around g) width default)
+      runs
       (λ base2 w u based2 fit2.
       subst (λ cells. Executes g (on g (cells ++ Number w ∷ []) (place + length wide) u.output) held end (next (value.Number w)) u)
       (append_assoc base2 held (cells_of row))
@@ -240,7 +240,8 @@ module _ (g : Setting) (known : CallsAt g) where
       let default = default_width_of r in
       let next : Value → Action (Unit {0}) = λ x. width_of width default (around g) >>= λ w. effect.write (effect.text_of r x w) in
       subst (λ q. Executes g (on g (base ++ held) place s.output) held q (value_of v (around g) >>= next) s) e
-      (after_value g _ held held (place + length c) (place + length c + length wide + 1) (value_of v (around g)) next s (exact_value (around g) (exact_around g) v)
+      (after_value g _ held held (place + length c) (place + length c + length wide + 1) (value_of v (around g)) next s
+      (exact_value (around g) (exact_around g) v)
       (expr_runs g known v place base held s (stands_front g.target place c (wide ++ writing) stands) parts.0 based (omega arith))
       (λ base2 n t based2 fit.
       width_writes width (Ordinal v r) default (n ∷ []) (effect.text_of r (value.Number n)) (place + length c) base2 held t (same_default r) (default_fits r)
@@ -262,10 +263,12 @@ module _ (g : Setting) (known : CallsAt g) where
 
   -- pieces that are executed one after another
   all_run : {X : Type 0} (code_of : X → Placed) (depth_of : X → ℕ) (well_of : X → Bool) (meant_by : X → Execution)
-      (exact : (x : X) → UsesTurnsExactly (meant_by x (around g))) (xs : List X) → Each (λ x. ExecutesAs g (code_of x) (depth_of x) (well_of x) (meant_by x)) xs → (depth place : ℕ) (base held : List Cell) (s : effect.State)
+      (exact : (x : X) → UsesTurnsExactly (meant_by x (around g))) (xs : List X)
+      → Each (λ x. ExecutesAs g (code_of x) (depth_of x) (well_of x) (meant_by x)) xs → (depth place : ℕ) (base held : List Cell) (s : effect.State)
       → Stands g.target place (placed (map (λ code. code g.scope) (map code_of xs)) place) → all_hold (map well_of xs) ≡ true → Based g s base
       → length held ≡ g.scope.height → g.below + length held + fold max depth (map depth_of xs) ≤ g.limit
-      → Executes g (on g (base ++ held) place s.output) held (place + length (placed (map (λ code. code g.scope) (map code_of xs)) place)) (all_of (map meant_by xs) (around g)) s
+      → Executes g (on g (base ++ held) place s.output) held (place + length (placed (map (λ code. code g.scope) (map code_of xs)) place))
+      (all_of (map meant_by xs) (around g)) s
   all_run code_of depth_of well_of meant_by exact [] each depth place base held s stands good based high deep = nothing_runs place base held s based
   all_run code_of depth_of well_of meant_by exact (x ∷ xs) each depth place base held s stands good based high deep =
       let c = code_of x g.scope place in
@@ -307,7 +310,8 @@ module _ (g : Setting) (known : CallsAt g) where
       (exact_parameter (around g) (exact_around g)) ps (each_parameter ps) 0 place base held s1
       (subst (Stands g.target place) (sym same) (stands_front g.target place c ending stands)) good based high deep in
       subst (λ p. Executes g (on g (base ++ held) place s.output) held p (all_of (map parameter_of ps) (around g) >>= (λ _. line_ended ends_line)) s1) e
-      (then_executes g _ held held (place + length c) (place + length c + length ending) (all_of (map parameter_of ps) (around g)) (λ _. line_ended ends_line) s1 (exact_parameters (around g) (exact_around g) ps)
+      (then_executes g _ held held (place + length c) (place + length c + length ending) (all_of (map parameter_of ps) (around g)) (λ _. line_ended ends_line)
+      s1 (exact_parameters (around g) (exact_around g) ps)
       (subst (λ p. Executes g (on g (base ++ held) place s.output) held (place + length p) (all_of (map parameter_of
       ps) (around g)) s1) same values)
       (λ base2 t based2. line_end_runs ends_line (place + length c) base2 held t (stands_back g.target place c ending stands) based2))
@@ -325,7 +329,8 @@ module _ (g : Setting) (known : CallsAt g) where
   branch_runs condition target place end base held s next stands good based room goes_on =
       let test = expr_code g.scope condition in
       let here = stands_back g.target place test (instr.JumpIfFalse target ∷ []) stands in
-      after_value g _ held held (place + length test) end (value_of condition (around g)) (λ v. next (is_so v)) s (exact_value (around g) (exact_around g) condition)
+      after_value g _ held held (place + length test) end (value_of condition (around g)) (λ v. next (is_so v)) s
+      (exact_value (around g) (exact_around g) condition)
       (expr_runs g known condition place base held s (stands_front g.target place test (instr.JumpIfFalse target ∷ []) stands) good based room)
       (λ base2 n t based2 fit.
       executes_from g 1 _ _ held end (next (frames.is_true n)) t
@@ -338,7 +343,8 @@ module _ (g : Setting) (known : CallsAt g) where
       (is_well_formed_call (outline g) g.number false call (map (is_well_formed_passed (outline g) g.number) actuals))
       (λ e. call_of call (map passing_of actuals) e >>= λ _. give tt)
   calling_runs call actuals place base held s stands good based high deep =
-      returns_executes g _ held (place + length (call_code g.scope call (map (passed_code g.scope) actuals))) (call_of call (map passing_of actuals) (around g)) s
+      returns_executes g _ held (place + length (call_code g.scope call (map (passed_code g.scope) actuals)))
+      (call_of call (map passing_of actuals) (around g)) s
       (exact_call (around g) (exact_around g) call actuals) (call_runs g known false call actuals place base held s stands good based deep)
 
 -- what is shown of a statement, in each setting
@@ -346,7 +352,8 @@ abbrev pub StmtRuns : Stmt → Type 0
 StmtRuns s = (g : Setting) → CallsRun g.depth → repeats s ≤ g.slack → ExecutesAs g (stmt_code s) (stmt_depth s) (is_well_formed_stmt (outline g) g.number s)
     (effect_of s)
 
-each_statement : (g : Setting) (known : CallsRun g.depth) (ss : List ((s : Stmt) × StmtRuns s)) (before : ℕ) → fold max before (map repeats (map (λ x. x.0) ss)) ≤ g.slack → Each
+each_statement : (g : Setting) (known : CallsRun g.depth) (ss : List ((s : Stmt) × StmtRuns s)) (before : ℕ)
+    → fold max before (map repeats (map (λ x. x.0) ss)) ≤ g.slack → Each
     (λ s. ExecutesAs g (stmt_code s) (stmt_depth s) (is_well_formed_stmt (outline g) g.number s) (effect_of s))
     (map (λ x. x.0) ss)
 each_statement g known [] before few = tt
@@ -354,23 +361,29 @@ each_statement g known (s ∷ ss) before few =
     let least = start_within (max before (repeats s.0)) (map repeats (map (λ x. x.0) ss)) in
     (s.1 g known (omega arith), each_statement g known ss (max before (repeats s.0)) few)
 
-compound_runs : (g : Setting) (known : CallsRun g.depth) (number : ℕ) (ss : List ((s : Stmt) × StmtRuns s)) → greatest (map repeats (map (λ x. x.0) ss)) ≤ g.slack
+compound_runs : (g : Setting) (known : CallsRun g.depth) (number : ℕ) (ss : List ((s : Stmt) × StmtRuns s))
+    → greatest (map repeats (map (λ x. x.0) ss)) ≤ g.slack
     → ExecutesAs g (λ scope place. placed (map (λ code. code scope) (map stmt_code (map (λ x. x.0) ss))) place)
     (greatest (map stmt_depth (map (λ x. x.0) ss)))
     (all_hold (map (is_well_formed_stmt (outline g) g.number) (map (λ x. x.0) ss)))
     (λ e. effect.enter number e.visible >>= λ _. all_of (map effect_of (map (λ x. x.0) ss)) e)
 compound_runs g known number ss few place base held s stands good based high deep =
     let s1 : effect.State = record s { visited = s.visited ++ record { number = number; environment = g.environment; store = s.store } ∷ [] } in
-    all_run g (known g refl) stmt_code stmt_depth (is_well_formed_stmt (outline g) g.number) effect_of (exact_effect (around g) (exact_around g)) (map (λ x. x.0) ss)
+    all_run g (known g refl) stmt_code stmt_depth (is_well_formed_stmt (outline g) g.number) effect_of (exact_effect (around g) (exact_around g))
+    (map (λ x. x.0) ss)
     (each_statement g known ss 0 few) 0 place base held s1 stands good based high deep
 
 empty_runs : (g : Setting) (known : CallsRun g.depth) (number : ℕ) → ExecutesAs g (λ _ _. []) 0 true (λ e. effect.enter number e.visible)
 empty_runs g known number place base held s stands good based high deep =
-    nothing_runs g (known g refl) place base held (record s { visited = s.visited ++ record { number = number; environment = g.environment; store = s.store } ∷ [] })
+    nothing_runs g (known g refl) place base held (record s {
+      visited = s.visited ++ record { number = number; environment = g.environment; store = s.store } ∷
+          [];
+    })
     based
 
 -- an if statement without `else`
-if_runs : (g : Setting) (known : CallsRun g.depth) (number : ℕ) (condition : Expr) (consequence : (s : Stmt) × StmtRuns s) → max (repeats consequence.0) 0 ≤ g.slack
+if_runs : (g : Setting) (known : CallsRun g.depth) (number : ℕ) (condition : Expr) (consequence : (s : Stmt) × StmtRuns s)
+    → max (repeats consequence.0) 0 ≤ g.slack
     → ExecutesAs g (λ scope. if_code (expr_code scope condition) (stmt_code consequence.0) scope)
     (max (expr_depth condition) (max (stmt_depth consequence.0) 0))
     (is_well_formed_expr (outline g) g.number condition && (is_well_formed_stmt (outline g) g.number consequence.0 && true))
@@ -391,7 +404,8 @@ if_runs g known number condition consequence few place base held s stands good b
     let next : Bool → Action (Unit {0}) = λ holds. if holds then effect_of consequence.0 (around g) else alternative_of None (around g) in
     subst (λ p. Executes g (on g (base ++ held) place s.output) held p (value_of condition (around g) >>= (λ v. next (is_so v))) s1) e
     (branch_runs g (known g refl) condition target place target base held s1 next front parts.0 based (omega arith)
-    (λ holds. elim holds as (λ h. (base2 : List Cell) (t : effect.State) → Based g t base2 → Executes g (on g (base2 ++ held) (if h then yes else target) t.output) held target (next h) t) [
+    (λ holds. elim holds as (λ h. (base2 : List Cell) (t : effect.State) → Based g t base2
+    → Executes g (on g (base2 ++ held) (if h then yes else target) t.output) held target (next h) t) [
       | true ↦ λ base2 t based2. consequence.1 g known (omega arith) yes base2 held t inside (and_parts _ _ parts.1).0 based2 high (omega arith)
       | false ↦ λ base2 t based2. inr (done g 0 _ base2 held target t based2 (stays_here g.target _))
     ]))
@@ -425,10 +439,12 @@ if_else_runs g known number condition consequence alternative few place base hel
     let next : Bool → Action (Unit {0}) = λ holds. if holds then effect_of consequence.0 (around g) else effect_of alternative.0 (around g) in
     subst (λ p. Executes g (on g (base ++ held) place s.output) held p (value_of condition (around g) >>= (λ v. next (is_so v))) s1) e
     (branch_runs g (known g refl) condition no place end base held s1 next front parts.0 based (omega arith)
-    (λ holds. elim holds as (λ h. (base2 : List Cell) (t : effect.State) → Based g t base2 → Executes g (on g (base2 ++ held) (if h then yes else no) t.output) held end (next h) t) [
+    (λ holds. elim holds as (λ h. (base2 : List Cell) (t : effect.State) → Based g t base2
+    → Executes g (on g (base2 ++ held) (if h then yes else no) t.output) held end (next h) t) [
       | true ↦ λ base2 t based2.
           behind_executes g _ held held (yes + length code) end (effect_of consequence.0 (around g)) t
-          (consequence.1 g known (omega arith) yes base2 held t (stands_front g.target yes code behind inside) (and_parts _ _ parts.1).0 based2 high (omega arith))
+          (consequence.1 g known (omega arith) yes base2 held t (stands_front g.target yes code behind inside) (and_parts _ _ parts.1).0 based2 high
+          (omega arith))
           (λ base3 u based3. comes_less g.target 0 1 _ _ (omega arith) (jumps g end (base3 ++ held) (yes + length code) u.output jump.0))
       | false ↦ λ base2 t based2. alternative.1 g known (omega arith) no base2 held t jump.1 (and_parts _ _ parts.1).1 based2 high (omega arith)
     ]))
@@ -494,7 +510,8 @@ while_runs g known number condition body few place base held s stands good based
     (loops g (λ _. Unit {0}) hold place end held round uses (λ start. exact_while_round (around g) (exact_around g) condition body.0) runs tt base s1 tt based)
 
 -- a repeat statement
-repeat_runs : (g : Setting) (known : CallsRun g.depth) (number : ℕ) (condition : Expr) (ss : List ((s : Stmt) × StmtRuns s)) → greatest (map repeats (map (λ x. x.0) ss)) + 1 ≤ g.slack
+repeat_runs : (g : Setting) (known : CallsRun g.depth) (number : ℕ) (condition : Expr) (ss : List ((s : Stmt) × StmtRuns s))
+    → greatest (map repeats (map (λ x. x.0) ss)) + 1 ≤ g.slack
     → ExecutesAs g (λ scope. repeat_code (placed (map (λ code. code scope) (map stmt_code (map (λ x. x.0) ss)))) (expr_code scope condition))
     (max (greatest (map stmt_depth (map (λ x. x.0) ss))) (expr_depth condition))
     (all_hold (map (is_well_formed_stmt (outline g) g.number) (map (λ x. x.0) ss)) && is_well_formed_expr (outline g) g.number condition)
@@ -533,7 +550,8 @@ repeat_runs g known number condition ss few place base held s stands good based 
     λ left base2 t is based2.
     then_rounds h (λ _. Unit {0}) hold place end held 1 (suc left) _ held last (statements (around g)) (λ _. value_of condition (around g) >>= until) t
     (exact_statements (around g) (exact_around g) (map (λ x. x.0) ss))
-    (all_run h known_there stmt_code stmt_depth (is_well_formed_stmt (outline g) g.number) effect_of (exact_effect (around g) (exact_around g)) (map (λ x. x.0) ss)
+    (all_run h known_there stmt_code stmt_depth (is_well_formed_stmt (outline g) g.number) effect_of (exact_effect (around g) (exact_around g))
+    (map (λ x. x.0) ss)
     (each_statement h known ss 0 (omega arith)) 0 place base2 held t (stands_front g.target place code (test ++ back) stands) parts.0 based2 high (omega arith))
     (λ base3 u based3 fewer.
     value_rounds h (λ _. Unit {0}) hold place end held 1 (suc left) _ held (last + length test) (value_of condition (around g)) until u
@@ -691,7 +709,8 @@ module _ (g : Setting) (known : CallsRun g.depth) (control : ℕ) (scalar : IsSc
         (next : Stands g.target behind (for_next g.scope way head out)) where
       -- the tests of the bounds, and the rounds
       tested : (n : ℤ) (base : List Cell) (s : effect.State) → Fits n → has_values way n l ≡ true → Based g s base
-          → Executes g (on g (base ++ hold n) (place + 4) s.output) (hold l) out (for_rounds control first_fits way last_fits (effect_of body.0) (around g) n l) s
+          → Executes g (on g (base ++ hold n) (place + 4) s.output) (hold l) out
+          (for_rounds control first_fits way last_fits (effect_of body.0) (around g) n l) s
       tested n base s fits has based =
           let here = base ++ hold n in
           let one = held ++ Number n ∷ [] in
@@ -714,34 +733,41 @@ module _ (g : Setting) (known : CallsRun g.depth) (control : ℕ) (scalar : IsSc
           site_last
           in_frame' (subst (λ cs. Executes g (on g cs (place + 1 + 1 + 1 + 1 + 1 + 1 + 1 + 1) s.output) (hold l) out (effect.looped round n) s) split
           loop) in
-          let last_here = subst (λ cs. Executes g (on g cs (place + 1 + 1 + 1 + 1 + 1 + 1 + 1) s.output) (hold l) out (require (effect.is_in last_fits.range (value.Number l)) last_fits.site >>= (λ _. effect.looped round n)) s) (sym split) last' in
+          let last_here = subst (λ cs. Executes g (on g cs (place + 1 + 1 + 1 + 1 + 1 + 1 + 1) s.output) (hold l) out
+          (require (effect.is_in last_fits.range (value.Number l)) last_fits.site >>= (λ _. effect.looped round n)) s) (sym split) last' in
           subst (λ m. Executes g (on g here m s.output) (hold l) out (for_rounds control first_fits way last_fits (effect_of body.0) (around g) n l) s) p
           (executes_from g 1 _ _ (hold l) out (for_rounds control first_fits way last_fits (effect_of body.0) (around g) n l) s a
           (tests g first_fits here (hold l) n (place + 1 + 1 + 1 + 1 + 1) out s
           (require (effect.is_in last_fits.range (value.Number l)) last_fits.site >>= λ _. effect.looped round n) fits rest.1.0 site_first in_frame
-          (executes_from g 1 _ _ (hold l) out (require (effect.is_in last_fits.range (value.Number l)) last_fits.site >>= (λ _. effect.looped round n)) s b last_here)))
+          (executes_from g 1 _ _ (hold l) out (require (effect.is_in last_fits.range (value.Number l)) last_fits.site >>= (λ _. effect.looped round n)) s b
+          last_here)))
 
       -- from the values of the bounds on
       from_bounds : (n : ℤ) (base : List Cell) (s : effect.State) (has : Bool) → has_values way n l ≡ has → Fits n → Based g s base
           → Comes g.target 4 (on g (base ++ hold n) place s.output) (on g (base ++ hold n) (if has then place + 4 else out) s.output)
-          → Executes g (on g (base ++ hold n) place s.output) held (out + 4) (((if has then for_rounds control first_fits way last_fits (effect_of body.0) (around g) n l else give tt) >>= λ _. effect.undefine
+          → Executes g (on g (base ++ hold n) place s.output) held (out + 4)
+          (((if has then for_rounds control first_fits way last_fits (effect_of body.0) (around g) n l else give tt) >>= λ _. effect.undefine
           (g.environment.variables control))) s
       from_bounds n base s true has fits based came =
-          executes_from g 4 _ _ held (out + 4) ((for_rounds control first_fits way last_fits (effect_of body.0) (around g) n l >>= λ _. effect.undefine (g.environment.variables control))) s came
-          (then_executes g _ (hold l) held out (out + 4) (for_rounds control first_fits way last_fits (effect_of body.0) (around g) n l) (λ _. effect.undefine (g.environment.variables control)) s
+          executes_from g 4 _ _ held (out + 4) ((for_rounds control first_fits way last_fits (effect_of body.0) (around g) n l >>= λ _. effect.undefine
+          (g.environment.variables control))) s came
+          (then_executes g _ (hold l) held out (out + 4) (for_rounds control first_fits way last_fits (effect_of body.0) (around g) n l)
+          (λ _. effect.undefine (g.environment.variables control)) s
           (exact_for_rounds (around g) (exact_around g) control first_fits way last_fits body.0 n l) (tested n base s fits has based)
           (λ base2 t based2. leaves_it l base2 t fit_last based2))
       from_bounds n base s false has fits based came =
           executes_from g 4 _ _ held (out + 4) (effect.undefine (g.environment.variables control)) s came (leaves_it n base s fits based)
 
       for_between_runs : (n : ℤ) (base : List Cell) (s : effect.State) → Fits n → Based g s base
-          → Executes g (on g (base ++ hold n) place s.output) held (out + 4) ((for_between control first_fits way last_fits (effect_of body.0) (around g) (value.Number n) (value.Number l) >>= λ _. effect.undefine
+          → Executes g (on g (base ++ hold n) place s.output) held (out + 4)
+          ((for_between control first_fits way last_fits (effect_of body.0) (around g) (value.Number n) (value.Number l) >>= λ _. effect.undefine
           (g.environment.variables control))) s
       for_between_runs n base s fits based =
           from_bounds n base s (has_values way n l) refl fits based
           (ordered g s base held n l s.output way place out based high enough entry.0 entry.1.0 entry.1.1.0 entry.1.1.1.0)
 
-for_runs : (g : Setting) (known : CallsRun g.depth) (number control : ℕ) (first : Expr) (first_fits : RangeTest) (way : Direction) (last : Expr) (last_fits : RangeTest)
+for_runs : (g : Setting) (known : CallsRun g.depth) (number control : ℕ) (first : Expr) (first_fits : RangeTest) (way : Direction) (last : Expr)
+    (last_fits : RangeTest)
     (body : (s : Stmt) × StmtRuns s) → repeats body.0 ≤ g.slack
     → ExecutesAs g (λ scope. for_code control (expr_code scope first) first_fits way (expr_code scope last) last_fits (stmt_code body.0) scope)
     (max (max (expr_depth first) (expr_depth last + 1)) (max 4 (stmt_depth body.0 + 2)))
@@ -750,7 +776,8 @@ for_runs : (g : Setting) (known : CallsRun g.depth) (number control : ℕ) (firs
     (is_well_formed_expr (outline g) g.number last && (is_well_formed_test (outline g) g.number last_fits && is_well_formed_stmt
     (outline g) g.number
     body.0)))))
-    (λ e. effect.enter number e.visible >>= λ _. value_of first e >>= λ a. value_of last e >>= λ b. for_between control first_fits way last_fits (effect_of body.0) e
+    (λ e. effect.enter number e.visible >>= λ _. value_of first e >>= λ a. value_of last e >>= λ b. for_between control first_fits way last_fits
+    (effect_of body.0) e
     a b
     >>= λ _. effect.undefine (e.visible.variables control))
 for_runs g known number control first first_fits way last last_fits body few place base held s stands good based high deep =
@@ -790,18 +817,22 @@ for_runs g known number control first first_fits way last last_fits body few pla
     let rest : Value → Value → Action (Unit {0}) = λ v w. for_between control first_fits way last_fits (effect_of body.0) (around g) v w >>= λ _.
     effect.undefine (g.environment.variables control) in
     subst (λ q. Executes g (on g (base ++ held) place s.output) held q (value_of first (around g) >>= (λ v. value_of last (around g) >>= λ w. rest v w)) s1) e
-    (after_value g _ held held (place + length a) (out' + 4) (value_of first (around g)) (λ v. value_of last (around g) >>= λ w. rest v w) s1 (exact_value (around g) (exact_around g) first)
+    (after_value g _ held held (place + length a) (out' + 4) (value_of first (around g)) (λ v. value_of last (around g) >>= λ w. rest v w) s1
+    (exact_value (around g) (exact_around g) first)
     (expr_runs g (known g refl) first place base held s1 at_a p2.0 based (omega arith))
     (λ base2 n t based2 fit.
     let more : length (held ++ Number n ∷ []) ≡ length held + 1 = length_one held (Number n) in
-    subst (λ cells. Executes g (on g cells (place + length a) t.output) held (out' + 4) (value_of last (around g) >>= (rest (value.Number n))) t) (one_held g base2 held n)
-    (after_value g _ (held ++ Number n ∷ []) held test (out' + 4) (value_of last (around g)) (rest (value.Number n)) t (exact_value (around g) (exact_around g) last)
+    subst (λ cells. Executes g (on g cells (place + length a) t.output) held (out' + 4) (value_of last (around g) >>= (rest (value.Number n))) t)
+    (one_held g base2 held n)
+    (after_value g _ (held ++ Number n ∷ []) held test (out' + 4) (value_of last (around g)) (rest (value.Number n)) t
+    (exact_value (around g) (exact_around g) last)
     (expr_runs g (known g refl) last (place + length a) base2 (held ++ Number n ∷ []) t at_b p4.0 based2 (omega (arith, more)))
     (λ base3 l u based3 fit'.
     let two : (base3 ++ (held ++ Number n ∷ [])) ++ Number l ∷ [] ≡ base3 ++ (held ++ Number n ∷ Number l ∷ []) =
     append_assoc base3 (held ++ Number n ∷ []) (Number l ∷ []) ∙ ap (λ cs. base3 ++ cs) (append_assoc held (Number n ∷ []) (Number l ∷ [])) in
     subst (λ cells. Executes g (on g cells test u.output) held (out' + 4) (rest (value.Number n) (value.Number l)) u) (sym two)
-    (for_between_runs g known control scalar way body few p5.1 head held high (omega arith) l fit' at_end first_fits last_fits site_first site_last test refl at_entry
+    (for_between_runs g known control scalar way body few p5.1 head held high (omega arith) l fit' at_end first_fits last_fits site_first site_last test refl
+    at_entry
     at_begin at_inside at_next n base3 u fit based3)))))
 
 -- ---- a case statement
@@ -886,7 +917,8 @@ module _ (g : Setting) (known : CallsRun g.depth) (site : ℕ) (within : site < 
       let inner = reset g g.slack (count (g.scope.height + 1)) in
       let result : Bool → Action (Unit {0}) = λ b. if b then effect_of arm.0 (around g) else arm_of site rows (map effect_of others) n (around g) in
       (elim (is_among row.items n) as (λ b. Comes g.target 0 (on g (base ++ index) place s.output)
-      (on g (base ++ index) (if b then inside else place + length compared) s.output) → Executes g (on g (base ++ index) place s.output) index out (result b) s) [
+      (on g (base ++ index) (if b then inside else place + length compared) s.output)
+      → Executes g (on g (base ++ index) place s.output) index out (result b) s) [
         | true ↦ λ there.
             executes_from g 0 _ _ index out (effect_of arm.0 (around g)) s there
             (behind_executes g _ index index (inside + length code) out (effect_of arm.0 (around g)) s
@@ -900,7 +932,8 @@ module _ (g : Setting) (known : CallsRun g.depth) (site : ℕ) (within : site < 
             (arms_run rows arms (max before (repeats arm.0)) next base s few parts.1 (omega arith) based from_jump.1)
       ]) came
 
-case_runs : (g : Setting) (known : CallsRun g.depth) (number site : ℕ) (index : Expr) (rows : List (Vec ℤ)) (arms : List ((s : Stmt) × StmtRuns s)) (well : Bool)
+case_runs : (g : Setting) (known : CallsRun g.depth) (number site : ℕ) (index : Expr) (rows : List (Vec ℤ)) (arms : List ((s : Stmt) × StmtRuns s))
+    (well : Bool)
     → greatest (map repeats (map (λ x. x.0) arms)) ≤ g.slack
     → ExecutesAs g (λ scope. case_code site (expr_code scope index) rows (map stmt_code (map (λ x. x.0) arms)) scope)
     (max (expr_depth index) (max 3 (arms_depth rows (map stmt_depth (map (λ x. x.0) arms)) + 1)))
@@ -949,7 +982,8 @@ module _ (x : Stmt-F Stmt) where
   abbrev is_step : Setting → Stmt-F Bool → Bool
   is_step g = stmt_is_well_formed (outline g) g.number
 
-  rolled_stmt : ((g : Setting) → CallsRun g.depth → repeats_step (map-Stmt Stmt ℕ repeats x) ≤ g.slack → ExecutesAs g (stmt_step (map-Stmt Stmt Placed stmt_code x))
+  rolled_stmt : ((g : Setting) → CallsRun g.depth → repeats_step (map-Stmt Stmt ℕ repeats x) ≤ g.slack
+      → ExecutesAs g (stmt_step (map-Stmt Stmt Placed stmt_code x))
       (stmt_depth_step (map-Stmt Stmt ℕ stmt_depth x))
       (is_step g (map-Stmt Stmt Bool (fold-Stmt Bool (is_step g)) x)) (effect_step (map-Stmt Stmt Execution effect_of x))) → StmtRuns (roll-Stmt x)
   rolled_stmt runs g known few =
@@ -961,12 +995,14 @@ stmt_layer (Empty number) = rolled_stmt (Empty number) (λ g known few. empty_ru
 stmt_layer (Assign number becomes target indexes fits v) =
     rolled_stmt (Assign number becomes target indexes fits v) (λ g known few. assign_runs g (known g refl) number target fits v indexes.items)
 stmt_layer (Copy number becomes target indexes type_id v value_indexes) =
-    rolled_stmt (Copy number becomes target indexes type_id v value_indexes) (λ g known few. copy_runs g (known g refl) number target type_id v indexes.items value_indexes.items)
+    rolled_stmt (Copy number becomes target indexes type_id v value_indexes)
+    (λ g known few. copy_runs g (known g refl) number target type_id v indexes.items value_indexes.items)
 stmt_layer (Write number name parameters ends_line) =
     rolled_stmt (Write number name parameters ends_line) (λ g known few. write_runs g (known g refl) number parameters.items ends_line)
 stmt_layer (Calling call actuals) = rolled_stmt (Calling call actuals) (λ g known few. calling_runs g (known g refl) call actuals.items)
 stmt_layer (Compound number statements) =
-    rolled_stmt (map-Stmt ((s : Stmt) × StmtRuns s) Stmt (λ s. s.0) (Compound number statements)) (λ g known few. compound_runs g known number statements.items few)
+    rolled_stmt (map-Stmt ((s : Stmt) × StmtRuns s) Stmt (λ s. s.0) (Compound number statements))
+    (λ g known few. compound_runs g known number statements.items few)
 stmt_layer (If number condition consequence None) =
     rolled_stmt (map-Stmt ((s : Stmt) × StmtRuns s) Stmt (λ s. s.0) (If number condition consequence None))
     (λ g known few. if_runs g known number condition consequence.value few)

@@ -38,7 +38,8 @@ use Rattle.code_scheme.specs.Code.{address_code, whole_code}
 use Rattle.code_scheme.specs.Depth.{whole_depth}
 use Rattle.code_scheme.specs.Scopes.{row_length}
 use Rattle.code_scheme.proofs.Pieces.{start_within}
-use Rattle.code_generator.proofs.Accesses.{Indexes, expressions, wells, codes, depths, PartAt, Addressed, Addresses, leads, begins, entered, found as place_found, exact_found}
+use Rattle.code_generator.proofs.Accesses.{Indexes, expressions, wells, codes, depths, PartAt, Addressed, Addresses, leads, begins, entered}
+use Rattle.code_generator.proofs.Accesses.{found as place_found, exact_found}
 use Rattle.code_generator.proofs.Accesses.{address_runs}
 use Rattle.code_generator.proofs.Acts.{framed, length_one, pushes}
 use Rattle.code_generator.proofs.Addressing.{loads_many, all_defined, row_place_is, stores_at}
@@ -46,7 +47,7 @@ use Rattle.stack_machine.specs.Addresses.{store_many}
 use Rattle.code_generator.proofs.Evaluating.{sites}
 use Rattle.code_generator.proofs.Held.{set_front, scalar_kept}
 use Rattle.code_generator.proofs.Reach.{Stands, StandsAt, stands_front, stands_back, Comes, comes_less, comes_on, stays_here}
-use Rattle.code_generator.proofs.Setting.{Setting, outline, around, exact_around, on, Based, linked, acts, passes, fails, Ends, ends_on, Starves, starves_on}
+use Rattle.code_generator.proofs.Setting.{Setting, outline, around, on, Based, linked, acts, passes, fails, Ends, ends_on, Starves, starves_on}
 use Rattle.code_generator.proofs.Setting.{starves_first, starves_behind, Valued, Evaluates, evaluates_behind, Executed, Executes, executes_behind}
 use Rattle.code_generator.proofs.Alike.{LiesIn, cell_of, HasFit, alike_above}
 use Rattle.code_generator.proofs.Numbers.{Fits, fits_by_abs}
@@ -359,7 +360,8 @@ module _ (g : Setting) where
       → Fetched s.store p (components_of g.tree.types type_id) defined
       → StandsAt g.target place (instr.CheckDefined defined count) (g.target.is_open defined) → defined < sites g
       → length (components_of g.tree.types type_id) ≡ count → Based g s base
-      → Pushes (on g ((base ++ held) ++ map (cell_at s.store p) (components_of g.tree.types type_id)) place s.output) held (place + 1) count (fetch_all (Some p) (components_of g.tree.types type_id) defined) s
+      → Pushes (on g ((base ++ held) ++ map (cell_at s.store p) (components_of g.tree.types type_id)) place s.output) held (place + 1) count
+      (fetch_all (Some p) (components_of g.tree.types type_id) defined) s
   checked_row p type_id count d defined place base held s (inl all) stands within long based =
       let components = components_of g.tree.types type_id in
       let cells = base ++ held in
@@ -385,7 +387,8 @@ module _ (g : Setting) where
   loaded_row : (p : Place) (type_id : TypeId) (count d defined place : ℕ) (base held : List Cell) (s : effect.State) → PartAt g p type_id d
       → Stands g.target place (instr.LoadMany count ∷ instr.CheckDefined defined count ∷ []) → defined < sites g → cells_of g.tree.types type_id ≡ count
       → Based g s base → g.below + length held + count ≤ g.limit
-      → Pushes (on g ((base ++ held) ++ Number (pos d) ∷ []) place s.output) held (place + 1 + 1) count (fetch_all (Some p) (components_of g.tree.types type_id) defined) s
+      → Pushes (on g ((base ++ held) ++ Number (pos d) ∷ []) place s.output) held (place + 1 + 1) count
+      (fetch_all (Some p) (components_of g.tree.types type_id) defined) s
   loaded_row p type_id count d defined place base held s part stands within many based deep =
       let components = components_of g.tree.types type_id in
       let cells = base ++ held in
@@ -425,7 +428,8 @@ module _ (g : Setting) where
       → all_hold (whole_indexes v (wells g indexes)) ≡ true
       → is_well_formed_whole (outline g) g.number v (length (expressions g indexes)) ≡ true → Based g s base
       → g.below + length held + whole_depth v (depths g indexes) ≤ g.limit
-      → Pushes (on g (base ++ held) place s.output) held (place + length (whole_code g.scope v (codes g indexes))) (length_of v) (whole_of v (map value_of (expressions g indexes)) (around g)) s
+      → Pushes (on g (base ++ held) place s.output) held (place + length (whole_code g.scope v (codes g indexes))) (length_of v)
+      (whole_of v (map value_of (expressions g indexes)) (around g)) s
   whole_runs (Text number characters) indexes place base held s stands good well based deep =
       let codes_long = length-map characters.items (λ x. instr.LoadConstant (pos x)) in
       let e : place + length characters.items ≡ place + length (map (λ x. instr.LoadConstant (pos x)) characters.items) = omega arith in

@@ -1,7 +1,7 @@
 -- Code follows a program: on the machine it writes what the program writes and stops as the program ends, for every
--- input and every number of cells. A store is full only where the activations that last then need more cells than it
--- has. It does not say that a run ends, nor what happens where a reader or a writer fails.
-use Rattle.std.specs.Prelude.{◌≡◌, ℕ, ◌<◌, ◌⊎◌, List, [], ◌++◌, Some, slice_get}
+-- input and every number of cells that a machine may have. A store is full only where the activations that last then
+-- need more cells than it has. It does not say that a run ends, nor what happens where a reader or a writer fails.
+use Rattle.std.specs.Prelude.{◌≡◌, ℕ, ◌<◌, ◌≤◌, ◌⊎◌, List, [], ◌++◌, Some, slice_get}
 use Rattle.pcode_assembler.specs.declared.code.Code.{Code}
 use Rattle.typed_tree.specs.declared.tree.Tree.{Tree}
 use Rattle.typed_tree.specs.declared.site.Site.{Site}
@@ -79,12 +79,16 @@ IsExplained tree input cells run stop.Finished = (turns : ℕ) × DoesAll tree (
 IsExplained tree input cells run (stop.Error site) = (turns : ℕ) × DoesAll tree (meaning tree input turns) run
 IsExplained tree input cells run (stop.Input point fault) = (turns : ℕ) × DoesAll tree (meaning tree input turns) run
 
+-- how many cells a machine has at most: the address of each is a number
+abbrev pub most_cells : ℕ
+most_cells = 16777216
+
 -- the code follows the program
 pub record Follows (code : Code) (tree : Tree) : Type 0 where
   -- no run is at fault, and each run has its reason in the program
-  pub sound : (input : List ℕ) (cells budget : ℕ)
+  pub sound : (input : List ℕ) (cells budget : ℕ) → cells ≤ most_cells
       → IsExplained tree input cells (machine code input cells budget) (machine code input cells budget).stop
   -- what the program does is done by some run, unless the store was full
-  pub complete : (input : List ℕ) (cells turns : ℕ)
+  pub complete : (input : List ℕ) (cells turns : ℕ) → cells ≤ most_cells
       → ((budget : ℕ) × DoesAsMuch tree (meaning tree input turns) (machine code input cells budget))
       ⊎ ((budget : ℕ) × ((machine code input cells budget).stop ≡ stop.StoreFull))

@@ -14,7 +14,7 @@ use Rattle.meaning.specs.Laws.{state_after}
 use Rattle.meaning.specs.Meaning.{meaning, run}
 use Rattle.check_remover.specs.Strip.{is_among, KeepsInstructions}
 use Rattle.code_scheme.specs.Code.{program_code}
-use Rattle.code_generator.specs.Follows.{Follows}
+use Rattle.code_generator.specs.Follows.{Follows, most_cells}
 use Rattle.code_generator.specs.Large.{is_too_large}
 use Rattle.code_scheme.specs.Need.{block_need, living_need}
 use Rattle.code_generator.specs.Tables.{site_table, in_plain_numbers}
@@ -37,11 +37,11 @@ abbrev pub starved_in : Tree → List ℕ → ℕ → List ℕ
 starved_in tree input turns = (state_after (run tree input turns)).starved
 
 -- where no routine is called without a turn, the first frame of code that follows a program takes no more cells than
--- the program's block may need
+-- the program's block may need, if a machine has that many
 abbrev pub FramesFit : Type 0
 FramesFit =
     (tree : Tree) (code : Code) (variables evaluation : ℕ) (rest : List Instr) → Follows code tree
-    → ((turns : ℕ) → starved_in tree [] turns ≡ [])
+    → block_need tree 0 ≤ most_cells → ((turns : ℕ) → starved_in tree [] turns ≡ [])
     → code.instructions.items ≡ Enter variables evaluation ∷ rest → 4 + variables + evaluation ≤ block_need tree 0
 
 -- so many cells are enough for the program's block, and for all activations that ever last together
@@ -54,7 +54,7 @@ pub record IsEnough (tree : Tree) (input : List ℕ) (cells : ℕ) : Type 0 wher
 abbrev pub ErrorsCome : Type 0
 ErrorsCome =
     (tree : Tree) (code : Code) (input : List ℕ) (turns id cells : ℕ) → Follows code tree
-    → (meaning tree input turns).ending ≡ Error id → IsEnough tree input cells
+    → (meaning tree input turns).ending ≡ Error id → cells ≤ most_cells → IsEnough tree input cells
     → (budget : ℕ) × (site : TreeSite) × (slice_get tree.sites.items id ≡ Some site)
     × (machine code input cells budget
     ≡ record { output = (meaning tree input turns).output; stop = stop.Error (in_plain_numbers site) })

@@ -62,8 +62,8 @@ with_bounds-holds rows before after stays Of change become stretch other first l
 -- ---- a variable changed
 
 module _ (env : Environment) (root : ℕ) (aliases : List ℕ) (before after : Store) (changes : OneChanges env root aliases before after) where
-  kept-bound : (same : Bool) (a : ℕ) (m : ℤ) → nat_eq root a ≡ same → is_among a aliases ≡ false → (moved : Bound) (n : ℤ) → cond same None (Some (Plus a m)) ≡ Some moved
-      → IsBound (moment env before) (Plus a m) n → IsBound (moment env after) moved n
+  kept-bound : (same : Bool) (a : ℕ) (m : ℤ) → nat_eq root a ≡ same → is_among a aliases ≡ false → (moved : Bound) (n : ℤ)
+      → cond same None (Some (Plus a m)) ≡ Some moved → IsBound (moment env before) (Plus a m) n → IsBound (moment env after) moved n
   kept-bound true a m same free moved n is holds = absurd (cc)
   kept-bound false a m same free moved n is (p, p_is, n_is) =
       let equal : Plus a m ≡ moved = cc in

@@ -65,6 +65,18 @@ impl Components {
         self.set_row(row, state);
     }
 
+    /// The values of a row lie in a range from here on, and each component is defined, or perhaps none.
+    pub(crate) fn begin(&mut self, row: u32, range: Interval, is_defined: bool)
+        ensures { viewed_components self.new ≡ with_row row
+            (record (row_at (viewed_components self.old) row) { range = range; is_defined = is_defined })
+            (viewed_components self.old) }
+    {
+        let mut state = self.row(row);
+        state.range = range;
+        state.is_defined = is_defined;
+        self.set_row(row, state);
+    }
+
     /// Each component of a row is defined from here on.
     pub(crate) fn define(&mut self, row: u32)
         ensures { viewed_components self.new ≡ with_defined row (viewed_components self.old) }

@@ -3,7 +3,7 @@ ghost use Rattle.abstract_state.specs.Changes.{assigned};
 ghost use Rattle.abstract_state.specs.Loops.{replaced as replaced_variable, with_undefined};
 ghost use Rattle.abstract_state.specs.View.{said_form};
 ghost use Rattle.component_states.specs.Components.{all_changed, changed, is_whole, row_at, stored, with_claims};
-ghost use Rattle.component_states.specs.Components.{with_defined, with_range};
+ghost use Rattle.component_states.specs.Components.{with_defined, with_range, with_row};
 ghost use Rattle.component_states.specs.States.{all_of_row, dead, gives_component, gives_form, gives_index};
 ghost use Rattle.component_states.specs.States.{gives_reached, gives_some, is_dead, joined_components, joined_row};
 ghost use Rattle.component_states.specs.States.{joined_rows, joined_states, over_bound, over_change, over_components};
@@ -124,6 +124,14 @@ impl State {
         ensures { viewed self.new ≡ over_components (λ _. with_range row range) (viewed self.old) }
     {
         self.components.set_range(row, range);
+    }
+
+    /// The values of a row lie in a range from here on, and each component is defined, or perhaps none.
+    pub fn begin_row(&mut self, row: u32, range: Interval, is_defined: bool)
+        ensures { viewed self.new ≡ over_components (λ _ known. with_row row
+            (record (row_at known row) { range = range; is_defined = is_defined }) known) (viewed self.old) }
+    {
+        self.components.begin(row, range, is_defined);
     }
 
     /// Each component of a row is defined from here on.

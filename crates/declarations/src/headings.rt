@@ -83,8 +83,8 @@ fn begin(
     of_result: Option<&Name>,
 ) -> Result<BegunRoutine, TypeFault>
     requires known { AreKnown (name.now ∷ []) typer.old.regions }
-    ensures { Makes begun_of (λ made. []) (spec.begun name.now groups.now (name_of_result of_result.entry) typer.old) result
-        typer.new }
+    ensures { Makes begun_of (λ made. []) (spec.begun name.now groups.now (name_of_result of_result.entry) typer.old)
+        result typer.new }
 {
     typer.may_nest(name.place)?;
     let number = typer.next_block(name.place)?;

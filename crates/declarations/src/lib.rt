@@ -1,6 +1,6 @@
-//! The declarations of a block (ISO 7185:1990, 6.2.2, 6.3, 6.4, 6.5.1, 6.6, 6.10): the parameters of a program, with the
-//! required identifiers round them, constants, types, variables, and the headings of procedures and functions, in the
-//! order of the text.
+//! The declarations of a block (ISO 7185:1990, 6.2.2, 6.3, 6.4, 6.5.1, 6.6, 6.10): the parameters of a program, with
+//! the required identifiers round them, constants, types, variables, and the headings of procedures and functions, in
+//! the order of the text.
 #![tactic(auto)]
 
 mod constants;

@@ -18,8 +18,8 @@ use syntax_tree::{Block, Program};
 use typed_tree::fault::TypeFault;
 use typing::{BegunBlock, Typer};
 
-/// What is known behind the parameters of a program, where its block begins, or the first rule that they break, with its
-/// place (S1, K8). Its region knows the names that its block defines.
+/// What is known behind the parameters of a program, where its block begins, or the first rule that they break, with
+/// its place (S1, K8). Its region knows the names that its block defines.
 pub fn begin_program(alloc: Global, program: &Program) -> Result<Typer, TypeFault>
     ensures passed { IfOk result (λ typer. declared program.now ≡ Ok (after tt [] typer)) }
     ensures known { IfOk result (λ typer. AreKnown (typed_block program.now.block).names typer.regions) }
@@ -33,7 +33,8 @@ pub fn begin_program(alloc: Global, program: &Program) -> Result<Typer, TypeFaul
 // Passes the parameters, with the region of the required identifiers round them.
 #[tactic(auto, unfolding(typing::specs::Typing::parameters_of_program))]
 fn begin(typer: &mut Typer, program: &Program) -> Result<(), TypeFault>
-    ensures passed { Takes (parameters_of_program program.now (typed_block program.now.block) typer.old) result typer.new }
+    ensures passed { Takes (parameters_of_program program.now (typed_block program.now.block) typer.old)
+        result typer.new }
     ensures known { IfOk result (λ _. AreKnown (typed_block program.now.block).names typer.new.regions) }
 {
     typer.open_required()?;

@@ -28,12 +28,12 @@ use Rattle.call_states.specs.Sections.{BlockClaims, block_claims_at}
 use Rattle.call_states.specs.Starts.{is_own}
 use Rattle.call_states.specs.Actuals.{Actual, Binding, OfRows, OfValue, OfVariable, actual_of, after_call, are_of_types, bound_to, settled}
 use Rattle.call_states.specs.Environments.{IsListed, LiesUnder}
-use Rattle.call_states.specs.Exit.{root_changed, roots_changed}
+use Rattle.exit_states.specs.Exit.{root_changed, roots_changed}
 use Rattle.expression_checker.specs.declared.fault.Rule.{Rule}
 use Rattle.expression_checker.specs.declared.fault.Rule.TheVariants.{Changes}
 use Rattle.expression_checker.specs.Walk.{Breach, Context, Walking, ◌>>=◌, asked, block_lists, breach_unless, called, call_aliases, call_behind}
 use Rattle.expression_checker.specs.Walk.{call_change, call_entry, call_with, called_block, may_change, parameters_of}
-use Rattle.expression_checker.proofs.EffectsKept.{Keeps, Leaving, MayChange, Standing, leaves-itself, lies-itself, listed-under, under-write}
+use Rattle.expression_checker.proofs.EffectsKept.{Keeps, Leaving, MayChange, MayWrite, Standing, leaves-itself, lies-itself, listed-under, under-write}
 
 -- ---- walks that break no rule
 
@@ -75,12 +75,13 @@ pub record StandsIn (tree : Tree) (blocks : List BlockClaims) (block : ℕ) (con
   pub blocks_are : context.blocks ≡ blocks
   pub block_is : context.block ≡ block
 
--- an activation of a block: the changes are those that are claimed, and what the block declares lies in the activation,
--- unless it is a parameter
+-- an activation of a block: what is claimed to be changed is listed, and what the block declares lies in the activation or is listed, unless it is a
+-- parameter
 pub record Grounds (tree : Tree) (blocks : List BlockClaims) (block : ℕ) (at : Standing) : Type 0 where
-  pub lists : at.changes ≡ (block_claims_at blocks block).changes
+  pub few : at.settled ≤ at.number
+  pub lists : (root : ℕ) → Contains (block_claims_at blocks block).changes root → Contains at.changes root
   pub own : (root : ℕ) (variable : DeclaredVariable) (home : Place) → slice_get tree.variables.items root ≡ Some variable
-      → is_own block variable ≡ true → at.visible.variables root ≡ Some home → home.activation ≡ at.number
+      → is_own block variable ≡ true → at.visible.variables root ≡ Some home → (at.settled ≤ home.activation) × MayWrite at home
 
 -- a place among those behind the first
 tail-contains : (other root : ℕ) (roots : List ℕ) → Contains roots root → Contains (other ∷ roots) root
@@ -101,29 +102,31 @@ module _ (tree : Tree) (blocks : List BlockClaims) (block : ℕ) (at : Standing)
   listed-here : (context : Context) → StandsIn tree blocks block context → (root : ℕ) → block_lists context root ≡ true
       → Contains at.changes root
   listed-here context stands root is =
-      let changes_are : (block_claims_at context.blocks context.block).changes ≡ at.changes =
+      let changes_are : (block_claims_at context.blocks context.block).changes ≡ (block_claims_at blocks block).changes =
           ap (λ (claims : List BlockClaims). (block_claims_at claims context.block).changes) stands.blocks_are
-          ∙ ap (λ (number : ℕ). (block_claims_at blocks number).changes) stands.block_is ∙ sym grounds.lists in
-      subst (λ (changes : List ℕ). Contains changes root) changes_are
-      (among-contains root (block_claims_at context.blocks context.block).changes is)
+          ∙ ap (λ (number : ℕ). (block_claims_at blocks number).changes) stands.block_is in
+      grounds.lists root
+      (subst (λ (changes : List ℕ). Contains changes root) changes_are
+      (among-contains root (block_claims_at context.blocks context.block).changes is))
 
   own-here : (context : Context) → StandsIn tree blocks block context → (root : ℕ) (home : Place)
       → of_one (is_own context.block) (slice_get context.tree.variables.items root) ≡ true → at.visible.variables root ≡ Some home
-      → home.activation ≡ at.number
+      → MayWrite at home
   own-here context stands root home is seen =
       let here : of_one (is_own block) (slice_get tree.variables.items root) ≡ true =
           subst (λ (t : Tree). of_one (is_own block) (slice_get t.variables.items root) ≡ true) stands.tree_is
           (subst (λ (number : ℕ). of_one (is_own number) (slice_get context.tree.variables.items root) ≡ true) stands.block_is is) in
       let (variable, found, owns) = owned block (slice_get tree.variables.items root) here in
-      grounds.own root variable home found owns seen
+      (grounds.own root variable home found owns seen).1
 
   -- what the rules let a block change may be changed
   pub may-here : (context : Context) → StandsIn tree blocks block context → (root : ℕ) → may_change context root ≡ true → MayChange at root
   may-here context stands root may home seen =
       let own = of_one (is_own context.block) (slice_get context.tree.variables.items root) in
       let parts = and_parts (all_list root context.rounds) (own || block_lists context root) may in
-      ⊎_elim (λ (is : own ≡ true). inl (own-here context stands root home is seen))
-      (λ (is : block_lists context root ≡ true). inr (root, home, listed-here context stands root is, seen, lies-itself home))
+      ⊎_elim (λ (is : own ≡ true). own-here context stands root home is seen)
+      (λ (is : block_lists context root ≡ true) (earlier : home.activation < at.number).
+      (root, home, listed-here context stands root is, seen, lies-itself home))
       (or_cases own (block_lists context root) parts.1)
 
 -- ---- what is passed
@@ -300,6 +303,7 @@ activation_from number block arguments caller s =
 abbrev pub standing_from : Tree → List BlockClaims → ℕ → Block → List Argument → Environment → effect.State → Standing
 standing_from tree blocks number block arguments caller s = record {
   number = s.activations;
+  settled = s.activations;
   changes = (block_claims_at blocks number).changes;
   visible = environment_of tree (activation_from number block arguments caller s);
 }
@@ -363,7 +367,7 @@ module _ (tree : Tree) (blocks : List BlockClaims) (declares : DeclareTheirs tre
       leaves = record {
         values = λ place earlier.
             ⊎_elim (λ listed. inl (inner-listed place listed earlier)) (λ same. inr same) (left.leaves.values place (omega (arith, earlier, begun)));
-        defined = λ place v earlier is. left.leaves.defined place v (omega (arith, earlier, begun)) is;
+        defined = λ place v earlier is. let few = grounds.few in left.leaves.defined place v (omega (arith, earlier, few, begun)) is;
       };
     }
 

@@ -24,18 +24,25 @@ use Rattle.meaning.specs.Effect.{State, Reply, Gives, Stops, Action, Round, ◌>
 use Rattle.meaning.specs.Effect.{another, looped, looping, fetch, fetch_all, fetched, store, store_all, undefine, write, number_of}
 use Rattle.meaning.specs.Meaning.{combined, line_ended, operated, whole}
 use Rattle.meaning.specs.Laws.{state_after}
-use Rattle.call_states.specs.Environments.{IsListed, Leaves, LiesUnder}
+use Rattle.call_states.specs.Environments.{IsListed, LiesUnder}
 
--- where a piece stands: the number of its activation, the changes that its block lists, and what is visible in it
+-- where a piece stands: what lies in activations of lower numbers is changed only where it is listed, and what lies in those below another number stays
+-- defined; the changes that are listed, and what is visible
 pub record Standing : Type 0 where
   pub number : ℕ
+  pub settled : ℕ
   pub changes : List ℕ
   pub visible : Environment
+
+-- what a piece leaves in earlier activations
+pub record LeavesSo (at : Standing) (before after : Store) : Type 0 where
+  pub values : (place : Place) → place.activation < at.number → IsListed at.changes at.visible place ⊎ (stored after place ≡ stored before place)
+  pub defined : (place : Place) (v : Value) → place.activation < at.settled → stored before place ≡ Some v → (w : Value) × (stored after place ≡ Some w)
 
 -- what is left from one state to another, between which only activations begin
 pub record Leaving (at : Standing) (before after : State) : Type 0 where
   pub grows : before.activations ≤ after.activations
-  pub leaves : Leaves at.number at.changes at.visible before.store after.store
+  pub leaves : LeavesSo at before.store after.store
 
 -- an action leaves that, once the activation has begun
 pub record Keeps {A : Type 0} (at : Standing) (action : Action A) : Type 0 where
@@ -43,14 +50,13 @@ pub record Keeps {A : Type 0} (at : Standing) (action : Action A) : Type 0 where
 
 -- ---- places
 
--- a variable may be changed where it stands: it is one of the activation's own, or listed
-abbrev pub MayChange : Standing → ℕ → Type 0
-MayChange at root =
-    (home : Place) → at.visible.variables root ≡ Some home → (home.activation ≡ at.number) ⊎ IsListed at.changes at.visible home
-
 -- a place may be changed: it lies in no earlier activation, or is listed
 abbrev pub MayWrite : Standing → Place → Type 0
 MayWrite at place = place.activation < at.number → IsListed at.changes at.visible place
+
+-- a variable may be changed where it stands
+abbrev pub MayChange : Standing → ℕ → Type 0
+MayChange at root = (home : Place) → at.visible.variables root ≡ Some home → MayWrite at home
 
 abbrev pub MayWriteTo : Standing → Option Place → Type 0
 MayWriteTo at found = (place : Place) → found ≡ Some place → MayWrite at place
@@ -124,7 +130,7 @@ listed-under changes visible between place (root, home, among, is, under) lies =
 pub under-write : (at : Standing) (root : ℕ) (found : Option Place) → MayChange at root → IsUnder at.visible root found → MayWriteTo at found
 under-write at root found may under place is earlier =
     let (home, seen, lies) = under place is in
-    ⊎_elim (λ own. absurd (omega (arith, own, lies.0, earlier))) (λ listed. listed-under at.changes at.visible home place listed lies) (may home seen)
+    listed-under at.changes at.visible home place (may home seen (omega (arith, lies.0, earlier))) lies
 
 -- a variable's own place, and what is a part of it
 pub variable-under : (visible : Environment) (root : ℕ) → IsUnder visible root (visible.variables root)
@@ -343,32 +349,36 @@ module _ (at : Standing) where
       keeps-then _ _ (keeps-store (part found steps) (Number n) (part-write at found steps may))
       (λ _. keeps-store_all found components numbers may)
 
-  -- what is found lies in no earlier activation
+  -- what is found may be changed, and lies in no activation where what is defined stays so
   abbrev pub IsOwn : Option Place → Type 0
-  IsOwn found = (place : Place) → found ≡ Some place → at.number ≤ place.activation
+  IsOwn found = (place : Place) → found ≡ Some place → (at.settled ≤ place.activation) × MayWrite at place
 
   pub own-write : (found : Option Place) → IsOwn found → MayWriteTo at found
-  own-write found own place is earlier = absurd (omega (arith, own place is, earlier))
+  own-write found own place is earlier = (own place is).1 earlier
 
-  forgotten-same : (place other : Place) (store : Store) (same : Bool) → place_eq place other ≡ same → at.number ≤ place.activation
-      → other.activation < at.number → (if same then None else stored store other) ≡ stored store other
-  forgotten-same place other store true is own earlier =
+  forgotten-same : (place other : Place) (store : Store) (same : Bool) → place_eq place other ≡ same → MayWrite at place
+      → other.activation < at.number → IsListed at.changes at.visible other ⊎ ((if same then None else stored store other) ≡ stored store other)
+  forgotten-same place other store true is may earlier =
+      let one = place-same place other is in
+      inl (subst (λ (p : Place). MayWrite at p) one may earlier)
+  forgotten-same place other store false is may earlier = inr refl
+
+  forgotten-there : (place other : Place) (store : Store) (same : Bool) → place_eq place other ≡ same → at.settled ≤ place.activation
+      → other.activation < at.settled → (if same then None else stored store other) ≡ stored store other
+  forgotten-there place other store true is own earlier =
       let one = ap (λ (p : Place). p.activation) (place-same place other is) in
       absurd (omega (arith, one, own, earlier))
-  forgotten-same place other store false is own earlier = refl
+  forgotten-there place other store false is own earlier = refl
 
   leaves-forgotten : (found : Option Place) (s : State) → IsOwn found → Leaving at s (record s { store = forgotten s.store found })
   leaves-forgotten None s own = leaves-same at s _ refl refl
-  leaves-forgotten (Some place) s own =
-      let same = λ (other : Place) (earlier : other.activation < at.number).
-      forgotten-same place other s.store (place_eq place other) refl (own place refl) earlier in
-      record {
-        grows = omega arith;
-        leaves = record {
-          values = λ other earlier. inr (same other earlier);
-          defined = λ other v earlier is. (v, same other earlier ∙ is);
-        };
-      }
+  leaves-forgotten (Some place) s own = record {
+    grows = omega arith;
+    leaves = record {
+      values = λ other earlier. forgotten-same place other s.store (place_eq place other) refl (own place refl).1 earlier;
+      defined = λ other v earlier is. (v, forgotten-there place other s.store (place_eq place other) refl (own place refl).0 earlier ∙ is);
+    };
+  }
 
   -- a variable of the activation becomes undefined
   pub keeps-undefine : (found : Option Place) → IsOwn found → Keeps at (undefine found)

@@ -1,6 +1,7 @@
 pub mod Effects
 pub mod EffectsCalls
 pub mod EffectsKept
+pub mod CallLaws
 pub mod Entered
 pub mod Fitting
 pub mod Forms

@@ -35,8 +35,8 @@ use Rattle.expression_checker.specs.Walk.{Breach, Context, Linked, Walked, Walki
 use Rattle.expression_checker.specs.Visits.{moment_of, visits_of}
 use Rattle.structured_states.specs.Loops.{Round, touched}
 use Rattle.structured_states.specs.Pairs.{aliases_of}
-use Rattle.call_states.specs.Environments.{Fine, Leaves as LeavesAll, Proper}
-use Rattle.call_states.specs.Exit.{result_range}
+use Rattle.call_states.specs.Environments.{Fine, Leaves as LeavesAll, LeavesPassed, Proper}
+use Rattle.exit_states.specs.Exit.{result_range}
 use Rattle.call_states.specs.Sections.{BlockClaims, block_claims_at}
 use Rattle.call_states.proofs.Claimed.{AllHold}
 use Rattle.call_states.proofs.Passed.{AllFit}
@@ -202,6 +202,11 @@ pub record Returned (world : World) (number : ℕ) (block : Block) (arguments : 
     (store : Store) : Type 0 where
   pub leaves : LeavesAll s.activations (block_claims_at world.blocks number).changes
       (environment_of world.tree (activation_of number block arguments caller s)) s.store store
+  -- its value parameters that it doesn't list have what was passed
+  pub passed : (begun ready : effect.State) → begun.store ≡ s.store
+      → assign_all world.tree (environment_of world.tree (activation_of number block arguments caller s)) block.heading.parameters.items arguments begun
+      ≡ effect.Gives tt ready
+      → LeavesPassed world.tree s.activations number (block_claims_at world.blocks number).changes ready.store store
   pub result : LiesInResult world number block.heading.result v
   pub exit : AllHold world.tree (block_claims_at world.blocks number).exit
       (environment_of world.tree (activation_of number block arguments caller s)) store

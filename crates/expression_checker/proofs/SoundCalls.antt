@@ -31,7 +31,7 @@ use Rattle.structured_states.specs.Pairs.{aliases_of}
 use Rattle.call_states.specs.Actuals.{Actual, Binding, after_call, are_of_types, bound_to, settled}
 use Rattle.call_states.specs.Entry.{are_given}
 use Rattle.call_states.specs.Environments.{Fine, LiesIn, Proper}
-use Rattle.call_states.specs.Exit.{behind_call, result_range, roots_changed}
+use Rattle.exit_states.specs.Exit.{behind_call, result_range, roots_changed}
 use Rattle.call_states.specs.Overlaps.{are_separate}
 use Rattle.call_states.specs.Sections.{BlockClaims, block_claims_at}
 use Rattle.call_states.proofs.Passed.{IsArgument, after-call_argument}
@@ -50,7 +50,13 @@ use Rattle.expression_checker.proofs.Sound.{part-left, parts_in, sound-anywhere,
 abbrev pub IsOfKind : World → Variable → Argument → Type 0
 IsOfKind world formal (meaning.OfValue v) = (is_value_kind formal.kind ≡ true) × LiesIn world.tree.types formal.type_id v
 IsOfKind world formal (meaning.OfRow numbers) = is_value_kind formal.kind ≡ true
-IsOfKind world formal (meaning.OfPlace place) = is_variable_kind formal.kind ≡ true
+IsOfKind world formal (meaning.OfPlace None) = ⊥
+IsOfKind world formal (meaning.OfPlace (Some place)) = is_variable_kind formal.kind ≡ true
+
+-- a place is of the kind of a variable parameter, if it is one
+pub place-kind : (world : World) (formal : Variable) (found : Option Place) (place : Place) → found ≡ Some place → is_variable_kind formal.kind ≡ true
+    → IsOfKind world formal (meaning.OfPlace found)
+place-kind world formal found place is kind = subst (λ (p : Option Place). IsOfKind world formal (meaning.OfPlace p)) (sym is) kind
 
 -- what is passed to a formal parameter is what the walk knows of it
 pub record IsPassed (world : World) (visible : Environment) (formal : Variable) (actual : Actual) (argument : Argument) (store : Store) : Type 0 where

@@ -1,6 +1,6 @@
 -- The walk over expressions is sound, form by form, and so is that over values that are written.
 use Rattle.std.proofs.Common.{arith, ◌≡◌, ◌∙◌, ap, refl, sym, subst, ℕ, zero, suc, ◌+◌, ◌<◌, ℤ, pos, Bool, true, false, cond, ◌&&◌, ◌||◌, nat_eq, nat_lt}
-use Rattle.std.proofs.Common.{ap₂, length, List, [], ◌∷◌, map, not, Option, Some, None}
+use Rattle.std.proofs.Common.{ap₂, length, List, [], ◌∷◌, ◌++◌, map, not, Option, Some, None}
 use Rattle.std.specs.Prelude.{slice_get}
 use Rattle.std.specs.List.{list_any}
 use Rattle.std.specs.Option.{option_and_then, option_map}
@@ -49,7 +49,7 @@ use Rattle.typed_tree.specs.WellFormed.{whole_indexes}
 use Rattle.meaning.specs.declared.store.Value.{Value}
 use Rattle.meaning.specs.declared.store.Value.TheVariants.{Number}
 use Rattle.meaning.specs.Integers.{truth}
-use Rattle.meaning.specs.Store.{Environment, Place, Store}
+use Rattle.meaning.specs.Store.{Environment, Place, Store, part}
 use Rattle.meaning.specs.Effect as effect
 use Rattle.meaning.specs.Effect.{fetch, is_in, is_positive, row_text, text_of}
 use Rattle.meaning.specs.Meaning as meaning
@@ -82,7 +82,7 @@ use Rattle.expression_checker.proofs.Sound.{sites_in, sound-anywhere, sound-ente
 use Rattle.expression_checker.proofs.Sound.{types_in}
 use Rattle.expression_checker.proofs.SoundAccesses.{AllSound, IndexIsSound, IsWholeIn, LeadsTo, gives-state, known-range, leads-count, leads-seen, leads-tests}
 use Rattle.expression_checker.proofs.SoundAccesses.{leads-type, reached-sound, required-leaves, required-true, stored-sound, string-sound, type-of, used-sound}
-use Rattle.expression_checker.proofs.SoundCalls.{AllPassed, CallLaws, IsPassed, PassedIsSound, call-sound, function-sound, then-gives}
+use Rattle.expression_checker.proofs.SoundCalls.{AllPassed, CallLaws, IsPassed, PassedIsSound, call-sound, function-sound, place-kind, then-gives}
 use Rattle.expression_checker.proofs.SoundRows.{Leads, LieIn}
 use Rattle.expression_checker.proofs.SoundOperations.{IsKnownOf, combined-sound, fitting-sound, given-sound, operated-sound, positive-sound}
 
@@ -413,14 +413,16 @@ module _ (world : World) (block : ℕ) (env : Surroundings) (laws : CallLaws wor
       from-then world block visible store (LeadsTo world block env access.root selectors) R action next walking walk_next
       (sound-here world block visible store (LeadsTo world block env access.root selectors) action walking
       (reached-sound world block env access values pieces (proved-indexes indexes one.0) count tests))
-      (λ reach place s t is from leads. λ context state s2 now unbroken part here.
+      (λ reach place s t is from leads. λ context state s2 now unbroken walked here.
+      let shown = here.proper.visible access.root (leads-seen outline block wanted access.root selectors n two.0) in
+      let there = leads.place_is ∙ ap (λ (found : Option Place). part found leads.way) shown.1 in
       let leads_now : Leads visible access.root selectors s2.store reach place =
       subst (λ (x : Store). Leads visible access.root selectors x reach place) (sym now) leads in
       good-give world (IsForetold world visible R context (walk.give (OfVariable access.root selectors reach) context state) s2.store) (meaning.OfPlace place) s2
       here.fine (record {
         tie = record {
           known = (leads_now, typed, λ way number matches first. indexes-integer outline block selectors way number tests matches first);
-          kind = kind.0;
+          kind = place-kind world formal place (record (shown.0) { steps = shown.0.steps ++ leads.way }) there kind.0;
         };
         stands = here.stands;
         kept = keeps-itself visible context.rounds s2.store;

@@ -14,7 +14,7 @@ use Rattle.structured_states.specs.Loops.{Claims}
 use Rattle.structured_states.specs.View.{kept_round}
 use Rattle.call_states.specs.declared.actuals.Actual.{Actual as KeptActual}
 use Rattle.call_states.specs.Actuals.{Actual}
-use Rattle.call_states.specs.Exit.{result_range}
+use Rattle.exit_states.specs.Exit.{result_range}
 use Rattle.call_states.specs.Sections.{block_claims_at}
 use Rattle.call_states.specs.View.{said_actual, said_claims}
 use Rattle.expression_checker.specs.declared.flow.Flow.{Flow}

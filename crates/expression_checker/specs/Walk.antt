@@ -59,7 +59,7 @@ use Rattle.call_states.specs.Starts.{is_own}
 use Rattle.call_states.specs.Actuals.{Actual, OfValue, OfRows, OfVariable, Binding, are_of_types, bound_to, settled}
 use Rattle.call_states.specs.Entry.{are_given}
 use Rattle.call_states.specs.Overlaps.{are_separate}
-use Rattle.call_states.specs.Exit.{behind_call, result_range, roots_changed}
+use Rattle.exit_states.specs.Exit.{behind_call, result_range, roots_changed}
 
 -- what a walk goes by: the program, the values of its variables' types, the claims on its loops and its blocks, the
 -- listed pairs, the number of the block, and the loops round the point, the outermost first

@@ -8,8 +8,8 @@ ghost use Rattle.component_states.specs.View.{said_index, said_reach};
 ghost use Rattle.expression_checker.specs.Visits.{Visits};
 ghost use Rattle.expression_checker.specs.declared.fault.CheckFault.TheVariants.{Broken};
 ghost use Rattle.expression_checker.specs.View.{Goes, said_actuals, said_ranges, seen};
-ghost use Rattle.expression_checker.specs.Walk.{actuals_walk, call_walk, called, fits_whole, form_before, function_walk};
-ghost use Rattle.expression_checker.specs.Walk.{passed_piece_of, piece_of};
+ghost use Rattle.expression_checker.specs.Walk.{actuals_walk, call_walk, called, fits_whole, form_before};
+ghost use Rattle.expression_checker.specs.Walk.{function_walk, passed_piece_of, piece_of};
 ghost use Rattle.expression_checker.specs.Walk.{above, access_walk, behind_next, below, combined, deeper, divisor};
 ghost use Rattle.expression_checker.specs.Walk.{enter, fitting, index_pieces, index_test, indexes_walk, link_walk};
 ghost use Rattle.expression_checker.specs.Walk.{next_test, operated, parameter_walk, positive, related_walk, tested};
@@ -22,7 +22,7 @@ use crate::visits::Visits;
 use abstract_state::{Known, bound_form, limits};
 use call_states::actuals::{Actual, Bindings, settle};
 use call_states::entry::are_given;
-use call_states::exit;
+use exit_states::exit;
 use call_states::sections::{block_claims_at, changes, entry};
 use component_states::{Index, Reach, State};
 use domain::Domain;
@@ -531,7 +531,7 @@ impl<'a> Flow<'a> {
     /// A copy of a whole value for a parameter of a type: one that may not be copied has no ranges.
     fn copied<'b>(&self, type_id: TypeId, value: &Whole, ranges: Vec<Interval>) -> Actual<'b>
         ensures { said_actual result ≡ OfRows (if fits_whole self.now.grounds.rows.now.types type_id value.now
-            then ranges.items else []) }
+            then ranges.entry.items else []) }
     {
         let mut ranges = ranges;
         if !self.grounds.may_copy(type_id, value) {
@@ -547,7 +547,7 @@ impl<'a> Flow<'a> {
         holds_call: bool,
         actuals: Vec<Actual>,
     ) -> Result<(), CheckFault>
-        ensures { (visits : Visits) → Goes (called call holds_call (map said_actual actuals.items))
+        ensures { (visits : Visits) → Goes (called call holds_call (map said_actual actuals.entry.items))
             self.old visits result self.new visits }
     {
         let mut actuals = actuals;

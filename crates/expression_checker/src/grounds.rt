@@ -1,11 +1,10 @@
-ghost use Rattle.std.specs.Prelude.{◌≡◌, ◌&&◌, ◌||◌, IfOk, List, map, nat_eq, slice_get};
+ghost use Rattle.std.specs.Prelude.{◌≡◌, ◌&&◌, ◌||◌, IfOk, Some, [], length, slice_get};
 ghost use Rattle.std.specs.List.{list_all};
 ghost use Rattle.typed_tree.specs.WellFormed.{is_local_kind, is_result_kind, of_one};
 ghost use Rattle.types.specs.Types.{have_one_length, is_same, string_length};
-ghost use Rattle.structured_states.specs.Loops.{Claims, all_list};
-ghost use Rattle.structured_states.specs.View.{kept_round};
+ghost use Rattle.leaf_rows.specs.Rows.{is_structured};
 ghost use Rattle.call_states.specs.Actuals.{are_of_types};
-ghost use Rattle.call_states.specs.Exit.{roots_changed};
+ghost use Rattle.exit_states.specs.Exit.{roots_changed};
 ghost use Rattle.call_states.specs.Overlaps.{are_separate};
 ghost use Rattle.call_states.specs.Starts.{is_own};
 ghost use Rattle.call_states.specs.View.{said_bindings};
@@ -13,8 +12,8 @@ ghost use Rattle.expression_checker.specs.View.{call_range, context_of, found_bl
 ghost use Rattle.expression_checker.specs.Walk.{around_of, block_lists, fits_whole, may_change, parameters_of};
 
 use call_states::actuals::{Bindings, are_of_types};
-use call_states::changes::roots_changed;
-use call_states::exit::result_range;
+use exit_states::changes::roots_changed;
+use exit_states::exit::result_range;
 use call_states::overlaps::are_separate;
 use call_states::sections::{block_claims_at, changes};
 use call_states::starts::is_own;
@@ -25,9 +24,9 @@ use std::alloc::{AllocError, Global};
 use structured_states::pairs::Pairs;
 use structured_states::rounds::{Round, all_list};
 use typed_tree::tree::{Block, Call, Whole};
-use types::TypeId;
+use types::{TypeId, TypeTable};
 
-/// What a walk goes by.
+/// What a walk goes by. What is claimed of loops stands beside it: nothing here depends on that.
 #[derive(Drop)]
 pub struct Grounds<'a> {
     /// The rows of the program's components.
@@ -48,9 +47,9 @@ impl<'a> Grounds<'a> {
     /// Whether a variable may be changed: each loop round the walk lists it, and so does the block, unless it is a
     /// variable of its variable declaration part, or its result.
     pub fn may_change(&self, root: u32) -> bool
-        ensures { (claims : List Claims) → result ≡ may_change (context_of self.now claims) root }
+        ensures { result ≡ may_change (context_of self.now []) root }
     {
-        all_list(root, &self.rounds) && (self.is_own(root) || self.lists(root))
+        all_list(&self.rounds, root) && (self.is_own(root) || self.lists(root))
     }
 
     /// Whether a variable is one of the block's variable declaration part, or its result.
@@ -65,7 +64,7 @@ impl<'a> Grounds<'a> {
 
     /// Whether the block lists a variable among those that it changes.
     fn lists(&self, root: u32) -> bool
-        ensures { (claims : List Claims) → result ≡ block_lists (context_of self.now claims) root }
+        ensures { result ≡ block_lists (context_of self.now []) root }
     {
         changes(block_claims_at(&self.sections, self.block)).contains(&root)
     }
@@ -112,18 +111,24 @@ impl<'a> Grounds<'a> {
         bindings: Bindings,
         listed: &[u32],
     ) -> Result<bool, AllocError>
-        ensures { (claims : List Claims) → IfOk result (λ may. may
-            ≡ (list_all (may_change (context_of self.now claims)) (roots_changed (said_bindings bindings.entry) listed.now)
+        ensures { IfOk result (λ may. may
+            ≡ (list_all (may_change (context_of self.now [])) (roots_changed (said_bindings bindings.entry) listed.now)
             && are_of_types self.now.rows.now self.now.limits.items (said_bindings bindings.entry))) }
     {
         let roots = roots_changed(alloc, bindings, listed)?;
-        let may = roots.iter().all(|root| self.may_change(*root));
-        Ok(may && are_of_types(self.rows, &self.limits, bindings))
+        Ok(self.may_change_all(&roots) && are_of_types(self.rows, &self.limits, bindings))
+    }
+
+    /// Whether each of some variables may be changed.
+    fn may_change_all(&self, roots: &[u32]) -> bool
+        ensures { result ≡ list_all (may_change (context_of self.now [])) roots.now }
+    {
+        roots.iter().all(|root| self.may_change(*root))
     }
 
     /// Where the value of a function lies.
     pub(crate) fn result_range(&self, call: Call) -> Interval
-        ensures { (claims : List Claims) → result ≡ call_range (context_of self.now claims) call }
+        ensures { result ≡ call_range (context_of self.now []) call }
     {
         let result = match self.called(call) {
             None => None,
@@ -139,18 +144,44 @@ impl<'a> Grounds<'a> {
     pub fn may_copy(&self, type_id: TypeId, value: &Whole) -> bool
         ensures { result ≡ fits_whole self.now.rows.now.types type_id value.now }
     {
-        let types = &self.rows.tree().types;
-        match value {
-            Whole::Text { characters, .. } => {
-                self.rows.is_structured(type_id)
-                    && types.string_length(type_id) == Some(characters.len())
-            }
-            Whole::Variable {
-                type_id: source, ..
-            } => {
-                self.rows.is_structured(type_id)
-                    && (type_id == *source || types.have_one_length(type_id, *source))
-            }
-        }
+        self.rows.is_structured(type_id) && is_alike(&self.rows.tree().types, type_id, value)
+    }
+}
+
+/// Whether a whole value may be copied to a target of a type, if the type is structured.
+fn is_alike(types: &TypeTable, target: TypeId, value: &Whole) -> bool
+    ensures { (is_structured types.now target && result) ≡ fits_whole types.now target value.now }
+{
+    match value {
+        Whole::Text { characters, .. } => has_length(types.string_length(target), characters),
+        Whole::Variable { type_id, .. } => is_as_long(types, target, *type_id),
+    }
+}
+
+/// Whether two types are the same, or of strings of equal length.
+fn is_as_long(types: &TypeTable, target: TypeId, other: TypeId) -> bool
+    ensures { result ≡ (is_same target other
+        || have_one_length (string_length types.now target) (string_length types.now other)) }
+{
+    target.same(other) || have_one_length(types.string_length(target), types.string_length(other))
+}
+
+/// Whether a string, if it is one, is as long as a text.
+fn has_length(count: Option<u32>, text: &[u8]) -> bool
+    ensures { result ≡ have_one_length count (Some (length text.now)) }
+{
+    match count {
+        None => false,
+        Some(count) => count as usize == text.len(),
+    }
+}
+
+/// Whether two strings, if they are such, are of equal length.
+fn have_one_length(first: Option<u32>, second: Option<u32>) -> bool
+    ensures { result ≡ have_one_length first second }
+{
+    match (first, second) {
+        (Some(length), Some(other)) => length == other,
+        _ => false,
     }
 }

@@ -1,6 +1,7 @@
 -- How the answers are what typing says of expressions: what is made of a form has the type, the length and the leading
 -- site that typing answers, and looks so. It says nothing of what typing answers.
-use Rattle.std.specs.Prelude.{◌≡◌, ℕ, Bool, true, false, ◌||◌, List, [], ◌∷◌, ◌++◌, flat_map, length, map, nat_eq, Result}
+use Rattle.std.specs.Prelude.{◌≡◌, ℕ, Bool, true, false, ◌||◌, List, [], ◌∷◌, ◌++◌, flat_map, length, map, nat_eq}
+use Rattle.std.specs.Prelude.{Result}
 use Rattle.std.specs.Prelude.{Option, Some, None, is_none, Vec}
 use Rattle.std.specs.declared.alloc.Global.{Global}
 use Rattle.place.specs.declared.Place.{Place}
@@ -16,10 +17,12 @@ use Rattle.typed_tree.specs.declared.tree.Passed.{Passed as PassedOne}
 use Rattle.typed_tree.specs.declared.tree.Variable.{Variable}
 use Rattle.types.specs.declared.form.TypeId.{TypeId}
 use Rattle.typed_tree.specs.Entries.{joined}
-use Rattle.typed_tree.specs.Look.{Look, Begins, Operator, Compared, Ends, look_call, look_expr, look_link, look_passed, look_whole}
+use Rattle.typed_tree.specs.Look.{Look, Begins, Operator, Compared, Ends, look_call, look_expr, look_link}
+use Rattle.typed_tree.specs.Look.{look_passed, look_whole}
 use Rattle.typed_tree.specs.WellFormed.{length_of, placed}
 use Rattle.typing.specs.declared.typed.Typed.{Typed}
-use Rattle.typing.specs.Passing.{Passed, Passing, Checked, After, and_then, behind_marks, given, mark, pure, ◌>>=◌, ◌>>◌}
+use Rattle.typing.specs.Passing.{Passed, Passing, Checked, After, and_then, behind_marks, given, mark, pure, ◌>>=◌}
+use Rattle.typing.specs.Passing.{◌>>◌}
 use Rattle.typing.specs.Steps.{fits, host_type}
 use Rattle.typing.specs.Expressions.{WrittenLink, typed, links, are_alike, or_no_result}
 use Rattle.typing.specs.Outcomes.{Makes, Tells}
@@ -118,7 +121,8 @@ MakesActuals callee = Makes (λ _. tt) (λ made. look_actuals callee made.items)
 abbrev pub MakesPassed
     : (ℕ → ℕ → Passing (Unit {0})) → Passed → Result PassedOne TypeFault → Passed → Type 0
 MakesPassed typing old result new =
-    (callee position : ℕ) → Makes (λ _. tt) (λ made. look_passed made callee position) (typing callee position old) result new
+    (callee position : ℕ)
+    → Makes (λ _. tt) (λ made. look_passed made callee position) (typing callee position old) result new
 
 -- a call of a function, or of a procedure, by the root of its result
 abbrev pub MakesCall : Bool → Checked (After (Option ℕ)) → Result TypedCall TypeFault → Passed → Type 0

@@ -37,7 +37,7 @@ module _ (callees : Callees) where
   -- an arm weighs no more than all
   abbrev Below : ℕ → ℕ → Option Stmt → Type 0
   Below turns all None = Unit {0}
-  Below turns all (Some arm) = (weight_of_statement callees) arm turns + 1 ≤ all
+  Below turns all (Some arm) = weight_of_statement callees arm turns + 1 ≤ all
 
   below_more : (turns less all : ℕ) (found : Option Stmt) → less ≤ all → Below turns less found → Below turns all found
   below_more turns less all None few below = tt
@@ -54,9 +54,11 @@ module _ (callees : Callees) where
   arm_below turns (row ∷ rows) [] n = tt
   arm_below turns (row ∷ rows) (arm ∷ arms) n =
       let rest = map (weight_of_statement callees) arms in
-      let all = sum_by-cons (λ (weight : Weight). weight turns + 1) ((weight_of_statement callees) arm) rest in
-      below_chosen turns (row_weight 1 (map (weight_of_statement callees) (arm ∷ arms)) turns) (is_among row.items n) arm (arm_at rows arms n) (omega (arith, all))
-      (below_more turns (row_weight 1 rest turns) (row_weight 1 (map (weight_of_statement callees) (arm ∷ arms)) turns) (arm_at rows arms n) (omega (arith, all))
+      let all = sum_by-cons (λ (weight : Weight). weight turns + 1) (weight_of_statement callees arm) rest in
+      below_chosen turns (row_weight 1 (map (weight_of_statement callees) (arm ∷ arms)) turns) (is_among row.items n) arm (arm_at rows arms n)
+      (omega (arith, all))
+      (below_more turns (row_weight 1 rest turns) (row_weight 1 (map (weight_of_statement callees) (arm ∷ arms)) turns) (arm_at rows arms n)
+      (omega (arith, all))
       (arm_below turns rows arms n))
 
 -- the arm that is found is to be done, in the place of the case

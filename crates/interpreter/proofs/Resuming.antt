@@ -1,5 +1,6 @@
 -- What pending work means, step by step.
-use Rattle.std.proofs.Common.{◌≡◌, ℕ, suc, List, [], ◌∷◌, ◌++◌, Option, Some, None, Result, Ok, Err, reverse, sym, ◌∙◌, ap, subst, refl, length, map, arith, Bool}
+use Rattle.std.proofs.Common.{◌≡◌, ℕ, suc, List, [], ◌∷◌, ◌++◌, Option, Some, None, Result, Ok, Err, reverse, sym, ◌∙◌}
+use Rattle.std.proofs.Common.{ap, subst, refl, length, map, arith, Bool}
 use Rattle.std.proofs.Common.{true, false, if◌then◌else◌, Box, Global, ℤ}
 use Rattle.std.proofs.lemmas.Int.{ints}
 use mir.Syntax.{w32}

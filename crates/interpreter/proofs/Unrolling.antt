@@ -1,5 +1,6 @@
 -- Each form of an expression and of a statement, as the work that an interpreter has to do for it.
-use Rattle.std.proofs.Common.{◌≡◌, ℕ, ℤ, pos, List, [], ◌∷◌, ◌++◌, Bool, true, false, Option, Some, None, Result, Bor, if◌then◌else◌, Box, Vec, Global, map, length, zero, suc, arith}
+use Rattle.std.proofs.Common.{◌≡◌, ℕ, ℤ, pos, List, [], ◌∷◌, ◌++◌, Bool, true, false, Option, Some, None, Result, Bor}
+use Rattle.std.proofs.Common.{if◌then◌else◌, Box, Vec, Global, map, length, zero, suc, arith}
 use Rattle.std.proofs.Common.{sym}
 use Rattle.std.proofs.Common.{◌∙◌, ap, refl}
 use Rattle.std.proofs.lemmas.List.{length-map}
@@ -81,7 +82,8 @@ effect-Copy n becomes target indexes type_id value value_indexes env =
     ∙ ap (λ (f : Execution). f env) (fold-roll-Stmt Execution effect_step (Copy-F n becomes target indexes type_id value value_indexes))
 
 effect-Write : (n : ℕ) (name : SourcePlace) (parameters : Vec WriteParameter Global) (ends_line : Bool) (env : Surroundings) →
-    effect_of (stmt.Write n name parameters ends_line) env ≡ (enter n env.visible >>= λ _. all_of (map parameter_of parameters.items) env >>= λ _. line_ended ends_line)
+    effect_of (stmt.Write n name parameters ends_line) env ≡ (enter n env.visible >>= λ _. all_of (map parameter_of parameters.items) env >>= λ _. line_ended
+    ends_line)
 effect-Write n name parameters ends_line env = ap (λ (e : Stmt). effect_of e env) (sym (stmt.rolls-Write n name parameters ends_line))
     ∙ ap (λ (f : Execution). f env) (fold-roll-Stmt Execution effect_step (Write-F n name parameters ends_line))
 
@@ -174,7 +176,8 @@ does-Chain first rest given is inner same links all env outer works operands s =
     ∙ and_then-and_then (value_of first.value env s) (λ v. in_turn (map link_of rest.items) env v) then_rest
     ∙ and_then-same (value_of first.value env s) _ _ (λ v t. linking-in_turn env (map link_of rest.items) (pending_of env outer works) v operands t)
     ∙ ap (λ (e : Expr). and_then (value_of e env s) (λ v. linking env (map link_of rest.items) (pending_of env outer works) (OfValue v ∷ operands))) (sym same)
-    ∙ ap (λ (l : List Link). and_then (value_of inner.now env s) (λ v. linking env (map link_of l) (pending_of env outer works) (OfValue v ∷ operands))) (sym all)
+    ∙ ap (λ (l : List Link). and_then (value_of inner.now env s) (λ v. linking env (map link_of l) (pending_of env outer works) (OfValue v ∷ operands)))
+    (sym all)
 
 pub does-Links : (first : Link) (rest all : Bor (List Link)) → all.now ≡ first ∷ rest.now →
     (env : Surroundings) (outer : Resumption) (works : List Work) (operands : List Argument) (s : State) →
@@ -191,7 +194,8 @@ does-Links first rest all is env outer works operands s =
 abbrev executed : Surroundings → Resumption → Stmt → List Work → List Argument → Action (Unit {0})
 executed env outer e works operands = effect_of e env >>= λ _. pending_of env outer works operands
 
-pub does-Empty : (n : ℕ) (given : Stmt) → given ≡ stmt.Empty n → (env : Surroundings) (outer : Resumption) (works : List Work) (operands : List Argument) (s : State) →
+pub does-Empty : (n : ℕ) (given : Stmt) → given ≡ stmt.Empty n → (env : Surroundings) (outer : Resumption) (works : List Work) (operands : List Argument)
+    (s : State) →
     executed env outer given works operands s ≡ pending_of env outer works operands (entered n env s)
 does-Empty n given is env outer works operands s =
     ap (λ (e : Stmt). executed env outer e works operands s) is
@@ -286,8 +290,10 @@ abbrev pub while_tested : Surroundings → Resumption → Expr → Stmt → List
 while_tested env outer condition body works =
     with_top (λ v below. further (while_rounds env condition body) (turn_if (is_so v) (effect_of body env)) >>= λ _. pending_of env outer works below)
 
-pub does-while-round : (env : Surroundings) (outer : Resumption) (calls : ExtendedCalls env.calls) (condition : Expr) (body : Stmt) (works : List Work) (operands : List Argument) (s : State) →
-    whiling env condition body (pending_of env outer works) operands s ≡ giving (value_of condition env) (while_tested env outer condition body works) operands s
+pub does-while-round : (env : Surroundings) (outer : Resumption) (calls : ExtendedCalls env.calls) (condition : Expr) (body : Stmt) (works : List Work)
+    (operands : List Argument) (s : State) →
+    whiling env condition body (pending_of env outer works) operands s ≡ giving (value_of condition env) (while_tested env outer condition body works)
+    operands s
 does-while-round env outer calls condition body works operands s =
     let then_rest : Unit {0} → Action (Unit {0}) = λ _. pending_of env outer works operands in
     let round = while_rounds env condition body in
@@ -299,7 +305,8 @@ does-while-round env outer calls condition body works operands s =
     ∙ and_then-and_then (value_of condition env s) turn (λ more. again more >>= then_rest)
     ∙ and_then-same (value_of condition env s) _ _ (λ v t. sym (and_then-and_then (turn v t) again then_rest))
 
-pub does-while-turn : (env : Surroundings) (outer : Resumption) (calls : ExtendedCalls env.calls) (condition : Bor Expr) (body : Bor Stmt) (works : List Work) (operands : List Argument) (s : State) →
+pub does-while-turn : (env : Surroundings) (outer : Resumption) (calls : ExtendedCalls env.calls) (condition : Bor Expr) (body : Bor Stmt) (works : List Work)
+    (operands : List Argument) (s : State) →
     is_so (top_of operands) ≡ true → while_tested env outer condition.now body.now works operands s ≡
     turning_tested env (work.Statement body) condition.now (work.WhileTurn condition body) (pending_of env outer works) (below_top operands) s
 does-while-turn env outer calls condition body works operands s so =
@@ -323,7 +330,8 @@ does-Repeat n loop_number place statements condition given is all same env outer
     ∙ ap (λ (a : Action (Unit {0})). and_then (a s) then_rest) (effect-Repeat n loop_number place statements condition env)
     ∙ ap (λ (l : List Stmt). repeating env l condition (pending_of env outer works) operands (entered n env s)) (sym same)
 
-pub does-repeat-round : (env : Surroundings) (outer : Resumption) (calls : ExtendedCalls env.calls) (statements : Bor (List Stmt)) (condition : Bor Expr) (works : List Work) (operands : List Argument) (s : State) →
+pub does-repeat-round : (env : Surroundings) (outer : Resumption) (calls : ExtendedCalls env.calls) (statements : Bor (List Stmt)) (condition : Bor Expr)
+    (works : List Work) (operands : List Argument) (s : State) →
     repeating env statements.now condition.now (pending_of env outer works) operands s ≡
     turning_tested env (work.Statements statements) condition.now (work.Unless statements condition) (pending_of env outer works) operands s
 does-repeat-round env outer calls statements condition works operands s =
@@ -342,7 +350,8 @@ does-repeat-round env outer calls statements condition works operands s =
     ∙ and_then-same (use_turn s) _ _ (λ _ t. and_then-and_then (all t) (λ _. tested >>= until) rest
     ∙ and_then-same (all t) _ _ (λ _ u. and_then-and_then (tested u) until rest))
 
-pub does-unless : (env : Surroundings) (outer : Resumption) (statements : Bor (List Stmt)) (condition : Bor Expr) (works : List Work) (operands : List Argument) (s : State) →
+pub does-unless : (env : Surroundings) (outer : Resumption) (statements : Bor (List Stmt)) (condition : Bor Expr) (works : List Work)
+    (operands : List Argument) (s : State) →
     is_so (top_of operands) ≡ false → resumed env (work.Unless statements condition) (pending_of env outer works) operands s ≡
     repeating env statements.now condition.now (pending_of env outer works) (below_top operands) s
 does-unless env outer statements condition works operands s so =
@@ -383,12 +392,14 @@ pub does-bounds : (env : Surroundings) (outer : Resumption) (control : ℕ) (fir
     and_then (rounds_of env control direction (effect_of body) result s)
     (λ _. forgetting (env.visible.variables control) (pending_of env outer works) (below_top (below_top operands)))
 does-bounds env outer control first_fits direction last_fits body works operands s result is =
-    let then_rest : Unit {0} → Action (Unit {0}) = λ _. forgetting (env.visible.variables control) (pending_of env outer works) (below_top (below_top operands)) in
+    let then_rest : Unit {0} → Action (Unit {0}) = λ _. forgetting (env.visible.variables control) (pending_of env outer works)
+    (below_top (below_top operands)) in
     ap (λ (r : Reply (Unit {0})). and_then r then_rest)
     (between-tested env control first_fits direction last_fits (effect_of body) (top_of (below_top operands)) (top_of operands) s
     ∙ ap (λ (r : Result (Option (ℤ × ℤ)) ℕ). rounds_of env control direction (effect_of body) r s) is)
 
-pub does-for-round : (env : Surroundings) (calls : ExtendedCalls env.calls) (control : ℕ) (direction : Direction) (n last : ℤ) (body : Bor Stmt) (next : Resumption) (operands : List Argument)
+pub does-for-round : (env : Surroundings) (calls : ExtendedCalls env.calls) (control : ℕ) (direction : Direction) (n last : ℤ) (body : Bor Stmt)
+    (next : Resumption) (operands : List Argument)
     (s : State) → counting_on env control direction n last body.now next operands s ≡
     turning env (work.Statement body) (work.Next control direction n last body) next operands
     (record s { store = kept s.store (env.visible.variables control) (Number n) })
@@ -420,7 +431,8 @@ does-Case n site index constants arms given is rows same all alike env outer wor
 
 pub does-Statements : (first : Bor Stmt) (rest all : Bor (List Stmt)) → all.now ≡ first.now ∷ rest.now →
     (env : Surroundings) (outer : Resumption) (works : List Work) (operands : List Argument) (s : State) →
-    resumed env (work.Statements all) (pending_of env outer works) operands s ≡ pending_of env outer (work.Statement first ∷ work.Statements rest ∷ works) operands s
+    resumed env (work.Statements all) (pending_of env outer works) operands s ≡ pending_of env outer (work.Statement first ∷ work.Statements rest ∷ works)
+    operands s
 does-Statements first rest all is env outer works operands s =
     let then_rest : Unit {0} → Action (Unit {0}) = λ _. pending_of env outer works operands in
     ap (λ (l : List Stmt). and_then (all_of (map effect_of l) env s) then_rest) is
@@ -467,7 +479,8 @@ does-right-side n r right indexes env outer works operands s =
 -- a string that is written out
 pub does-Text : (n : ℕ) (characters : Vec ℕ Global) (given : Whole) → given ≡ Text n characters → (indexes : List Expr) (row : List ℤ) →
     row ≡ map pos characters.items → (env : Surroundings) (outer : Resumption) (works : List Work) (operands : List Argument) (s : State) →
-    giving_row (whole_of given (values_of indexes) env) (pending_of env outer works) operands s ≡ pending_of env outer works (OfRow row ∷ operands) (entered n env s)
+    giving_row (whole_of given (values_of indexes) env) (pending_of env outer works) operands s ≡ pending_of env outer works (OfRow row ∷ operands)
+    (entered n env s)
 does-Text n characters given is indexes row same env outer works operands s =
     ap (λ (w : Whole). giving_row (whole_of w (values_of indexes) env) (pending_of env outer works) operands s) is
     ∙ ap (λ (l : List ℤ). pending_of env outer works (OfRow l ∷ operands) (entered n env s)) (sym same)

@@ -1,5 +1,6 @@
 -- With fewer turns left there is no more to do: so a step that uses a turn leaves the rest no heavier than it was.
-use Rattle.std.proofs.Common.{◌≡◌, ℕ, zero, suc, ◌+◌, ◌-◌, ◌≤◌, List, [], ◌∷◌, ◌++◌, Option, Some, None, Result, Ok, Err, OnOk, Box, Global, Vec, Bor, ℤ, map, sum_by, ◌<◌}
+use Rattle.std.proofs.Common.{◌≡◌, ℕ, zero, suc, ◌+◌, ◌-◌, ◌≤◌, List, [], ◌∷◌, ◌++◌, Option, Some, None, Result, Ok}
+use Rattle.std.proofs.Common.{Err, OnOk, Box, Global, Vec, Bor, ℤ, map, sum_by, ◌<◌}
 use Rattle.std.proofs.Common.{arith, sym, ◌∙◌, ap, subst, slice_get}
 use Rattle.typed_tree.specs.declared.tree.Width.{Width}
 use Rattle.typed_tree.specs.declared.tree.WriteParameter.{WriteParameter}
@@ -63,33 +64,36 @@ rising_row own weigh (piece ∷ pieces) each = rising_cons own (weigh piece) (ma
 module _ (callees : Callees) (higher : (block : ℕ) → Rises (callees block)) where
   -- an expression whose weight rises, and an operator with its right operand
   abbrev RisingExpr : Type 0
-  RisingExpr = (e : Expr) × Rises ((weight_of_expression callees) e)
+  RisingExpr = (e : Expr) × Rises (weight_of_expression callees e)
 
   abbrev RisingPassed : Type 0
-  RisingPassed = (p : Passed) × Rises ((weight_of_passed callees) p)
+  RisingPassed = (p : Passed) × Rises (weight_of_passed callees p)
 
   abbrev RisingLink : Type 0
-  RisingLink = (l : Link) × Rises ((weight_of_link callees) l)
+  RisingLink = (l : Link) × Rises (weight_of_link callees l)
 
   -- the weights of one layer
   abbrev weighed : Expr-F Expr Passed Link → Weight
-  weighed y = (expression_weight callees) (map-Expr Expr Passed Link Weight Weight Weight (weight_of_expression callees) (weight_of_passed callees) (weight_of_link callees) y)
+  weighed y = expression_weight callees (map-Expr Expr Passed Link Weight Weight Weight (weight_of_expression callees) (weight_of_passed callees)
+      (weight_of_link callees) y)
 
   abbrev weighed_passed : Passed-F Expr Passed Link → Weight
-  weighed_passed y = (passed_weight callees) (map-Passed Expr Passed Link Weight Weight Weight (weight_of_expression callees) (weight_of_passed callees) (weight_of_link callees) y)
+  weighed_passed y = passed_weight callees (map-Passed Expr Passed Link Weight Weight Weight (weight_of_expression callees) (weight_of_passed callees)
+      (weight_of_link callees) y)
 
   abbrev weighed_link : Link-F Expr Passed Link → Weight
-  weighed_link y = (link_weight callees) (map-Link Expr Passed Link Weight Weight Weight (weight_of_expression callees) (weight_of_passed callees) (weight_of_link callees) y)
+  weighed_link y = link_weight callees (map-Link Expr Passed Link Weight Weight Weight (weight_of_expression callees) (weight_of_passed callees)
+      (weight_of_link callees) y)
 
   rising_links : (links : List RisingLink) → Rises (row_weight 2 (map (weight_of_link callees) (map (λ l. l.0) links)))
   rising_links [] = λ turns more. omega arith
   rising_links (link ∷ links) =
-      rising_cons 2 ((weight_of_link callees) link.0) (map (weight_of_link callees) (map (λ l. l.0) links)) link.1 (rising_links links)
+      rising_cons 2 (weight_of_link callees link.0) (map (weight_of_link callees) (map (λ l. l.0) links)) link.1 (rising_links links)
 
   rising_indexes : (indexes : List RisingExpr) → Rises (row_weight 1 (map (weight_of_expression callees) (map (λ e. e.0) indexes)))
   rising_indexes [] = λ turns more. omega arith
   rising_indexes (index ∷ indexes) =
-      rising_cons 1 ((weight_of_expression callees) index.0) (map (weight_of_expression callees) (map (λ e. e.0) indexes)) index.1 (rising_indexes indexes)
+      rising_cons 1 (weight_of_expression callees index.0) (map (weight_of_expression callees) (map (λ e. e.0) indexes)) index.1 (rising_indexes indexes)
 
   rising_components : (value : Whole) (indexes : List RisingExpr) → Rises (whole_weight value (map (weight_of_expression callees) (map (λ e. e.0) indexes)))
   rising_components (Text number characters) indexes turns more = omega arith
@@ -98,13 +102,14 @@ module _ (callees : Callees) (higher : (block : ℕ) → Rises (callees block)) 
   rising_actuals : (actuals : List RisingPassed) → Rises (row_weight 1 (map (weight_of_passed callees) (map (λ p. p.0) actuals)))
   rising_actuals [] = λ turns more. omega arith
   rising_actuals (actual ∷ actuals) =
-      rising_cons 1 ((weight_of_passed callees) actual.0) (map (weight_of_passed callees) (map (λ p. p.0) actuals)) actual.1 (rising_actuals actuals)
+      rising_cons 1 (weight_of_passed callees actual.0) (map (weight_of_passed callees) (map (λ p. p.0) actuals)) actual.1 (rising_actuals actuals)
 
-  rising_call : (call : Call) (actuals : List Weight) → Rises (row_weight 1 actuals) → Rises ((call_weight callees) call actuals)
+  rising_call : (call : Call) (actuals : List Weight) → Rises (row_weight 1 actuals) → Rises (call_weight callees call actuals)
   rising_call call actuals each turns more =
       let passed = each turns more in let begun = higher call.block turns more in omega (arith, passed, begun)
 
-  expression-parts : (y : Expr-F RisingExpr RisingPassed RisingLink) → Rises (weighed (map-Expr RisingExpr RisingPassed RisingLink Expr Passed Link (λ e. e.0) (λ p. p.0) (λ l. l.0) y))
+  expression-parts : (y : Expr-F RisingExpr RisingPassed RisingLink) → Rises (weighed (map-Expr RisingExpr RisingPassed RisingLink Expr Passed Link (λ e. e.0)
+      (λ p. p.0) (λ l. l.0) y))
   expression-parts (Constant number value) turns more = omega arith
   expression-parts (Variable access indexes defined) turns more = let parts = rising_indexes indexes.items turns more in omega (arith, parts)
   expression-parts (Monadic number operation operand) turns more = let inner = operand.value.1 turns more in omega (arith, inner)
@@ -125,12 +130,13 @@ module _ (callees : Callees) (higher : (block : ℕ) → Rises (callees block)) 
   passed-parts (PassedWhole type_id value indexes) turns more = rising_components value indexes.items turns more
   passed-parts (Reference type_id access indexes) turns more = let parts = rising_indexes indexes.items turns more in omega (arith, parts)
 
-  link-parts : (y : Link-F RisingExpr RisingPassed RisingLink) → Rises (weighed_link (map-Link RisingExpr RisingPassed RisingLink Expr Passed Link (λ e. e.0) (λ p. p.0) (λ l. l.0) y))
+  link-parts : (y : Link-F RisingExpr RisingPassed RisingLink) → Rises (weighed_link (map-Link RisingExpr RisingPassed RisingLink Expr Passed Link (λ e. e.0)
+      (λ p. p.0) (λ l. l.0) y))
   link-parts y turns more = y.operand.1 turns more
 
-  rising_expression : (e : Expr) → Rises ((weight_of_expression callees) e)
-  rising_expression = ind-Expr (λ e. Rises ((weight_of_expression callees) e)) (λ p. Rises ((weight_of_passed callees) p))
-      (λ l. Rises ((weight_of_link callees) l))
+  rising_expression : (e : Expr) → Rises (weight_of_expression callees e)
+  rising_expression = ind-Expr (λ e. Rises (weight_of_expression callees e)) (λ p. Rises (weight_of_passed callees p))
+      (λ l. Rises (weight_of_link callees l))
       (λ x y is. subst Rises (sym (fold-roll-Expr Weight Weight Weight (expression_weight callees) (passed_weight callees) (link_weight callees) x
       ∙ ap weighed (sym is))) (expression-parts y))
       (λ x y is. subst Rises (sym (fold-roll-Passed Weight Weight Weight (expression_weight callees) (passed_weight callees) (link_weight callees) x
@@ -138,9 +144,9 @@ module _ (callees : Callees) (higher : (block : ℕ) → Rises (callees block)) 
       (λ x y is. subst Rises (sym (fold-roll-Link Weight Weight Weight (expression_weight callees) (passed_weight callees) (link_weight callees) x
       ∙ ap weighed_link (sym is))) (link-parts y))
 
-  rising_passed : (p : Passed) → Rises ((weight_of_passed callees) p)
-  rising_passed = ind-Passed (λ e. Rises ((weight_of_expression callees) e)) (λ p. Rises ((weight_of_passed callees) p))
-      (λ l. Rises ((weight_of_link callees) l))
+  rising_passed : (p : Passed) → Rises (weight_of_passed callees p)
+  rising_passed = ind-Passed (λ e. Rises (weight_of_expression callees e)) (λ p. Rises (weight_of_passed callees p))
+      (λ l. Rises (weight_of_link callees l))
       (λ x y is. subst Rises (sym (fold-roll-Expr Weight Weight Weight (expression_weight callees) (passed_weight callees) (link_weight callees) x
       ∙ ap weighed (sym is))) (expression-parts y))
       (λ x y is. subst Rises (sym (fold-roll-Passed Weight Weight Weight (expression_weight callees) (passed_weight callees) (link_weight callees) x
@@ -148,28 +154,29 @@ module _ (callees : Callees) (higher : (block : ℕ) → Rises (callees block)) 
       (λ x y is. subst Rises (sym (fold-roll-Link Weight Weight Weight (expression_weight callees) (passed_weight callees) (link_weight callees) x
       ∙ ap weighed_link (sym is))) (link-parts y))
 
-  rising_link : (l : Link) → Rises ((weight_of_link callees) l)
-  rising_link l = subst Rises (sym (fold_out-Link Weight Weight Weight (expression_weight callees) (passed_weight callees) (link_weight callees) l)) (rising_expression l.operand)
+  rising_link : (l : Link) → Rises (weight_of_link callees l)
+  rising_link l = subst Rises (sym (fold_out-Link Weight Weight Weight (expression_weight callees) (passed_weight callees) (link_weight callees) l))
+      (rising_expression l.operand)
 
   -- the selectors of an access, with its index expressions
-  rising_selectors : (selectors : List Selector) (indexes : List Expr) → Rises ((weight_of_selectors callees) selectors indexes)
+  rising_selectors : (selectors : List Selector) (indexes : List Expr) → Rises (weight_of_selectors callees selectors indexes)
   rising_selectors selectors indexes turns more =
       let parts = rising_row 1 (weight_of_expression callees) indexes rising_expression turns more in omega (arith, parts)
 
-  rising_whole : (value : Whole) (indexes : List Expr) → Rises ((weight_of_whole callees) value indexes)
+  rising_whole : (value : Whole) (indexes : List Expr) → Rises (weight_of_whole callees value indexes)
   rising_whole (Text number characters) indexes turns more = omega arith
   rising_whole (VariableOf access type_id cells defined) indexes turns more =
       let parts = rising_selectors access.selectors.items indexes turns more in omega (arith, parts)
 
-  rising_width : (width : Option Width) → Rises ((weight_of_width callees) width)
+  rising_width : (width : Option Width) → Rises (weight_of_width callees width)
   rising_width None turns more = omega arith
   rising_width (Some width) turns more = let inner = rising_expression width.value turns more in omega (arith, inner)
 
-  rising_written : (value : Written) → Rises ((weight_of_written callees) value)
+  rising_written : (value : Written) → Rises (weight_of_written callees value)
   rising_written (Ordinal value representation) turns more = rising_expression value turns more
   rising_written (String value indexes) turns more = rising_whole value indexes.items turns more
 
-  rising_parameter : (parameter : WriteParameter) → Rises ((weight_of_parameter callees) parameter)
+  rising_parameter : (parameter : WriteParameter) → Rises (weight_of_parameter callees parameter)
   rising_parameter parameter turns more =
       let value = rising_written parameter.value turns more in
       let width = rising_width parameter.width turns more in
@@ -187,15 +194,15 @@ module _ (callees : Callees) (higher : (block : ℕ) → Rises (callees block)) 
 
   -- a statement whose weight rises
   abbrev RisingStmt : Type 0
-  RisingStmt = (e : Stmt) × Rises ((weight_of_statement callees) e)
+  RisingStmt = (e : Stmt) × Rises (weight_of_statement callees e)
 
   abbrev weighed_statement : Stmt-F Stmt → Weight
-  weighed_statement y = (statement_weight callees) (map-Stmt Stmt Weight (weight_of_statement callees) y)
+  weighed_statement y = statement_weight callees (map-Stmt Stmt Weight (weight_of_statement callees) y)
 
   rising_statements : (statements : List RisingStmt) → Rises (row_weight 1 (map (weight_of_statement callees) (map (λ e. e.0) statements)))
   rising_statements [] = λ turns more. omega arith
   rising_statements (statement ∷ statements) =
-      rising_cons 1 ((weight_of_statement callees) statement.0) (map (weight_of_statement callees) (map (λ e. e.0) statements)) statement.1
+      rising_cons 1 (weight_of_statement callees statement.0) (map (weight_of_statement callees) (map (λ e. e.0) statements)) statement.1
       (rising_statements statements)
 
   statement-parts : (y : Stmt-F RisingStmt) → Rises (weighed_statement (map-Stmt RisingStmt Stmt (λ e. e.0) y))
@@ -228,12 +235,12 @@ module _ (callees : Callees) (higher : (block : ℕ) → Rises (callees block)) 
   statement-parts (While number loop_number place condition body) =
       λ turns more.
       let tested = rising_expression condition turns more in
-      let rounds = rising_rounds (round_weight ((weight_of_statement callees) body.value.0) ((weight_of_expression callees) condition)) turns more in
+      let rounds = rising_rounds (round_weight (weight_of_statement callees body.value.0) (weight_of_expression callees condition)) turns more in
       omega (arith, tested, rounds)
   statement-parts (Repeat number loop_number place statements condition) =
       λ turns more.
       let all = row_weight 1 (map (weight_of_statement callees) (map (λ e. e.0) statements.items)) in
-      let rounds = rising_rounds (round_weight all ((weight_of_expression callees) condition)) turns more in
+      let rounds = rising_rounds (round_weight all (weight_of_expression callees condition)) turns more in
       omega (arith, rounds)
   statement-parts (For number loop_number place control first first_fits direction last last_fits body) =
       λ turns more.
@@ -247,18 +254,18 @@ module _ (callees : Callees) (higher : (block : ℕ) → Rises (callees block)) 
       let all = rising_statements arms.items turns more in
       omega (arith, given, all)
 
-  rising_statement : (e : Stmt) → Rises ((weight_of_statement callees) e)
-  rising_statement = ind-Stmt (λ e. Rises ((weight_of_statement callees) e))
+  rising_statement : (e : Stmt) → Rises (weight_of_statement callees e)
+  rising_statement = ind-Stmt (λ e. Rises (weight_of_statement callees e))
       (λ x y is. subst Rises (sym (fold-roll-Stmt Weight (statement_weight callees) x ∙ ap weighed_statement (sym is))) (statement-parts y))
 
   rising_for : (body : Weight) → Rises (for_weight body)
   rising_for body turns more = let rounds = rising_rounds (λ left. 3 + body left) turns more in omega (arith, rounds)
 
-  rising_alternative : (alternative : Option (Box Stmt Global)) → Rises ((weight_of_alternative callees) alternative)
+  rising_alternative : (alternative : Option (Box Stmt Global)) → Rises (weight_of_alternative callees alternative)
   rising_alternative None = λ turns more. omega arith
   rising_alternative (Some statement) = rising_statement statement.value
 
-  rising_work : (piece : Work) → Rises (λ turns. (weight_of callees) turns piece)
+  rising_work : (piece : Work) → Rises (λ turns. weight_of callees turns piece)
   rising_work (work.Statements statements) = rising_row 1 (weight_of_statement callees) statements.now rising_statement
   rising_work (work.Statement statement) = rising_statement statement.now
   rising_work (work.Choose consequence alternative) =
@@ -268,17 +275,17 @@ module _ (callees : Callees) (higher : (block : ℕ) → Rises (callees block)) 
       omega (arith, one, other)
   rising_work (work.WhileTurn condition body) =
       λ turns more.
-      let rounds = rising_rounds (round_weight ((weight_of_statement callees) body.now) ((weight_of_expression callees) condition.now)) turns more in
+      let rounds = rising_rounds (round_weight (weight_of_statement callees body.now) (weight_of_expression callees condition.now)) turns more in
       omega (arith, rounds)
   rising_work (work.Unless statements condition) =
       λ turns more.
       let all = row_weight 1 (map (weight_of_statement callees) statements.now) in
-      let rounds = rising_rounds (round_weight all ((weight_of_expression callees) condition.now)) turns more in
+      let rounds = rising_rounds (round_weight all (weight_of_expression callees condition.now)) turns more in
       omega (arith, rounds)
   rising_work (work.Bounds control first_fits direction last_fits body) =
-      λ turns more. let rounds = rising_for ((weight_of_statement callees) body.now) turns more in omega (arith, rounds)
+      λ turns more. let rounds = rising_for (weight_of_statement callees body.now) turns more in omega (arith, rounds)
   rising_work (work.Next control direction value last body) =
-      λ turns more. let rounds = rising_for ((weight_of_statement callees) body.now) turns more in omega (arith, rounds)
+      λ turns more. let rounds = rising_for (weight_of_statement callees body.now) turns more in omega (arith, rounds)
   rising_work (work.Case site constants arms) = rising_row 1 (weight_of_statement callees) arms.now rising_statement
   rising_work (work.Parameters parameters ends_line) = rising_row 1 (weight_of_parameter callees) parameters.now rising_parameter
   rising_work (work.Width width representation) = rising_width width.now
@@ -306,13 +313,13 @@ module _ (callees : Callees) (higher : (block : ℕ) → Rises (callees block)) 
   rising_work work.Discard = λ turns more. omega arith
 
   -- what is pending
-  pub rising_pending : (works : List Work) (turns more : ℕ) → sum_by ((weight_of callees) turns) works ≤ sum_by ((weight_of callees) (turns + more)) works
+  pub rising_pending : (works : List Work) (turns more : ℕ) → sum_by (weight_of callees turns) works ≤ sum_by (weight_of callees (turns + more)) works
   rising_pending [] turns more = omega arith
   rising_pending (piece ∷ works) turns more =
       let here = rising_work piece turns more in
       let there = rising_pending works turns more in
-      let fewer = sum_by-cons ((weight_of callees) turns) piece works in
-      let all = sum_by-cons ((weight_of callees) (turns + more)) piece works in
+      let fewer = sum_by-cons (weight_of callees turns) piece works in
+      let all = sum_by-cons (weight_of callees (turns + more)) piece works in
       omega (arith, here, there, fewer, all)
 
 -- an activation that begins

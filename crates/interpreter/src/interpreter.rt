@@ -79,6 +79,7 @@ impl<'t> Run<'t, '_> {
                 let mut activation = self
                     .activation
                     .inner(self.alloc, 0, &block.heading, 0, &[])?;
+                // Those inside it use a turn each, and it uses none itself.
                 activation.depth = self.turns;
                 self.activation = activation;
                 put(&mut self.pending, Work::Statement(&block.body))?;

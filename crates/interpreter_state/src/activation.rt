@@ -1,4 +1,4 @@
-ghost use Rattle.std.specs.Prelude.{◌≡◌, [], ◌∷◌, ◌++◌, ◌-◌, IfOk, OnOk, filter, map, option_map, slice_get};
+ghost use Rattle.std.specs.Prelude.{◌≡◌, [], ◌∷◌, ◌++◌, ◌-◌, IfOk, None, OnOk, filter, map, option_map, slice_get};
 ghost use Rattle.typed_tree.specs.WellFormed.{is_one_of};
 ghost use Rattle.interpreter_state.specs.Views.{declared_in, home_in, operand_seen, pairs_passed, passed_at, place_of};
 ghost use Rattle.interpreter_state.specs.Views.{place_seen, reference_seen, seen_as, visible_in};
@@ -90,6 +90,7 @@ impl Activation {
     pub fn outside(alloc: Global, depth: u64) -> Activation
         ensures visible { result.visible.items ≡ [] }
         ensures depth { result.depth ≡ depth }
+        ensures told { result.result ≡ None }
     {
         Activation {
             visible: Vec::new(alloc),

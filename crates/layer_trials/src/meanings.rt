@@ -220,15 +220,22 @@ static CALLS: [(CallRow, &str); 20] = [
         "2",
     ),
     ((PASSED, "i := 1; q(x[i], i); write(x[1]:1, i:1)", 1), "72"),
-    // So deep that a stack of the host would overflow.
-    ((DOWN, "down(1000000); write(1:1)", 1000001), "1"),
-    ((DOWN, "down(1000000); write(1:1)", 1000000), " more"),
+    ((DOWN, "down(1000); write(1:1)", 1001), "1"),
+    ((DOWN, "down(1000); write(1:1)", 1000), " more"),
     ((FAILS, "write(1:1); fails; write(2:1)", 1), "1!0"),
 ];
 
 #[test]
 fn calls_use_turns_and_have_activations(rt: HostRuntime) -> Result<(), Fail> {
     all_hold(rt.alloc(), &CALLS, call_told)
+}
+
+/// So deep in one another that a stack of the host would overflow. (This takes long where each access is tested.)
+static DEEP: [(CallRow, &str); 1] = [((DOWN, "down(1000000); write(1:1)", 1000001), "1")];
+
+#[test]
+fn a_million_activations_stand_in_one_another(rt: HostRuntime) -> Result<(), Fail> {
+    all_hold(rt.alloc(), &DEEP, call_told)
 }
 
 #[test]

@@ -35,7 +35,7 @@ static LONG: [(Parts, Parts); 4] = [
     (
         &[(
             "program p(output); procedure q(n: integer); begin if n > 0 then q(n - 1) end;
-            begin q(100000); writeln(1) end.",
+            begin q(20000); writeln(1) end.",
             1,
         )],
         &[("|         1\n||0", 1)],

@@ -2,7 +2,8 @@ ghost use Rattle.std.specs.Prelude.{◌≡◌, ◌⊎◌, ◌∷◌, List, [], O
 ghost use Rattle.std.specs.Prelude.{nat_eq, reverse};
 ghost use Rattle.std.specs.Cmp.Lexicographic.{pointwise};
 ghost use Rattle.std.specs.HashMap.{get_by};
-ghost use Rattle.scopes.specs.Scopes.{Region, innermost, is_defined, listing, opened, opened_beside, opened_with, outer};
+ghost use Rattle.scopes.specs.Scopes.{Region, innermost, is_defined, listing, opened, opened_beside, opened_with};
+ghost use Rattle.scopes.specs.Scopes.{outer};
 ghost use Rattle.scopes.specs.Scopes.{region_of, said};
 ghost use Rattle.scopes.specs.declared.fault.ScopeFault.TheVariants.{Memory};
 

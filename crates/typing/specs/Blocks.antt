@@ -1,5 +1,5 @@
--- Where blocks and headings begin and end, as steps: what the calls do that pass them. It says nothing of what stands in
--- between.
+-- Where blocks and headings begin and end, as steps: what the calls do that pass them. It says nothing of what stands
+-- in between.
 use Rattle.std.specs.Prelude.{◌≡◌, ◌⊎◌, ℕ, ◌++◌, List, [], ◌∷◌, Option, None, Some, Result, Ok, Err, length}
 use Rattle.place.specs.declared.Place.{Place}
 use Rattle.typed_tree.specs.declared.fault.TypeFault.{TypeFault}

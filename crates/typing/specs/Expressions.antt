@@ -3,7 +3,8 @@
 -- kind in, as the leading kind: that site stands behind the token's own, and before all others. It says nothing of what
 -- a program does.
 use Rattle.std.specs.Prelude.{ℕ, ◌+◌, ◌&&◌, ◌||◌, Bool, true, false, not, List, [], ◌∷◌, ◌++◌, Option, Some, None}
-use Rattle.std.specs.Prelude.{is_none, Ok, Err, pos, neg_ℤ, if◌then◌else◌, nat_eq, nat_le, length, option_map, slice_get}
+use Rattle.std.specs.Prelude.{is_none, Ok, Err, pos, neg_ℤ, if◌then◌else◌, nat_eq, nat_le, length, option_map}
+use Rattle.std.specs.Prelude.{slice_get}
 use Rattle.place.specs.declared.Place.{Place}
 use Rattle.syntax_tree.specs.declared.Name.{Name}
 use Rattle.syntax_tree.specs.declared.Sign.{Sign}

@@ -34,7 +34,8 @@ use Rattle.typed_tree.specs.Look.{BlockEnds}
 use Rattle.typing.specs.Names.{folded, all_folded, formal_names, heading_names, names_defined}
 use Rattle.typing.specs.Passing.{Checked, Headed, Passing, fail, given, mark, each, pure, after, ◌>>=◌, ◌>>◌, ◌>>?◌}
 use Rattle.typing.specs.Steps.{add_heading, close_block, declare, fits, heading_at, innermost, is_assigned, may_nest}
-use Rattle.typing.specs.Steps.{next_block, next_root, open_beside, open_block, enclosing_now, reserve, site, with_enclosing}
+use Rattle.typing.specs.Steps.{next_block, next_root, open_beside, open_block, enclosing_now, reserve, site}
+use Rattle.typing.specs.Steps.{with_enclosing}
 use Rattle.typing.specs.Constants.{constant}
 use Rattle.typing.specs.Denoters.{denoted_type, type_of_name}
 use Rattle.typing.specs.Statements.{statement, compound}
@@ -216,7 +217,9 @@ pub record TypedRoutine : Type 0 where
 unfoldable pub told_waiting : ℕ → Option Place → Passing (Unit {0})
 told_waiting number place =
     enclosing_now
-    >>= (λ enclosing. with_enclosing (record enclosing { waiting = insert_entry nat_eq enclosing.waiting number place }))
+    >>= (λ enclosing. with_enclosing (record enclosing {
+      waiting = insert_entry nat_eq enclosing.waiting number place;
+    }))
 
 -- the place of the first that waits
 abbrev pub first_waiting : List (ℕ × Option Place) → Option Place

@@ -48,9 +48,11 @@ use Rattle.typed_tree.specs.WellFormed.{is_one_of}
 use Rattle.typed_tree.specs.Look.{Mark, Access, Assign, Target, WholeTarget, Copied, Fits, Write}
 use Rattle.typed_tree.specs.Look.{Written as WrittenMark, WrittenString, Width}
 use Rattle.typed_tree.specs.Look.{Empty, Compound, If, Then, Else, While, Do, Repeat, Until, For, Case, Arm, Ends}
-use Rattle.typing.specs.Passing.{Checked, Passing, and_then, pure, fail, given, by_types, mark, each, ◌>>=◌, ◌>>◌, ◌>>?◌}
+use Rattle.typing.specs.Passing.{Checked, Passing, and_then, pure, fail, given, by_types, mark, each, ◌>>=◌, ◌>>◌}
+use Rattle.typing.specs.Passing.{◌>>?◌}
 use Rattle.typing.specs.Steps.{assign_result, fits, or_mismatch, pass, enter_as, enter_loop, site, find, heading_at}
-use Rattle.typing.specs.Steps.{may_change, may_control, begin_control, end_control, enclosing_now, variable_at, wants_output}
+use Rattle.typing.specs.Steps.{may_change, may_control, begin_control, end_control, enclosing_now, variable_at}
+use Rattle.typing.specs.Steps.{wants_output}
 use Rattle.typing.specs.Constants.{ordinal_constant, constant_place}
 use Rattle.typing.specs.declared.typed.Typed.{Typed}
 use Rattle.typing.specs.Expressions.{Written, WrittenActual, is_of, as_routine, as_variable, copying, expression}

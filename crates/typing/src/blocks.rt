@@ -160,7 +160,16 @@ impl Typer {
     }
 
     /// It ends, with these parameters and this result; the block round it has so many cells so far.
-    #[tactic(auto, unfolding(crate::specs::Blocks::heading_ends, crate::specs::Steps::close_block, crate::specs::Steps::enclosing_now, crate::specs::Steps::with_enclosing, crate::specs::Steps::add_heading,))]
+    #[tactic(
+        auto,
+        unfolding(
+            crate::specs::Blocks::heading_ends,
+            crate::specs::Steps::close_block,
+            crate::specs::Steps::enclosing_now,
+            crate::specs::Steps::with_enclosing,
+            crate::specs::Steps::add_heading,
+        )
+    )]
     pub fn end_heading(
         &mut self,
         cells: u32,
@@ -168,8 +177,8 @@ impl Typer {
         root: Option<u32>,
     ) -> Result<(), TypeFault>
         requires few { cells ≤ most_cells }
-        ensures { Takes (heading_ends (record (self.old.enclosing) { cells = cells }) parameters.items root self.old) result
-            self.new }
+        ensures { Takes (heading_ends (record (self.old.enclosing) { cells = cells }) parameters.items root self.old)
+            result self.new }
     {
         let mut around = Vec::from_slice(self.alloc, &self.enclosing.around)?;
         around.push(self.enclosing.block)?;
@@ -186,7 +195,16 @@ impl Typer {
     }
 
     /// A block begins, behind the heading of its number, which defines these names, in small letters.
-    #[tactic(auto, unfolding(crate::specs::Blocks::block_begins, crate::specs::Steps::enclosing_now, crate::specs::Steps::with_enclosing, crate::specs::Steps::open_beside, crate::specs::Steps::heading_at,))]
+    #[tactic(
+        auto,
+        unfolding(
+            crate::specs::Blocks::block_begins,
+            crate::specs::Steps::enclosing_now,
+            crate::specs::Steps::with_enclosing,
+            crate::specs::Steps::open_beside,
+            crate::specs::Steps::heading_at,
+        )
+    )]
     pub fn begin_block(&mut self, number: u32, names: &[Vec<u8>]) -> Result<BegunBlock, TypeFault>
         ensures { BeginsBlock (block_begins number (map (λ name. name.items) names.now) self.old) result self.new }
     {
@@ -221,7 +239,14 @@ impl Typer {
     }
 
     /// It ends, and the block round it goes on.
-    #[tactic(auto, unfolding(crate::specs::Blocks::block_ends, crate::specs::Steps::close_block, crate::specs::Steps::with_enclosing,))]
+    #[tactic(
+        auto,
+        unfolding(
+            crate::specs::Blocks::block_ends,
+            crate::specs::Steps::close_block,
+            crate::specs::Steps::with_enclosing,
+        )
+    )]
     pub fn end_block(&mut self, round: EnclosingBlock)
         ensures { block_ends (enclosing_of round) self.old ≡ Ok (after tt [] self.new) }
     {

@@ -1,5 +1,5 @@
-use Rattle.code_generator.proofs.Callee.{callee}
+use Rattle.code_generator.proofs.Followed.{frames_fit}
 use Rattle.code_generator.proofs.laws.frames_fit.Goals as goal
 
 pub returns : goal.returns
-returns c = ?
+returns c = frames_fit

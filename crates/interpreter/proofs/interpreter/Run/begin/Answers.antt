@@ -87,7 +87,8 @@ returns-clause-does c = λ env outer s agrees.
     ap (λ (r : Run). r.pending.items) same ∙ ap (λ v. v.items) c.replace-pending.ensures.after ∙ c.new.ensures.items in
     let s2 = after_begin left number after s in
     continues_as there outer_there old c.do_next.new.self _ _ c.do_next.result
-    (begins tree depth number block arguments env (pending_of env outer (reverse old.pending.items)) (operands_of old) s left after new.activation.result some_left
+    (begins tree depth number block arguments env (pending_of env outer (reverse old.pending.items)) (operands_of old) s left after new.activation.result
+    some_left
     (ap (λ (r : Run). r.activation.result) same ∙ ap (λ (a : Activation). a.result) c.replace-activation.ensures.after ∙ c.in_ok-activation.ensures.told) stores
     ∙ ap (λ (l : List Work). and_then (effect_of block.body there s2) (λ _. pending_of there outer_there (reverse l) (operands_of old))) (sym none)
     ∙ ap (λ (l : List Argument). and_then (effect_of block.body there s2) (λ _. pending_of there outer_there (reverse new.pending.items) l))

@@ -24,7 +24,8 @@ returns-in-Some-clause-does c = λ env outer s agrees.
     let agreed = agreed_below old popped env outer s top.same agrees in
     let held : held_all s.store place components ≡ Some row =
     ap (held_all s.store place) (ap (λ (l : List Form). components_of l c.args.type_id) agreed.visible.types)
-    ∙ sym (c.in_ok-row.ensures s.store agreed.store ∙ ap (λ (p : Option Place). held_all s.store p (components_of popped.tree.now.types c.args.type_id)) top.top)
+    ∙ sym (c.in_ok-row.ensures s.store agreed.store ∙ ap (λ (p : Option Place). held_all s.store p (components_of popped.tree.now.types c.args.type_id))
+    top.top)
     ∙ ap (option_map items_of) c.in-Some.is in
     goes_on_to env outer old new s works (OfRow row ∷ below_top (operands_of old)) _ (agreed_below old new env outer s same agrees)
     (ap (λ (r : Run). reverse r.pending.items) same) (c.in_ok-push-in-Some.ensures.top ∙ ap (λ l. OfRow row ∷ l) top.below)
@@ -42,7 +43,8 @@ returns-clause-does c = λ env outer s agrees.
     let agreed = agreed_below old popped env outer s top.same agrees in
     let held : held_all s.store place components ≡ None =
     ap (held_all s.store place) (ap (λ (l : List Form). components_of l c.args.type_id) agreed.visible.types)
-    ∙ sym (c.in_ok-row.ensures s.store agreed.store ∙ ap (λ (p : Option Place). held_all s.store p (components_of popped.tree.now.types c.args.type_id)) top.top)
+    ∙ sym (c.in_ok-row.ensures s.store agreed.store ∙ ap (λ (p : Option Place). held_all s.store p (components_of popped.tree.now.types c.args.type_id))
+    top.top)
     ∙ ap (option_map items_of) c.in-None.is in
     stops_below old popped env outer s _ _ top.same
     (ap (λ (r : Reply (List ℤ)). and_then r (λ row. pending_of env outer works (OfRow row ∷ below_top (operands_of old))))

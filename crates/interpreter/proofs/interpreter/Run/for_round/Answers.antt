@@ -45,7 +45,8 @@ returns-clause-does c = λ env outer s agrees.
     Does (λ env. turning env (work.Statement body) (work.Next control c.args.direction n m body)) new c.turn.result c.turn.new.self in
     let later = work.Next control c.args.direction c.args.value c.args.last body in
     continues_as env outer old c.turn.new.self _ _ c.turn.result
-    (does-for-round env (calls_extended env outer old s agrees) control c.args.direction c.args.value c.args.last body (pending_of env outer (reverse old.pending.items)) (operands_of old) s
+    (does-for-round env (calls_extended env outer old s agrees) control c.args.direction c.args.value c.args.last body
+    (pending_of env outer (reverse old.pending.items)) (operands_of old) s
     ∙ ap (λ (r : Run). turning env (work.Statement body) later (pending_of env outer (reverse r.pending.items)) (operands_of r) after) (sym same))
     (passed does c.args.value c.args.last c.ranges.value c.ranges.last c.turn.ensures.does env outer after agreed)
 

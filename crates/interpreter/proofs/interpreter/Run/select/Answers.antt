@@ -17,7 +17,8 @@ returns-in_ok-extend-in-Some-Field-default-clause-does c = λ env outer s agrees
     let operands = operands_of old in
     let next = pending_of env outer (reverse old.pending.items) in
     let place = part (top_place operands) (step.Field given.position ∷ []) in
-    goes_on_below old c.extend.new.self c.do_next.new.self env outer s (λ env. resumed env (work.Select given.rest indexes)) (OfPlace place ∷ below_top operands)
+    goes_on_below old c.extend.new.self c.do_next.new.self env outer s (λ env. resumed env (work.Select given.rest indexes))
+    (OfPlace place ∷ below_top operands)
     c.do_next.result _ c.extend.ensures.same c.in_ok-extend-in-Some-Field-default.ensures.top
     (ap (λ (l : List Selector). selecting env l indexes.now next operands s)
     (given.ensures.cases.0 ∙ ap (λ (selector : Selector). selector ∷ given.rest.now) given.field-0-0-is)

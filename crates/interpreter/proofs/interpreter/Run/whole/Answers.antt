@@ -13,7 +13,8 @@ returns-in_ok-push-in-Text-clause-does c = λ env outer s agrees.
     let text = c.in-Text in
     let row = c.in_ok-row-in-Text.row.items in
     let there = entered text.number env s in
-    goes_on_to env outer old new there (reverse old.pending.items) (OfRow row ∷ operands_of old) _ (agreed_below old new env outer there c.push.ensures.same agrees)
+    goes_on_to env outer old new there (reverse old.pending.items) (OfRow row ∷ operands_of old) _
+    (agreed_below old new env outer there c.push.ensures.same agrees)
     (ap (λ (r : Run). reverse r.pending.items) c.push.ensures.same) c.in_ok-push-in-Text.ensures.top
     (does-Text text.number text.characters c.args.value.now text.is c.args.indexes.now row
     (c.in_ok-row-in-Text.ensures ∙ ap (map pos) c.deref.ensures.value) env outer (reverse old.pending.items) (operands_of old) s)
