@@ -1,5 +1,5 @@
 -- Calls and the values of functions: how their typing goes on from that of their actual parameters.
-use Rattle.std.proofs.Common.{◌≡◌, ℕ, List, [], ◌∷◌, ◌++◌, length, map, get_or, Bool, true, Option, Some, None, Ok, Err, inl, inr, refl, sym, ap, ◌∙◌}
+use Rattle.std.proofs.Common.{◌≡◌, ℕ, List, [], ◌∷◌, ◌++◌, length, get_or, Bool, true, Option, Some, None, Ok, Err, inl, inr, refl, sym, ap, ◌∙◌}
 use Rattle.std.proofs.Common.{append-nil}
 use Rattle.std.proofs.Common.{◌⊎◌}
 use Rattle.std.proofs.lemmas.List.{length-map}
@@ -14,10 +14,9 @@ use Rattle.typed_tree.specs.declared.tree.Variable.{Variable}
 use Rattle.typed_tree.specs.Look.{Look, Called, Calls, look_call, look_passed}
 use Rattle.typing.specs.declared.typed.Typed.{Typed}
 use Rattle.typing.specs.Passing.{Passed, Passing, Checked, After, Headed, after, and_then, behind_marks, given, mark, pure, ◌>>=◌, ◌>>◌}
-use Rattle.typing.specs.Steps.{enter, enter_as, heading_at, host_type, pass, program_heading, variable_at}
+use Rattle.typing.specs.Steps.{enter, heading_at, host_type, pass, program_heading, variable_at}
 use Rattle.typing.specs.Expressions.{WrittenActual, actuals_for, are_as_many, behind, function_value, or_no_result, result_variable, routine_call, typed}
 use Rattle.typing.specs.Outcomes.{IsFault}
-use Rattle.typing.proofs.Rows.{behind_nothing, behind_both}
 use Rattle.expression_resolver.specs.Made.{host_found, look_actuals}
 use Rattle.expression_resolver.proofs.Results.{result_host}
 

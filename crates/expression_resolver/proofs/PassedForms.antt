@@ -1,7 +1,7 @@
 -- An actual parameter: how its typing goes on by what the formal one is, and how what is passed looks.
-use Rattle.std.proofs.Common.{◌≡◌, ℕ, List, [], ◌∷◌, ◌++◌, length, map, Bool, true, false, ◌&&◌, nat_eq, Option, Some, None, is_some, Ok, Err, refl, sym, ap}
+use Rattle.std.proofs.Common.{◌≡◌, ℕ, List, [], ◌∷◌, ◌++◌, length, Bool, true, false, ◌&&◌, nat_eq, Option, Some, None, is_some, Ok, Err, refl, sym, ap}
 use Rattle.std.proofs.Common.{◌∙◌, Vec, if◌then◌else◌}
-use Rattle.std.specs.Prelude.{flat_map, slice_get}
+use Rattle.std.specs.Prelude.{slice_get}
 use Rattle.std.specs.Option.{option_map}
 use Rattle.std.specs.declared.alloc.Global.{Global}
 use Rattle.place.specs.declared.Place.{Place}
@@ -14,9 +14,7 @@ use Rattle.scopes.specs.declared.denotation.Denotation.{Denotation}
 use Rattle.types.specs.Forms.{Form}
 use Rattle.types.specs.Types.{is_ordinal, is_assignable, cells_of}
 use Rattle.types.specs.declared.form.TypeId.{TypeId}
-use Rattle.typed_tree.specs.declared.fault.TypeFault.{TypeFault}
 use Rattle.typed_tree.specs.declared.fault.TypeFault.TheVariants as fault
-use Rattle.typed_tree.specs.declared.tree.Access.{Access as VariableAccess}
 use Rattle.typed_tree.specs.declared.tree.Expr.{Expr}
 use Rattle.typed_tree.specs.declared.tree.Passed.TheVariants as passes
 use Rattle.typed_tree.specs.declared.tree.Selector.{Selector as TreeSelector}
@@ -25,11 +23,11 @@ use Rattle.typed_tree.specs.declared.tree.VariableKind.{VariableKind}
 use Rattle.typed_tree.specs.declared.tree.VariableKind.TheVariants as kind
 use Rattle.typed_tree.specs.declared.tree.Whole.{Whole}
 use Rattle.typed_tree.specs.Accesses.{index_count}
-use Rattle.typed_tree.specs.Look.{Access, ForVariable, ForWhole, Look, look_expr, look_passed, look_whole}
+use Rattle.typed_tree.specs.Look.{Access, ForVariable, ForWhole, Look, look_passed, look_whole}
 use Rattle.typed_tree.specs.WellFormed.{is_variable_kind, length_of}
 use Rattle.typed_tree.proofs.Looks.{look_passed_variable, look_passed_whole}
 use Rattle.typing.specs.declared.typed.Typed.{Typed}
-use Rattle.typing.specs.Passing.{Passed, Passing, Checked, After, after, and_then, behind_marks, by_types, given, mark, ◌>>=◌, ◌>>◌, ◌>>?◌}
+use Rattle.typing.specs.Passing.{Passed, Passing, Checked, After, after, and_then, behind_marks, by_types, given, mark, ◌>>=◌, ◌>>◌}
 use Rattle.typing.specs.Steps.{enter, enter_as, find, may_change, or_mismatch, variable_at}
 use Rattle.typing.specs.Expressions.{Written, actual, as_variable, copied_cells, copying, expression, passable, passed_ordinal, passed_to, passed_value}
 use Rattle.typing.specs.Expressions.{passed_variable}

@@ -1,5 +1,5 @@
 use Rattle.std.proofs.lemmas.Bool.Decides.{nat_tests}
-use Rattle.std.proofs.Common.{rules, ◌≡◌, ◌<◌, ◌+◌, [], ◌∷◌, ◌++◌, ◌⊎◌, ap₂, get_or, length, map, refl, sym, ap, subst, ◌∙◌, arith, inl, inr, true, false}
+use Rattle.std.proofs.Common.{rules, ◌≡◌, ◌<◌, ◌+◌, [], ◌∷◌, ◌++◌, ◌⊎◌, ap₂, get_or, length, map, refl, sym, ap, subst, ◌∙◌, arith, inr, true, false}
 use Rattle.std.proofs.Common.{is_some, Some, None, Ok, Err}
 use Rattle.std.specs.Prelude.{slice_get}
 use Rattle.std.proofs.lemmas.List.{length-map}
