@@ -1,5 +1,6 @@
 -- The types and the parameters of a heading, one after another.
-use Rattle.std.proofs.Common.{◌≡◌, ◌⊎◌, ℕ, ◌+◌, ◌<◌, ◌≤◌, List, [], ◌∷◌, ◌++◌, flat_map, length, drop, get_or, min, Option, Ok, Err, inl, inr, refl, sym, ap, ap₂, ◌∙◌, append-nil}
+use Rattle.std.proofs.Common.{◌≡◌, ◌⊎◌, ℕ, ◌+◌, ◌<◌, ◌≤◌, List, [], ◌∷◌, ◌++◌, flat_map, length, drop, get_or, min, Option, Ok, Err, inl, inr, refl, sym, ap}
+use Rattle.std.proofs.Common.{ap₂, ◌∙◌, append-nil}
 use Rattle.std.proofs.lemmas.List.{drop_more, at_drop_all}
 use Rattle.syntax_tree.specs.declared.FormalGroup.{FormalGroup}
 use Rattle.place.specs.declared.Place.{Place}

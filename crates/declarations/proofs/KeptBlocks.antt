@@ -1,5 +1,6 @@
 -- What stays while blocks and routines are passed: the regions round the innermost one, and the names that this one knows.
-use Rattle.std.proofs.Common.{◌≡◌, ℕ, ◌+◌, Bool, true, false, List, [], ◌∷◌, ◌++◌, map, Option, Some, None, Result, Ok, Err, IfOk, nat_le, nat_lt, length, slice_index_or, refl, sym, ap, subst, ◌∙◌}
+use Rattle.std.proofs.Common.{◌≡◌, ℕ, Bool, true, false, List, [], ◌∷◌, ◌++◌, map, Option, Some, None, Result, Ok, Err, IfOk}
+use Rattle.std.proofs.Common.{slice_index_or, refl, sym, ap, subst, ◌∙◌}
 use Rattle.std.specs.Prelude.{flat_map, is_none, not}
 use Rattle.std.proofs.lemmas.Result.{IfOk-at_ok}
 use Rattle.place.specs.declared.Place.{Place}
@@ -12,21 +13,20 @@ use Rattle.syntax_tree.specs.declared.Heading.{Heading}
 use Rattle.syntax_tree.specs.declared.Heading.TheVariants.{Procedure, Function, Resumed}
 use Rattle.syntax_tree.specs.declared.Name.{Name}
 use Rattle.syntax_tree.specs.declared.Routine.{Routine}
-use Rattle.types.specs.declared.form.TypeId.{TypeId}
 use Rattle.types.specs.Types.{is_ordinal}
 use Rattle.scopes.specs.Scopes.{Region, Knows, outer}
 use Rattle.scopes.specs.declared.denotation.Denotation.TheVariants as denotes
-use Rattle.typed_tree.specs.declared.fault.TypeFault.TheVariants as fault
 use Rattle.typed_tree.specs.declared.site.SiteKind.TheVariants as kind
 use Rattle.typed_tree.specs.Look.{Look, BlockEnds}
 use Rattle.typing.specs.Names.{all_folded, folded, formal_names, heading_names}
-use Rattle.typing.specs.Passing.{Headed, Enclosing, Passed, Checked, After, Passing, after, and_then, behind_marks, pure, fail, given, mark, each, ◌>>=◌, ◌>>◌}
+use Rattle.typing.specs.Passing.{Headed, Enclosing, Passed, Checked, After, Passing, after, and_then, behind_marks, each, ◌>>=◌}
 use Rattle.typing.specs.Steps.{fits, add_heading, close_block, enclosing_now, heading_at, open_beside, open_block, with_enclosing}
 use Rattle.typing.specs.Routines.{Begun, TypedBlock, TypedRoutine, all_came, block_end, block_step, definition, first_waiting, forward, group, group_types}
-use Rattle.typing.specs.Routines.{headed, heading, new_heading, begun, none_waits, or_mismatched, or_new, parameters, procedure_headed, result, result_at_end}
-use Rattle.typing.specs.Routines.{result_type, resumed, routine_block, routine_body, routine_step, told_waiting, type_definition, type_of_result, typed_block, typed_routine}
-use Rattle.typing.specs.Statements.{statement}
-use Rattle.typing.proofs.Stays.{Keeps, Stays, given_keeps, is_assigned_keeps, keeps_test, keeps_then, mark_keeps, may_nest_keeps, next_block_keeps, pure_keeps, site_keeps}
+use Rattle.typing.specs.Routines.{headed, heading, new_heading, begun, none_waits, or_mismatched, or_new, procedure_headed, result_at_end}
+use Rattle.typing.specs.Routines.{result_type, routine_block, routine_body, routine_step, told_waiting, type_definition, type_of_result, typed_block}
+use Rattle.typing.specs.Routines.{typed_routine}
+use Rattle.typing.proofs.Stays.{Keeps, Stays, given_keeps, is_assigned_keeps, keeps_test, keeps_then, mark_keeps, may_nest_keeps, next_block_keeps, pure_keeps}
+use Rattle.typing.proofs.Stays.{site_keeps}
 use Rattle.typing.proofs.Stays.{declare_keeps, each_keeps}
 use Rattle.typing.proofs.StayingForms.{body_keeps}
 use Rattle.declarations.specs.Known.{AreKnown, AreKnownRoutines}

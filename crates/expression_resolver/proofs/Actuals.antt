@@ -1,6 +1,6 @@
 -- Actual parameters: how their typing goes on from those that are made, and how they look.
-use Rattle.std.proofs.Common.{◌≡◌, ℕ, suc, ◌+◌, ◌<◌, ◌≤◌, List, [], ◌∷◌, ◌++◌, map, length, drop, get_or, Ok, inl, inr, refl, sym, ap, ◌∙◌, append-nil, length-append, arith}
-use Rattle.std.specs.Prelude.{flat_map}
+use Rattle.std.proofs.Common.{◌≡◌, ℕ, suc, ◌+◌, ◌<◌, ◌≤◌, List, [], ◌∷◌, ◌++◌, map, length, drop, get_or, Ok, inl, inr, refl, sym, ap, ◌∙◌, append-nil}
+use Rattle.std.proofs.Common.{length-append, arith}
 use Rattle.std.proofs.lemmas.List.{drop_more, at_drop_all, length-map, map-append}
 use Rattle.std.proofs.lemmas.Grind.{flat_map-append}
 use Rattle.syntax_tree.specs.declared.Actual.{Actual}
@@ -10,9 +10,9 @@ use Rattle.typed_tree.specs.Entries.{joined}
 use Rattle.typed_tree.specs.Look.{Look, look_passed}
 use Rattle.typed_tree.specs.WellFormed.{placed}
 use Rattle.typing.specs.Passing.{Passed, Checked, After, after, and_then, behind_marks}
-use Rattle.typing.specs.Expressions.{WrittenActual, actual, actuals_for, written_actual}
+use Rattle.typing.specs.Expressions.{actual, actuals_for, written_actual}
 use Rattle.typing.specs.Outcomes.{IsFault}
-use Rattle.typing.proofs.Rows.{behind_nothing, behind_both, behind_fault}
+use Rattle.typing.proofs.Rows.{behind_nothing, behind_both}
 use Rattle.expression_resolver.specs.Made.{look_actuals}
 
 -- ---- how they look

@@ -1,5 +1,6 @@
 -- Calls and the values of functions: how their typing goes on from that of their actual parameters.
-use Rattle.std.proofs.Common.{◌≡◌, ℕ, List, [], ◌∷◌, ◌++◌, length, map, get_or, Bool, true, Option, Some, None, Ok, Err, inl, inr, refl, sym, ap, ◌∙◌, append-nil}
+use Rattle.std.proofs.Common.{◌≡◌, ℕ, List, [], ◌∷◌, ◌++◌, length, get_or, Bool, true, Option, Some, None, Ok, Err, inl, inr, refl, sym, ap, ◌∙◌}
+use Rattle.std.proofs.Common.{append-nil}
 use Rattle.std.proofs.Common.{◌⊎◌}
 use Rattle.std.proofs.lemmas.List.{length-map}
 use Rattle.std.specs.Prelude.{slice_get}
@@ -13,10 +14,9 @@ use Rattle.typed_tree.specs.declared.tree.Variable.{Variable}
 use Rattle.typed_tree.specs.Look.{Look, Called, Calls, look_call, look_passed}
 use Rattle.typing.specs.declared.typed.Typed.{Typed}
 use Rattle.typing.specs.Passing.{Passed, Passing, Checked, After, Headed, after, and_then, behind_marks, given, mark, pure, ◌>>=◌, ◌>>◌}
-use Rattle.typing.specs.Steps.{enter, enter_as, heading_at, host_type, pass, program_heading, variable_at}
+use Rattle.typing.specs.Steps.{enter, heading_at, host_type, pass, program_heading, variable_at}
 use Rattle.typing.specs.Expressions.{WrittenActual, actuals_for, are_as_many, behind, function_value, or_no_result, result_variable, routine_call, typed}
 use Rattle.typing.specs.Outcomes.{IsFault}
-use Rattle.typing.proofs.Rows.{behind_nothing, behind_both}
 use Rattle.expression_resolver.specs.Made.{host_found, look_actuals}
 use Rattle.expression_resolver.proofs.Results.{result_host}
 
@@ -24,7 +24,8 @@ use Rattle.expression_resolver.proofs.Results.{result_host}
 
 module _ (place : Place) (id : Option ℕ) where
   abbrev value_of : Option ℕ → Passing Typed
-  value_of root = result_variable root >>= (λ found. given (or_no_result place found) >>= (λ result. host_type result.type_id >>= (λ host. pure (typed host id))))
+  value_of root = result_variable root >>= (λ found. given (or_no_result place found)
+      >>= (λ result. host_type result.type_id >>= (λ host. pure (typed host id))))
 
   -- its type by the variable of its result
   abbrev by_host : Checked (After TypeId) → Checked (After Typed)
@@ -47,10 +48,12 @@ module _ (callee : ℕ) (place : Place) (actuals : List WrittenActual) (lead : O
   abbrev behind_call : Checked (After (Option ℕ)) → Checked (After Typed)
   behind_call outcome = and_then outcome (λ a. behind_marks a.look (value_of place id a.answer a.passed))
 
-  value_goes : function_value callee true place actuals lead old ≡ behind_marks [] (behind_marks [] (behind_call (routine_call true callee place actuals second)))
+  value_goes : function_value callee true place actuals lead old ≡ behind_marks []
+      (behind_marks [] (behind_call (routine_call true callee place actuals second)))
   unfolding function_value
   value_goes =
-      ap (λ r. and_then r (λ a. behind_marks a.look ((behind lead place >>= (λ i. routine_call true callee place actuals >>= value_of place i)) a.passed))) passes
+      ap (λ r. and_then r (λ a. behind_marks a.look
+      ((behind lead place >>= (λ i. routine_call true callee place actuals >>= value_of place i)) a.passed))) passes
       ∙ ap (λ r. behind_marks [] (and_then r (λ a. behind_marks a.look ((routine_call true callee place actuals >>= value_of place a.answer) a.passed)))) leads
 
   module _ (root : Option ℕ) (look : Look) (third : Passed) (calls : routine_call true callee place actuals second ≡ Ok (after root look third)) where
@@ -73,7 +76,8 @@ module _ (callee : ℕ) (place : Place) (actuals : List WrittenActual) (lead : O
 
 -- ---- a call
 
-module _ (is_function : Bool) (callee : ℕ) (place : Place) (actuals : List WrittenActual) (old there : Passed) (number : ℕ) (enters : enter old ≡ Ok (after number [] there)) where
+module _ (is_function : Bool) (callee : ℕ) (place : Place) (actuals : List WrittenActual) (old there : Passed) (number : ℕ)
+    (enters : enter old ≡ Ok (after number [] there)) where
   abbrev heading : Headed
   heading = get_or there.headings callee program_heading
 

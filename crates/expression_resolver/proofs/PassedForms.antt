@@ -1,6 +1,7 @@
 -- An actual parameter: how its typing goes on by what the formal one is, and how what is passed looks.
-use Rattle.std.proofs.Common.{◌≡◌, ℕ, List, [], ◌∷◌, ◌++◌, length, map, Bool, true, false, ◌&&◌, nat_eq, Option, Some, None, is_some, Ok, Err, refl, sym, ap, ◌∙◌, Vec, if◌then◌else◌}
-use Rattle.std.specs.Prelude.{flat_map, slice_get}
+use Rattle.std.proofs.Common.{◌≡◌, ℕ, List, [], ◌∷◌, ◌++◌, length, Bool, true, false, ◌&&◌, nat_eq, Option, Some, None, is_some, Ok, Err, refl, sym, ap}
+use Rattle.std.proofs.Common.{◌∙◌, Vec, if◌then◌else◌}
+use Rattle.std.specs.Prelude.{slice_get}
 use Rattle.std.specs.Option.{option_map}
 use Rattle.std.specs.declared.alloc.Global.{Global}
 use Rattle.place.specs.declared.Place.{Place}
@@ -13,9 +14,7 @@ use Rattle.scopes.specs.declared.denotation.Denotation.{Denotation}
 use Rattle.types.specs.Forms.{Form}
 use Rattle.types.specs.Types.{is_ordinal, is_assignable, cells_of}
 use Rattle.types.specs.declared.form.TypeId.{TypeId}
-use Rattle.typed_tree.specs.declared.fault.TypeFault.{TypeFault}
 use Rattle.typed_tree.specs.declared.fault.TypeFault.TheVariants as fault
-use Rattle.typed_tree.specs.declared.tree.Access.{Access as VariableAccess}
 use Rattle.typed_tree.specs.declared.tree.Expr.{Expr}
 use Rattle.typed_tree.specs.declared.tree.Passed.TheVariants as passes
 use Rattle.typed_tree.specs.declared.tree.Selector.{Selector as TreeSelector}
@@ -24,13 +23,14 @@ use Rattle.typed_tree.specs.declared.tree.VariableKind.{VariableKind}
 use Rattle.typed_tree.specs.declared.tree.VariableKind.TheVariants as kind
 use Rattle.typed_tree.specs.declared.tree.Whole.{Whole}
 use Rattle.typed_tree.specs.Accesses.{index_count}
-use Rattle.typed_tree.specs.Look.{Access, ForVariable, ForWhole, Look, look_expr, look_passed, look_whole}
+use Rattle.typed_tree.specs.Look.{Access, ForVariable, ForWhole, Look, look_passed, look_whole}
 use Rattle.typed_tree.specs.WellFormed.{is_variable_kind, length_of}
 use Rattle.typed_tree.proofs.Looks.{look_passed_variable, look_passed_whole}
 use Rattle.typing.specs.declared.typed.Typed.{Typed}
-use Rattle.typing.specs.Passing.{Passed, Passing, Checked, After, after, and_then, behind_marks, by_types, given, mark, ◌>>=◌, ◌>>◌, ◌>>?◌}
+use Rattle.typing.specs.Passing.{Passed, Passing, Checked, After, after, and_then, behind_marks, by_types, given, mark, ◌>>=◌, ◌>>◌}
 use Rattle.typing.specs.Steps.{enter, enter_as, find, may_change, or_mismatch, variable_at}
-use Rattle.typing.specs.Expressions.{Written, actual, as_variable, copied_cells, copying, expression, passable, passed_ordinal, passed_to, passed_value, passed_variable}
+use Rattle.typing.specs.Expressions.{Written, actual, as_variable, copied_cells, copying, expression, passable, passed_ordinal, passed_to, passed_value}
+use Rattle.typing.specs.Expressions.{passed_variable}
 use Rattle.typing.specs.Expressions.{passed_whole, selected, tests_ordinal, unless_width, written_actual}
 use Rattle.typing.proofs.Rows.{behind_nothing}
 use Rattle.typing.proofs.Written.{typing_actual}
@@ -111,7 +111,8 @@ same_cells : (both : Bool) (cells count : ℕ) → (if both then Some cells else
 same_cells true cells count is = let same : cells ≡ count = cc in sym same
 same_cells false cells count is = absurd cc
 
-pub cells_copied : (types : List Form) (type_id : TypeId) (t : Typed) (cells count : ℕ) → t.length ≡ Some cells → copying types type_id t ≡ Some count → count ≡ cells
+pub cells_copied : (types : List Form) (type_id : TypeId) (t : Typed) (cells count : ℕ) → t.length ≡ Some cells → copying types type_id t ≡ Some count
+    → count ≡ cells
 cells_copied types type_id t cells count long is =
     same_cells (is_assignable types type_id t.type_id && nat_eq (cells_of types type_id) cells) cells count
     (sym (ap (copied_cells types type_id t) long) ∙ is)
@@ -177,7 +178,8 @@ pub variable_made : (wanted : TypeId) (number root : ℕ) (made : Selection) (ca
     → ◌≡◌ {A = Checked (After (Unit {0}))}
     (Ok (after tt (Access number ∷ (look_selection made
     ++ (ForVariable wanted root made.selectors.items (index_count made.selectors.items) callee position ∷ []))) now))
-    (Ok (after tt (look_passed (passes.Reference wanted (record { number = number; root = root; selectors = made.selectors }) made.indexes) callee position) now))
+    (Ok (after tt (look_passed (passes.Reference wanted
+    (record { number = number; root = root; selectors = made.selectors }) made.indexes) callee position) now))
 variable_made wanted number root made callee position now counted =
     ap (λ n. Ok (after tt (Access number ∷ (look_selection made ++ (ForVariable wanted root made.selectors.items n callee position ∷ []))) now)) counted
     ∙ ap (λ look. Ok (after tt look now))

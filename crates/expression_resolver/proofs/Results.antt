@@ -28,7 +28,8 @@ module _ (place : Place) (root : Option ℕ) (s : Passed) where
   unfolding host_found variable_at
   no_variable n is none = ap of_root is ∙ ap (λ (found : Option Variable). behind_marks [] (host_found place found s)) none
 
-  pub host_is : (n : ℕ) (variable : Variable) (host : TypeId) → root ≡ Some n → slice_get s.variables n ≡ Some variable → host_of s.types variable.type_id ≡ host
+  pub host_is : (n : ℕ) (variable : Variable) (host : TypeId) → root ≡ Some n → slice_get s.variables n ≡ Some variable
+      → host_of s.types variable.type_id ≡ host
       → result_host ≡ Ok (after host [] s)
   unfolding host_found variable_at host_type
   host_is n variable host is found same =

@@ -624,11 +624,7 @@ fn actuals_for(
 // An actual parameter, by what the formal one is, which has this root.
 #[cycle(expressions)]
 #[tactic(auto, unfolding(typing::specs::Expressions::actual))]
-fn actual(
-    typer: &mut Typer,
-    root: u32,
-    written: &syntax::Actual,
-) -> Result<Passed, TypeFault>
+fn actual(typer: &mut Typer, root: u32, written: &syntax::Actual) -> Result<Passed, TypeFault>
     ensures { MakesPassed (spec.actual (spec.written_actual written.now) root) typer.old result typer.new }
 {
     let place = first_place(&written.value);

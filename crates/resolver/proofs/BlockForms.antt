@@ -1,5 +1,6 @@
 -- Blocks and routines, as they are made: how their typing goes on behind their parts.
-use Rattle.std.proofs.Common.{◌≡◌, ℕ, ◌+◌, ◌<◌, ◌≤◌, List, [], ◌∷◌, ◌++◌, length, drop, get_or, map, Option, Some, None, Result, Ok, Err, inl, inr, refl, sym, ap, ap₂, subst, ◌∙◌, append-nil}
+use Rattle.std.proofs.Common.{◌≡◌, ℕ, ◌+◌, ◌<◌, ◌≤◌, List, [], ◌∷◌, ◌++◌, length, drop, get_or, map, Option, Some, None, Result, Ok, Err, inl, inr, refl, sym}
+use Rattle.std.proofs.Common.{ap, ap₂, subst, ◌∙◌, append-nil}
 use Rattle.std.proofs.Common.{append_assoc}
 use Rattle.std.specs.Prelude.{flat_map, option_map}
 use Rattle.std.proofs.lemmas.Grind.{flat_map-append}
@@ -21,7 +22,8 @@ use Rattle.typing.specs.Blocks.{block_begins, block_ends}
 use Rattle.typing.specs.Names.{all_folded}
 use Rattle.typing.specs.Outcomes.{IsFault}
 use Rattle.typing.specs.Passing.{Headed, Enclosing, Passed, Checked, After, Passing, after, and_then, behind_marks, each, mark, ◌>>=◌, ◌>>◌}
-use Rattle.typing.specs.Routines.{Begun, TypedBlock, TypedRoutine, all_came, block_end, definition, group, headed, heading_name, result_at_end, routine_block, routine_step}
+use Rattle.typing.specs.Routines.{Begun, TypedBlock, TypedRoutine, all_came, block_end, definition, group, headed, heading_name, result_at_end, routine_block}
+use Rattle.typing.specs.Routines.{routine_step}
 use Rattle.typing.specs.Routines.{routine_body, type_definition, typed_block, typed_routine}
 use Rattle.typing.specs.Statements.{compound, statement}
 use Rattle.typing.specs.Steps.{close_block, enclosing_now, heading_at, open_beside, program_heading, with_enclosing}

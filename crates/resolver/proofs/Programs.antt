@@ -64,8 +64,8 @@ module _ (program : Program) (made : List MadeBlock) (last : Passed) (typed : ty
       is_left = left;
       has_loops =
           table
-              ∙ sym (ap (flat_map (λ number. of_block rows_of_block number (slice_get tree.blocks.items number))) as_numbers
-              ∙ in_text_is rows_of_block tree.blocks.items made there);
+          ∙ sym (ap (flat_map (λ number. of_block rows_of_block number (slice_get tree.blocks.items number))) as_numbers
+          ∙ in_text_is rows_of_block tree.blocks.items made there);
     };
     count = as_many_blocks made tree.blocks.items arranged (length last.headings) all_numbers;
     bodies = as_numbers ∙ sym (ap blocks_of_look looks ∙ numbers_told made);

@@ -5,7 +5,8 @@ use Rattle.std.proofs.Math.Seq.{set-append_seam, drop-append_seam}
 use Rattle.typed_tree.specs.declared.tree.Loop.{Loop}
 use Rattle.typed_tree.specs.declared.tree.Stmt.{Stmt}
 use Rattle.typed_tree.specs.Loops.{Inside, no_loop, both_inside, all_inside, looped, controlled, inside_of}
-use Rattle.typed_tree.proofs.Insides.{inside_empty, inside_assign, inside_call, inside_copy, inside_write, inside_compound, inside_if, inside_if_else, inside_while}
+use Rattle.typed_tree.proofs.Insides.{inside_empty, inside_assign, inside_call, inside_copy, inside_write, inside_compound, inside_if, inside_if_else}
+use Rattle.typed_tree.proofs.Insides.{inside_while}
 use Rattle.typed_tree.proofs.Insides.{inside_repeat, inside_for, inside_case}
 use Rattle.resolver.specs.Table.{Seen, row_of, rows_of, meets, opened, closed}
 

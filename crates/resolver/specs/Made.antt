@@ -19,7 +19,8 @@ use Rattle.typed_tree.specs.declared.tree.Written.{Written}
 use Rattle.typed_tree.specs.declared.tree.Whole.{Whole}
 use Rattle.types.specs.declared.form.TypeId.{TypeId}
 use Rattle.types.specs.Types.{is_ordinal}
-use Rattle.typed_tree.specs.Look.{Look, Mark, Fits, If, Then, Else, Do, For, Case, blocks_of_look, look_block, look_expr, look_stmt}
+use Rattle.typed_tree.specs.Look.{Look, Mark, Fits, If, Then, Else, Do, For, Case, blocks_of_look, look_block}
+use Rattle.typed_tree.specs.Look.{look_expr, look_stmt}
 use Rattle.typed_tree.specs.Look.{tree_look}
 use Rattle.typed_tree.specs.Look.{Copied, look_access, look_whole, look_written, look_parameter, look_width}
 use Rattle.typed_tree.specs.WellFormed.{length_of}

@@ -53,13 +53,10 @@ fn routines(
 
 // A procedure or a function: its heading, and then its block or the directive forward (6.6.1, 6.6.2).
 #[cycle(blocks)]
-fn routine(
-    typer: &mut Typer,
-    made: &mut Vec<MadeBlock>,
-    written: &Routine,
-) -> Result<(), TypeFault>
+fn routine(typer: &mut Typer, made: &mut Vec<MadeBlock>, written: &Routine) -> Result<(), TypeFault>
     requires known { AreKnown (heading_names (out-Routine written.now).heading) typer.old.regions }
-    ensures { MakesBlocks made.old.items made.new.items ((typed_routine written.now).typing typer.old) result typer.new }
+    ensures { MakesBlocks made.old.items made.new.items ((typed_routine written.now).typing typer.old) result
+        typer.new }
 {
     let begun = begin_routine(typer, &written.heading)?;
     let name = heading_name(&written.heading);

@@ -348,8 +348,8 @@ fn declared_call(
     name: &syntax::Name,
     actuals: &[syntax::Actual],
 ) -> Result<Stmt, TypeFault>
-    ensures { MakesStmt (spec.declared_call callee is_function name.now (map written_actual actuals.now) typer.old) result
-        typer.new }
+    ensures { MakesStmt (spec.declared_call callee is_function name.now (map written_actual actuals.now) typer.old)
+        result typer.new }
 {
     if is_function {
         return Err(TypeFault::WrongParameters(name.place));

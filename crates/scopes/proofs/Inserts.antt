@@ -11,7 +11,8 @@ use Rattle.std.proofs.lemmas.List.Sums.{fold-append}
 use Rattle.indexmap.specs.IndexMap.{insert_entry}
 use Rattle.scopes.specs.declared.denotation.Denotation.{Denotation}
 use Rattle.scopes.specs.declared.fault.ScopeFault.TheVariants as fault
-use Rattle.scopes.specs.Scopes.{Region, innermost, said, decided, found, put, opened, opened_beside, opened_with, is_defined, is_listed, listing, define, region_of}
+use Rattle.scopes.specs.Scopes.{Region, innermost, said, decided, found, put, opened, opened_beside, opened_with, is_defined, is_listed, listing, define}
+use Rattle.scopes.specs.Scopes.{region_of}
 
 -- a table of what a region says
 abbrev pub Table : Type 0 → Type 0

@@ -1,5 +1,6 @@
 -- Of regions: what one says after a definition, and that a name that is known stays known.
-use Rattle.std.proofs.Common.{◌≡◌, ℕ, Bool, true, false, cond, if◌then◌else◌, List, [], ◌∷◌, ◌++◌, Option, Some, None, IsSome, Ok, Err, IfOk, All, nat_eq, fold, map}
+use Rattle.std.proofs.Common.{◌≡◌, ℕ, Bool, true, false, cond, if◌then◌else◌, List, [], ◌∷◌, ◌++◌, Option, Some, None, IsSome, Ok, Err, IfOk, All, nat_eq, fold}
+use Rattle.std.proofs.Common.{map}
 use Rattle.std.proofs.Common.{refl, sym, subst, true≢false}
 use Rattle.std.specs.Map.{lookup}
 use Rattle.std.specs.Cmp.Lexicographic.{pointwise}
@@ -52,7 +53,8 @@ opened_knows [] name behind region = put_all_keeps behind (put region name None)
 opened_knows (other ∷ before) name behind region = opened_knows before name behind (put region other None)
 
 -- a region that comes of another by names that it lists too
-module _ (lists : Region → List ℕ → Region) (keeps : (region : Region) (name other : List ℕ) → IsSome (said region other) → IsSome (said (lists region name) other))
+module _ (lists : Region → List ℕ → Region)
+    (keeps : (region : Region) (name other : List ℕ) → IsSome (said region other) → IsSome (said (lists region name) other))
     (knows : (region : Region) (name : List ℕ) → IsSome (said (lists region name) name)) where
   all_keep : (names : List (List ℕ)) (region : Region) (other : List ℕ) → IsSome (said region other) → IsSome (said (fold lists region names) other)
   all_keep [] region other known = known

@@ -1,6 +1,7 @@
 -- Each constant, each expression and each statement leaves the regions round it as they were.
-use Rattle.std.proofs.Common.{◌≡◌, ℕ, ◌+◌, ◌-◌, ◌&&◌, ◌||◌, ℤ, pos, neg_ℤ, Bool, true, false, if◌then◌else◌, List, [], ◌∷◌, ◌++◌, map, flat_map, Option, Some, None, Vec, Ok, Err, length, nat_le, nat_eq, refl, sym, ap, subst, ◌∙◌}
-use Rattle.std.specs.Prelude.{is_none, option_map}
+use Rattle.std.proofs.Common.{ℕ, ◌+◌, ◌&&◌, ◌||◌, ℤ, pos, neg_ℤ, Bool, true, false, if◌then◌else◌, List, [], ◌∷◌, ◌++◌, map, Option, Some}
+use Rattle.std.proofs.Common.{None, Vec, Ok, length, nat_le, nat_eq, sym, subst}
+use Rattle.std.specs.Prelude.{is_none}
 use Rattle.std.specs.declared.alloc.Global.{Global}
 use Rattle.place.specs.declared.Place.{Place}
 use Rattle.syntax_tree.specs.declared.Name.{Name}
@@ -24,7 +25,7 @@ use Rattle.syntax_tree.specs.declared.Stmt.TheOpen as stmt_layer
 use Rattle.syntax_tree.specs.declared.Stmt.TheViews.{roll-Stmt}
 use Rattle.syntax_tree.specs.declared.Stmt.TheFolds.{map-Stmt, fold-roll-Stmt, ind-Stmt}
 use Rattle.syntax_tree.specs.Places.{arms_of}
-use Rattle.types.specs.Forms.{Form, Subrange, Array}
+use Rattle.types.specs.Forms.{Subrange, Array}
 use Rattle.types.specs.declared.form.TypeId.{TypeId}
 use Rattle.types.specs.declared.form.ArrayElement.{ArrayElement}
 use Rattle.types.specs.Types.{integer, char, boolean, is_ordinal, is_compatible, cells_of, element_of}
@@ -47,7 +48,7 @@ use Rattle.typed_tree.specs.WellFormed.{is_one_of, is_variable_kind}
 use Rattle.typed_tree.specs.Accesses.{index_count}
 use Rattle.typed_tree.specs.Look as Look
 use Rattle.typing.specs.declared.typed.Typed.{Typed}
-use Rattle.typing.specs.Passing.{Headed, Passed, Checked, Passing, pure, fail, given, by_types, mark, each, ◌>>=◌, ◌>>◌, ◌>>?◌}
+use Rattle.typing.specs.Passing.{Passing, pure, given, each, ◌>>=◌, ◌>>◌}
 use Rattle.typing.specs.Steps.{enter_as, fits, keep_text, or_mismatch, value_of}
 use Rattle.typing.specs.Strings.{string_characters, string_type, string_constant}
 use Rattle.typing.specs.Constants as Constants
@@ -56,8 +57,10 @@ use Rattle.typing.specs.Expressions.{Written, WrittenActual, WrittenLink, expres
 use Rattle.typing.specs.Statements as Statements
 use Rattle.typing.specs.Statements.{statement}
 use Rattle.typing.proofs.Stays.{Keeps, keeps_then, keeps_test, pure_keeps, fail_keeps, mark_keeps, given_keeps, by_types_keeps, pass_keeps, enter_as_keeps}
-use Rattle.typing.proofs.Stays.{enter_loop_keeps, site_keeps, find_keeps, may_change_keeps, may_control_keeps, begin_control_keeps, end_control_keeps, add_type_keeps}
-use Rattle.typing.proofs.Stays.{host_type_keeps, keep_text_keeps, text_at_keeps, wants_output_keeps, enclosing_now_keeps, heading_at_keeps, variable_at_keeps, assign_result_keeps}
+use Rattle.typing.proofs.Stays.{enter_loop_keeps, site_keeps, find_keeps, may_change_keeps, may_control_keeps, begin_control_keeps, end_control_keeps}
+use Rattle.typing.proofs.Stays.{add_type_keeps}
+use Rattle.typing.proofs.Stays.{host_type_keeps, keep_text_keeps, text_at_keeps, wants_output_keeps, enclosing_now_keeps, heading_at_keeps, variable_at_keeps}
+use Rattle.typing.proofs.Stays.{assign_result_keeps}
 
 -- ---- constants
 
@@ -83,7 +86,8 @@ string_constant_keeps place (c ∷ d ∷ cs) = text_keeps place (c ∷ d ∷ cs)
 
 unsigned_keeps : (value : ConstantValue) → Keeps (Constants.unsigned_constant value)
 unfolding Constants.unsigned_constant
-unsigned_keeps (written_constant.Number value place) = keeps_test (λ types d. fits (nat_le value 2147483647) place (denotes.Constant (pos value) integer)) (pass_keeps place)
+unsigned_keeps (written_constant.Number value place) = keeps_test (λ types d. fits (nat_le value 2147483647) place (denotes.Constant (pos value) integer))
+    (pass_keeps place)
 unsigned_keeps (written_constant.String text place) =
     keeps_then (keeps_then (pass_keeps place) (λ _. given_keeps (string_characters place text.now))) (string_constant_keeps place)
 unsigned_keeps (written_constant.Name name) = keeps_test (λ types d. Constants.as_constant name.place d) (find_keeps name)
@@ -163,7 +167,8 @@ string_keeps text place lead =
 
 index_keeps : (element : ArrayElement) (w : Written) → WrittenKeeps w → Keeps (Expressions.index element w)
 unfolding Expressions.index
-index_keeps element w law = keeps_then (site_keeps kind.Index w.first) (λ id. keeps_test (λ types t. fits (is_none t.length && is_compatible types element.index t.type_id) w.first id) (law.typing None))
+index_keeps element w law = keeps_then (site_keeps kind.Index w.first)
+    (λ id. keeps_test (λ types t. fits (is_none t.length && is_compatible types element.index t.type_id) w.first id) (law.typing None))
 
 pub selected_keeps : (before : List TreeSelector) (type_id : TypeId) (selectors : List Selector) (ws : List Written) → AllKeep ws
     → Keeps (Expressions.selected before type_id selectors ws)
@@ -186,8 +191,11 @@ tests_ordinal_keeps id = by_types_keeps (λ types. Ok (is_ordinal types id))
 value_keeps : (ordinal : Bool) (root : ℕ) (selectors : List TreeSelector) (type_id : TypeId) (defined : ℕ) (lead : Option ℕ)
     → Keeps ((if ordinal then Expressions.ordinal_value else Expressions.whole_value) root selectors type_id defined lead)
 unfolding Expressions.ordinal_value Expressions.whole_value
-value_keeps true root selectors type_id defined lead = keeps_then (mark_keeps (Look.Value root selectors (index_count selectors) defined)) (λ _. keeps_then (host_type_keeps type_id) (λ host. pure_keeps (Expressions.typed host lead)))
-value_keeps false root selectors type_id defined lead = keeps_then (by_types_keeps (λ types. Ok (cells_of types type_id))) (λ cells. keeps_then (mark_keeps (Look.WholeValue root selectors (index_count selectors) type_id cells defined)) (λ _. pure_keeps (Expressions.typed_whole type_id cells lead)))
+value_keeps true root selectors type_id defined lead = keeps_then (mark_keeps (Look.Value root selectors (index_count selectors) defined))
+    (λ _. keeps_then (host_type_keeps type_id) (λ host. pure_keeps (Expressions.typed host lead)))
+value_keeps false root selectors type_id defined lead = keeps_then (by_types_keeps (λ types. Ok (cells_of types type_id)))
+    (λ cells. keeps_then (mark_keeps (Look.WholeValue root selectors (index_count selectors) type_id cells defined))
+    (λ _. pure_keeps (Expressions.typed_whole type_id cells lead)))
 
 accessed_keeps : (root : ℕ) (type_id : TypeId) (selectors : List Selector) (ws : List Written) (place : Place) (lead : Option SiteKind) → AllKeep ws
     → Keeps (Expressions.accessed root type_id selectors ws place lead)
@@ -229,8 +237,11 @@ unfolding Expressions.passed_value Expressions.passed_ordinal Expressions.passed
 passed_value_keeps type_id w callee position law = keeps_then (tests_ordinal_keeps type_id) by
   where
     by : (ordinal : Bool) → Keeps ((if ordinal then Expressions.passed_ordinal else Expressions.passed_whole) type_id w callee position)
-    by true = keeps_then (site_keeps kind.Subrange w.first) (λ id. keeps_then (keeps_test (λ types t. or_mismatch w.first (Expressions.fitting types type_id t)) (law.typing None)) (λ range. mark_keeps (Look.ForValue (record { site = id; range = range }) callee position)))
-    by false = keeps_then (keeps_test (λ types t. or_mismatch w.first (Expressions.copying types type_id t)) (law.typing None)) (λ cells. mark_keeps (Look.ForWhole type_id cells callee position))
+    by true = keeps_then (site_keeps kind.Subrange w.first)
+        (λ id. keeps_then (keeps_test (λ types t. or_mismatch w.first (Expressions.fitting types type_id t)) (law.typing None))
+        (λ range. mark_keeps (Look.ForValue (record { site = id; range = range }) callee position)))
+    by false = keeps_then (keeps_test (λ types t. or_mismatch w.first (Expressions.copying types type_id t)) (law.typing None))
+        (λ cells. mark_keeps (Look.ForWhole type_id cells callee position))
 
 passed_to_keeps : (formal : Option Variable) (w : Written) (callee position : ℕ) → WrittenKeeps w → Keeps (Expressions.passed_to formal w callee position)
 passed_to_keeps None w callee position law = fail_keeps (fault.WrongParameters w.first)
@@ -247,7 +258,8 @@ actual_keeps a root callee position law =
     keeps_then (variable_at_keeps root) λ formal.
     passed_to_keeps formal a.value callee position law.value
 
-actuals_keep : (roots : List ℕ) (actuals : List WrittenActual) (callee position : ℕ) → ActualsKeep actuals → Keeps (Expressions.actuals_for roots actuals callee position)
+actuals_keep : (roots : List ℕ) (actuals : List WrittenActual) (callee position : ℕ) → ActualsKeep actuals → Keeps
+    (Expressions.actuals_for roots actuals callee position)
 actuals_keep [] actuals callee position laws = pure_keeps tt
 actuals_keep (root ∷ roots) [] callee position laws = pure_keeps tt
 actuals_keep (root ∷ roots) (a ∷ actuals) callee position laws =
@@ -304,7 +316,8 @@ named_keeps name lead = keeps_then (find_keeps name) (λ d. denoted_keeps d name
 parenthesized_keeps : (place : Place) (w : Written) (lead : Option SiteKind) → WrittenKeeps w → Keeps (Expressions.parenthesized place w lead)
 unfolding Expressions.parenthesized
 parenthesized_keeps place w lead law =
-    keeps_then (pass_keeps place) (λ _. keeps_then (behind_keeps lead place) (λ id. keeps_test {A = Typed} (λ types t. Ok (record t { site = id })) (law.typing None)))
+    keeps_then (pass_keeps place) (λ _. keeps_then (behind_keeps lead place)
+    (λ id. keeps_test {A = Typed} (λ types t. Ok (record t { site = id })) (law.typing None)))
 
 negation_keeps : (place : Place) (w : Written) (lead : Option SiteKind) → WrittenKeeps w → Keeps (Expressions.negation place w lead)
 unfolding Expressions.negation
@@ -577,8 +590,12 @@ target_keeps name selectors ws laws =
 becomes_keeps : (ordinal : Bool) (type_id : TypeId) (place : Place) (w : Written) → WrittenKeeps w
     → Keeps ((if ordinal then Statements.assigned else Statements.copied) type_id place w)
 unfolding Statements.assigned Statements.copied
-becomes_keeps true type_id place w law = keeps_then (site_keeps kind.Subrange place) (λ id. keeps_then (keeps_test (λ types t. or_mismatch place (Expressions.fitting types type_id t)) (law.typing None)) (λ range. mark_keeps (Look.Fits (record { site = id; range = range }))))
-becomes_keeps false type_id place w law = keeps_then (pass_keeps place) (λ _. keeps_then (keeps_test (λ types t. or_mismatch place (Expressions.copying types type_id t)) (law.typing None)) (λ cells. mark_keeps (Look.Copied type_id cells)))
+becomes_keeps true type_id place w law = keeps_then (site_keeps kind.Subrange place)
+    (λ id. keeps_then (keeps_test (λ types t. or_mismatch place (Expressions.fitting types type_id t)) (law.typing None))
+    (λ range. mark_keeps (Look.Fits (record { site = id; range = range }))))
+becomes_keeps false type_id place w law = keeps_then (pass_keeps place)
+    (λ _. keeps_then (keeps_test (λ types t. or_mismatch place (Expressions.copying types type_id t)) (law.typing None))
+    (λ cells. mark_keeps (Look.Copied type_id cells)))
 
 assignment_keeps : (name : Name) (selectors : List Selector) (ws : List Written) (place : Place) (w : Written) → AllKeep ws → WrittenKeeps w
     → Keeps (Statements.assignment name selectors ws place w)
@@ -618,7 +635,8 @@ width_keeps (Some w) law = keeps_then (keeps_test (λ types t. Statements.measur
 parameter_keeps : (a : WrittenActual) → ActualKeeps a → Keeps (Statements.parameter a)
 unfolding Statements.parameter
 parameter_keeps a law =
-    keeps_then (keeps_test (λ types t. or_mismatch a.value.first (Statements.written_as types t)) (law.value.typing None)) (λ form. keeps_then (mark_keeps form) (λ _. width_keeps a.width law.width))
+    keeps_then (keeps_test (λ types t. or_mismatch a.value.first (Statements.written_as types t)) (law.value.typing None))
+    (λ form. keeps_then (mark_keeps form) (λ _. width_keeps a.width law.width))
 
 parameters_keep : (actuals : List Actual) → Keeps (each Statements.parameter (map written_actual actuals))
 parameters_keep [] = pure_keeps tt
@@ -702,7 +720,9 @@ repeat_keeps place statements w row law =
 
 bound_keeps : (type_id : TypeId) (w : Written) → WrittenKeeps w → Keeps (Statements.bound type_id w)
 unfolding Statements.bound
-bound_keeps type_id w law = keeps_then (site_keeps kind.Subrange w.first) (λ id. keeps_then (keeps_test (λ types t. or_mismatch w.first (Expressions.fitting types type_id t)) (law.typing None)) (λ range. mark_keeps (Look.Fits (record { site = id; range = range }))))
+bound_keeps type_id w law = keeps_then (site_keeps kind.Subrange w.first)
+    (λ id. keeps_then (keeps_test (λ types t. or_mismatch w.first (Expressions.fitting types type_id t)) (law.typing None))
+    (λ range. mark_keeps (Look.Fits (record { site = id; range = range }))))
 
 for_head_keeps : (place : Place) (variable : Name) (first : Written) (direction : SyntaxDirection) (last : Written) → WrittenKeeps first → WrittenKeeps last
     → Keeps (Statements.for_head place variable first direction last)
@@ -732,7 +752,8 @@ for_keeps place variable first direction last body one two three =
 
 case_constant_keeps : (type_id : TypeId) (before : List ℤ) (c : Constant) → Keeps (Statements.case_constant type_id before c)
 unfolding Statements.case_constant
-case_constant_keeps type_id before c = keeps_test (λ types one. Statements.own_constant types type_id before (Constants.constant_place c) one) (ordinal_constant_keeps c)
+case_constant_keeps type_id before c = keeps_test (λ types one. Statements.own_constant types type_id before (Constants.constant_place c) one)
+    (ordinal_constant_keeps c)
 
 row_keeps : (type_id : TypeId) (before row : List ℤ) (cs : List Constant) → Keeps (Statements.constant_row type_id before row cs)
 row_keeps type_id before row [] = pure_keeps row
@@ -755,7 +776,9 @@ case_keeps : (place : Place) (w : Written) (arms : List (List Constant × Passin
     → Keeps (Statements.case_statement place w arms)
 unfolding Statements.case_head Statements.case_body
 case_keeps place w arms law laws =
-    keeps_then (keeps_then (site_keeps kind.Case place) (λ id. keeps_then (enter_as_keeps _) (λ _. keeps_test (λ types t. fits (is_none t.length && is_ordinal types t.type_id) w.first t.type_id) (law.typing None)))) λ type_id.
+    keeps_then (keeps_then (site_keeps kind.Case place)
+    (λ id. keeps_then (enter_as_keeps _)
+    (λ _. keeps_test (λ types t. fits (is_none t.length && is_ordinal types t.type_id) w.first t.type_id) (law.typing None)))) λ type_id.
     keeps_then (arms_keep type_id [] arms laws) λ _.
     mark_keeps Look.Ends
 

@@ -1,25 +1,22 @@
 -- What typing leaves as it was round a place: the regions round the innermost one, the names that this one knows, and the
 -- block round the place but for its cells. Each form but a routine does, and so do steps one after another.
-use Rattle.std.proofs.Common.{◌≡◌, ℕ, ◌+◌, ◌-◌, Bool, true, false, if◌then◌else◌, List, [], ◌∷◌, ◌++◌, Option, Some, None, Result, Ok, Err, IfOk, length, nat_le, nat_lt}
-use Rattle.std.proofs.Common.{not, ◌&&◌, nat_eq, slice_get, get_or, take, refl, sym, ap, subst, ◌∙◌}
-use Rattle.std.specs.List.{list_any}
+use Rattle.std.proofs.Common.{◌≡◌, ℕ, Bool, true, false, if◌then◌else◌, List, [], ◌∷◌, Result, Ok, Err, IfOk}
+use Rattle.std.proofs.Common.{slice_get, refl, sym, ap, subst, ◌∙◌}
 use Rattle.place.specs.declared.Place.{Place}
 use Rattle.syntax_tree.specs.declared.Name.{Name}
 use Rattle.types.specs.Forms.{Form}
 use Rattle.types.specs.declared.form.TypeId.{TypeId}
-use Rattle.types.specs.Types.{admitted, cells_of, most_cells, host_of}
-use Rattle.scopes.specs.Scopes.{Region, Knows, found, define, outer}
+use Rattle.scopes.specs.Scopes.{Region, Knows, define, outer}
 use Rattle.scopes.specs.declared.denotation.Denotation.{Denotation}
 use Rattle.scopes.specs.declared.fault.ScopeFault.{ScopeFault}
 use Rattle.scopes.proofs.Known.{define_keeps}
 use Rattle.typed_tree.specs.declared.fault.TypeFault.{TypeFault}
-use Rattle.typed_tree.specs.declared.fault.TypeFault.TheVariants as fault
 use Rattle.typed_tree.specs.declared.site.SiteKind.{SiteKind}
 use Rattle.typed_tree.specs.declared.tree.VariableKind.{VariableKind}
-use Rattle.typed_tree.specs.Look.{Look, Mark}
-use Rattle.typed_tree.specs.WellFormed.{most_variables}
+use Rattle.typed_tree.specs.Look.{Mark}
 use Rattle.typing.specs.Names.{folded}
-use Rattle.typing.specs.Passing.{Enclosing, Passed, Checked, After, Passing, after, and_then, behind_marks, given, by_types, pure, fail, mark, each, ◌>>=◌, ◌>>◌, ◌>>?◌}
+use Rattle.typing.specs.Passing.{Passed, Checked, After, Passing, after, and_then, behind_marks, given, by_types, pure, fail, mark, each, ◌>>=◌}
+use Rattle.typing.specs.Passing.{◌>>?◌}
 use Rattle.typing.specs.Steps as Steps
 
 pub record Stays (old new : Passed) : Type 0 where
@@ -178,7 +175,8 @@ declare_keeps name denotation = record {
 }
   where
     by : (old : Passed) (outcome : Result (List Region) ScopeFault)
-        → ((other : List ℕ) → Knows old.regions other → IfOk outcome (λ regions. Knows regions other)) → IfOk outcome (λ regions. outer regions ≡ outer old.regions)
+        → ((other : List ℕ) → Knows old.regions other → IfOk outcome (λ regions. Knows regions other)) → IfOk outcome
+        (λ regions. outer regions ≡ outer old.regions)
         → Leaves {A = Unit {0}} old (and_then (Steps.told name.place outcome) (λ regions. Ok (after tt [] (record old { regions = regions }))))
     by old (Ok regions) known round = record { known = known; round = round; block = refl }
     by old (Err why) known round = tt

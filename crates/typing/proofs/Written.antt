@@ -32,7 +32,8 @@ use Rattle.syntax_tree.specs.declared.Block.TheFolds.{map-Block, map-Routine, fo
 use Rattle.typing.specs.Names.{heading_names, names_defined}
 use Rattle.typing.specs.Routines.{TypedBlock, TypedRoutine, typed_block, typed_routine, block_step, routine_step}
 use Rattle.typing.specs.Passing.{Passing}
-use Rattle.typing.specs.Expressions.{Written, WrittenActual, WrittenLink, written, written_variable, expression_step, actual_step, link_step, expression, written_link}
+use Rattle.typing.specs.Expressions.{Written, WrittenActual, WrittenLink, written, written_variable, expression_step, actual_step, link_step, expression}
+use Rattle.typing.specs.Expressions.{written_link}
 use Rattle.typing.specs.Expressions.{written_actual, number, string, named, component, call, parenthesized, negation, signed, chain, link}
 use Rattle.typing.specs.Statements.{statement, statement_step, assignment, procedure_call, compound, choice, while_loop, repeat_loop, for_loop, case_statement}
 use Rattle.typing.specs.Denoters.{WrittenDenoter, written_denoter, denoter_step, type_of_name, enumeration, subrange, array, record_type}
@@ -238,7 +239,8 @@ pub typing_block : (b : Block) → typed_block b ≡ block_step (map-Block Block
 typing_block b = fold_out-Block TypedBlock TypedRoutine block_step routine_step b
 
 -- a routine, as it is read
-pub typing_routine : (r : Routine) → typed_routine r ≡ routine_step (map-Routine Block Routine TypedBlock TypedRoutine typed_block typed_routine (out-Routine r))
+pub typing_routine : (r : Routine) → typed_routine r ≡ routine_step
+    (map-Routine Block Routine TypedBlock TypedRoutine typed_block typed_routine (out-Routine r))
 typing_routine r = fold_out-Routine TypedBlock TypedRoutine block_step routine_step r
 
 -- the name of a routine, if its heading is the first

@@ -8,6 +8,7 @@ pub begin-requires-in-None : goal.begin-requires-in-None
 begin-requires-in-None c =
     record {
       known =
-          names_stay (waiting_for false c.args.name.now) (waiting_for_keeps false c.args.name.now) c.in_ok-number.field-0 [] c.args.typer.now c.waiting_for.new.self
+          names_stay (waiting_for false c.args.name.now)
+          (waiting_for_keeps false c.args.name.now) c.in_ok-number.field-0 [] c.args.typer.now c.waiting_for.new.self
           c.in_ok-number.ensures (c.args.name.now ∷ []) c.requires.known;
     }

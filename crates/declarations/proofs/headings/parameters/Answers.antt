@@ -48,7 +48,8 @@ returns-in_err-own c =
     let refused = subst (λ k. IsFault (parameters_named c.args.number k type_id c.deref.result.now here.typer) why) c.parameter_kind-kind.ensures
     c.in_err-own.ensures in
     let stops = parameters_stop c.args.number groups types c.args.typer.now i group type_id here.roots.items here.typer turn.0 (turn.2 group) turn.1
-    (turn.3 type_id) here.invariant.left why (subst (λ l. IsFault (parameters_named c.args.number (parameter_kind group.by) type_id l here.typer) why) c.deref.ensures.value refused) in
+    (turn.3 type_id) here.invariant.left why
+    (subst (λ l. IsFault (parameters_named c.args.number (parameter_kind group.by) type_id l here.typer) why) c.deref.ensures.value refused) in
     search (rules, stops)
 
 -- one group more

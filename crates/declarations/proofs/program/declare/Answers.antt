@@ -11,7 +11,10 @@ use Rattle.declarations.proofs.program.declare.Goals as goal
 pub declare_constants-requires : goal.declare_constants-requires
 declare_constants-requires c =
     let old = c.args.typer.now in
-    record { known = subst (λ l. AreKnownDefinitions l old.regions) (sym c.deref.ensures.value) (constants_known old.regions c.args.block.now c.requires.known) }
+    record {
+      known = subst (λ l. AreKnownDefinitions l old.regions) (sym c.deref.ensures.value)
+          (constants_known old.regions c.args.block.now c.requires.known);
+    }
 
 -- its types still are behind the constants
 pub declare_types-requires : goal.declare_types-requires

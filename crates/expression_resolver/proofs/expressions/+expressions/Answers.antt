@@ -1,5 +1,6 @@
 use Rattle.std.proofs.lemmas.Bool.Decides.{nat_tests}
-use Rattle.std.proofs.Common.{rules, ◌≡◌, ◌<◌, ◌+◌, [], ◌∷◌, ◌++◌, ◌⊎◌, ap₂, get_or, length, map, refl, sym, ap, subst, ◌∙◌, arith, inl, inr, true, false, is_some, Some, None, Ok, Err}
+use Rattle.std.proofs.Common.{rules, ◌≡◌, ◌<◌, ◌+◌, [], ◌∷◌, ◌++◌, ◌⊎◌, ap₂, get_or, length, map, refl, sym, ap, subst, ◌∙◌, arith, inr, true, false}
+use Rattle.std.proofs.Common.{is_some, Some, None, Ok, Err}
 use Rattle.std.specs.Prelude.{slice_get}
 use Rattle.std.proofs.lemmas.List.{length-map}
 use Rattle.syntax_tree.specs.declared.Expr.TheViews.{out-Actual, out-Link}
@@ -25,7 +26,8 @@ use Rattle.expression_resolver.specs.Accesses.{value, look_selection, SelectsOne
 use Rattle.expression_resolver.proofs.Selecting.{variable_stops, selectors_stop, component_is, elements_take_one, field_selects, element_selects}
 use Rattle.expression_resolver.proofs.Actuals.{ArePassedFrom, one_passed}
 use Rattle.expression_resolver.proofs.Calls.{actual_stops, call_made, count_stops, value_is, value_stops}
-use Rattle.expression_resolver.proofs.PassedForms.{cells_copied, other_kind, to_none, to_value, to_variable, value_by_kind, variable_made, variable_passes, whole_made, whole_passes}
+use Rattle.expression_resolver.proofs.PassedForms.{cells_copied, other_kind, to_none, to_value, to_variable, value_by_kind, variable_made, variable_passes}
+use Rattle.expression_resolver.proofs.PassedForms.{whole_made, whole_passes}
 use Rattle.expression_resolver.proofs.expressions.+expressions.Goals as goal
 
 -- ---- a chain
@@ -273,7 +275,8 @@ pub passed_access-returns : goal.passed_access-returns
 passed_access-returns t c =
     let made = c.in_ok-component.component in
     let name = c.args.name.now in
-    let fits : spec.passable c.selected.new.typer.types c.args.wanted c.in_ok-root.type_id made.selectors.items made.type_id name.place ≡ Ok tt = search rules in
+    let fits : spec.passable c.selected.new.typer.types c.args.wanted c.in_ok-root.type_id made.selectors.items made.type_id name.place ≡ Ok tt =
+    search rules in
     λ callee position.
     variable_passes name c.args.selectors.now (map expression c.args.indexes.now) c.args.wanted callee position
     c.in_ok-denotation.denotation (c.in_ok-root.root, c.in_ok-root.type_id) c.in_ok-number.number

@@ -1,4 +1,4 @@
-use Rattle.std.proofs.Common.{rules, ◌≡◌, [], true, Ok, ap, sym, ◌∙◌, length, get_or}
+use Rattle.std.proofs.Common.{rules, [], true, Ok, ap, sym, ◌∙◌, length, get_or}
 use Rattle.typing.specs.Expressions as spec
 use Rattle.typing.specs.Outcomes.{IsFault}
 use Rattle.typing.specs.Steps.{program_heading}

@@ -1,5 +1,4 @@
-use Rattle.std.proofs.Common.{rules, ◌≡◌, None, Some, sym, ◌∙◌}
-use Rattle.std.specs.Prelude.{slice_get}
+use Rattle.std.proofs.Common.{rules}
 use Rattle.expression_resolver.proofs.Results.{no_result, no_variable, host_is}
 use Rattle.expression_resolver.proofs.expressions.result_type.Goals as goal
 

@@ -44,7 +44,8 @@ pub body-returns-in_err-all_came : goal.body-returns-in_err-all_came
 body-returns-in_err-all_came t c =
     let b = c.args.written.now in
     let own = c.in_ok-routines.ensures in
-    let passes = subst (λ l. each (λ (r : TypedRoutine). r.typing) (map typed_routine l) c.declare.new.typer ≡ Ok (after tt (look_made own.0) c.routines.new.typer))
+    let passes = subst (λ l. each (λ (r : TypedRoutine). r.typing) (map typed_routine l) c.declare.new.typer ≡ Ok
+    (after tt (look_made own.0) c.routines.new.typer))
     c.deref.ensures.value own.2 in
     let stops = came_stops b c.args.typer.now c.declare.new.typer c.in_ok-declare.ensures (look_made own.0) c.routines.new.typer passes
     c.in_err-all_came.field-0.0 c.in_err-all_came.ensures in
@@ -102,7 +103,8 @@ routine_block-returns-in_err-result t c =
     let there = c.body.new.typer in
     let begins = c.in_ok-begun.ensures.begun in
     let typed = c.in_ok-body.ensures in
-    let refused = subst (λ root. IsFault (result_at_end c.args.name.now.place (out-Block b).end root there) why) (sym begins.2.result) c.in_err-result.ensures in
+    let refused = subst (λ root. IsFault (result_at_end c.args.name.now.place (out-Block b).end root there) why)
+    (sym begins.2.result) c.in_err-result.ensures in
     let stops = result_stops c.args.number c.args.name.now (typed_block b) c.args.typer.now c.begin_block.new.typer (enclosing_of c.in_ok-begun.begun.round)
     begins.0 begins.1 (look_made typed.0 ++ look_stmt c.in_ok-body.body) there typed.2 why
     (subst (λ end. IsFault (result_at_end c.args.name.now.place end begins.0.result there) why) (sym (end_is b)) refused) in
