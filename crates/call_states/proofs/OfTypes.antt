@@ -31,4 +31,5 @@ rows-on tree first count i ranges range inside within is =
     let left : count - i ≡ suc (count - (i + 1)) = omega (arith, inside) in
     let next : first + i + 1 ≡ first + (i + 1) = omega (arith) in
     ap₂ (λ n some. are_of_rows tree (range_with_len (first + i) n) some) left (drop_more ranges i range within)
-    ∙ ap₂ (λ one from. lies_among (values_at (rows_of tree) (first + i)) one && are_of_rows tree (range_with_len from (count - (i + 1))) (drop (i + 1) ranges)) (sym is) next
+    ∙ ap₂ (λ one from. lies_among (values_at (rows_of tree) (first + i)) one && are_of_rows tree (range_with_len from (count - (i + 1))) (drop (i + 1) ranges))
+    (sym is) next

@@ -30,16 +30,16 @@ use Rattle.abstract_state.proofs.Given.{entire-steps}
 use Rattle.leaf_rows.specs.Rows.{Named, part_named, variable_named}
 use Rattle.structured_states.specs.Loops.{has_ordinals, is_ordinal_variable}
 use Rattle.call_states.specs.Sections.{BlockClaims, all_block_claims, block_claims_at, block_claims_in, no_block_claims}
-use Rattle.call_states.proofs.Bearers.{of-map}
+use Rattle.call_states.proofs.Lists.{of-map}
 use Rattle.exit_states.proofs.BehindExits.{FitsOrdinals, IsOwnResult, IsResultOf, MayEnd}
 use Rattle.call_states.proofs.Given.{AreOutward}
 use Rattle.call_states.proofs.Given as given
 use Rattle.call_states.proofs.Headings.{one-there}
 use Rattle.call_states.proofs.LedComponents.{path-ordinal}
 use Rattle.call_states.proofs.Parameters.{IsOutward}
-use Rattle.cert_checker.specs.Names.{block_is_known, bound_roots, exit_is_known, fact_is_known, fact_is_on, fact_roots, has_elements, is_array}
-use Rattle.cert_checker.specs.Names.{is_changed_value}
-use Rattle.cert_checker.specs.Names.{is_known, is_lasting, is_named, is_of_loops, is_outward, is_own_result, names, section_is_known}
+use Rattle.certificate_names.specs.Names.{block_is_known, bound_roots, exit_is_known, fact_is_known, fact_is_on, fact_roots, has_elements, is_array}
+use Rattle.certificate_names.specs.Names.{is_changed_value}
+use Rattle.certificate_names.specs.Names.{is_known, is_lasting, is_named, is_of_loops, is_outward, is_own_result, names, section_is_known}
 use Rattle.expression_checker.proofs.Sound.{World}
 use Rattle.expression_checker.proofs.CallLaws.{AreClaims}
 

@@ -1,5 +1,6 @@
 -- What the checker did over actual parameters, behind those that were passed already.
-use Rattle.std.proofs.Common.{◌≡◌, ◌∙◌, ap, ap₂, sym, refl, cond, ◌||◌, map, Option, None, Some, ℕ, ◌+◌, ◌<◌, ◌≤◌, List, [], ◌∷◌, ◌++◌, length, get_or, Result, Ok, Err, append_assoc, append-nil}
+use Rattle.std.proofs.Common.{◌≡◌, ◌∙◌, ap, ap₂, sym, refl, cond, ◌||◌, map, Option, None, Some, ℕ, ◌+◌, ◌<◌, ◌≤◌, List, [], ◌∷◌, ◌++◌, length, get_or, Result}
+use Rattle.std.proofs.Common.{Ok, Err, append_assoc, append-nil}
 use Rattle.typed_tree.specs.declared.tree.Call.{Call}
 use Rattle.typed_tree.specs.declared.tree.Expr.{Expr}
 use Rattle.typed_tree.specs.declared.tree.FunctionResult.{FunctionResult}
@@ -60,10 +61,12 @@ passing-begun walk old new before after result goes = goes-alike (prefixed [] wa
 
 -- ---- one more
 
-joined : (passed : List Actual) (value : Actual) (more : List Actual) (after : State) (ids rest : List ℕ) (broken others : List Breach) (linked behind : List Linked)
+joined : (passed : List Actual) (value : Actual) (more : List Actual) (after : State) (ids rest : List ℕ) (broken others : List Breach)
+    (linked behind : List Linked)
     → ◌≡◌ {A = Walked (List Actual)}
     (record { value = (passed ++ value ∷ []) ++ more; after = after; open_ids = ids ++ rest; broken = broken ++ others; linked = linked ++ behind })
-    (record { value = passed ++ (value ∷ more); after = after; open_ids = ids ++ (rest ++ []); broken = broken ++ (others ++ []); linked = linked ++ (behind ++ []) })
+    (record { value = passed ++ (value ∷ more); after = after; open_ids = ids ++ (rest ++ []); broken = broken ++ (others ++ []);
+      linked = linked ++ (behind ++ []) })
 joined passed value more after ids rest broken others linked behind =
     ap (λ v. record { value = v; after = after; open_ids = ids ++ rest; broken = broken ++ others; linked = linked ++ behind })
     (append_assoc passed (value ∷ []) more)
@@ -71,7 +74,8 @@ joined passed value more after ids rest broken others linked behind =
     (sym (append-nil rest))
     ∙ ap (λ b. record { value = passed ++ (value ∷ more); after = after; open_ids = ids ++ (rest ++ []); broken = broken ++ b; linked = linked ++ behind })
     (sym (append-nil others))
-    ∙ ap (λ l. record { value = passed ++ (value ∷ more); after = after; open_ids = ids ++ (rest ++ []); broken = broken ++ (others ++ []); linked = linked ++ l })
+    ∙ ap (λ l. record { value = passed ++ (value ∷ more); after = after; open_ids = ids ++ (rest ++ []); broken = broken ++ (others ++ []);
+      linked = linked ++ l })
     (sym (append-nil behind))
 
 pub passing-step : (items : List Passed) (i : ℕ) (one : Passed) (passed : List Actual) (actual : Actual) (old mid new : Flow) (before between after : Visits)

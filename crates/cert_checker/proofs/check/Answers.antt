@@ -28,7 +28,10 @@ returns-clause-closed_never_err c =
     let unbroken : (program_walk tree certificate).broken ≡ [] = search rules in
     let known : is_known tree certificate ≡ true = search rules in
     let open_sites : List Site = c.in_ok-open_sites.field-0.items in
-    let open_are : open_sites ≡ open_in (program_walk tree certificate).open_ids tree.sites.items = search rules in
+    let ids_are : c.in_ok-walked.field-0.items ≡ (program_walk tree certificate).open_ids = search rules in
+    let open_are : open_sites ≡ open_in (program_walk tree certificate).open_ids tree.sites.items =
+    c.in_ok-open_sites.ensures ∙ ap (λ ids. open_in ids c.deref.result.now) ids_are
+    ∙ ap (open_in (program_walk tree certificate).open_ids) c.deref.ensures.value in
     closed-never_err tree certificate open_sites unbroken known open_are
 
 pub returns-clause-states_hold : goal.returns-clause-states_hold

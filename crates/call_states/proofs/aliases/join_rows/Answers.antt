@@ -21,7 +21,8 @@ loop-row-preserved c =
     (elim c.if-is_same.branch [
       | then-is_same w ↦
           ap viewed w.state-is ∙ w.touch_row.ensures
-          ∙ ap (λ range. over_components (λ known. with_range row range) old) (w.join.ensures.answer ∙ ap (λ range. joined range stored.range) w.row_range.ensures)
+          ∙ ap (λ range. over_components (λ known. with_range row range) old)
+          (w.join.ensures.answer ∙ ap (λ range. joined range stored.range) w.row_range.ensures)
           ∙ ap (λ b. cond b more old) (sym w.if-is_same.true ∙ same)
       | else-is_same w ↦ ap viewed w.state-is ∙ ap (λ b. cond b more old) (sym w.if-is_same.false ∙ same)
     ])

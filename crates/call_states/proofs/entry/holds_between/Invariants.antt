@@ -9,5 +9,6 @@ use Rattle.call_states.proofs.entry.holds_between.Given as goal
 -- what is left from here is what was to be done
 abbrev pub invariant-loop-held : goal.invariant-loop-held
 invariant-loop-held l =
-    list_any (has_between (variables.viewed l.state.variables) l.row (said_limit l.first) (said_limit l.last)) (map said_stretch (drop l.held-index l.held-items))
+    list_any (has_between (variables.viewed l.state.variables) l.row (said_limit l.first) (said_limit l.last))
+    (map said_stretch (drop l.held-index l.held-items))
     ≡ list_any (has_between (variables.viewed l.state.variables) l.row (said_limit l.first) (said_limit l.last)) (map said_stretch l.held-items)

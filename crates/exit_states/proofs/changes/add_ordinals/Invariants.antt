@@ -8,4 +8,5 @@ use Rattle.exit_states.proofs.changes.add_ordinals.Given as goal
 -- so far
 abbrev pub invariant-loop-bearer : goal.invariant-loop-bearer
 invariant-loop-bearer l =
-    map said_change l.found.items ≡ map said_change l.fn.found.items ++ ordinals_changed l.rows (map said_fact l.exit) l.root (map said_bearer (take l.bearer-index l.bearers))
+    map said_change l.found.items ≡ map said_change l.fn.found.items ++ ordinals_changed l.rows (map said_fact l.exit) l.root
+    (map said_bearer (take l.bearer-index l.bearers))

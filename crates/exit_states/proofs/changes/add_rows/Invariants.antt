@@ -10,5 +10,6 @@ use Rattle.exit_states.proofs.changes.add_rows.Given as goal
 -- what is left from here is what was to be done
 abbrev pub invariant-loop-row : goal.invariant-loop-row
 invariant-loop-row l =
-    map said_change l.found.items ++ rows_changed l.rows (map said_fact l.exit) (rows_to l.row l.row-end) (map said_bearer (drop (l.row - l.span.first) l.bearers))
+    map said_change l.found.items ++ rows_changed l.rows (map said_fact l.exit) (rows_to l.row l.row-end)
+    (map said_bearer (drop (l.row - l.span.first) l.bearers))
     ≡ map said_change l.fn.found.items ++ rows_changed l.rows (map said_fact l.exit) (numbers l.span) (map said_bearer l.bearers)

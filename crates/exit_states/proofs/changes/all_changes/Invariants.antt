@@ -10,4 +10,5 @@ use Rattle.exit_states.proofs.changes.all_changes.Given as goal
 -- so far
 abbrev pub invariant-loop-root : goal.invariant-loop-root
 invariant-loop-root l =
-    map said_change l.found.items ≡ flat_map (λ root. changes_of l.rows (map said_fact l.exit) root (actual_of (said_bindings l.bindings) root)) (take l.root-index l.changes)
+    map said_change l.found.items ≡ flat_map (λ root. changes_of l.rows (map said_fact l.exit) root (actual_of (said_bindings l.bindings) root))
+    (take l.root-index l.changes)

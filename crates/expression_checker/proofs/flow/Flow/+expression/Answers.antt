@@ -25,7 +25,8 @@ use Rattle.expression_checker.specs.Walk.{actuals_hold_call, actuals_walk, call_
 use Rattle.expression_checker.specs.Walk.{piece_of, range_in, result_of, result_walk, value_passed, variable_passed, whole_passed}
 use Rattle.expression_checker.specs.View.{Goes, said_actuals}
 use Rattle.expression_checker.proofs.Forms.{bound-same}
-use Rattle.expression_checker.proofs.Passing.{actuals-hold, copied-goes, passing-begun, passing-end, passing-step, passing-stopped, prefixed, result-goes, value_given}
+use Rattle.expression_checker.proofs.Passing.{actuals-hold, copied-goes, passing-begun, passing-end, passing-step, passing-stopped, prefixed, result-goes}
+use Rattle.expression_checker.proofs.Passing.{value_given}
 use Rattle.expression_checker.proofs.Steps.{actuals_from, passed-Reference, passed-Value, passed-Whole, range-in, value-Call}
 use Rattle.expression_checker.proofs.flow.Flow.+expression.Goals as goal
 
@@ -463,7 +464,8 @@ actual-returns-in_ok-reach-in-Reference t c =
     (goes-as walk (variable_passed it.access (index_pieces c.deref-in-Reference.result.now)) old new before after (Ok actual)
     (ap (λ p. (passed_piece_of p).walk) it.is ∙ passed-Reference it.type_id it.access it.indexes
     ∙ ap (λ items. variable_passed it.access (index_pieces items)) (sym c.deref-in-Reference.ensures.value))
-    (goes-then (access_walk it.access (index_pieces c.deref-in-Reference.result.now)) (λ reach. give (OfVariable it.access.root it.access.selectors.items reach))
+    (goes-then (access_walk it.access (index_pieces c.deref-in-Reference.result.now))
+    (λ reach. give (OfVariable it.access.root it.access.selectors.items reach))
     old new new before after after reach (Ok actual) c.in_ok-reach-in-Reference.ensures (goes-give actual new after)))
 
 pub actuals-loop-actual-init : goal.actuals-loop-actual-init
