@@ -1,5 +1,5 @@
 -- Blocks in the order of their numbers, which are all numbers from 0 on: each stands at its number.
-use Rattle.std.proofs.Common.{◌≡◌, ℕ, zero, suc, ◌+◌, ◌-◌, ◌<◌, ◌≤◌, false, List, [], ◌∷◌, ◌++◌, length, get_or, map, nat_eq, All, MatchResult, Result, Ok, Err}
+use Rattle.std.proofs.Common.{◌≡◌, ℕ, zero, suc, ◌+◌, ◌-◌, ◌<◌, ◌≤◌, List, [], ◌∷◌, ◌++◌, length, get_or, map, nat_eq, All, MatchResult, Result, Ok, Err}
 use Rattle.std.proofs.Common.{Vec, Some, slice_get, refl, sym, ap, subst, ◌∙◌, arith}
 use Rattle.std.specs.Prelude.{IsPermutation, flat_map}
 use Rattle.std.specs.List.{Contains, IsDistinct, range_with_len}
@@ -15,8 +15,7 @@ use Rattle.std.specs.declared.alloc.Global.{Global}
 use Rattle.typed_tree.specs.declared.fault.TypeFault.{TypeFault}
 use Rattle.typed_tree.specs.declared.fault.TypeFault.TheVariants.{Memory}
 use Rattle.typed_tree.specs.declared.tree.Block.{Block}
-use Rattle.typed_tree.specs.declared.tree.Tree.{Tree}
-use Rattle.typed_tree.specs.Entries.{in_text, of_block}
+use Rattle.typed_tree.specs.Entries.{of_block}
 use Rattle.resolver.specs.Made.{AreArranged}
 use Rattle.resolver.specs.declared.typed.MadeBlock.{MadeBlock}
 

@@ -1,11 +1,10 @@
 -- Blocks and routines, as they are made: how their typing goes on behind their parts.
 use Rattle.std.proofs.Common.{◌≡◌, ℕ, ◌+◌, ◌<◌, ◌≤◌, List, [], ◌∷◌, ◌++◌, length, drop, get_or, map, Option, Some, None, Result, Ok, Err, inl, inr, refl, sym}
-use Rattle.std.proofs.Common.{ap, ap₂, subst, ◌∙◌, append-nil}
+use Rattle.std.proofs.Common.{ap, ap₂, ◌∙◌, append-nil}
 use Rattle.std.proofs.Common.{append_assoc}
-use Rattle.std.specs.Prelude.{flat_map, option_map}
+use Rattle.std.specs.Prelude.{option_map}
 use Rattle.std.proofs.lemmas.Grind.{flat_map-append}
 use Rattle.std.proofs.lemmas.List.{drop_more, at_drop_all}
-use Rattle.place.specs.declared.Place.{Place}
 use Rattle.syntax_tree.specs.declared.Block.{Block as SyntaxBlock}
 use Rattle.syntax_tree.specs.declared.Block.TheFolds.{map-Routine}
 use Rattle.syntax_tree.specs.declared.Block.TheViews.{out-Block, out-Routine}
@@ -21,12 +20,12 @@ use Rattle.typed_tree.specs.Look.{Look, BlockEnds, look_block, look_stmt}
 use Rattle.typing.specs.Blocks.{block_begins, block_ends}
 use Rattle.typing.specs.Names.{all_folded}
 use Rattle.typing.specs.Outcomes.{IsFault}
-use Rattle.typing.specs.Passing.{Headed, Enclosing, Passed, Checked, After, Passing, after, and_then, behind_marks, each, mark, ◌>>=◌, ◌>>◌}
+use Rattle.typing.specs.Passing.{Headed, Enclosing, Passed, Checked, After, Passing, after, and_then, behind_marks, each, mark, ◌>>◌}
 use Rattle.typing.specs.Routines.{Begun, TypedBlock, TypedRoutine, all_came, block_end, definition, group, headed, heading_name, result_at_end, routine_block}
 use Rattle.typing.specs.Routines.{routine_step}
 use Rattle.typing.specs.Routines.{routine_body, type_definition, typed_block, typed_routine}
 use Rattle.typing.specs.Statements.{compound, statement}
-use Rattle.typing.specs.Steps.{close_block, enclosing_now, heading_at, open_beside, program_heading, with_enclosing}
+use Rattle.typing.specs.Steps.{enclosing_now, heading_at, open_beside, program_heading, with_enclosing}
 use Rattle.typing.specs.Typing.{program_typing, typing}
 use Rattle.typing.proofs.Rows.{behind_nothing, behind_both, then_assoc}
 use Rattle.typing.proofs.Written.{typing_block, typing_routine}

@@ -1,16 +1,15 @@
 -- Programs: the typed tree of one that is made of its blocks, and what it has by the laws of typing.
-use Rattle.std.proofs.Common.{◌≡◌, ℕ, ◌≤◌, List, [], ◌∷◌, ◌++◌, length, map, slice_get, Ok, refl, sym, ap, ap₂, subst, ◌∙◌}
+use Rattle.std.proofs.Common.{◌≡◌, ◌≤◌, List, [], ◌∷◌, ◌++◌, length, map, slice_get, Ok, refl, sym, ap, ap₂, subst, ◌∙◌}
 use Rattle.std.specs.Prelude.{IsPermutation, flat_map}
 use Rattle.std.specs.List.{range_with_len}
 use Rattle.std.proofs.lemmas.Grind.{flat_map-append}
 use Rattle.place.specs.Place.{ArePlacesInOrder}
 use Rattle.syntax_tree.specs.declared.Program.{Program}
 use Rattle.syntax_tree.specs.Places.{program_places}
-use Rattle.typed_tree.specs.declared.tree.Block.{Block}
 use Rattle.typed_tree.specs.declared.tree.Tree.{Tree}
 use Rattle.typed_tree.specs.Entries.{AreNumbered, of_block}
 use Rattle.typed_tree.specs.Ids.{AreInOrder, AreByPlace}
-use Rattle.typed_tree.specs.Look.{Look, blocks_of_look, heading_look, look_block, look_stmt, mark_blocks, tree_look}
+use Rattle.typed_tree.specs.Look.{blocks_of_look, heading_look, look_block, look_stmt, mark_blocks, tree_look}
 use Rattle.typed_tree.specs.Loops.{loops_of}
 use Rattle.typed_tree.specs.WellFormed.{IsWellFormed}
 use Rattle.typed_tree.proofs.Quiet.{inner_stmt}

@@ -1,7 +1,6 @@
 use Rattle.std.proofs.Common.{rules, ◌≡◌, ◌∙◌, [], ◌∷◌, ◌++◌, Ok, map, ap, sym, subst, append_assoc}
 use Rattle.syntax_tree.specs.declared.Block.{the_lemmas}
 use Rattle.syntax_tree.specs.declared.Block.TheViews.{out-Block}
-use Rattle.typed_tree.specs.declared.tree.Block.{Block}
 use Rattle.typed_tree.specs.declared.tree.Heading.{Heading}
 use Rattle.typed_tree.specs.Look.{look_stmt}
 use Rattle.typing.specs.Outcomes.{IsFault}
@@ -11,7 +10,6 @@ use Rattle.typing.specs.Statements.{compound, statement}
 use Rattle.typing.specs.View.{enclosing_of}
 use Rattle.declarations.specs.Known.{AreKnownRoutines}
 use Rattle.declarations.specs.Parts.{block_declarations}
-use Rattle.declarations.proofs.Kept.{Keeps}
 use Rattle.declarations.proofs.KeptBlocks.{declarations_keep, deep, deep_behind, routine_deep, routines_stay}
 use Rattle.declarations.proofs.Opened.{routines_known}
 use Rattle.resolver.specs.Made.{MakesStmt, look_made}

@@ -1,4 +1,4 @@
-use Rattle.std.proofs.Common.{rules, ◌≡◌, ◌∙◌, ap, map, subst, sym}
+use Rattle.std.proofs.Common.{rules, ◌∙◌, ap, map, subst, sym}
 use Rattle.typing.specs.Outcomes.{IsFault}
 use Rattle.typing.specs.Typing.{typing}
 use Rattle.resolver.specs.Made.{AreArranged}
