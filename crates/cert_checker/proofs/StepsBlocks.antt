@@ -173,7 +173,9 @@ pub program-loops : (tree found : Tree) (certificate : Certificate) (context : C
 program-loops tree found certificate context pairs claims aliases context_is found_is pairs_are claims_are aliases_are =
     let count : length (all_claims tree certificate) ≡ length tree.loops.items =
     length-map (range_with_len 0 (length tree.loops.items)) (claims_on certificate) ∙ length-range_with_len 0 (length tree.loops.items) in
-    subst (λ (c : Context). AreLoops c aliases) (sym context_is)
-    (count, aliases_are ∙ ap (λ (c : List Claims). all_loop_aliases found pairs c) claims_are
-    ∙ ap (λ (p : List (ℕ × ℕ)). all_loop_aliases found p (all_claims found certificate)) pairs_are
-    ∙ ap (λ (t : Tree). all_loop_aliases t (all_pairs certificate) (all_claims t certificate)) found_is)
+    subst (λ (c : Context). AreLoops c aliases) (sym context_is) (
+      count,
+      aliases_are ∙ ap (λ (c : List Claims). all_loop_aliases found pairs c) claims_are
+          ∙ ap (λ (p : List (ℕ × ℕ)). all_loop_aliases found p (all_claims found certificate)) pairs_are
+          ∙ ap (λ (t : Tree). all_loop_aliases t (all_pairs certificate) (all_claims t certificate)) found_is,
+    )

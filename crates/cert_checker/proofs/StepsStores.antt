@@ -3,9 +3,8 @@ use Rattle.std.proofs.Common.{arith, ◌≡◌, refl, sym, subst, ap, ◌∙◌,
 use Rattle.std.proofs.Common.{append_assoc, Option, Some, None, Result, length, drop, get_or, nat_eq}
 use Rattle.std.specs.Prelude.{slice_get}
 use Rattle.std.specs.Bool.{◌==◌}
-use Rattle.std.specs.List.{list_all, range_with_len}
+use Rattle.std.specs.List.{range_with_len}
 use Rattle.std.proofs.lemmas.Bool.{eqb-true}
-use Rattle.std.proofs.lemmas.List.Folds.{list_all-map}
 use Rattle.std.proofs.lemmas.Option.{none-some, same_Some}
 use Rattle.place.specs.declared.Place.{Place as SourcePlace}
 use Rattle.types.specs.declared.form.TypeId.{TypeId}
@@ -20,13 +19,10 @@ use Rattle.abstract_state.specs.declared.known.Known.{Known}
 use Rattle.abstract_state.specs.declared.known.Known.TheVariants.{Ordinal}
 use Rattle.abstract_state.specs.State.{limits_of}
 use Rattle.abstract_state.specs.Conditions.{bound_form}
-use Rattle.abstract_state.specs.Loops.{is_among}
 use Rattle.leaf_rows.specs.Rows.{rows_accessed, rows_of}
 use Rattle.component_states.specs.Components.{Reach, all_stored, stored}
 use Rattle.component_states.specs.States.{State, over_components}
 use Rattle.component_states.specs.View.{viewed}
-use Rattle.structured_states.specs.Loops.{Round, all_list}
-use Rattle.structured_states.specs.View.{kept_round}
 use Rattle.structured_states.proofs.Claims.{item-cut}
 use Rattle.structured_states.proofs.Rowed.{rows_to, rows-next}
 use Rattle.expression_checker.specs.declared.fault.CheckFault.{CheckFault}

@@ -1,7 +1,7 @@
 -- What a verdict promises: the list of open sites, and of the runs of a program that they err at its open sites alone
 -- (ISO 7185:1990, 3.1), and that at each entry the states of the walk hold; and why a certificate gets no verdict. It
 -- does not say that an open site can err.
-use Rattle.std.specs.Prelude.{◌≡◌, ◌≢◌, ℕ, suc, ◌≤◌, ◌⊎◌, true, false, List, [], ◌==◌, Contains, Some, filter}
+use Rattle.std.specs.Prelude.{◌≡◌, ◌≢◌, ℕ, ◌≤◌, ◌⊎◌, true, false, List, [], ◌==◌, Contains, Some, filter}
 use Rattle.std.specs.Prelude.{slice_get}
 use Rattle.std.specs.List.{list_any}
 use Rattle.certificate.specs.declared.Certificate.{Certificate}
@@ -39,7 +39,7 @@ pub record Valid (tree : Tree) (certificate : Certificate) (open_sites : List Si
   pub unbroken : (program_walk tree certificate).broken ≡ []
   pub open_are : open_sites ≡ open_in (program_walk tree certificate).open_ids tree.sites.items
 
--- why a certificate is refused: it names what the program doesn't have, or claims something of a block itself; or the
+-- why a certificate is refused: it names what the program doesn't have, or what may not be named; or the
 -- walk by it breaks a rule; or for want of memory
 abbrev pub IsRefusedFor : Tree → Certificate → CheckFault → Type 0
 IsRefusedFor tree certificate Memory = Unit {0}

@@ -36,7 +36,7 @@ use Rattle.abstract_state.specs.Changes.{assigned}
 use Rattle.abstract_state.specs.Conditions.{bound_form, branched, condition_of}
 use Rattle.abstract_state.specs.Forms.{root_of}
 use Rattle.abstract_state.specs.Loops.{with_touched, with_undefined}
-use Rattle.leaf_rows.specs.Rows.{is_structured, rows_accessed, rows_of, values_at}
+use Rattle.leaf_rows.specs.Rows.{rows_accessed, rows_of, values_at}
 use Rattle.component_states.specs.Components.{Reach, all_stored}
 use Rattle.component_states.specs.States.{State, dead, joined_states, over_bound, over_change, over_variables}
 use Rattle.structured_states.specs.Cases.{arm_start, constants_before}

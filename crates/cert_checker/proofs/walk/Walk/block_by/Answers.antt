@@ -1,4 +1,4 @@
-use Rattle.std.proofs.Common.{List, Err, subst}
+use Rattle.std.proofs.Common.{List, subst}
 use Rattle.domain.specs.Facts.{Fact}
 use Rattle.call_states.specs.View.{said_claims}
 use Rattle.expression_checker.specs.declared.fault.Rule.TheVariants.{Exit}

@@ -1,4 +1,4 @@
-use Rattle.std.proofs.Common.{Err, Ok, map, refl}
+use Rattle.std.proofs.Common.{Err, Ok, map}
 use Rattle.expression_checker.specs.Walk.{parameter_walk}
 use Rattle.cert_checker.proofs.Steps.{all-end, all-step, all-stopped, given-up, lifted}
 use Rattle.cert_checker.specs.Walk.{all_of}
