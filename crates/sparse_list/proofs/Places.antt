@@ -1,10 +1,11 @@
 -- What a search finds among stored items, and what an edit at that place does.
-use Rattle.std.proofs.Common.{◌≡◌, ℕ, zero, suc, ◌+◌, ◌-◌, ◌<◌, ◌≤◌, ◌≢◌, List, [], ◌∷◌, length, get_or, set, replicate, Result, Ok, Err, IfOk, IfErr, refl, sym, ap, subst, ◌∙◌, arith}
+use Rattle.std.proofs.Common.{◌≡◌, ℕ, zero, suc, ◌+◌, ◌-◌, ◌<◌, ◌≤◌, ◌≢◌, List, [], ◌∷◌, length, get_or, set, replicate, Some, None, Result, Ok, Err, IfOk, IfErr, slice_get, refl, sym, ap, subst, ◌∙◌, arith}
 use Rattle.std.specs.List.{insert}
+use Rattle.std.proofs.lemmas.Option.{slice_get_past, slice_get-get_or}
 use Rattle.std.specs.List.Sorted.{IsSearchInRange, IsBinarySearchResult, IsNonDecreasingBy}
 use Rattle.std.specs.Ordering.{nat_cmp, ordering_index}
 use Rattle.std.proofs.lemmas.Cmp.{ranked}
-use Rattle.std.proofs.lemmas.List.{length-set, set_comm, get_or-set_same, get_or-set_other}
+use Rattle.std.proofs.lemmas.List.{length-replicate, length-set, set_comm, set_past, get_or-replicate, get_or-set_same, get_or-set_other}
 use Rattle.std.proofs.lemmas.List.Edits.{length-insert, get_or-insert_below, get_or-insert_at, get_or-insert_above}
 use Rattle.std.proofs.lemmas.Bool.Decides.{nat_tests}
 use Rattle.std.proofs.lemmas.Grind.{common_steps}
@@ -76,7 +77,7 @@ module _ {T : Type 0} (l : List (ℕ × T)) (rises : IsAscending l) (k : ℕ) wh
   comparisons_rise : IsNonDecreasingBy (λ (pair : ℕ × T). ordering_index (nat_cmp pair.0 k)) l
   comparisons_rise i j pair le in_range =
       let indices_rise : (get_or l i pair).0 ≤ (get_or l j pair).0 =
-          grind (arith, rises i j pair, λ (same : i ≡ j). ap (λ q. (get_or l q pair).0) same) in
+      grind (arith, rises i j pair, λ (same : i ≡ j). ap (λ q. (get_or l q pair).0) same) in
       grind (arith, nat_tests)
 
   -- a binary search by index ends at the index, or at the gap for it
@@ -119,10 +120,36 @@ module _ {T : Type 0} (l : List (ℕ × T)) (k at : ℕ) (gap : IsGapFor l k at)
       let new : List (ℕ × T) = insert l at (k, v) in
       let length_new = length-insert l at (k, v) gap.in_range in
       let below : (i : ℕ) → i < at → (get_or new i d).0 ≡ (get_or l i d).0 =
-          λ i under. ap (λ (pair : ℕ × T). pair.0) (get_or-insert_below l at (k, v) d i under gap.in_range) in
+      λ i under. ap (λ (pair : ℕ × T). pair.0) (get_or-insert_below l at (k, v) d i under gap.in_range) in
       let here : (i : ℕ) → i ≡ at → (get_or new i d).0 ≡ k =
-          λ i same. rw same (ap (λ (pair : ℕ × T). pair.0) (get_or-insert_at l at (k, v) d gap.in_range)) in
+      λ i same. rw same (ap (λ (pair : ℕ × T). pair.0) (get_or-insert_at l at (k, v) d gap.in_range)) in
       let above : (i : ℕ) → at < i → (get_or new i d).0 ≡ (get_or l (i - 1) d).0 =
-          λ i over. subst (λ q. (get_or new q d).0 ≡ (get_or l (i - 1) d).0) {x = i - 1 + 1} (omega arith)
-              (ap (λ (pair : ℕ × T). pair.0) (get_or-insert_above l at (k, v) d (i - 1) (omega arith) gap.in_range)) in
+      λ i over. subst (λ q. (get_or new q d).0 ≡ (get_or l (i - 1) d).0) {x = i - 1 + 1} (omega arith)
+      (ap (λ (pair : ℕ × T). pair.0) (get_or-insert_above l at (k, v) d (i - 1) (omega arith) gap.in_range)) in
       grind (arith, below i, here i, above i, below j, here j, above j, rises i j d, rises i (j - 1) d, rises (i - 1) (j - 1) d, gap.smaller_before i d, gap.greater_after (j - 1) d)
+
+-- ---- the items, all of which are the usual one but those stored
+
+module _ {T : Type 0} (count : ℕ) (usual : T) (l : List (ℕ × T)) where
+  pub length-items : length (with_stored l (replicate count usual)) ≡ count
+  length-items = length-with_stored l (replicate count usual) ∙ length-replicate count usual
+
+  pub get_past : (k : ℕ) → count ≤ k → slice_get (with_stored l (replicate count usual)) k ≡ None
+  get_past k le = slice_get_past (with_stored l (replicate count usual)) k (omega (arith, length-items))
+
+  pub set_past_items : (k : ℕ) (v : T) → count ≤ k
+      → set (with_stored l (replicate count usual)) k v ≡ with_stored l (replicate count usual)
+  set_past_items k v le = set_past (with_stored l (replicate count usual)) k v (omega (arith, length-items))
+
+  pub get_at : (k at : ℕ) (pair : ℕ × T) → IsAscending l → IsAt l k at → k < count
+      → slice_get (with_stored l (replicate count usual)) k ≡ Some (get_or l at pair).1
+  get_at k at pair rises is_at lt =
+      slice_get-get_or (with_stored l (replicate count usual)) k usual (omega (arith, length-items))
+      ∙ ap Some (get_first l (replicate count usual) k at usual pair is_at (none_before_at l k at is_at rises)
+      (omega (arith, length-replicate count usual)))
+
+  pub get_in_gap : (k at : ℕ) → IsGapFor l k at → k < count
+      → slice_get (with_stored l (replicate count usual)) k ≡ Some usual
+  get_in_gap k at gap lt =
+      slice_get-get_or (with_stored l (replicate count usual)) k usual (omega (arith, length-items))
+      ∙ ap Some (get_none l (replicate count usual) k usual (none_in_gap l k at gap) ∙ get_or-replicate count k usual usual lt)
