@@ -115,11 +115,12 @@ impl State {
     }
 
     /// The variable is defined from here on.
-    pub fn define(&mut self, root: u32)
-        ensures { viewed self.new ≡ with_defined root (viewed self.old) }
+    pub fn define(&mut self, root: u32) -> Result<(), AllocError>
+        ensures { IfOk result (λ _. viewed self.new ≡ with_defined root (viewed self.old)) }
     {
-        if let State::Live(facts) = self {
-            facts.define(root);
+        match self {
+            State::Dead => Ok(()),
+            State::Live(facts) => facts.define(root),
         }
     }
 
@@ -134,8 +135,8 @@ impl State {
             (λ _. viewed self.new ≡ assigned root range (said_form form) (viewed self.old)) }
     {
         self.change(root, form);
-        self.set_range(root, range);
-        self.define(root);
+        self.set_range(root, range)?;
+        self.define(root)?;
         self.equate(root, form)
     }
 
@@ -178,11 +179,12 @@ impl State {
     }
 
     /// The values of a variable lie in a range from here on.
-    pub fn set_range(&mut self, root: u32, range: Interval)
-        ensures { viewed self.new ≡ with_range root range (viewed self.old) }
+    pub fn set_range(&mut self, root: u32, range: Interval) -> Result<(), AllocError>
+        ensures { IfOk result (λ _. viewed self.new ≡ with_range root range (viewed self.old)) }
     {
-        if let State::Live(facts) = self {
-            facts.set_range(root, range);
+        match self {
+            State::Dead => Ok(()),
+            State::Live(facts) => facts.set_range(root, range),
         }
     }
 
@@ -260,20 +262,24 @@ impl Facts {
         }
     }
 
-    fn define(&mut self, root: u32)
-        ensures { Live (viewed_facts self.new) ≡ with_defined root (Live (viewed_facts self.old)) }
+    fn define(&mut self, root: u32) -> Result<(), AllocError>
+        ensures { IfOk result
+            (λ _. Live (viewed_facts self.new) ≡ with_defined root (Live (viewed_facts self.old))) }
     {
         if (root as usize) < self.rows.len() {
             self.rows[root as usize].is_defined = true;
         }
+        Ok(())
     }
 
-    fn set_range(&mut self, root: u32, range: Interval)
-        ensures { Live (viewed_facts self.new) ≡ with_range root range (Live (viewed_facts self.old)) }
+    fn set_range(&mut self, root: u32, range: Interval) -> Result<(), AllocError>
+        ensures { IfOk result
+            (λ _. Live (viewed_facts self.new) ≡ with_range root range (Live (viewed_facts self.old))) }
     {
         if (root as usize) < self.rows.len() {
             self.rows[root as usize].range = range;
         }
+        Ok(())
     }
 
     fn insert(&mut self, order: Order) -> Result<(), AllocError>
@@ -291,12 +297,14 @@ impl Facts {
     }
 
     /// A variable may be undefined.
-    pub(crate) fn forget(&mut self, root: u32)
-        ensures { Live (viewed_facts self.new) ≡ with_forgotten root (Live (viewed_facts self.old)) }
+    pub(crate) fn forget(&mut self, root: u32) -> Result<(), AllocError>
+        ensures { IfOk result
+            (λ _. Live (viewed_facts self.new) ≡ with_forgotten root (Live (viewed_facts self.old))) }
     {
         if (root as usize) < self.rows.len() {
             self.rows[root as usize].is_defined = false;
         }
+        Ok(())
     }
 
     /// The orders of a variable hold of its bound too, if it has one.
