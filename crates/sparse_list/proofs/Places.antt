@@ -1,5 +1,6 @@
 -- What a search finds among stored items, and what an edit at that place does.
-use Rattle.std.proofs.Common.{◌≡◌, ℕ, zero, suc, ◌+◌, ◌-◌, ◌<◌, ◌≤◌, ◌≢◌, List, [], ◌∷◌, length, get_or, set, replicate, Some, None, Result, Ok, Err, IfOk, IfErr, slice_get, refl, sym, ap, subst, ◌∙◌, arith}
+use Rattle.std.proofs.Common.{◌≡◌, ℕ, zero, suc, ◌+◌, ◌-◌, ◌<◌, ◌≤◌, ◌≢◌, List, [], ◌∷◌, length, get_or, set, replicate, Some, None, Result, Ok, Err, IfOk}
+use Rattle.std.proofs.Common.{IfErr, slice_get, refl, sym, ap, subst, ◌∙◌, arith}
 use Rattle.std.specs.List.{insert}
 use Rattle.std.proofs.lemmas.Option.{slice_get_past, slice_get-get_or}
 use Rattle.std.specs.List.Sorted.{IsSearchInRange, IsBinarySearchResult, IsNonDecreasingBy}
@@ -126,7 +127,8 @@ module _ {T : Type 0} (l : List (ℕ × T)) (k at : ℕ) (gap : IsGapFor l k at)
       let above : (i : ℕ) → at < i → (get_or new i d).0 ≡ (get_or l (i - 1) d).0 =
       λ i over. subst (λ q. (get_or new q d).0 ≡ (get_or l (i - 1) d).0) {x = i - 1 + 1} (omega arith)
       (ap (λ (pair : ℕ × T). pair.0) (get_or-insert_above l at (k, v) d (i - 1) (omega arith) gap.in_range)) in
-      grind (arith, below i, here i, above i, below j, here j, above j, rises i j d, rises i (j - 1) d, rises (i - 1) (j - 1) d, gap.smaller_before i d, gap.greater_after (j - 1) d)
+      grind (arith, below i, here i, above i, below j, here j, above j, rises i j d, rises i (j - 1) d, rises (i - 1) (j - 1) d,
+          gap.smaller_before i d, gap.greater_after (j - 1) d)
 
 -- ---- the items, all of which are the usual one but those stored
 

@@ -1,8 +1,8 @@
 //! A list most of whose items are a usual one: it stores only those that may differ.
 #![tactic(auto)]
 
-ghost use Rattle.std.specs.Prelude.{◌≡◌, length, replicate, slice_get, slice_set, IfErr, IfOk};
-ghost use Rattle.sparse_list.specs.Sparse.{AreUnusual};
+ghost use Rattle.std.specs.Prelude.{◌≡◌, length, replicate, slice_get, slice_index_or, slice_set, IfErr, IfOk};
+ghost use Rattle.sparse_list.specs.Sparse.{AreJoined, AreUnusual, AreUnusualOfEither};
 ghost use Rattle.sparse_list.specs.Stored.{IsAscending, IsAt, IsGapFor};
 
 use std::alloc::{AllocError, Global};
@@ -73,6 +73,16 @@ impl<T: Copy> SparseList<T> {
         }
     }
 
+    /// The item at an index, or another one where there is none.
+    pub fn get_or(&self, index: usize, none: T) -> T
+        ensures { result ≡ slice_index_or self.now.items index none }
+    {
+        match self.get(index) {
+            Some(item) => item,
+            None => none,
+        }
+    }
+
     /// Puts an item in the place of the one at an index, if there is one.
     pub fn set(&mut self, index: usize, item: T) -> Result<(), AllocError>
         ensures items { IfOk result (λ _. self.new.items ≡ slice_set self.old.items index item) }
@@ -111,6 +121,51 @@ impl<T: Copy> SparseList<T> {
             stored: Vec::from_slice(alloc, &self.stored)?,
         })
     }
+}
+
+/// Items of which two give one where two lists are joined.
+pub trait Join: Copy {
+    ghost join: { Self → Self → Self };
+
+    /// What two items give.
+    fn joined(self, other: Self) -> Self
+        ensures { result ≡ join self other };
+}
+
+impl<T: Join> SparseList<T> {
+    /// The items of two lists, joined one by one: where one of the lists has no item, it counts as one that is given.
+    pub fn joined(
+        &self,
+        other: &SparseList<T>,
+        none: T,
+        alloc: Global,
+    ) -> Result<SparseList<T>, AllocError>
+        ensures { IfOk result (λ both. AreJoined T.join none self.now.items other.now.items both.items) }
+    {
+        let count = self.count.max(other.count);
+        let mut both = SparseList::new(alloc, count, self.usual.joined(other.usual));
+        for &index in &unusual_of_either(self, other, alloc)? {
+            let item = self.get_or(index, none).joined(other.get_or(index, none));
+            both.set(index, item)?;
+        }
+        Ok(both)
+    }
+}
+
+/// The indices at which an item of one of two lists may differ from its usual one, or be missing.
+fn unusual_of_either<T: Copy>(
+    list: &SparseList<T>,
+    other: &SparseList<T>,
+    alloc: Global,
+) -> Result<Vec<usize>, AllocError>
+    ensures { IfOk result (λ indices. AreUnusualOfEither list.now other.now indices.items) }
+{
+    let mut indices = list.unusual(alloc)?;
+    indices.extend_from_slice(&other.unusual(alloc)?)?;
+    for index in list.len().min(other.len())..list.len().max(other.len()) {
+        indices.push(index)?;
+    }
+    Ok(indices)
 }
 
 // Where an item of this index is stored, or where it would go.

@@ -6,7 +6,8 @@ use Rattle.sparse_list.proofs.SparseList.set.Goals as goal
 -- there are no more items
 pub returns-then-index-self-clause-items : goal.returns-then-index-self-clause-items
 returns-then-index-self-clause-items g c =
-    rw (← c.self.view_is) (sym (set_past_items c.self.inside.count c.self.inside.usual c.self.inside.stored.items c.args.index c.args.item c.if-index-self.true))
+    rw (← c.self.view_is) (sym (set_past_items c.self.inside.count c.self.inside.usual c.self.inside.stored.items c.args.index c.args.item
+        c.if-index-self.true))
 
 -- the item that was stored is written over
 pub invariant_of-self : goal.invariant_of-self
