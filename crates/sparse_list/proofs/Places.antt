@@ -127,8 +127,20 @@ module _ {T : Type 0} (l : List (ℕ × T)) (k at : ℕ) (gap : IsGapFor l k at)
       let above : (i : ℕ) → at < i → (get_or new i d).0 ≡ (get_or l (i - 1) d).0 =
       λ i over. subst (λ q. (get_or new q d).0 ≡ (get_or l (i - 1) d).0) {x = i - 1 + 1} (omega arith)
       (ap (λ (pair : ℕ × T). pair.0) (get_or-insert_above l at (k, v) d (i - 1) (omega arith) gap.in_range)) in
-      grind (arith, below i, here i, above i, below j, here j, above j, rises i j d, rises i (j - 1) d, rises (i - 1) (j - 1) d,
-          gap.smaller_before i d, gap.greater_after (j - 1) d)
+      grind (
+        arith,
+        below i,
+        here i,
+        above i,
+        below j,
+        here j,
+        above j,
+        rises i j d,
+        rises i (j - 1) d,
+        rises (i - 1) (j - 1) d,
+        gap.smaller_before i d,
+        gap.greater_after (j - 1) d,
+      )
 
 -- ---- the items, all of which are the usual one but those stored
 

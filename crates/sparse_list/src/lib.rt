@@ -142,8 +142,8 @@ impl<T: Join> SparseList<T> {
     ) -> Result<SparseList<T>, AllocError>
         ensures { IfOk result (λ both. AreJoined T.join none self.now.items other.now.items both.items) }
     {
-        let count = self.count.max(other.count);
-        let mut both = SparseList::new(alloc, count, self.usual.joined(other.usual));
+        let count = self.len().max(other.len());
+        let mut both = SparseList::new(alloc, count, self.usual().joined(other.usual()));
         for &index in &unusual_of_either(self, other, alloc)? {
             let item = self.get_or(index, none).joined(other.get_or(index, none));
             both.set(index, item)?;

@@ -7,7 +7,7 @@ use Rattle.sparse_list.proofs.SparseList.set.Goals as goal
 pub returns-then-index-self-clause-items : goal.returns-then-index-self-clause-items
 returns-then-index-self-clause-items g c =
     rw (← c.self.view_is) (sym (set_past_items c.self.inside.count c.self.inside.usual c.self.inside.stored.items c.args.index c.args.item
-        c.if-index-self.true))
+    c.if-index-self.true))
 
 -- the item that was stored is written over
 pub invariant_of-self : goal.invariant_of-self
