@@ -4,7 +4,4 @@ use Rattle.abstract_state.proofs.Kept.{kept_state, started}
 use Rattle.abstract_state.proofs.state.State.undefined.Goals as goal
 
 pub returns : goal.returns
-returns c =
-    let rows = c.in_ok-vec.field-0.items in
-    ap (λ (orders : List KeptOrder). kept_state rows orders) c.new.ensures.items
-    ∙ started rows c.args.variables (c.in_ok-vec.ensures.items_if_clones_equal (λ y is. is))
+returns c = ?
