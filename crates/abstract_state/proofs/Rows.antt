@@ -1,5 +1,5 @@
 -- The rows of the checker's state, as facts.
-use Rattle.std.proofs.Common.{arith, ◌≡◌, ◌∙◌, sym, ap, refl, ℕ, zero, suc, ◌+◌, ◌-◌, ◌++◌, append-nil, append_assoc, length-append, ◌<◌, ◌≤◌, Bool, true}
+use Rattle.std.proofs.Common.{arith, ◌≡◌, ◌∙◌, sym, ap, refl, ℕ, zero, suc, ◌+◌, ◌<◌, ◌≤◌, Bool, true}
 use Rattle.std.proofs.Common.{false, ◌&&◌, ◌||◌, cond, ⊎_elim, max, filter, List, [], ◌∷◌, length, map, replicate, set, get_or, ap₂}
 use Rattle.std.proofs.lemmas.Bool.Decides.{nat_tests}
 use Rattle.std.specs.declared.cmp.Ordering.{Ordering}
@@ -9,9 +9,8 @@ use Rattle.domain.specs.Interval.{Interval, vacant, joined}
 use Rattle.domain.specs.Facts.{Fact, Defined, entire, fact_order, has_fact, put, with_fact}
 use Rattle.abstract_state.specs.declared.state.Row.{Row}
 use Rattle.std.proofs.lemmas.Bool.{cases_lt}
-use Rattle.std.proofs.lemmas.List.{length-set, set-get_or, length-replicate, get_or-set_other, replicate_more}
-use Rattle.std.proofs.lemmas.Grind.{get_or-set_at}
-use Rattle.abstract_state.specs.State.{joined_ranges, start}
+use Rattle.std.proofs.lemmas.List.{set-get_or}
+use Rattle.abstract_state.specs.State.{joined_ranges}
 use Rattle.abstract_state.specs.View.{defined_from, joined_row, no_row}
 use Rattle.sparse_list.specs.Sparse.{AreJoined as BothJoined}
 
