@@ -34,14 +34,13 @@ pub struct State {
 
 impl State {
     /// The start of a block with so many variables and so many rows: each is undefined.
-    pub fn undefined(alloc: Global, roots: usize, rows: usize) -> Result<State, AllocError>
-        ensures { IfOk result (λ state. viewed state ≡ start roots rows) }
+    pub fn undefined(alloc: Global, roots: usize, rows: usize) -> State
+        ensures { viewed result ≡ start roots rows }
     {
-        let variables = Variables::undefined(alloc, roots)?;
-        Ok(State {
-            variables,
+        State {
+            variables: Variables::undefined(alloc, roots),
             components: Components::undefined(alloc, rows),
-        })
+        }
     }
 
     /// No run comes here.
