@@ -1,5 +1,5 @@
 -- Rows of components in lists.
-use Rattle.std.proofs.Common.{arith, ◌≡◌, ap, refl, ℕ, zero, suc, ◌≤◌, List, [], ◌∷◌, length, map, replicate, set, false, None}
+use Rattle.std.proofs.Common.{◌≡◌, ap, refl, ℕ, zero, suc, List, ◌∷◌, map, replicate, false, None}
 use Rattle.domain.specs.Interval.{vacant}
 use Rattle.component_states.specs.declared.row_list.Row.{Row}
 use Rattle.component_states.specs.Components.{Components, RowState, Stretch}

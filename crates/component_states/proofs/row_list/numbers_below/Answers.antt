@@ -1,4 +1,4 @@
-use Rattle.std.proofs.Common.{◌≡◌, ◌∙◌, sym, ap, List, ℕ, ◌++◌, ◌∷◌, []}
+use Rattle.std.proofs.Common.{◌∙◌, sym, ap, List, ℕ, ◌++◌, ◌∷◌, []}
 use Rattle.component_states.proofs.JoinedRows.{numbers-more}
 use Rattle.component_states.proofs.row_list.numbers_below.Goals as goal
 

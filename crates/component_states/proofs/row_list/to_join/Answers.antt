@@ -1,4 +1,4 @@
-use Rattle.std.proofs.Common.{◌≡◌, ◌⊎◌, ⊎_elim, ◌∙◌, ap, ap₂, sym, inl, inr, List, ℕ, length, max}
+use Rattle.std.proofs.Common.{◌≡◌, ⊎_elim, ◌∙◌, ap, ap₂, sym, inl, inr, length, max}
 use Rattle.std.specs.List.{range_with_len}
 use Rattle.std.proofs.lemmas.Result.{IfOk-weaker}
 use Rattle.component_states.specs.declared.row_list.Row.{Row}
@@ -25,8 +25,8 @@ returns c =
     IfOk-weaker c.unusual_of_either.result (λ numbers. AreUnusualOfEither rows others numbers.items)
     (λ numbers. AreToJoin rows others numbers.items)
     (λ numbers either number none within. ⊎_elim (λ listed. inl listed) (λ same. inr (record {
-    first = same.0;
-    second = same.1;
-    first_undefined = ap is_defined (sym c.usual.ensures) ∙ c.if-usual.false;
-    second_undefined = ap is_defined (sym c.usual-else-usual.ensures) ∙ c.if-usual-2.false;
+      first = same.0;
+      second = same.1;
+      first_undefined = ap is_defined (sym c.usual.ensures) ∙ c.if-usual.false;
+      second_undefined = ap is_defined (sym c.usual-else-usual.ensures) ∙ c.if-usual-2.false;
     })) (either number none within)) c.unusual_of_either.ensures

@@ -1,7 +1,6 @@
-use Rattle.std.proofs.Common.{◌≡◌, ◌∙◌, ap, List, map, set}
+use Rattle.std.proofs.Common.{◌≡◌, ◌∙◌, ap, List, set}
 use Rattle.std.proofs.lemmas.List.{map-set}
 use Rattle.std.proofs.lemmas.Result.{IfOk-weaker}
-use Rattle.component_states.specs.declared.row_list.Row.{Row}
 use Rattle.component_states.specs.Components.{RowState, with_row}
 use Rattle.component_states.specs.View.{said_row, viewed_components}
 use Rattle.component_states.proofs.KeptRows.{components_of, said_rows}

@@ -1,4 +1,4 @@
-use Rattle.std.proofs.Common.{◌≡◌, ◌∙◌, sym, ap, ap₂, Bool, false, List, ℕ, fold, get_or, length, max, refl, replicate, set, take}
+use Rattle.std.proofs.Common.{◌≡◌, ◌∙◌, sym, ap, ap₂, false, List, ℕ, fold, get_or, length, max, refl, replicate, set}
 use Rattle.std.proofs.lemmas.List.{map-set, take_all}
 use Rattle.std.proofs.lemmas.List.Sums.{fold_more}
 use Rattle.component_states.specs.declared.row_list.Row.{Row}
