@@ -136,15 +136,16 @@ impl<T: Join> SparseList<T> {
     /// The items of two lists, joined one by one: where one of the lists has no item, it counts as one that is given.
     pub fn joined(
         &self,
+        alloc: Global,
         other: &SparseList<T>,
         none: T,
-        alloc: Global,
     ) -> Result<SparseList<T>, AllocError>
-        ensures { IfOk result (λ both. AreJoined T.join none self.now.items other.now.items both.items) }
+        ensures items { IfOk result (λ both. AreJoined T.join none self.now.items other.now.items both.items) }
+        ensures usual { IfOk result (λ both. both.usual ≡ T.join self.now.usual other.now.usual) }
     {
         let count = self.len().max(other.len());
         let mut both = SparseList::new(alloc, count, self.usual().joined(other.usual()));
-        for &index in &unusual_of_either(self, other, alloc)? {
+        for &index in &unusual_of_either(alloc, self, other)? {
             let item = self.get_or(index, none).joined(other.get_or(index, none));
             both.set(index, item)?;
         }
@@ -154,9 +155,9 @@ impl<T: Join> SparseList<T> {
 
 /// The indices at which an item of one of two lists may differ from its usual one, or be missing.
 fn unusual_of_either<T: Copy>(
+    alloc: Global,
     list: &SparseList<T>,
     other: &SparseList<T>,
-    alloc: Global,
 ) -> Result<Vec<usize>, AllocError>
     ensures { IfOk result (λ indices. AreUnusualOfEither list.now other.now indices.items) }
 {
@@ -168,7 +169,7 @@ fn unusual_of_either<T: Copy>(
     Ok(indices)
 }
 
-// Where an item of this index is stored, or where it would go.
+/// Where an item of an index is stored, or where it would go.
 fn search<T: Copy>(stored: &[(usize, T)], index: usize) -> Result<usize, usize>
     requires { IsAscending stored.now }
     ensures found { IfOk result (IsAt stored.now index) }
