@@ -21,11 +21,11 @@ pub record State : Type 0 where
 
 -- no run comes here
 abbrev pub dead : State
-dead = record { variables = Dead; components = no_values [] }
+dead = record { variables = Dead; components = no_values 0 }
 
--- the start of a block of so many variables, and of rows by the values of their first indexes: none has a value
-abbrev pub start : (roots : ℕ) → (indexes : List (Option OrdinalRange)) → State
-start roots indexes = record { variables = variables.start roots; components = no_values indexes }
+-- the start of a block of so many variables, and of so many rows: none has a value
+abbrev pub start : (roots rows : ℕ) → State
+start roots rows = record { variables = variables.start roots; components = no_values rows }
 
 abbrev pub is_dead : State → Bool
 is_dead state = variables.is_dead state.variables

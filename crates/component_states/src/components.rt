@@ -14,7 +14,6 @@ use domain::Domain;
 use domain::facts::Bound;
 use domain::interval::Interval;
 use std::alloc::{AllocError, Global};
-use types::OrdinalRange;
 
 /// What is known of the components of structured variables.
 #[derive(Drop)]
@@ -26,19 +25,12 @@ pub(crate) struct Components {
 }
 
 impl Components {
-    /// Rows none of which has a value, by the values of their first indexes.
-    pub(crate) fn undefined(
-        alloc: Global,
-        indexes: &[Option<OrdinalRange>],
-    ) -> Result<Components, AllocError>
-        ensures { IfOk result (λ known. viewed_components known ≡ no_values indexes.now) }
+    /// So many rows, none of which has a value.
+    pub(crate) fn undefined(alloc: Global, count: usize) -> Result<Components, AllocError>
+        ensures { IfOk result (λ known. viewed_components known ≡ no_values count) }
     {
-        let mut rows = Vec::with_capacity(alloc, indexes.len())?;
-        for index in indexes {
-            rows.push(Row::undefined(*index))?;
-        }
         Ok(Components {
-            rows,
+            rows: vec![in alloc; Row::NONE; count]?,
             stretches: Vec::new(alloc),
         })
     }
@@ -50,40 +42,31 @@ impl Components {
         row_list::row_at(&self.rows, row as usize)
     }
 
-    fn set_row(&mut self, row: u32, state: Row)
-        ensures { viewed_components self.new ≡ with_row row (said_row state) (viewed_components self.old) }
+    /// What is known of a row from here on, if it is there.
+    pub(crate) fn set_row(&mut self, row: u32, state: Row) -> Result<(), AllocError>
+        ensures { IfOk result
+            (λ _. viewed_components self.new ≡ with_row row (said_row state) (viewed_components self.old)) }
     {
-        row_list::set(&mut self.rows, row as usize, state);
+        row_list::set(&mut self.rows, row as usize, state)
     }
 
     /// The values of a row lie in a range from here on.
-    pub(crate) fn set_range(&mut self, row: u32, range: Interval)
-        ensures { viewed_components self.new ≡ with_range row range (viewed_components self.old) }
+    pub(crate) fn set_range(&mut self, row: u32, range: Interval) -> Result<(), AllocError>
+        ensures { IfOk result
+            (λ _. viewed_components self.new ≡ with_range row range (viewed_components self.old)) }
     {
         let mut state = self.row(row);
         state.range = range;
-        self.set_row(row, state);
-    }
-
-    /// The values of a row lie in a range from here on, and each component is defined, or perhaps none.
-    pub(crate) fn begin(&mut self, row: u32, range: Interval, is_defined: bool)
-        ensures { viewed_components self.new ≡ with_row row
-            (record (row_at (viewed_components self.old) row) { range = range; is_defined = is_defined })
-            (viewed_components self.old) }
-    {
-        let mut state = self.row(row);
-        state.range = range;
-        state.is_defined = is_defined;
-        self.set_row(row, state);
+        self.set_row(row, state)
     }
 
     /// Each component of a row is defined from here on.
-    pub(crate) fn define(&mut self, row: u32)
-        ensures { viewed_components self.new ≡ with_defined row (viewed_components self.old) }
+    pub(crate) fn define(&mut self, row: u32) -> Result<(), AllocError>
+        ensures { IfOk result (λ _. viewed_components self.new ≡ with_defined row (viewed_components self.old)) }
     {
         let mut state = self.row(row);
         state.is_defined = true;
-        self.set_row(row, state);
+        self.set_row(row, state)
     }
 
     /// What is left after a variable got a value, perhaps of a bound form.
@@ -124,13 +107,9 @@ impl Components {
         match fact {
             ComponentFact::Range { row, range } => {
                 let both = self.row(*row).range.meet(range);
-                self.set_range(*row, both);
-                Ok(())
+                self.set_range(*row, both)
             }
-            ComponentFact::Defined { row } => {
-                self.define(*row);
-                Ok(())
-            }
+            ComponentFact::Defined { row } => self.define(*row),
             ComponentFact::Stretched(stretch) => stretches::insert(&mut self.stretches, *stretch),
         }
     }
@@ -220,27 +199,24 @@ impl Components {
     {
         match reach {
             Reach::Entire => {
-                self.set_range(row, range);
-                self.define(row);
-                Ok(())
+                self.set_range(row, range)?;
+                self.define(row)
             }
             Reach::At(index) => {
-                self.widen(row, range);
+                self.widen(row, range)?;
                 self.define_some(alloc, state, row, index.form)
             }
-            Reach::Inside(_) => {
-                self.widen(row, range);
-                Ok(())
-            }
+            Reach::Inside(_) => self.widen(row, range),
         }
     }
 
     /// Components of a row may have a value of a range from here on.
-    fn widen(&mut self, row: u32, range: Interval)
-        ensures { viewed_components self.new ≡ with_joined row range (viewed_components self.old) }
+    fn widen(&mut self, row: u32, range: Interval) -> Result<(), AllocError>
+        ensures { IfOk result
+            (λ _. viewed_components self.new ≡ with_joined row range (viewed_components self.old)) }
     {
         let both = self.row(row).range.join(&range);
-        self.set_range(row, both);
+        self.set_range(row, both)
     }
 
     /// The components of an index are defined from here on, if it is a bound.

@@ -1,5 +1,5 @@
 ghost use Rattle.std.specs.Prelude.{◌≡◌, IfOk, length, map, max, slice_index_or, slice_set};
-ghost use Rattle.component_states.specs.Components.{no_row, undefined_row};
+ghost use Rattle.component_states.specs.Components.{no_row};
 ghost use Rattle.component_states.specs.States.{joined_index};
 ghost use Rattle.component_states.specs.View.{said_row};
 
@@ -19,16 +19,12 @@ pub(crate) struct Row {
 }
 
 impl Row {
-    /// That of a row of which no component has a value, by the values of its first index.
-    pub(crate) fn undefined(index: Option<OrdinalRange>) -> Row
-        ensures { said_row result ≡ undefined_row index }
-    {
-        Row {
-            range: Interval::EMPTY,
-            is_defined: false,
-            index,
-        }
-    }
+    /// That of a row of which no component has a value.
+    pub(crate) const NONE: Row = Row {
+        range: Interval::EMPTY,
+        is_defined: false,
+        index: None,
+    };
 }
 
 /// What is known of a row; one that isn't there has no value.
@@ -37,17 +33,19 @@ pub(crate) fn row_at(rows: &[Row], row: usize) -> Row
 {
     match rows.get(row) {
         Some(state) => *state,
-        None => Row::undefined(None),
+        None => Row::NONE,
     }
 }
 
 /// What is known of a row from here on, if it is there.
-pub(crate) fn set(rows: &mut Vec<Row>, row: usize, state: Row)
-    ensures { map said_row rows.new.items ≡ slice_set (map said_row rows.old.items) row (said_row state) }
+pub(crate) fn set(rows: &mut Vec<Row>, row: usize, state: Row) -> Result<(), AllocError>
+    ensures { IfOk result
+        (λ _. map said_row rows.new.items ≡ slice_set (map said_row rows.old.items) row (said_row state)) }
 {
     if row < rows.len() {
         rows[row] = state;
     }
+    Ok(())
 }
 
 /// How many rows the longer of two lists has, if 32 bits hold their number: more fit no memory.

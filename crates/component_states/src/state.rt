@@ -32,17 +32,12 @@ pub struct State {
 }
 
 impl State {
-    /// The start of a block with so many variables, and with rows by the values of their first indexes: each is
-    /// undefined.
-    pub fn undefined(
-        alloc: Global,
-        roots: usize,
-        indexes: &[Option<OrdinalRange>],
-    ) -> Result<State, AllocError>
-        ensures { IfOk result (λ state. viewed state ≡ start roots indexes.now) }
+    /// The start of a block with so many variables and so many rows: each is undefined.
+    pub fn undefined(alloc: Global, roots: usize, rows: usize) -> Result<State, AllocError>
+        ensures { IfOk result (λ state. viewed state ≡ start roots rows) }
     {
         let variables = Variables::undefined(alloc, roots)?;
-        let components = Components::undefined(alloc, indexes)?;
+        let components = Components::undefined(alloc, rows)?;
         Ok(State {
             variables,
             components,
@@ -91,11 +86,12 @@ impl State {
     }
 
     /// A variable is undefined from here on.
-    pub fn undefine(&mut self, root: u32)
-        ensures { viewed self.new ≡ over_change root None (with_undefined root) (viewed self.old) }
+    pub fn undefine(&mut self, root: u32) -> Result<(), AllocError>
+        ensures { IfOk result
+            (λ _. viewed self.new ≡ over_change root None (with_undefined root) (viewed self.old)) }
     {
         self.components.change(root, None);
-        self.variables.undefine(root);
+        self.variables.undefine(root)
     }
 
     /// What is known of a variable is known of its bound too, if it has one.
@@ -120,25 +116,38 @@ impl State {
     }
 
     /// The values of a row lie in a range from here on.
-    pub fn touch_row(&mut self, row: u32, range: Interval)
-        ensures { viewed self.new ≡ over_components (λ _. with_range row range) (viewed self.old) }
+    pub fn touch_row(&mut self, row: u32, range: Interval) -> Result<(), AllocError>
+        ensures { IfOk result
+            (λ _. viewed self.new ≡ over_components (λ _. with_range row range) (viewed self.old)) }
     {
-        self.components.set_range(row, range);
+        self.components.set_range(row, range)
     }
 
-    /// The values of a row lie in a range from here on, and each component is defined, or perhaps none.
-    pub fn begin_row(&mut self, row: u32, range: Interval, is_defined: bool)
-        ensures { viewed self.new ≡ over_components (λ _ known. with_row row
-            (record (row_at known row) { range = range; is_defined = is_defined }) known) (viewed self.old) }
+    /// The values of a row lie in a range from here on, each component is defined, or perhaps none, and the first
+    /// index has these values, if there is one.
+    pub fn begin_row(
+        &mut self,
+        row: u32,
+        range: Interval,
+        is_defined: bool,
+        index: Option<OrdinalRange>,
+    ) -> Result<(), AllocError>
+        ensures { IfOk result (λ _. viewed self.new ≡ over_components (λ _. with_row row
+            (record { range = range; is_defined = is_defined; index = index })) (viewed self.old)) }
     {
-        self.components.begin(row, range, is_defined);
+        let state = Row {
+            range,
+            is_defined,
+            index,
+        };
+        self.components.set_row(row, state)
     }
 
     /// Each component of a row is defined from here on.
-    pub fn define_row(&mut self, row: u32)
-        ensures { viewed self.new ≡ over_components (λ _. with_defined row) (viewed self.old) }
+    pub fn define_row(&mut self, row: u32) -> Result<(), AllocError>
+        ensures { IfOk result (λ _. viewed self.new ≡ over_components (λ _. with_defined row) (viewed self.old)) }
     {
-        self.components.define(row);
+        self.components.define(row)
     }
 
     /// Claims are known from here on; a range beside that which is known.
