@@ -154,7 +154,7 @@ impl<T: Join> SparseList<T> {
 }
 
 /// The indices at which an item of one of two lists may differ from its usual one, or be missing.
-fn unusual_of_either<T: Copy>(
+pub fn unusual_of_either<T: Copy>(
     alloc: Global,
     list: &SparseList<T>,
     other: &SparseList<T>,
