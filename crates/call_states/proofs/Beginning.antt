@@ -7,7 +7,7 @@ use Rattle.std.specs.List.{All, list_any, range_with_len}
 use Rattle.std.specs.Option.{option_map}
 use Rattle.std.specs.Prelude.{flat_map, slice_get}
 use Rattle.std.proofs.lemmas.Bool.{and_parts, both_ways, cond_both, eq-eqb, eqb-true, false≢true, or_cases, or_left, or_right}
-use Rattle.std.proofs.lemmas.List.{ext_get_or, get_or-map, get_or-replicate, get_or-set_other, get_or-set_same, length-map, length-set, length-replicate}
+use Rattle.std.proofs.lemmas.List.{drop_more, ext_get_or, get_or-map, get_or-replicate, get_or-set_other, get_or-set_same, length-map, length-set, length-replicate}
 use Rattle.std.proofs.lemmas.List.Elements.{All-append, All-get_or, All-nil, All-cons, All-map}
 use Rattle.std.proofs.lemmas.List.Folds.{list_any-append}
 use Rattle.std.proofs.lemmas.List.FromFn.{get_or-map-range_with_len, length-map-range_with_len}
@@ -15,6 +15,7 @@ use Rattle.std.proofs.lemmas.Option.{get_or_from_slice_get, slice_get-map, slice
 use Rattle.domain.specs.Interval.{Interval, vacant}
 use Rattle.types.specs.Forms.{Form}
 use Rattle.types.specs.Types.{is_ordinal}
+use Rattle.types.specs.declared.form.OrdinalRange.{OrdinalRange}
 use Rattle.typed_tree.specs.WellFormed.{encloses, heading_of, is_one_of, is_round, is_value_kind, of_one, outline_of}
 use Rattle.typed_tree.specs.declared.tree.Block.{Block}
 use Rattle.typed_tree.specs.declared.tree.Heading.{Heading}
@@ -23,11 +24,13 @@ use Rattle.typed_tree.specs.declared.tree.Variable.{Variable}
 use Rattle.abstract_state.specs.Loops.{is_among}
 use Rattle.abstract_state.specs.State as variables
 use Rattle.leaf_rows.specs.Leaves.{Leaf, leaves_of}
-use Rattle.leaf_rows.specs.Rows.{Row, is_structured, is_under, numbers_where, rows_from, rows_of, rows_touched, rows_under, variable_rows}
+use Rattle.leaf_rows.specs.Rows.{Row, index_at, is_structured, is_under, numbers_where, rows_from, rows_of, rows_touched, rows_under, values_at}
+use Rattle.leaf_rows.specs.Rows.{variable_rows}
 use Rattle.component_states.specs.Components.{Components, RowState, no_row, no_values, with_row}
 use Rattle.component_states.specs.States.{State, over_components}
+use Rattle.structured_states.specs.Loops.{limits_or_integer, row_limits, type_limits}
 use Rattle.structured_states.proofs.Rowed.{rows-next, rows_to}
-use Rattle.call_states.specs.Starts.{all_declared, components_start, declared_by, is_own, is_passed_value, is_undefined_at_start, row_start}
+use Rattle.call_states.specs.Starts.{all_declared, components_start, declared_by, is_own, is_passed_value, row_start, start_range}
 use Rattle.call_states.specs.Starts.{values_defined, variable_start}
 use Rattle.call_states.specs.View.{all_rows_begun, no_leaf, numbered, own_roots, range_begun, ranges_begun, row_begun, rows_begun, value_begun}
 use Rattle.call_states.specs.View.{values_begun, visible_by, visible_roots, with_root, with_roots}
@@ -264,7 +267,7 @@ among-visible tree block root variable is round =
 
 -- ---- variables
 
-abbrev live : List Interval → variables.State
+abbrev pub live : List Interval → variables.State
 live ranges = variables.Live (record { ranges = ranges; facts = [] })
 
 abbrev range_at : Tree → ℕ → ℕ → Interval
@@ -278,7 +281,7 @@ ranges-set tree block (root ∷ roots) ranges = ranges-set tree block roots (set
 hidden-vacant : (tree : Tree) (block : ℕ) (variable : Variable) → is_round (outline_of tree) block variable.block ≡ false
     → variable_start tree block variable ≡ vacant
 hidden-vacant tree block variable hidden =
-    ap (λ b. cond (not b || is_own block variable) vacant _) hidden
+    ap (λ b. cond (not b || is_own block variable) vacant (type_limits tree.types variable)) hidden
 
 -- a variable that isn't visible has no value
 first-range : (tree : Tree) (block root : ℕ) (round : Bool) (variable : Variable) → slice_get tree.variables.items root ≡ Some variable
@@ -376,6 +379,38 @@ values-are tree block state =
 abbrev kept : List RowState → Components
 kept rows = record { rows = rows; stretches = [] }
 
+-- what is known of a row of a variable that is visible
+abbrev seen_row : Tree → ℕ → Variable → ℕ → RowState
+seen_row tree block variable number = record {
+  range = start_range tree block variable (limits_or_integer (numbered tree number).leaf.values);
+  is_defined = is_passed_value block variable;
+  index = (numbered tree number).leaf.index;
+}
+
+values-numbered : (rows : List Row) (number : ℕ) → values_at rows number ≡ (get_or rows number no_leaf).leaf.values
+values-numbered [] number = refl
+values-numbered (row ∷ rows) zero = refl
+values-numbered (row ∷ rows) (suc number) = values-numbered rows number
+
+index-numbered : (rows : List Row) (number : ℕ) → index_at rows number ≡ (get_or rows number no_leaf).leaf.index
+index-numbered [] number = refl
+index-numbered (row ∷ rows) zero = refl
+index-numbered (row ∷ rows) (suc number) = index-numbered rows number
+
+abbrev pub begun : Interval → Bool → Option OrdinalRange → RowState
+begun range is_defined index = record { range = range; is_defined = is_defined; index = index }
+
+pub row-seen : (tree : Tree) (block : ℕ) (variable : Variable) (row : ℕ) (range : Interval) (is_defined : Bool) (index : Option OrdinalRange)
+    → is_round (outline_of tree) block variable.block ≡ true → range ≡ start_range tree block variable (row_limits (rows_of tree) row)
+    → is_defined ≡ is_passed_value block variable → index ≡ index_at (rows_of tree) row
+    → begun range is_defined index ≡ row_begun tree block (Some variable) row
+row-seen tree block variable row range is_defined index round range_is defined_is index_is =
+    ap (λ r. begun r is_defined index)
+    (range_is ∙ ap (λ values. start_range tree block variable (limits_or_integer values)) (values-numbered (rows_of tree) row))
+    ∙ ap (λ d. begun (seen_row tree block variable row).range d index) defined_is
+    ∙ ap (begun (seen_row tree block variable row).range (is_passed_value block variable)) (index_is ∙ index-numbered (rows_of tree) row)
+    ∙ sym (ap (λ b. cond b (seen_row tree block variable row) no_row) round)
+
 -- what is known of a row where a block begins, by its variable
 abbrev row_at : Tree → ℕ → ℕ → RowState
 row_at tree block number = row_begun tree block (slice_get tree.variables.items (numbered tree number).root) number
@@ -413,7 +448,8 @@ first-row tree block number true variable inside is seen =
     inr (among-flat (λ r. rows_under (rows_of tree) r []) roots root number
     (among-contains roots root (among-visible tree block root variable is seen)) (under-variable tree root number inside refl))
 first-row tree block number false variable inside is hidden =
-    inl (sym (ap (λ b. cond b _ no_row) hidden) ∙ sym (ap (λ found. row_begun tree block found number) is))
+    let own : row_begun tree block (Some variable) number ≡ no_row = ap (λ b. cond b (seen_row tree block variable number) no_row) hidden in
+    inl (sym own ∙ sym (ap (λ found. row_begun tree block found number) is))
 
 -- each row is as it is where a block begins
 pub rows-are : (tree : Tree) (block : ℕ)
@@ -508,7 +544,7 @@ table-is tree =
     let declared = tree.variables.items in
     let none : List (List ℕ) = replicate (suc count) [] in
     let table = with_roots count 0 declared none in
-    let of = λ block. declared_by count block 0 declared in
+    let of = λ (block : ℕ). declared_by count block 0 declared in
     let first = length-replicate (suc count) [] in
     let long : length table ≡ suc count = length-put count 0 declared none ∙ first in
     ext_get_or [] table (map of (range_with_len 0 (suc count))) (long ∙ sym (length-map-range_with_len of 0 (suc count)))
@@ -517,3 +553,15 @@ table-is tree =
     put-at count 0 declared none i first
     ∙ ap (λ before. before ++ declared_by count i 0 declared) (get_or-replicate (suc count) i [] [] inside)
     ∙ sym (get_or-map-range_with_len of 0 (suc count) i i [] inside (let e : 0 + i ≡ i = omega arith in e)))
+
+-- one variable more is put behind those of its block
+pub roots-next : (blocks root place : ℕ) (declared : List Variable) (variable : Variable) (old new all : List (List ℕ)) → root < length declared
+    → variable ≡ get_or declared root variable → place ≡ min variable.block blocks → new ≡ with_root place root old
+    → with_roots blocks root (drop root declared) old ≡ all → with_roots blocks (root + 1) (drop (root + 1) declared) new ≡ all
+roots-next blocks root place declared variable old new all inside variable_is place_is new_is is =
+    let rest = drop (root + 1) declared in
+    let next : root + 1 ≡ suc root = omega arith in
+    let cut : drop root declared ≡ variable ∷ rest = drop_more declared root variable inside ∙ ap (λ one. one ∷ rest) (sym variable_is) in
+    ap (λ k. with_roots blocks k rest new) next
+    ∙ ap (with_roots blocks (suc root) rest) (new_is ∙ ap (λ k. with_root k root old) place_is)
+    ∙ ap (λ some. with_roots blocks root some old) (sym cut) ∙ is
