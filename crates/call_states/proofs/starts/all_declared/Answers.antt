@@ -1,4 +1,4 @@
-use Rattle.std.proofs.Common.{arith, ◌≡◌, ◌∙◌, ◌++◌, ◌∷◌, [], ap, get_or, length, map, min, sym, ℕ, List}
+use Rattle.std.proofs.Common.{arith, ◌≡◌, ◌∙◌, ◌++◌, ◌∷◌, [], ap, get_or, length, map, min, rules, sym, ℕ, List}
 use Rattle.std.specs.Global.{Vec}
 use Rattle.std.proofs.lemmas.List.{drop_all, length-map, length-set}
 use Rattle.typed_tree.specs.declared.tree.Variable.{Variable}
@@ -24,7 +24,7 @@ loop-root-preserved c =
     let put = c.in_ok-declare.ensures in
     let same = ap length put in
     let set = length-set (rows_in old) place (get_or (rows_in old) place [] ++ root ∷ []) in
-    let place_is : place ≡ min c.index.result.now.block blocks = ? in
+    let place_is : place ≡ min c.index.result.now.block blocks = search rules in
     record {
       long = omega (arith, same, set, long-same old, long-same new, so_far.long);
       left =
