@@ -292,8 +292,9 @@ good-then world P Q s (effect.Gives a t) next good two =
 good-then world P Q s (effect.Stops e t) next good two = record { errs = good.errs; new = good.new; gives = tt }
 
 -- where a walk stands behind a piece
-pub here-behind : {A B : Type 0} (world : World) (block : ℕ) (env : Environment) (R : B → A → Store → Type 0) (context : Context) (state : State) (walked : Walked B)
-    (s t : effect.State) (a : A) → Here world block env context state s → Behind world (IsForetold world env R context walked s.store) s a t
+pub here-behind : {A B : Type 0} (world : World) (block : ℕ) (env : Environment) (R : B → A → Store → Type 0) (context : Context)
+    (state : State) (walked : Walked B) (s t : effect.State) (a : A)
+    → Here world block env context state s → Behind world (IsForetold world env R context walked s.store) s a t
     → Here world block env context walked.after t
 here-behind world block env R context state walked s t a here behind = record {
   block_is = here.block_is;
@@ -326,7 +327,8 @@ pub sound-anywhere : {A B : Type 0} (world : World) (block : ℕ) (env : Environ
     → ((store : Store) → SoundFrom world block env store R action walking) → Sound world block env R action walking
 sound-anywhere world block env R action walking one context state s unbroken part here = one s.store context state s refl unbroken part here
 
-pub sound-here : {A B : Type 0} (world : World) (block : ℕ) (env : Environment) (store : Store) (R : B → A → Store → Type 0) (action : Action A) (walking : Walking B)
+pub sound-here : {A B : Type 0} (world : World) (block : ℕ) (env : Environment) (store : Store) (R : B → A → Store → Type 0) (action : Action A)
+    (walking : Walking B)
     → Sound world block env R action walking → SoundFrom world block env store R action walking
 sound-here world block env store R action walking one context state s same unbroken part here = one context state s unbroken part here
 

@@ -501,7 +501,8 @@ module _ (world : World) (block : ℕ) (env : Surroundings) where
       (many : (selectors ≡ [] → is_structured (types_in world) id ≡ true) → length (rows root selectors) ≡ length (leaves_of (types_in world) id))
       (site : ℕ) (below : site < (sites_in world)) (reach : Reach) (way : List Step) (matches : Matches selectors way) where
     -- each component that is given has a value
-    given-has : (state : State) (store : Store) → Knows (parts_in world) (variables_in world) visible state store → IsReachedBy visible store selectors way reach
+    given-has : (state : State) (store : Store) → Knows (parts_in world) (variables_in world) visible state store
+        → IsReachedBy visible store selectors way reach
         → (selectors ≡ [] → is_structured (types_in world) id ≡ true) → is_covered world.tree state reach (rows root selectors) ≡ true
         → (rest : List Step) → Contains (components_of (types_in world) id) rest → HasValue (moment visible store) root (way ++ rest)
     given-has state store known reached structured covered rest of_type =
@@ -569,7 +570,8 @@ module _ (world : World) (block : ℕ) (env : Surroundings) where
       abbrev IsRead : List Step → Value → Store → Type 0
       IsRead rest v after = (value_at (moment visible before) root (way ++ rest) ≡ Some v) × (after ≡ before)
 
-      found-good : (rest : List Step) (s : effect.State) → Fine world.tree s → s.store ≡ before → (found : Option Value) → value_at (moment visible before) root (way ++ rest) ≡ found
+      found-good : (rest : List Step) (s : effect.State) → Fine world.tree s → s.store ≡ before → (found : Option Value)
+          → value_at (moment visible before) root (way ++ rest) ≡ found
           → (found ≡ None → Contains world.ids site) → Good world (IsRead rest) s (effect.fetched found site s)
       found-good rest s fine same None is opens = record {
         errs = errs-here world site (opens refl) below;
@@ -654,7 +656,8 @@ module _ (world : World) (block : ℕ) (env : Surroundings) where
         part.ids site (open-here site (closed state) unclosed)
 
     whole-good : (value : Whole) → ((ranges : List Interval) (numbers : List ℤ) → AreIntegers numbers
-        → length numbers ≡ length (components_of (types_in world) id) → (is_structured (types_in world) id ≡ true → length ranges ≡ length (leaves_of (types_in world) id))
+        → length numbers ≡ length (components_of (types_in world) id)
+        → (is_structured (types_in world) id ≡ true → length ranges ≡ length (leaves_of (types_in world) id))
         → LieIn (types_in world) id ranges numbers
         → IsWhole (types_in world) value ranges numbers)
         → (place : Option Place) → place ≡ part (visible.variables root) way → (context : Context) (state : State) (s : effect.State)
@@ -671,7 +674,8 @@ module _ (world : World) (block : ℕ) (env : Surroundings) where
         let known = used-known world.tree (variables_in world) visible s.store root selectors id laws way matches reach reached
         (read-has s.store t.store numbers read.so) state here.stands.known in
         record {
-          tie = so (ranges_of state (rows root selectors)) numbers read.so.1 read.so.2 (ranges-many state) (read-in state s.store t.store numbers here.stands.known read.so);
+          tie = so (ranges_of state (rows root selectors)) numbers read.so.1 read.so.2 (ranges-many state)
+              (read-in state s.store t.store numbers here.stands.known read.so);
           stands = subst (λ (store : Store). Stands world visible context behind store) (sym read.so.0)
               (stands-as world visible context state behind s.store here.stands known);
           kept = subst (λ (store : Store). Keeps visible context.rounds s.store store) (sym read.so.0) (keeps-itself visible context.rounds s.store);

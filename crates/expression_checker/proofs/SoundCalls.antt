@@ -1,5 +1,6 @@
 -- The walk over calls is sound, where that over their actual parameters is, and where calls are.
-use Rattle.std.proofs.Common.{arith, ◌≡◌, ⊎_elim, ◌∙◌, sym, ap, refl, subst, ℕ, Bool, true, false, cond, ◌&&◌, ◌||◌, List, [], ◌∷◌, ◌++◌, map, Option, Some, None}
+use Rattle.std.proofs.Common.{arith, ◌≡◌, ⊎_elim, ◌∙◌, sym, ap, refl, subst, ℕ, Bool, true, false, cond, ◌&&◌, ◌||◌, List, [], ◌∷◌, ◌++◌, map, Option}
+use Rattle.std.proofs.Common.{Some, None}
 use Rattle.std.specs.Prelude.{nat_eq, slice_get}
 use Rattle.std.specs.List.{Contains, list_all}
 use Rattle.std.proofs.lemmas.Bool.{and_parts, cases_eq, eq-eqb, eqb-true, or_parts}
@@ -42,7 +43,8 @@ use Rattle.expression_checker.specs.Walk.{Context, PassedPiece, Walked, Walking,
 use Rattle.expression_checker.proofs.Keeping.{Keeps, keeps-itself}
 use Rattle.expression_checker.proofs.Sound.{World, Any_value, Behind, Called, Good, Goes, Here, IsClosed, IsForetold, IsPartOf, IsValue, Leaves, LiesInResult}
 use Rattle.expression_checker.proofs.Sound.{Returned, Sound, SoundCalls, SoundFrom, Stands, from-then, good-give, good-weaker, is_seen, nonempty-stands}
-use Rattle.expression_checker.proofs.Sound.{part-left, parts_in, sound-anywhere, sound-enter, sound-give, sound-here, unbroken-left, unbroken-right, variables_in}
+use Rattle.expression_checker.proofs.Sound.{part-left, parts_in, sound-anywhere, sound-enter, sound-give, sound-here, unbroken-left, unbroken-right}
+use Rattle.expression_checker.proofs.Sound.{variables_in}
 
 -- ---- what is passed
 
@@ -344,7 +346,8 @@ module _ (world : World) (block : ℕ) (env : Surroundings) where
         → of_one (is_round (outline_of world.tree) block) (declarer callee.heading.around.items) ≡ true
         → (walk.call_with call claims bindings (in_world world context) state).broken ≡ []
         → Here world block visible context state s → ArePassed world visible callee.heading.parameters.items actuals arguments s.store
-        → Good world (IsForetold world visible (BehindCall call.block callee) context (walk.call_with call claims bindings (in_world world context) state) s.store)
+        → Good world (IsForetold world visible (BehindCall call.block callee) context
+        (walk.call_with call claims bindings (in_world world context) state) s.store)
         s (env.calls call.block arguments visible s)
     call-good context state s at callable unbroken here passed =
         let own = in_world world context in
@@ -440,7 +443,8 @@ module _ (world : World) (block : ℕ) (env : Surroundings) where
         let result_at = λ (c : Context). walk.result_walk call (walk.result_of (walk.called_block c call)) c first.after in
         let second = result_at context in
         let range = result_range world.tree (block_claims_at world.blocks call.block) result.root in
-        good-weaker world (IsForetold world visible Behind_it context first s.store) (IsForetold world visible IsValue context (walk.followed first second) s.store)
+        good-weaker world (IsForetold world visible Behind_it context first s.store)
+        (IsForetold world visible IsValue context (walk.followed first second) s.store)
         s (meaning.call_of call passings env s)
         (λ v t is behind.
         let told = behind.so in
@@ -449,7 +453,8 @@ module _ (world : World) (block : ℕ) (env : Surroundings) where
         let own = in_world world context in
         by-world world context P here.stands.goes
         (subst (λ (found : Option Block).
-        IsForetold world visible IsValue context (walk.followed first (walk.result_walk call (walk.result_of found) own first.after)) s.store v t.store) (sym at)
+        IsForetold world visible IsValue context (walk.followed first (walk.result_walk call (walk.result_of found) own first.after)) s.store v t.store)
+        (sym at)
         (subst (λ (found : Option FunctionResult).
         IsForetold world visible IsValue context (walk.followed first (walk.result_walk call found own first.after)) s.store v t.store) (sym result_is)
         (record {
