@@ -218,7 +218,6 @@ value-parts (Compare number relation left left_indexes right right_indexes) cont
     (number ∷ whole_entries right right_rows) (whole-of left pieces rows (all-entered left_indexes.items) context state)
     (ap (λ (numbers : List ℕ). number ∷ numbers) (and_no_more end.linked [] (whole_entries right right_rows)
     (whole-of right right_pieces right_rows (all-entered right_indexes.items) context begun.after) refl))
-
 value-parts (CallOf call actuals) context state =
     let passed = map (λ (p : EnteredPassed). p.0) actuals.items in
     let begun = call_walk call (map passed_piece_of passed) context state in

@@ -605,7 +605,7 @@ module _ (world : World) (block : ℕ) (env : Surroundings) where
           good-give world (AreRead before (first ∷ components)) (number_of v ∷ numbers) u more.fine (
             more.so.0,
             All-cons (HasMember integer) (number_of v) numbers (integer-number v (integer-at s.store root (way ++ first) v fine.typed
-            (ap (λ (x : Store). value_at (moment visible x) root (way ++ first)) same ∙ read.so.0))) more.so.1,
+                (ap (λ (x : Store). value_at (moment visible x) root (way ++ first)) same ∙ read.so.0))) more.so.1,
             ap suc more.so.2,
             pairs-then (λ rest n. value_at (moment visible before) root (way ++ rest) ≡ Some (Number n)) first components (number_of v) numbers
                 (read.so.0 ∙ ap Some (sym (number-back v))) more.so.3,

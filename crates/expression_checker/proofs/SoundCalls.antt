@@ -257,9 +257,12 @@ module _ (world : World) (block : ℕ) (env : Surroundings) where
       (actuals_walk pieces) (λ actuals. walk.give (actual ∷ actuals)) (passed-from hold roots passings pieces others (λ free. (none free).1) t.store)
       (λ actuals arguments s2 u gives same more. λ context state s3 now unbroken part here.
       let stays = λ (free : hold ≡ false). now ∙ all-leaves roots passings pieces others (none free).1 s2 u arguments gives ∙ same in
-      let tie : R (actual ∷ actuals) (argument ∷ arguments) s3.store =
-      (formal, at, settled-later hold formal actual argument t.store s3.store stays passed,
-      subst (λ (x : Store). ArePassed world visible roots (map (settle hold) actuals) arguments x) (sym now) more) in
+      let tie : R (actual ∷ actuals) (argument ∷ arguments) s3.store = (
+        formal,
+        at,
+        settled-later hold formal actual argument t.store s3.store stays passed,
+        subst (λ (x : Store). ArePassed world visible roots (map (settle hold) actuals) arguments x) (sym now) more,
+      ) in
       good-give world (IsForetold world visible R context (walk.give (actual ∷ actuals) context state) s3.store) (argument ∷ arguments) s3 here.fine
       (record { tie = tie; stands = here.stands; kept = keeps-itself visible context.rounds s3.store })))
 
@@ -276,10 +279,11 @@ module _ (world : World) (block : ℕ) (env : Surroundings) where
       let own = listed other among in
       let inner : is_among other (round.controls ++ round.changes) ≡ true =
       list_any-append (λ (r : ℕ). nat_eq r other) round.controls round.changes
-      ∙ or-second (is_among other round.controls) (is_among other round.changes) own in
-      (λ same. not-both (is_among root (touched round)) (touches round root (subst (λ (r : ℕ). is_among r round.changes ≡ true) same own)) untouched,
-      false-if (is_among root (aliases_of world.pairs other))
-      (λ alias. not-both (is_among root (touched round)) (closed other root seen_other shown inner alias) untouched))
+      ∙ or-second (is_among other round.controls) (is_among other round.changes) own in (
+        λ same. not-both (is_among root (touched round)) (touches round root (subst (λ (r : ℕ). is_among r round.changes ≡ true) same own)) untouched,
+        false-if (is_among root (aliases_of world.pairs other))
+            (λ alias. not-both (is_among root (touched round)) (closed other root seen_other shown inner alias) untouched),
+      )
     where
       or-second : (a b : Bool) → b ≡ true → (a || b) ≡ true
       or-second true b is = refl

@@ -490,11 +490,14 @@ module _ (world : World) (block : ℕ) (env : Surroundings) (laws : CallLaws wor
       ap (λ (found : Option Heading). option_and_then (λ (r : ℕ). slice_get (declared_in world) r)
       (option_and_then (λ (h : Heading). slice_get h.parameters.items position) found)) at
       ∙ ap (λ (found : Option ℕ). option_and_then (λ (r : ℕ). slice_get (declared_in world) r) found) here in
-      let own = actual.1 number position both.0 in
-      (own.0, sym of_root ∙ own.1, own.2,
-      placed-sound number heading at (suc position) roots
-      (λ k. suffix (suc k) ∙ ap (slice_get heading.parameters.items) (let e : position + suc k ≡ suc position + k = omega arith in e)) actuals
-      (omega (arith, count)) both.1)
+      let own = actual.1 number position both.0 in (
+        own.0,
+        sym of_root ∙ own.1,
+        own.2,
+        placed-sound number heading at (suc position) roots
+            (λ k. suffix (suc k) ∙ ap (slice_get heading.parameters.items) (let e : position + suc k ≡ suc position + k = omega arith in e)) actuals
+            (omega (arith, count)) both.1,
+      )
 
   -- a routine that is called
   pub callee-found : (is_function : Bool) (number count : ℕ) → may_call outline block is_function number count ≡ true
@@ -578,7 +581,6 @@ module _ (world : World) (block : ℕ) (env : Surroundings) (laws : CallLaws wor
       (walk.whole_walk right right_pieces) (λ done. walk.ordinal truth_values) (whole-sound right right_indexes.items three.0 right_sized)
       (λ c b store tie. given-sound world block visible truth_values (truth (meaning.relates relation (meaning.order_of a b) (pos 0)))
       (truth_values-has (meaning.relates relation (meaning.order_of a b) (pos 0))))))
-
   value-layer (CallOf call actuals) well =
       let passed = map (λ (p : ProvedPassed). p.0) actuals.items in
       let n = length (map well_passed passed) in

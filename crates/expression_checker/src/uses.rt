@@ -101,7 +101,10 @@ impl<'a> Flow<'a> {
             ≡ is_covered self.now.grounds.rows.now (viewed self.now.state) (said_reach reach.now) (numbers span) }
     {
         for row in span.first..span.end() {
-            if !self.state.gives_reached(*reach, self.grounds.rows.index(row), row) {
+            if !self
+                .state
+                .gives_reached(*reach, self.grounds.rows.index(row), row)
+            {
                 return false;
             }
         }
