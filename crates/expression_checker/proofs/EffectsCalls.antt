@@ -4,7 +4,7 @@ use Rattle.std.specs.Prelude.{slice_get, if◌then◌else◌}
 use Rattle.std.specs.List.{Contains, list_all}
 use Rattle.std.proofs.Common.{arith, ◌≡◌, ◌⊎◌, inl, inr, ⊎_elim, ℕ, zero, suc, ◌<◌, ◌≤◌, List, [], ◌∷◌, ◌++◌, Bool, true, false, ◌&&◌, ◌||◌, Option}
 use Rattle.std.proofs.Common.{Some, None, map, nat_eq, refl, sym, ap, ◌∙◌, subst}
-use Rattle.std.proofs.lemmas.Bool.{and_parts, cases_Bool, eqb-true, eq-eqb, false≢true, or_cases}
+use Rattle.std.proofs.lemmas.Bool.{and_parts, cases_Bool, eqb-true, eq-eqb, false≢true, or_cases, or_parts}
 use Rattle.std.proofs.lemmas.List.Folds.{list_all-append}
 use Rattle.place.specs.declared.Place.{Place as SourcePlace}
 use Rattle.typed_tree.specs.declared.tree.Tree.{Tree}
@@ -209,16 +209,12 @@ unbound-here : (same : Bool) (actual : Actual) (found : Option Actual) → same 
 unbound-here true actual found other none = absurd (cc)
 unbound-here false actual found other none = none
 
-neither : (a b : Bool) → (a || b) ≡ false → (a ≡ false) × (b ≡ false)
-neither true b is = absurd (cc)
-neither false b is = (refl, is)
-
 unbound : (root : ℕ) (parameters : List ℕ) (actuals : List Actual) → is_among root parameters ≡ false
     → actual_of (bound_to parameters actuals) root ≡ None
 unbound root [] actuals other = refl
 unbound root (parameter ∷ parameters) [] other = refl
 unbound root (parameter ∷ parameters) (actual ∷ actuals) other =
-    let parts = neither (nat_eq parameter root) (is_among root parameters) other in
+    let parts = or_parts (nat_eq parameter root) (is_among root parameters) other in
     unbound-here (nat_eq parameter root) actual (actual_of (bound_to parameters actuals) root) parts.0 (unbound root parameters actuals parts.1)
 
 pub not-among : (root : ℕ) (roots : List ℕ) → (is_among root roots ≡ true → ⊥) → is_among root roots ≡ false

@@ -40,6 +40,7 @@ use Rattle.exit_states.specs.Exit.{result_range}
 use Rattle.call_states.specs.Sections.{BlockClaims, block_claims_at}
 use Rattle.call_states.proofs.Claimed.{AllHold}
 use Rattle.call_states.proofs.Passed.{AllFit}
+pub use Rattle.call_states.proofs.Reached.{alive}
 use Rattle.expression_checker.proofs.Keeping.{Keeps, keeps-itself, keeps-then}
 
 -- what is fixed for a program: the program, the values of its variables' types, the sites that the whole walk leaves open, the states that it links, the
@@ -218,6 +219,9 @@ SoundCalls world calls =
     → Fine world.tree s → Good world (Returned world number block arguments caller s) s (calls number arguments caller s)
 
 -- ---- one after the other
+
+pub gives-state : {A : Type 0} (a b : A) (s t : effect.State) → effect.Gives a s ≡ effect.Gives b t → t ≡ s
+gives-state a b s t is = cc
 
 pub unbroken-left : (first second : List Breach) → first ++ second ≡ [] → first ≡ []
 unbroken-left [] second is = refl
@@ -499,12 +503,6 @@ sound-use world block env root site seen below context state s unbroken part her
 -- a value that passes a test lies in the range that passes
 abbrev pub Passes : Bool → Value → Interval → Unit {0} → Store → Type 0
 Passes test v range done store = IsIn range v × (test ≡ true)
-
--- a state that holds is no dead one
-pub alive : (roots : ℕ) (env : Environment) (state : variables.State) (store : Store) → entire.Knows roots env state store
-    → variables.is_dead state ≡ false
-alive roots env variables.Dead store known = absurd known
-alive roots env (variables.Live facts) store known = refl
 
 -- where a site is closed, no run comes or the test holds
 pub closed-passes : (rows : List Parts) (roots : ℕ) (env : Environment) (state : State) (store : Store) (closed test : Bool)

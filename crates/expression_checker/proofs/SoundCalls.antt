@@ -3,7 +3,7 @@ use Rattle.std.proofs.Common.{arith, ◌≡◌, ⊎_elim, ◌∙◌, sym, ap, re
 use Rattle.std.proofs.Common.{Some, None}
 use Rattle.std.specs.Prelude.{nat_eq, slice_get}
 use Rattle.std.specs.List.{Contains, list_all}
-use Rattle.std.proofs.lemmas.Bool.{and_parts, cases_eq, eq-eqb, eqb-true, or_parts}
+use Rattle.std.proofs.lemmas.Bool.{and_parts, cases_eq, eq-eqb, eqb-true, or_left, or_parts, or_right}
 use Rattle.std.proofs.lemmas.List.Folds.{list_any-append, list_all_at}
 use Rattle.std.proofs.lemmas.Option.{none-some}
 use Rattle.place.specs.declared.Place.{Place as SourcePlace}
@@ -42,9 +42,9 @@ use Rattle.expression_checker.specs.Walk as walk
 use Rattle.expression_checker.specs.Walk.{Context, PassedPiece, Walked, Walking, actuals_hold_call, actuals_walk, called_block, may_change}
 use Rattle.expression_checker.proofs.Keeping.{Keeps, keeps-itself}
 use Rattle.expression_checker.proofs.Sound.{World, Any_value, Behind, Called, Good, Goes, Here, IsClosed, IsForetold, IsPartOf, IsValue, Leaves, LiesInResult}
-use Rattle.expression_checker.proofs.Sound.{Returned, Sound, SoundCalls, SoundFrom, Stands, from-then, good-give, good-weaker, is_seen, nonempty-stands}
+use Rattle.expression_checker.proofs.Sound.{Returned, Sound, SoundCalls, SoundFrom, Stands, from-then, gives-state, good-give, good-weaker, is_seen}
 use Rattle.expression_checker.proofs.Sound.{part-left, parts_in, sound-anywhere, sound-enter, sound-give, sound-here, unbroken-left, unbroken-right}
-use Rattle.expression_checker.proofs.Sound.{variables_in}
+use Rattle.expression_checker.proofs.Sound.{nonempty-stands, variables_in}
 
 -- ---- what is passed
 
@@ -172,9 +172,6 @@ pub then-gives : {A B : Type 0} (reply : effect.Reply A) (next : A → effect.Ac
 then-gives (effect.Gives a u) next b t is = (u, a, refl, is)
 then-gives (effect.Stops e u) next b t is = absurd (cc)
 
-gives-state : {A : Type 0} (a b : A) (s t : effect.State) → effect.Gives a s ≡ effect.Gives b t → t ≡ s
-gives-state a b s t is = cc
-
 -- ---- actual parameters
 
 module _ (world : World) (block : ℕ) (env : Surroundings) where
@@ -279,20 +276,12 @@ module _ (world : World) (block : ℕ) (env : Surroundings) where
       let own = listed other among in
       let inner : is_among other (round.controls ++ round.changes) ≡ true =
       list_any-append (λ (r : ℕ). nat_eq r other) round.controls round.changes
-      ∙ or-second (is_among other round.controls) (is_among other round.changes) own in (
+      ∙ or_right (is_among other round.controls) (is_among other round.changes) own in (
         λ same. not-both (is_among root (touched round)) (touches round root (subst (λ (r : ℕ). is_among r round.changes ≡ true) same own)) untouched,
         false-if (is_among root (aliases_of world.pairs other))
             (λ alias. not-both (is_among root (touched round)) (closed other root seen_other shown inner alias) untouched),
       )
     where
-      or-second : (a b : Bool) → b ≡ true → (a || b) ≡ true
-      or-second true b is = refl
-      or-second false b is = is
-
-      or-first : (a b : Bool) → a ≡ true → (a || b) ≡ true
-      or-first true b is = refl
-      or-first false b is = absurd (false-is is)
-
       not-both : (b : Bool) → b ≡ true → b ≡ false → ⊥
       not-both b is isnt = cc
 
@@ -303,9 +292,9 @@ module _ (world : World) (block : ℕ) (env : Surroundings) where
       touches : (round : Round) (r : ℕ) → is_among r round.changes ≡ true → is_among r (touched round) ≡ true
       touches round r is =
           list_any-append (λ (other : ℕ). nat_eq other r) round.controls (round.changes ++ round.aliases)
-          ∙ or-second (is_among r round.controls) (is_among r (round.changes ++ round.aliases))
+          ∙ or_right (is_among r round.controls) (is_among r (round.changes ++ round.aliases))
           (list_any-append (λ (other : ℕ). nat_eq other r) round.changes round.aliases
-          ∙ or-first (is_among r round.changes) (is_among r round.aliases) is)
+          ∙ or_left (is_among r round.changes) (is_among r round.aliases) is)
 
   hidden-same : (before after : Store) (root : ℕ) (steps : List Step) → visible.variables root ≡ None
       → value_at (moment visible after) root steps ≡ value_at (moment visible before) root steps

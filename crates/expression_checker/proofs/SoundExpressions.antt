@@ -78,10 +78,10 @@ use Rattle.expression_checker.proofs.Fitting.{fits-lie, many-numbers, same-type}
 use Rattle.expression_checker.proofs.Forms.{bound-same, form-same, pieces-hold, whole-holds}
 use Rattle.expression_checker.proofs.Keeping.{keeps-itself}
 use Rattle.expression_checker.proofs.Sound.{World, Any_value, IsForetold, IsValue, Leaves, LiesInResult, Passes, Sound, SoundCalls, declared_in}
-use Rattle.expression_checker.proofs.Sound.{from-then, good-give}
+use Rattle.expression_checker.proofs.Sound.{from-then, gives-state, good-give}
 use Rattle.expression_checker.proofs.Sound.{sites_in, sound-anywhere, sound-enter, sound-give, sound-given, sound-here, sound-named, sound-then, sound-written}
 use Rattle.expression_checker.proofs.Sound.{types_in}
-use Rattle.expression_checker.proofs.SoundAccesses.{AllSound, IndexIsSound, IsWholeIn, LeadsTo, gives-state, known-range, leads-count, leads-seen, leads-tests}
+use Rattle.expression_checker.proofs.SoundAccesses.{AllSound, IndexIsSound, IsWholeIn, LeadsTo, known-range, leads-count, leads-seen, leads-tests}
 use Rattle.expression_checker.proofs.SoundAccesses.{leads-type, reached-sound, required-leaves, required-true, stored-sound, string-sound, type-of, used-sound}
 use Rattle.expression_checker.proofs.SoundCalls.{AllPassed, CallLaws, IsPassed, PassedIsSound, call-sound, function-sound, place-kind, then-gives}
 use Rattle.expression_checker.proofs.SoundRows.{Leads, LieIn}
