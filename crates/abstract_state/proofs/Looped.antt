@@ -222,7 +222,7 @@ loose-left variables env root aliases (Live facts) after loose left = record {
       (either-so (is_among other aliases));
   facts = λ one listed rests says.
       left.facts one listed
-          (both-false (rests_on root one) (rests_on_any aliases one) (either-false (rests_on root one) false rests) (loose.facts one listed)) says;
+      (both-false (rests_on root one) (rests_on_any aliases one) (either-false (rests_on root one) false rests) (loose.facts one listed)) says;
 }
 
 -- what is known where a variable may have another value of its type, which its aliases may have then too

@@ -141,9 +141,7 @@ impl State {
                 self.order(left, 0, right)?;
                 self.order(right, 0, left)
             }
-            Relation::NotEqual => {
-                self.part(left, right)
-            }
+            Relation::NotEqual => { self.part(left, right) }
             Relation::Less => self.order(left, 1, right),
             Relation::Greater => self.order(right, 1, left),
             Relation::LessOrEqual => self.order(left, 0, right),
