@@ -1,6 +1,7 @@
 -- Where a block begins: what is known of the variables that it sees, and of their rows.
-use Rattle.std.proofs.Common.{arith, ◌≡◌, ◌≢◌, ◌∙◌, sym, ap, refl, subst, ℕ, zero, suc, ◌+◌, ◌-◌, ◌<◌, ◌≤◌, Bool, true, false, cond, nat_eq}
-use Rattle.std.proofs.Common.{◌&&◌, ◌||◌, List, [], ◌∷◌, ◌++◌, append-nil, append_assoc, get_or, inl, inr, length, map, min, replicate, set}
+use Rattle.std.proofs.Common.{arith, ◌≡◌, ◌≢◌, ◌∙◌, sym, ap, refl, subst, ℕ, zero, suc, ◌+◌, ◌-◌, ◌<◌, ◌≤◌, Bool, true, false, cond, nat_eq, not}
+use Rattle.std.proofs.Common.{◌&&◌, ◌||◌, List, [], ◌∷◌, ◌++◌, add-one, append-nil, append_assoc, drop, drop-cons, get_or, inl, inr, length, map}
+use Rattle.std.proofs.Common.{min, replicate, set}
 use Rattle.std.proofs.Common.{Option, Some, None, ◌⊎◌}
 use Rattle.std.specs.List.{All, list_any, range_with_len}
 use Rattle.std.specs.Option.{option_map}
@@ -23,7 +24,8 @@ use Rattle.abstract_state.specs.Loops.{is_among}
 use Rattle.abstract_state.specs.State as variables
 use Rattle.leaf_rows.specs.Leaves.{Leaf, leaves_of}
 use Rattle.leaf_rows.specs.Rows.{Row, is_structured, is_under, numbers_where, rows_from, rows_of, rows_touched, rows_under, variable_rows}
-use Rattle.component_states.specs.Components.{Components, RowState, Stretch, no_row, no_values}
+use Rattle.component_states.specs.Components.{Components, RowState, no_row, no_values, with_row}
+use Rattle.component_states.specs.States.{State, over_components}
 use Rattle.structured_states.proofs.Rowed.{rows-next, rows_to}
 use Rattle.call_states.specs.Starts.{all_declared, components_start, declared_by, is_own, is_passed_value, is_undefined_at_start, row_start}
 use Rattle.call_states.specs.Starts.{values_defined, variable_start}
@@ -276,7 +278,7 @@ ranges-set tree block (root ∷ roots) ranges = ranges-set tree block roots (set
 hidden-vacant : (tree : Tree) (block : ℕ) (variable : Variable) → is_round (outline_of tree) block variable.block ≡ false
     → variable_start tree block variable ≡ vacant
 hidden-vacant tree block variable hidden =
-    ap (λ b. cond (Prim.Native.Bool.not b || is_own block variable) vacant _) hidden
+    ap (λ b. cond (not b || is_own block variable) vacant _) hidden
 
 -- a variable that isn't visible has no value
 first-range : (tree : Tree) (block root : ℕ) (round : Bool) (variable : Variable) → slice_get tree.variables.items root ≡ Some variable
@@ -438,6 +440,30 @@ rows-are tree block =
     ])
     i (omega (arith, inside, count))
     ∙ sym (get_or-map begin rows i no_leaf no_row inside)))
+
+-- ---- row by row, and variable by variable
+
+pub span-next : (tree : Tree) (block : ℕ) (variable : Option Variable) (row last : ℕ) (old new all : State) → row < last
+    → new ≡ over_components (λ _. with_row row (row_begun tree block variable row)) old
+    → over_components (λ _. rows_begun tree block variable (rows_to row last)) old ≡ all
+    → over_components (λ _. rows_begun tree block variable (rows_to (row + 1) last)) new ≡ all
+span-next tree block variable row last old new all before new_is is =
+    ap (over_components (λ _. rows_begun tree block variable (rows_to (row + 1) last))) new_is
+    ∙ ap (λ rows. over_components (λ _. rows_begun tree block variable rows) old) (sym (rows-next row last before)) ∙ is
+
+pub rows-next_root : (tree : Tree) (block : ℕ) (roots : List ℕ) (i : ℕ) (variable : Option Variable) (span : List ℕ) (old new all : State)
+    → i < length roots → variable ≡ slice_get tree.variables.items (get_or roots i 0) → span ≡ rows_under (rows_of tree) (get_or roots i 0) []
+    → new ≡ over_components (λ _. rows_begun tree block variable span) old
+    → over_components (λ _. all_rows_begun tree block (drop i roots)) old ≡ all
+    → over_components (λ _. all_rows_begun tree block (drop (i + 1) roots)) new ≡ all
+rows-next_root tree block roots i variable span old new all inside variable_is span_is new_is is =
+    let root = get_or roots i 0 in
+    let rest = drop (i + 1) roots in
+    let cut : drop i roots ≡ root ∷ rest = rw add-one (drop-cons roots i 0 inside) in
+    ap (over_components (λ _. all_rows_begun tree block rest))
+    (new_is ∙ ap (λ v. over_components (λ _. rows_begun tree block v span) old) variable_is
+    ∙ ap (λ own. over_components (λ _. rows_begun tree block (slice_get tree.variables.items root) own) old) span_is)
+    ∙ ap (λ some. over_components (λ _. all_rows_begun tree block some) old) (sym cut) ∙ is
 
 -- ---- the table
 

@@ -1,7 +1,8 @@
 -- Calls of the program as the definitions see them: what is passed, what is claimed of blocks, what calls change. It
 -- does not say what is known of them.
 use Rattle.std.specs.Prelude.{ℕ, suc, ℤ, neg_ℤ, pos, ◌≡◌, ◌<◌, ◌≤ℤ◌, ◌&&◌, ◌++◌, Bool, false, List, [], ◌∷◌, Option}
-use Rattle.std.specs.Prelude.{Some, None, flat_map, get_or, if◌then◌else◌, length, map, min, nat_eq, slice_get, slice_set}
+use Rattle.std.specs.Prelude.{Some, None, flat_map, get_or, if◌then◌else◌, length, map, min, nat_eq, slice_get}
+use Rattle.std.specs.Prelude.{slice_set}
 use denote.Ref.{Bor}
 use Rattle.domain.specs.Interval.{Interval, vacant}
 use Rattle.types.specs.Types.{is_ordinal}

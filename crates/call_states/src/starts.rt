@@ -98,10 +98,11 @@ fn unclaimed(
     declared: &[Vec<u32>],
     block: u32,
 ) -> Result<State, AllocError>
-    ensures { map (λ row. row.items) declared.now ≡ all_declared rows.now → IfOk result (λ state. viewed state ≡ record {
-      variables = variables_start rows.now block;
-      components = components_start rows.now block;
-    }) }
+    ensures { map (λ row. row.items) declared.now ≡ all_declared rows.now
+        → IfOk result (λ state. viewed state ≡ record {
+          variables = variables_start rows.now block;
+          components = components_start rows.now block;
+        }) }
 {
     let tree = rows.tree();
     let visible = visible_roots(alloc, tree, declared, block)?;
