@@ -19,8 +19,8 @@ use Rattle.abstract_state.specs.State.{State, Facts, Live, gives, joined_facts, 
 use Rattle.abstract_state.specs.Changes.{changed, with_change, with_some}
 use Rattle.abstract_state.specs.Loops.{defines, in_place, replaced, with_forgotten}
 use Rattle.abstract_state.specs.View.{defined_from, no_row, said_order, said_some}
-use Rattle.abstract_state.proofs.Rows.{AreJoined, all-ranges, and-back, bit, filter-defined, has-row, none-defined, past, range-kept, range-set, ranges-both, ranges_of}
-use Rattle.abstract_state.proofs.Rows.{row-defined, same-defined, tested-bit, tested_bits, with-had}
+use Rattle.abstract_state.proofs.Rows.{AreJoined, all-ranges, and-back, bit, filter-defined, has-row, none-defined, past, range-kept, range-set}
+use Rattle.abstract_state.proofs.Rows.{ranges-both, ranges_of, row-defined, same-defined, tested-bit, tested_bits, with-had}
 
 abbrev pub said_orders : List KeptOrder → List Fact
 said_orders = map said_order

@@ -402,7 +402,7 @@ impl Facts {
         let given = self.given(alloc, &others.orders)?;
         let mut both = others.given(alloc, &self.orders)?;
         orders::insert_all(&mut both, &given)?;
-        self.rows = self.rows.joined(&others.rows, Row::NONE, alloc)?;
+        self.rows = self.rows.joined(alloc, &others.rows, Row::NONE)?;
         self.orders = both;
         Ok(())
     }

@@ -69,7 +69,7 @@ pub(crate) fn to_join(
     if rows.usual().is_defined || others.usual().is_defined {
         return numbers_below(alloc, rows.len().max(others.len()));
     }
-    unusual_of_either(rows, others, alloc)
+    unusual_of_either(alloc, rows, others)
 }
 
 /// The numbers below a count.

@@ -1,7 +1,7 @@
 //! A list most of whose items are a usual one: it stores only those that may differ.
 #![tactic(auto)]
 
-ghost use Rattle.std.specs.Prelude.{◌≡◌, length, replicate, slice_get, slice_index_or, slice_set, IfErr, IfOk};
+ghost use Rattle.std.specs.Prelude.{◌≡◌, length, replicate, slice_get, slice_index_or, slice_set, true, IfErr, IfOk};
 ghost use Rattle.sparse_list.specs.Sparse.{AreJoined, AreUnusual, AreUnusualOfEither};
 ghost use Rattle.sparse_list.specs.Stored.{IsAscending, IsAt, IsGapFor};
 
@@ -136,15 +136,16 @@ impl<T: Join> SparseList<T> {
     /// The items of two lists, joined one by one: where one of the lists has no item, it counts as one that is given.
     pub fn joined(
         &self,
+        alloc: Global,
         other: &SparseList<T>,
         none: T,
-        alloc: Global,
     ) -> Result<SparseList<T>, AllocError>
-        ensures { IfOk result (λ both. AreJoined T.join none self.now.items other.now.items both.items) }
+        ensures items { IfOk result (λ both. AreJoined T.join none self.now.items other.now.items both.items) }
+        ensures usual { IfOk result (λ both. both.usual ≡ T.join self.now.usual other.now.usual) }
     {
         let count = self.len().max(other.len());
         let mut both = SparseList::new(alloc, count, self.usual().joined(other.usual()));
-        for &index in &unusual_of_either(self, other, alloc)? {
+        for &index in &unusual_of_either(alloc, self, other)? {
             let item = self.get_or(index, none).joined(other.get_or(index, none));
             both.set(index, item)?;
         }
@@ -154,9 +155,9 @@ impl<T: Join> SparseList<T> {
 
 /// The indices at which an item of one of two lists may differ from its usual one, or be missing.
 pub fn unusual_of_either<T: Copy>(
+    alloc: Global,
     list: &SparseList<T>,
     other: &SparseList<T>,
-    alloc: Global,
 ) -> Result<Vec<usize>, AllocError>
     ensures { IfOk result (λ indices. AreUnusualOfEither list.now other.now indices.items) }
 {
@@ -168,11 +169,38 @@ pub fn unusual_of_either<T: Copy>(
     Ok(indices)
 }
 
-// Where an item of this index is stored, or where it would go.
+/// Where an item of an index is stored, or where it would go.
 fn search<T: Copy>(stored: &[(usize, T)], index: usize) -> Result<usize, usize>
     requires { IsAscending stored.now }
     ensures found { IfOk result (IsAt stored.now index) }
     ensures absent { IfErr result (IsGapFor stored.now index) }
 {
+    if is_at_own_place(stored, index) {
+        return Ok(index);
+    }
+    if is_behind_all(stored, index) {
+        return Err(stored.len());
+    }
     stored.binary_search_by_key(&index, |&(index, _)| index)
+}
+
+// Whether an item of this index is stored where it lies if none before it is missing.
+fn is_at_own_place<T: Copy>(stored: &[(usize, T)], index: usize) -> bool
+    ensures { result ≡ true → IsAt stored.now index index }
+{
+    match stored.get(index) {
+        Some(pair) => pair.0 == index,
+        None => false,
+    }
+}
+
+// Whether an item of this index would go behind all others.
+fn is_behind_all<T: Copy>(stored: &[(usize, T)], index: usize) -> bool
+    requires { IsAscending stored.now }
+    ensures { result ≡ true → IsGapFor stored.now index (length stored.now) }
+{
+    match stored.last() {
+        Some(pair) => pair.0 < index,
+        None => true,
+    }
 }

@@ -21,4 +21,4 @@ returns c =
     let after_are = subst (λ (some : List KeptOrder). said_orders after ≡ with_facts (said_orders some) (said_orders both))
     c.deref-3.ensures.value c.in_ok-insert_all.ensures in
     joined-kept one other c.in_ok-self.field-0.items orders others given both after
-    (joined-rows one other c.in_ok-self.field-0.items c.in_ok-self.ensures) both_are given_are after_are
+    (joined-rows one other c.in_ok-self.field-0.items c.in_ok-self.ensures.items) both_are given_are after_are
