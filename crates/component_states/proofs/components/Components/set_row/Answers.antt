@@ -12,4 +12,6 @@ returns c =
     let rows = c.args.self.now.rows.items in
     IfOk-weaker c.set.result (λ _. c.set.new.self.items ≡ set rows c.args.row c.args.state)
     (λ _. components_of (said_rows c.set.new.self.items) known.stretches ≡ with_row c.args.row (said_row c.args.state) known)
-    (λ _ is. ap (λ (some : List RowState). components_of some known.stretches) (ap said_rows is ∙ map-set said_row rows c.args.row c.args.state)) c.set.ensures.items
+    (λ _ is.
+    ap (λ (some : List RowState). components_of some known.stretches) (ap said_rows is ∙ map-set said_row rows c.args.row c.args.state))
+    c.set.ensures.items

@@ -36,6 +36,7 @@ returns c =
     let usual_is : said_row usual ≡ beside (said_row rows.usual) (said_row others.usual) false =
     joined-usual usual c.usual.result c.usual-2.result c.joined-usual.ensures.range c.joined-usual.ensures.is_defined c.joined-usual.ensures.index
     ∙ ap₂ (λ (a b : Row). beside (said_row a) (said_row b) false) c.usual.ensures c.usual-2.ensures in
+    let all = take_all c.loop-row.row-index numbers c.loop-row-test.false in
     c.loop-row.invariant
-    ∙ ap (λ (some : List ℕ). fold (with_joined_row one other) (said_rows c.new-rows.result.items) some) (take_all c.loop-row.row-index numbers c.loop-row-test.false)
+    ∙ ap (λ (some : List ℕ). fold (with_joined_row one other) (said_rows c.new-rows.result.items) some) all
     ∙ joined-all one other rows others numbers usual c.new-rows.result.items refl refl listed usual_is start_is
