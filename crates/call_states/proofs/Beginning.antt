@@ -1,27 +1,41 @@
--- Where a block begins: the rows of a program, variable by variable.
-use Rattle.std.proofs.Common.{arith, ◌≡◌, ◌∙◌, sym, ap, refl, ℕ, zero, suc, ◌+◌, ◌-◌, ◌<◌, ◌≤◌, Bool, true, false, cond, nat_eq, ◌&&◌, ◌||◌, List, [], ◌∷◌}
-use Rattle.std.proofs.Common.{◌++◌}
-use Rattle.std.proofs.Common.{append_assoc, get_or, length-append, inl, inr, length, map, replicate, set, Option, Some, None, ◌⊎◌}
-use Rattle.std.specs.List.{All, range_with_len}
-use Rattle.std.specs.Prelude.{slice_get}
-use Rattle.std.proofs.lemmas.Bool.{and_parts, cases_lt, cond_both, eq-eqb, eqb-true}
-use Rattle.std.proofs.lemmas.List.{ext_get_or, get_or-map, get_or-set_other, get_or-set_same, length-map, length-set}
+-- Where a block begins: what is known of the variables that it sees, and of their rows.
+use Rattle.std.proofs.Common.{arith, ◌≡◌, ◌≢◌, ◌∙◌, sym, ap, refl, subst, ℕ, zero, suc, ◌+◌, ◌-◌, ◌<◌, ◌≤◌, Bool, true, false, cond, nat_eq, not}
+use Rattle.std.proofs.Common.{◌&&◌, ◌||◌, List, [], ◌∷◌, ◌++◌, add-one, append-nil, append_assoc, drop, drop-cons, get_or, inl, inr, length, map}
+use Rattle.std.proofs.Common.{min, replicate, set}
+use Rattle.std.proofs.Common.{Option, Some, None, ◌⊎◌}
+use Rattle.std.specs.List.{All, list_any, range_with_len}
+use Rattle.std.specs.Option.{option_map}
+use Rattle.std.specs.Prelude.{flat_map, slice_get}
+use Rattle.std.proofs.lemmas.Bool.{and_parts, both_ways, cond_both, eq-eqb, eqb-true, false≢true, or_cases, or_left, or_right}
+use Rattle.std.proofs.lemmas.List.{drop_more, ext_get_or, get_or-map, get_or-replicate, get_or-set_other, get_or-set_same, length-map, length-set, length-replicate}
 use Rattle.std.proofs.lemmas.List.Elements.{All-append, All-get_or, All-nil, All-cons, All-map}
+use Rattle.std.proofs.lemmas.List.Folds.{list_any-append}
+use Rattle.std.proofs.lemmas.List.FromFn.{get_or-map-range_with_len, length-map-range_with_len}
+use Rattle.std.proofs.lemmas.Option.{get_or_from_slice_get, slice_get-map, slice_get_within}
 use Rattle.domain.specs.Interval.{Interval, vacant}
 use Rattle.types.specs.Forms.{Form}
+use Rattle.types.specs.Types.{is_ordinal}
 use Rattle.types.specs.declared.form.OrdinalRange.{OrdinalRange}
+use Rattle.typed_tree.specs.WellFormed.{encloses, heading_of, is_one_of, is_round, is_value_kind, of_one, outline_of}
+use Rattle.typed_tree.specs.declared.tree.Block.{Block}
+use Rattle.typed_tree.specs.declared.tree.Heading.{Heading}
 use Rattle.typed_tree.specs.declared.tree.Tree.{Tree}
 use Rattle.typed_tree.specs.declared.tree.Variable.{Variable}
 use Rattle.abstract_state.specs.Loops.{is_among}
 use Rattle.abstract_state.specs.State as variables
 use Rattle.leaf_rows.specs.Leaves.{Leaf, leaves_of}
-use Rattle.leaf_rows.specs.Rows.{Row, indexes_of, is_structured, is_under, numbers_where, rows_from, rows_of, rows_under, values_at, variable_rows}
-use Rattle.component_states.specs.Components.{RowState, no_row, no_values, undefined_row}
-use Rattle.component_states.specs.States.{State}
-use Rattle.structured_states.specs.Loops.{limits_or_integer, row_limits}
+use Rattle.leaf_rows.specs.Rows.{Row, index_at, is_structured, is_under, numbers_where, rows_from, rows_of, rows_touched, rows_under, values_at}
+use Rattle.leaf_rows.specs.Rows.{variable_rows}
+use Rattle.component_states.specs.Components.{Components, RowState, no_row, no_values, with_row}
+use Rattle.component_states.specs.States.{State, over_components}
+use Rattle.structured_states.specs.Loops.{limits_or_integer, row_limits, type_limits}
 use Rattle.structured_states.proofs.Rowed.{rows-next, rows_to}
-use Rattle.call_states.specs.Starts.{components_start, is_passed_value, row_start, start_range, variable_start}
-use Rattle.call_states.specs.View.{AreBegun, ComeFrom, begun_row, no_leaf, numbered, with_starts}
+use Rattle.call_states.specs.Starts.{all_declared, components_start, declared_by, is_own, is_passed_value, row_start, start_range}
+use Rattle.call_states.specs.Starts.{values_defined, variable_start}
+use Rattle.call_states.specs.View.{all_rows_begun, no_leaf, numbered, own_roots, range_begun, ranges_begun, row_begun, rows_begun, value_begun}
+use Rattle.call_states.specs.View.{values_begun, visible_by, visible_roots, with_root, with_roots}
+use Rattle.call_states.proofs.Headings.{heading-at}
+use Rattle.call_states.proofs.Lists.{among-contains, among-flat, some-there}
 
 -- ---- the numbers of rows of which a test holds
 
@@ -135,193 +149,419 @@ under-variable tree root number inside is =
     ap (λ n. is_among n (rows_under (rows_of tree) root [])) place
     ∙ where-complete (is_under root []) 0 (rows_of tree) number inside (ap (λ b. b && true) (eq-eqb (numbered tree number).root root is))
 
--- ---- rows that begin
+-- ---- items that are set by their numbers
 
--- the rows of a variable from a row on, and of those behind it, are still to come
-abbrev pub ComeWithin : Tree → (root row last : ℕ) → ℕ → Type 0
-ComeWithin tree root row last number =
-    (root < (numbered tree number).root) ⊎ (((numbered tree number).root ≡ root) × (is_among number (rows_to row last) ≡ true))
+abbrev pub set_all : {X : Type 0} → (ℕ → X) → List ℕ → List X → List X
+set_all new [] items = items
+set_all new (k ∷ more) items = set_all new more (set items k (new k))
 
-begun-weaker : (tree : Tree) (block : ℕ) (P Q : ℕ → Type 0) (rows : List RowState) → ((number : ℕ) → number < length (rows_of tree) → P number → Q number)
-    → AreBegun tree block P rows → AreBegun tree block Q rows
-begun-weaker tree block P Q rows weaker begun = record {
-  count = begun.count;
-  each = λ number inside.
-      elim (begun.each number inside) [
-        | inl is ↦ inl is
-        | inr (is, comes) ↦ inr (is, weaker number inside comes)
-      ];
-}
+pub set_all-append : {X : Type 0} (new : ℕ → X) (first more : List ℕ) (items : List X)
+    → set_all new (first ++ more) items ≡ set_all new more (set_all new first items)
+set_all-append new [] more items = refl
+set_all-append new (k ∷ first) more items = set_all-append new first more (set items k (new k))
 
-root-cases : (root own : ℕ) → root ≤ own → (root < own) ⊎ (own ≡ root)
-root-cases root own least = elim (cases_lt root own) [ inl below ↦ inl below | inr past ↦ inr (omega (arith, least, past)) ]
+pub length-set_all : {X : Type 0} (new : ℕ → X) (numbers : List ℕ) (items : List X) → length (set_all new numbers items) ≡ length items
+length-set_all new [] items = refl
+length-set_all new (k ∷ more) items = length-set_all new more (set items k (new k)) ∙ length-set items k (new k)
 
--- before the first row of a variable
-pub within-first : (tree : Tree) (block root first last : ℕ) (rows : List RowState) → rows_to first last ≡ rows_under (rows_of tree) root []
-    → AreBegun tree block (ComeFrom tree root) rows → AreBegun tree block (ComeWithin tree root first last) rows
-within-first tree block root first last rows span begun =
-    begun-weaker tree block (ComeFrom tree root) (ComeWithin tree root first last) rows
-    (λ number inside comes.
-    elim (root-cases root (numbered tree number).root comes) [
-      | inl below ↦ inl below
-      | inr own ↦ inr (own, ap (is_among number) span ∙ under-variable tree root number inside own)
-    ]) begun
-
--- behind the last one
-pub within-last : (tree : Tree) (block root row last : ℕ) (rows : List RowState) → last ≤ row
-    → AreBegun tree block (ComeWithin tree root row last) rows → AreBegun tree block (ComeFrom tree (suc root)) rows
-within-last tree block root row last rows behind begun =
-    let none : last - row ≡ 0 = omega (arith, behind) in
-    begun-weaker tree block (ComeWithin tree root row last) (ComeFrom tree (suc root)) rows
-    (λ number inside comes.
-    elim comes [
-      | inl below ↦ below
-      | inr (own, among) ↦ absurd (both false (sym (ap (λ n. is_among number (range_with_len row n)) none) ∙ among) refl)
-    ]) begun
-
-values-are : (rows : List Row) (number : ℕ) → number < length rows → values_at rows number ≡ (get_or rows number no_leaf).leaf.values
-values-are [] number inside = absurd (omega (arith, inside))
-values-are (row ∷ rows) zero inside = refl
-values-are (row ∷ rows) (suc number) inside = values-are rows number (omega (arith, inside))
-
--- what is known of a row where a block begins, by its variable
-begun-is : (tree : Tree) (block number : ℕ) (variable : Variable) → slice_get tree.variables.items (numbered tree number).root ≡ Some variable
-    → begun_row tree block number ≡ row_start tree block (numbered tree number) (Some variable)
-begun-is tree block number variable is = ap (row_start tree block (numbered tree number)) is
-
-abbrev begun : Interval → Bool → Option OrdinalRange → RowState
-begun range is_defined index = record { range = range; is_defined = is_defined; index = index }
-
--- a row after one row got what is known of it where a block begins
-next-row : (tree : Tree) (block root row last : ℕ) (rows : List RowState) (new : RowState) (number : ℕ) (same : Bool) → nat_eq row number ≡ same
-    → row < length rows → row < last → new ≡ begun_row tree block row
-    → (get_or rows number no_row ≡ begun_row tree block number)
-    ⊎ ((get_or rows number no_row ≡ undefined_row (numbered tree number).leaf.index) × ComeWithin tree root row last number)
-    → (get_or (set rows row new) number no_row ≡ begun_row tree block number)
-    ⊎ ((get_or (set rows row new) number no_row ≡ undefined_row (numbered tree number).leaf.index) × ComeWithin tree root (row + 1) last number)
-next-row tree block root row last rows new number true same inside before new_is each =
-    let here = eqb-true row number same in
-    inl (ap (λ n. get_or (set rows row new) n no_row) (sym here) ∙ get_or-set_same rows row new no_row inside ∙ new_is ∙ ap (begun_row tree block) here)
-next-row tree block root row last rows new number false same inside before new_is each =
-    let apart : number ≡ row → ⊥ = λ is. both (nat_eq row number) (eq-eqb row number (sym is)) same in
-    let other = get_or-set_other rows row number new no_row apart in
-    elim each [
-      | inl is ↦ inl (other ∙ is)
-      | inr (is, inl below) ↦ inr (other ∙ is, inl below)
-      | inr (is, inr (own, among)) ↦
-          inr (
-            other ∙ is,
-            inr (
-              own,
-              or-rest (nat_eq row number) (is_among number (rows_to (row + 1) last))
-                  (sym (ap (is_among number) (rows-next row last before)) ∙ among) same,
-            ),
-          )
+set-cases : {X : Type 0} (new : ℕ → X) (items : List X) (none : X) (k i : ℕ) (more : List ℕ) (same : Bool) → nat_eq k i ≡ same → i < length items
+    → (get_or items i none ≡ new i) ⊎ (is_among i (k ∷ more) ≡ true) → (get_or (set items k (new k)) i none ≡ new i) ⊎ (is_among i more ≡ true)
+set-cases new items none k i more true same inside is =
+    let here = eqb-true k i same in
+    inl (subst (λ j. get_or (set items k (new k)) j none ≡ new j) here (get_or-set_same items k (new k) none (omega (arith, here, inside))))
+set-cases new items none k i more false same inside is =
+    let apart : i ≢ k = λ e. both (nat_eq k i) (eq-eqb k i (sym e)) same in
+    elim is [
+      | inl is ↦ inl (get_or-set_other items k i (new k) none apart ∙ is)
+      | inr among ↦ inr (or-rest (nat_eq k i) (is_among i more) among same)
     ]
 
--- another row of a variable begins
-pub within-next : (tree : Tree) (block root row last : ℕ) (variable : Variable) (range : Interval) (rows : List RowState)
-    → slice_get tree.variables.items root ≡ Some variable → (numbered tree row).root ≡ root → row < length (rows_of tree) → row < last
-    → range ≡ start_range tree block variable (row_limits (rows_of tree) row)
-    → AreBegun tree block (ComeWithin tree root row last) rows
-    → AreBegun tree block (ComeWithin tree root (row + 1) last) (set rows row (begun range (is_passed_value block variable) (get_or rows row no_row).index))
-within-next tree block root row last variable range rows variable_is own inside before range_is so_far =
-    let defined = is_passed_value block variable in
-    let new = begun range defined (get_or rows row no_row).index in
-    let here = ap (slice_get tree.variables.items) own ∙ variable_is in
-    let index_is : (get_or rows row no_row).index ≡ (numbered tree row).leaf.index =
-    elim (so_far.each row inside) [
-      | inl is ↦ ap (λ (r : RowState). r.index) (is ∙ begun-is tree block row variable here)
-      | inr (is, comes) ↦ ap (λ (r : RowState). r.index) is
-    ] in
-    let new_is : new ≡ begun_row tree block row =
-    ap (λ r. begun r defined (get_or rows row no_row).index)
-    (range_is ∙ ap (λ values. start_range tree block variable (limits_or_integer values)) (values-are (rows_of tree) row inside))
-    ∙ ap (begun (start_range tree block variable (limits_or_integer (numbered tree row).leaf.values)) defined) index_is
-    ∙ sym (begun-is tree block row variable here) in
-    record {
-      count = length-set rows row new ∙ so_far.count;
-      each = λ number within.
-          next-row tree block root row last rows new number (nat_eq row number) refl (omega (arith, inside, so_far.count)) before new_is
-          (so_far.each number within);
-    }
+-- each that is set, and each that was right, is right
+pub set_all-each : {X : Type 0} (new : ℕ → X) (none : X) (numbers : List ℕ) (items : List X)
+    → ((i : ℕ) → i < length items → (get_or items i none ≡ new i) ⊎ (is_among i numbers ≡ true))
+    → (i : ℕ) → i < length items → get_or (set_all new numbers items) i none ≡ new i
+set_all-each new none [] items each i inside =
+    elim (each i inside) [ inl is ↦ is | inr among ↦ absurd (false≢true among) ]
+set_all-each new none (k ∷ more) items each i inside =
+    let same = length-set items k (new k) in
+    set_all-each new none more (set items k (new k))
+    (λ j within. let inside_j : j < length items = omega (arith, within, same) in set-cases new items none k j more (nat_eq k j) refl inside_j (each j inside_j))
+    i (omega (arith, inside, same))
 
--- ---- all rows
+-- ---- the variables that a block sees
 
--- at first each is still to come
-pub none-begun : (tree : Tree) (block : ℕ) → AreBegun tree block (ComeFrom tree 0) (no_values (indexes_of (rows_of tree))).rows
-none-begun tree block =
-    let rows = rows_of tree in
-    let indexes = indexes_of rows in
-    record {
-      count = length-map indexes undefined_row ∙ length-map rows (λ row. row.leaf.index);
-      each = λ number inside.
-          inr (
-            get_or-map undefined_row indexes number None no_row (omega (arith, inside, length-map rows (λ row. row.leaf.index)))
-                ∙ ap undefined_row (get_or-map (λ row. row.leaf.index) rows number no_leaf None inside),
-            omega arith,
-          );
-    }
+min-below : (a n : ℕ) → min a n < suc n
+min-below a n = omega arith
 
-begun-all : (tree : Tree) (block count : ℕ) (rows : List RowState) (number : ℕ) → number < length (rows_of tree) → count ≡ length tree.variables.items
-    → (get_or rows number no_row ≡ begun_row tree block number)
-    ⊎ ((get_or rows number no_row ≡ undefined_row (numbered tree number).leaf.index) × ComeFrom tree count number)
-    → get_or rows number no_row ≡ begun_row tree block number
-begun-all tree block count rows number inside count_is (inl is) = is
-begun-all tree block count rows number inside count_is (inr (is, comes)) = absurd (omega (arith, root-below tree number inside, comes, count_is))
+-- the variables of a block by the table
+pub own-are : (tree : Tree) (block : ℕ)
+    → own_roots tree (all_declared tree) block ≡ declared_by (length tree.blocks.items) (min block (length tree.blocks.items)) 0 tree.variables.items
+own-are tree block =
+    let count = length tree.blocks.items in
+    let place = min block count in
+    get_or-map-range_with_len (λ k. declared_by count k 0 tree.variables.items) 0 (suc count) place place [] (min-below block count)
+    (let e : 0 + place ≡ place = omega arith in e)
 
--- at last none is
-pub all-begun : (tree : Tree) (block count : ℕ) (rows : List RowState) → count ≡ length tree.variables.items → AreBegun tree block (ComeFrom tree count) rows
-    → rows ≡ (components_start tree block).rows
-all-begun tree block count rows count_is so_far =
-    let begin : Row → RowState = λ row. row_start tree block row (slice_get tree.variables.items row.root) in
-    ext_get_or no_row rows (map begin (rows_of tree)) (so_far.count ∙ sym (length-map (rows_of tree) begin))
-    (λ number within.
-    let inside : number < length (rows_of tree) = omega (arith, within, so_far.count) in
-    begun-all tree block count rows number inside count_is (so_far.each number inside)
-    ∙ sym (get_or-map begin (rows_of tree) number no_leaf no_row inside))
+first-among : (root : ℕ) (more : List ℕ) → is_among (root + 0) (root ∷ more) ≡ true
+first-among root more =
+    let here : root ≡ root + 0 = omega arith in
+    or_left (nat_eq root (root + 0)) (is_among (root + 0) more) (eq-eqb root (root + 0) here)
+
+pub among-declared : (blocks block root : ℕ) (declared : List Variable) (k : ℕ) (variable : Variable) → slice_get declared k ≡ Some variable
+    → min variable.block blocks ≡ block → is_among (root + k) (declared_by blocks block root declared) ≡ true
+among-declared blocks block root [] k variable is own = absurd cc
+among-declared blocks block root (first ∷ declared) zero variable is own =
+    let rest = declared_by blocks block (suc root) declared in
+    let same : first ≡ variable = cc in
+    let here : nat_eq (min first.block blocks) block ≡ true =
+    eq-eqb (min first.block blocks) block (ap (λ (v : Variable). min v.block blocks) same ∙ own) in
+    ap (λ b. is_among (root + 0) (cond b (root ∷ rest) rest)) here ∙ first-among root rest
+among-declared blocks block root (first ∷ declared) (suc k) variable is own =
+    let rest = declared_by blocks block (suc root) declared in
+    let place : root + suc k ≡ suc root + k = omega arith in
+    ap (λ n. is_among n (declared_by blocks block root (first ∷ declared))) place
+    ∙ behind-cond (suc root + k) root (nat_eq (min first.block blocks) block) rest (among-declared blocks block (suc root) declared k variable is own)
+
+among-own : (tree : Tree) (root : ℕ) (variable : Variable) → slice_get tree.variables.items root ≡ Some variable
+    → is_among root (own_roots tree (all_declared tree) variable.block) ≡ true
+among-own tree root variable is =
+    let count = length tree.blocks.items in
+    let e : root ≡ 0 + root = omega arith in
+    ap (is_among root) (own-are tree variable.block)
+    ∙ ap (λ n. is_among n (declared_by count (min variable.block count) 0 tree.variables.items)) e
+    ∙ among-declared count (min variable.block count) 0 tree.variables.items root variable is refl
+
+round-cases : (tree : Tree) (block own : ℕ) (found : Option Block) → is_round (outline_of tree) block own ≡ true
+    → slice_get tree.blocks.items block ≡ found → of_one (λ (b : Block). encloses own block b.heading) found ≡ true
+round-cases tree block own None round is =
+    round-none
+  where
+    round-none : false ≡ true
+    round-none =
+        sym (ap (of_one (encloses own block)) (slice_get-map heading_of tree.blocks.items block ∙ ap (option_map heading_of) is)) ∙ round
+round-cases tree block own (Some found) round is = sym (ap (of_one (encloses own block)) (heading-at tree block found is)) ∙ round
+
+-- each variable that a block sees is among those
+among-seen : (tree : Tree) (block root : ℕ) (variable : Variable) (found : Option Block) → slice_get tree.variables.items root ≡ Some variable
+    → of_one (λ (b : Block). encloses variable.block block b.heading) found ≡ true
+    → is_among root (visible_by tree (all_declared tree) block found) ≡ true
+among-seen tree block root variable None is round = absurd (false≢true round)
+among-seen tree block root variable (Some found) is round =
+    let around = found.heading.around.items in
+    let own = own_roots tree (all_declared tree) in
+    list_any-append (λ (other : ℕ). nat_eq other root) (flat_map own around) (own block)
+    ∙ elim (or_cases (nat_eq variable.block block) (is_one_of around variable.block) round) [
+      | inl here ↦
+          or_right (is_among root (flat_map own around)) (is_among root (own block))
+              (ap (λ b. is_among root (own b)) (sym (eqb-true variable.block block here)) ∙ among-own tree root variable is)
+      | inr outer ↦
+          or_left (is_among root (flat_map own around)) (is_among root (own block))
+              (among-flat own around variable.block root (among-contains around variable.block outer) (among-own tree root variable is))
+    ]
+
+pub among-visible : (tree : Tree) (block root : ℕ) (variable : Variable) → slice_get tree.variables.items root ≡ Some variable
+    → is_round (outline_of tree) block variable.block ≡ true → is_among root (visible_roots tree (all_declared tree) block) ≡ true
+among-visible tree block root variable is round =
+    among-seen tree block root variable (slice_get tree.blocks.items block) is
+    (round-cases tree block variable.block (slice_get tree.blocks.items block) round refl)
 
 -- ---- variables
 
-set-seam : (done : List Interval) (old new : Interval) (rest : List Interval) → set (done ++ old ∷ rest) (length done) new ≡ done ++ new ∷ rest
-set-seam [] old new rest = refl
-set-seam (one ∷ done) old new rest = ap (λ ranges. one ∷ ranges) (set-seam done old new rest)
-
-abbrev live : List Interval → variables.State
+abbrev pub live : List Interval → variables.State
 live ranges = variables.Live (record { ranges = ranges; facts = [] })
 
+abbrev range_at : Tree → ℕ → ℕ → Interval
+range_at tree block root = range_begun tree block (slice_get tree.variables.items root)
+
+ranges-set : (tree : Tree) (block : ℕ) (roots : List ℕ) (ranges : List Interval)
+    → ranges_begun tree block roots (live ranges) ≡ live (set_all (range_at tree block) roots ranges)
+ranges-set tree block [] ranges = refl
+ranges-set tree block (root ∷ roots) ranges = ranges-set tree block roots (set ranges root (range_at tree block root))
+
+hidden-vacant : (tree : Tree) (block : ℕ) (variable : Variable) → is_round (outline_of tree) block variable.block ≡ false
+    → variable_start tree block variable ≡ vacant
+hidden-vacant tree block variable hidden =
+    ap (λ b. cond (not b || is_own block variable) vacant (type_limits tree.types variable)) hidden
+
+-- a variable that isn't visible has no value
+first-range : (tree : Tree) (block root : ℕ) (round : Bool) (variable : Variable) → slice_get tree.variables.items root ≡ Some variable
+    → is_round (outline_of tree) block variable.block ≡ round
+    → (vacant ≡ range_at tree block root) ⊎ (is_among root (visible_roots tree (all_declared tree) block) ≡ true)
+first-range tree block root true variable is seen = inr (among-visible tree block root variable is seen)
+first-range tree block root false variable is hidden =
+    inl (sym (hidden-vacant tree block variable hidden) ∙ sym (ap (range_begun tree block) is))
+
 -- each has its range
-pub starts-are : (tree : Tree) (block : ℕ) (done : List Interval) (declared : List Variable)
-    → with_starts tree block (length done) declared
-    (variables.Live (record { ranges = done ++ replicate (length declared) vacant; facts = [] }))
-    ≡ variables.Live (record { ranges = done ++ map (variable_start tree block) declared; facts = [] })
-starts-are tree block done [] = refl
-starts-are tree block done (variable ∷ declared) =
-    let begin = variable_start tree block variable in
-    let rest = replicate (length declared) vacant in
-    let long : suc (length done) ≡ length (done ++ begin ∷ []) = omega (arith, length-append done (begin ∷ [])) in
-    ap (λ ranges. with_starts tree block (suc (length done)) declared (live ranges))
-    (set-seam done vacant begin rest ∙ sym (append_assoc done (begin ∷ []) rest))
-    ∙ ap (λ k. with_starts tree block k declared (live ((done ++ begin ∷ []) ++ rest))) long
-    ∙ starts-are tree block (done ++ begin ∷ []) declared
-    ∙ ap live (append_assoc done (begin ∷ []) (map (variable_start tree block) declared))
+pub ranges-are : (tree : Tree) (block : ℕ)
+    → ranges_begun tree block (visible_roots tree (all_declared tree) block) (variables.start (length tree.variables.items))
+    ≡ live (map (variable_start tree block) tree.variables.items)
+ranges-are tree block =
+    let declared = tree.variables.items in
+    let roots = visible_roots tree (all_declared tree) block in
+    let first = replicate (length declared) vacant in
+    let count = length-replicate (length declared) vacant in
+    let new = range_at tree block in
+    let begin = variable_start tree block in
+    ranges-set tree block roots first
+    ∙ ap live
+    (ext_get_or vacant (set_all new roots first) (map begin declared) (length-set_all new roots first ∙ count ∙ sym (length-map declared begin))
+    (λ i within.
+    let inside : i < length declared = omega (arith, within, length-set_all new roots first, count) in
+    let variable = some-there declared i inside in
+    set_all-each new vacant roots first
+    (λ j among.
+    let below : j < length declared = omega (arith, among, count) in
+    let other = some-there declared j below in
+    elim (first-range tree block j (is_round (outline_of tree) block other.0.block) other.0 other.1 refl) [
+      | inl is ↦ inl (get_or-replicate (length declared) j vacant vacant below ∙ is)
+      | inr seen ↦ inr seen
+    ])
+    i (omega (arith, inside, count))
+    ∙ ap (range_begun tree block) variable.1
+    ∙ sym
+    (get_or-map begin declared i variable.0 vacant inside ∙ ap begin (get_or_from_slice_get declared i variable.0 variable.0 variable.1))))
 
-pub slice-is : {X : Type 0} (xs : List X) (k : ℕ) (x : X) → k < length xs → x ≡ get_or xs k x → slice_get xs k ≡ Some x
-slice-is [] k x inside is = absurd (omega (arith, inside))
-slice-is (y ∷ xs) zero x inside is = ap Some (sym is)
-slice-is (y ∷ xs) (suc k) x inside is = slice-is xs k x (omega (arith, inside)) is
+passed-block : (block : ℕ) (variable : Variable) → is_passed_value block variable ≡ true → variable.block ≡ block
+passed-block block variable passed =
+    eqb-true variable.block block (and_parts (nat_eq variable.block block) (is_value_kind variable.kind) passed).0
 
--- ---- states
+passed-none : (tree : Tree) (block root : ℕ) (variable : Variable) (state : variables.State) (passed : Bool) → is_passed_value block variable ≡ passed
+    → (min variable.block (length tree.blocks.items) ≡ min block (length tree.blocks.items) → ⊥)
+    → cond (passed && is_ordinal tree.types variable.type_id) (variables.with_defined root state) state ≡ state
+passed-none tree block root variable state true passed apart =
+    absurd (apart (ap (λ n. min n (length tree.blocks.items)) (passed-block block variable passed)))
+passed-none tree block root variable state false passed apart = refl
 
--- the rows of a variable from a row on are still to come
-pub record IsWithin (tree : Tree) (block root row last : ℕ) (old new : State) : Type 0 where
-  pub variables_are : new.variables ≡ old.variables
-  pub stretches_are : new.components.stretches ≡ old.components.stretches
-  pub rows_are : AreBegun tree block (ComeFrom tree root) old.components.rows
-      → AreBegun tree block (ComeWithin tree root row last) new.components.rows
+-- value parameters are found among the variables of their block
+values-cases : (tree : Tree) (block root : ℕ) (variable : Variable) (declared : List Variable) (state : variables.State) (same : Bool)
+    → nat_eq (min variable.block (length tree.blocks.items)) (min block (length tree.blocks.items)) ≡ same
+    → slice_get tree.variables.items root ≡ Some variable
+    → ((next : variables.State)
+    → values_begun tree block (declared_by (length tree.blocks.items) (min block (length tree.blocks.items)) (suc root) declared) next
+    ≡ values_defined tree block (suc root) declared next)
+    → values_begun tree block
+    (cond same (root ∷ declared_by (length tree.blocks.items) (min block (length tree.blocks.items)) (suc root) declared)
+    (declared_by (length tree.blocks.items) (min block (length tree.blocks.items)) (suc root) declared)) state
+    ≡ values_defined tree block root (variable ∷ declared) state
+values-cases tree block root variable declared state true same is rest =
+    let roots = declared_by (length tree.blocks.items) (min block (length tree.blocks.items)) (suc root) declared in
+    ap (λ found. values_begun tree block roots (value_begun tree block root found state)) is
+    ∙ rest (value_begun tree block root (Some variable) state)
+values-cases tree block root variable declared state false same is rest =
+    let count = length tree.blocks.items in
+    rest state
+    ∙ ap (values_defined tree block (suc root) declared)
+    (sym (passed-none tree block root variable state (is_passed_value block variable) refl
+    (λ own. both (nat_eq (min variable.block count) (min block count)) (eq-eqb (min variable.block count) (min block count) own) same)))
 
--- the rows of the variables before one have begun
-pub record HaveBegun (tree : Tree) (block root : ℕ) (old new : State) : Type 0 where
-  pub variables_are : new.variables ≡ old.variables
-  pub stretches_are : new.components.stretches ≡ []
-  pub rows_are : AreBegun tree block (ComeFrom tree root) new.components.rows
+values-from : (tree : Tree) (block root : ℕ) (declared : List Variable)
+    → ((k : ℕ) (variable : Variable) → slice_get declared k ≡ Some variable → slice_get tree.variables.items (root + k) ≡ Some variable)
+    → (state : variables.State)
+    → values_begun tree block (declared_by (length tree.blocks.items) (min block (length tree.blocks.items)) root declared) state
+    ≡ values_defined tree block root declared state
+values-from tree block root [] there state = refl
+values-from tree block root (variable ∷ declared) there state =
+    let count = length tree.blocks.items in
+    values-cases tree block root variable declared state (nat_eq (min variable.block count) (min block count)) refl
+    (ap (slice_get tree.variables.items) (let e : root ≡ root + 0 = omega arith in e) ∙ there 0 variable refl)
+    (values-from tree block (suc root) declared
+    (λ k other is. ap (slice_get tree.variables.items) (let e : suc root + k ≡ root + suc k = omega arith in e) ∙ there (suc k) other is))
+
+pub values-are : (tree : Tree) (block : ℕ) (state : variables.State)
+    → values_begun tree block (own_roots tree (all_declared tree) block) state ≡ values_defined tree block 0 tree.variables.items state
+values-are tree block state =
+    ap (λ roots. values_begun tree block roots state) (own-are tree block)
+    ∙ values-from tree block 0 tree.variables.items
+    (λ k variable is. ap (slice_get tree.variables.items) (let e : 0 + k ≡ k = omega arith in e) ∙ is) state
+
+-- ---- rows
+
+abbrev kept : List RowState → Components
+kept rows = record { rows = rows; stretches = [] }
+
+-- what is known of a row of a variable that is visible
+abbrev seen_row : Tree → ℕ → Variable → ℕ → RowState
+seen_row tree block variable number = record {
+  range = start_range tree block variable (limits_or_integer (numbered tree number).leaf.values);
+  is_defined = is_passed_value block variable;
+  index = (numbered tree number).leaf.index;
+}
+
+values-numbered : (rows : List Row) (number : ℕ) → values_at rows number ≡ (get_or rows number no_leaf).leaf.values
+values-numbered [] number = refl
+values-numbered (row ∷ rows) zero = refl
+values-numbered (row ∷ rows) (suc number) = values-numbered rows number
+
+index-numbered : (rows : List Row) (number : ℕ) → index_at rows number ≡ (get_or rows number no_leaf).leaf.index
+index-numbered [] number = refl
+index-numbered (row ∷ rows) zero = refl
+index-numbered (row ∷ rows) (suc number) = index-numbered rows number
+
+abbrev pub begun : Interval → Bool → Option OrdinalRange → RowState
+begun range is_defined index = record { range = range; is_defined = is_defined; index = index }
+
+pub row-seen : (tree : Tree) (block : ℕ) (variable : Variable) (row : ℕ) (range : Interval) (is_defined : Bool) (index : Option OrdinalRange)
+    → is_round (outline_of tree) block variable.block ≡ true → range ≡ start_range tree block variable (row_limits (rows_of tree) row)
+    → is_defined ≡ is_passed_value block variable → index ≡ index_at (rows_of tree) row
+    → begun range is_defined index ≡ row_begun tree block (Some variable) row
+row-seen tree block variable row range is_defined index round range_is defined_is index_is =
+    ap (λ r. begun r is_defined index)
+    (range_is ∙ ap (λ values. start_range tree block variable (limits_or_integer values)) (values-numbered (rows_of tree) row))
+    ∙ ap (λ d. begun (seen_row tree block variable row).range d index) defined_is
+    ∙ ap (begun (seen_row tree block variable row).range (is_passed_value block variable)) (index_is ∙ index-numbered (rows_of tree) row)
+    ∙ sym (ap (λ b. cond b (seen_row tree block variable row) no_row) round)
+
+-- what is known of a row where a block begins, by its variable
+abbrev row_at : Tree → ℕ → ℕ → RowState
+row_at tree block number = row_begun tree block (slice_get tree.variables.items (numbered tree number).root) number
+
+rows-set : (tree : Tree) (block : ℕ) (variable : Option Variable) (numbers : List ℕ) (rows : List RowState)
+    → ((number : ℕ) → is_among number numbers ≡ true → row_begun tree block variable number ≡ row_at tree block number)
+    → rows_begun tree block variable numbers (kept rows) ≡ kept (set_all (row_at tree block) numbers rows)
+rows-set tree block variable [] rows own = refl
+rows-set tree block variable (number ∷ more) rows own =
+    ap (λ new. rows_begun tree block variable more (kept (set rows number new)))
+    (own number (or_left (nat_eq number number) (is_among number more) (eq-eqb number number refl)))
+    ∙ rows-set tree block variable more (set rows number (row_at tree block number))
+    (λ other among. own other (or_right (nat_eq number other) (is_among other more) among))
+
+all-set : (tree : Tree) (block : ℕ) (roots : List ℕ) (rows : List RowState)
+    → all_rows_begun tree block roots (kept rows) ≡ kept (set_all (row_at tree block) (rows_touched (rows_of tree) roots) rows)
+all-set tree block [] rows = refl
+all-set tree block (root ∷ roots) rows =
+    let own = rows_under (rows_of tree) root [] in
+    let rest = rows_touched (rows_of tree) roots in
+    ap (all_rows_begun tree block roots)
+    (rows-set tree block (slice_get tree.variables.items root) own rows
+    (λ number among. ap (λ r. row_begun tree block (slice_get tree.variables.items r) number) (sym (of-variable tree root number among).1)))
+    ∙ all-set tree block roots (set_all (row_at tree block) own rows)
+    ∙ ap kept (sym (set_all-append (row_at tree block) own rest rows))
+
+-- a row of a variable that isn't visible has no value
+first-row : (tree : Tree) (block number : ℕ) (round : Bool) (variable : Variable) → number < length (rows_of tree)
+    → slice_get tree.variables.items (numbered tree number).root ≡ Some variable → is_round (outline_of tree) block variable.block ≡ round
+    → (no_row ≡ row_at tree block number)
+    ⊎ (is_among number (rows_touched (rows_of tree) (visible_roots tree (all_declared tree) block)) ≡ true)
+first-row tree block number true variable inside is seen =
+    let root = (numbered tree number).root in
+    let roots = visible_roots tree (all_declared tree) block in
+    inr (among-flat (λ r. rows_under (rows_of tree) r []) roots root number
+    (among-contains roots root (among-visible tree block root variable is seen)) (under-variable tree root number inside refl))
+first-row tree block number false variable inside is hidden =
+    let own : row_begun tree block (Some variable) number ≡ no_row = ap (λ b. cond b (seen_row tree block variable number) no_row) hidden in
+    inl (sym own ∙ sym (ap (λ found. row_begun tree block found number) is))
+
+-- each row is as it is where a block begins
+pub rows-are : (tree : Tree) (block : ℕ)
+    → all_rows_begun tree block (visible_roots tree (all_declared tree) block) (no_values (length (rows_of tree))) ≡ components_start tree block
+rows-are tree block =
+    let rows = rows_of tree in
+    let touched = rows_touched rows (visible_roots tree (all_declared tree) block) in
+    let first = replicate (length rows) no_row in
+    let count = length-replicate (length rows) no_row in
+    let new = row_at tree block in
+    let begin : Row → RowState = λ row. row_start tree block row (slice_get tree.variables.items row.root) in
+    all-set tree block (visible_roots tree (all_declared tree) block) first
+    ∙ ap kept
+    (ext_get_or no_row (set_all new touched first) (map begin rows) (length-set_all new touched first ∙ count ∙ sym (length-map rows begin))
+    (λ i within.
+    let inside : i < length rows = omega (arith, within, length-set_all new touched first, count) in
+    set_all-each new no_row touched first
+    (λ j among.
+    let below : j < length rows = omega (arith, among, count) in
+    let variable = some-there tree.variables.items (numbered tree j).root (root-below tree j below) in
+    elim (first-row tree block j (is_round (outline_of tree) block variable.0.block) variable.0 below variable.1 refl) [
+      | inl is ↦ inl (get_or-replicate (length rows) j no_row no_row below ∙ is)
+      | inr seen ↦ inr seen
+    ])
+    i (omega (arith, inside, count))
+    ∙ sym (get_or-map begin rows i no_leaf no_row inside)))
+
+-- ---- row by row, and variable by variable
+
+pub span-next : (tree : Tree) (block : ℕ) (variable : Option Variable) (row last : ℕ) (old new all : State) → row < last
+    → new ≡ over_components (λ _. with_row row (row_begun tree block variable row)) old
+    → over_components (λ _. rows_begun tree block variable (rows_to row last)) old ≡ all
+    → over_components (λ _. rows_begun tree block variable (rows_to (row + 1) last)) new ≡ all
+span-next tree block variable row last old new all before new_is is =
+    ap (over_components (λ _. rows_begun tree block variable (rows_to (row + 1) last))) new_is
+    ∙ ap (λ rows. over_components (λ _. rows_begun tree block variable rows) old) (sym (rows-next row last before)) ∙ is
+
+pub rows-next_root : (tree : Tree) (block : ℕ) (roots : List ℕ) (i : ℕ) (variable : Option Variable) (span : List ℕ) (old new all : State)
+    → i < length roots → variable ≡ slice_get tree.variables.items (get_or roots i 0) → span ≡ rows_under (rows_of tree) (get_or roots i 0) []
+    → new ≡ over_components (λ _. rows_begun tree block variable span) old
+    → over_components (λ _. all_rows_begun tree block (drop i roots)) old ≡ all
+    → over_components (λ _. all_rows_begun tree block (drop (i + 1) roots)) new ≡ all
+rows-next_root tree block roots i variable span old new all inside variable_is span_is new_is is =
+    let root = get_or roots i 0 in
+    let rest = drop (i + 1) roots in
+    let cut : drop i roots ≡ root ∷ rest = rw add-one (drop-cons roots i 0 inside) in
+    ap (over_components (λ _. all_rows_begun tree block rest))
+    (new_is ∙ ap (λ v. over_components (λ _. rows_begun tree block v span) old) variable_is
+    ∙ ap (λ own. over_components (λ _. rows_begun tree block (slice_get tree.variables.items root) own) old) span_is)
+    ∙ ap (λ some. over_components (λ _. all_rows_begun tree block some) old) (sym cut) ∙ is
+
+-- ---- the table
+
+abbrev put : List (List ℕ) → ℕ → ℕ → List (List ℕ)
+put rows block root = with_root block root rows
+
+put-cases : (rows : List (List ℕ)) (place root block : ℕ) (same : Bool) → nat_eq place block ≡ same → place < length rows
+    → get_or (put rows place root) block [] ≡ get_or rows block [] ++ cond same (root ∷ []) []
+put-cases rows place root block true same inside =
+    subst (λ r. get_or (put rows place root) r [] ≡ get_or rows r [] ++ root ∷ []) (eqb-true place block same)
+    (get_or-set_same rows place (get_or rows place [] ++ root ∷ []) [] inside)
+put-cases rows place root block false same inside =
+    let apart : block ≢ place = λ is. both (nat_eq place block) (eq-eqb place block (sym is)) same in
+    get_or-set_other rows place block (get_or rows place [] ++ root ∷ []) [] apart ∙ sym (append-nil (get_or rows block []))
+
+first-joined : (same : Bool) (root : ℕ) (before rest : List ℕ) → (before ++ cond same (root ∷ []) []) ++ rest ≡ before ++ cond same (root ∷ rest) rest
+first-joined true root before rest = append_assoc before (root ∷ []) rest
+first-joined false root before rest = ap (λ all. all ++ rest) (append-nil before)
+
+put-at : (blocks root : ℕ) (declared : List Variable) (rows : List (List ℕ)) (block : ℕ) → length rows ≡ suc blocks
+    → get_or (with_roots blocks root declared rows) block [] ≡ get_or rows block [] ++ declared_by blocks block root declared
+put-at blocks root [] rows block count = sym (append-nil (get_or rows block []))
+put-at blocks root (variable ∷ declared) rows block count =
+    let place = min variable.block blocks in
+    let inside : place < length rows = omega (arith, count) in
+    let more = declared_by blocks block (suc root) declared in
+    put-at blocks (suc root) declared (put rows place root) block (length-set rows place (get_or rows place [] ++ root ∷ []) ∙ count)
+    ∙ ap (λ row. row ++ more) (put-cases rows place root block (nat_eq place block) refl inside)
+    ∙ first-joined (nat_eq place block) root (get_or rows block []) more
+
+length-put : (blocks root : ℕ) (declared : List Variable) (rows : List (List ℕ)) → length (with_roots blocks root declared rows) ≡ length rows
+length-put blocks root [] rows = refl
+length-put blocks root (variable ∷ declared) rows =
+    let place = min variable.block blocks in
+    length-put blocks (suc root) declared (put rows place root) ∙ length-set rows place (get_or rows place [] ++ root ∷ [])
+
+-- the variables of a program are put behind those of their blocks, where at first there are none
+pub table-is : (tree : Tree)
+    → with_roots (length tree.blocks.items) 0 tree.variables.items (replicate (suc (length tree.blocks.items)) []) ≡ all_declared tree
+table-is tree =
+    let count = length tree.blocks.items in
+    let declared = tree.variables.items in
+    let none : List (List ℕ) = replicate (suc count) [] in
+    let table = with_roots count 0 declared none in
+    let of = λ (block : ℕ). declared_by count block 0 declared in
+    let first = length-replicate (suc count) [] in
+    let long : length table ≡ suc count = length-put count 0 declared none ∙ first in
+    ext_get_or [] table (map of (range_with_len 0 (suc count))) (long ∙ sym (length-map-range_with_len of 0 (suc count)))
+    (λ i within.
+    let inside : i < suc count = omega (arith, within, long) in
+    put-at count 0 declared none i first
+    ∙ ap (λ before. before ++ declared_by count i 0 declared) (get_or-replicate (suc count) i [] [] inside)
+    ∙ sym (get_or-map-range_with_len of 0 (suc count) i i [] inside (let e : 0 + i ≡ i = omega arith in e)))
+
+-- one variable more is put behind those of its block
+pub roots-next : (blocks root place : ℕ) (declared : List Variable) (variable : Variable) (old new all : List (List ℕ)) → root < length declared
+    → variable ≡ get_or declared root variable → place ≡ min variable.block blocks → new ≡ with_root place root old
+    → with_roots blocks root (drop root declared) old ≡ all → with_roots blocks (root + 1) (drop (root + 1) declared) new ≡ all
+roots-next blocks root place declared variable old new all inside variable_is place_is new_is is =
+    let rest = drop (root + 1) declared in
+    let next : root + 1 ≡ suc root = omega arith in
+    let cut : drop root declared ≡ variable ∷ rest = drop_more declared root variable inside ∙ ap (λ one. one ∷ rest) (sym variable_is) in
+    ap (λ k. with_roots blocks k rest new) next
+    ∙ ap (with_roots blocks (suc root) rest) (new_is ∙ ap (λ k. with_root k root old) place_is)
+    ∙ ap (λ some. with_roots blocks root some old) (sym cut) ∙ is

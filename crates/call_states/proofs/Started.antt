@@ -141,6 +141,14 @@ module _ (tree : Tree) (pairs : List (ℕ × ℕ)) (number activations : ℕ) (v
 
   -- ---- rows
 
+  -- what is known of a row of a variable that is visible
+  abbrev seen-start : Row → Variable → RowState
+  seen-start row variable = record {
+    range = start_range tree number variable (limits_or_integer row.leaf.values);
+    is_defined = is_passed_value number variable;
+    index = row.leaf.index;
+  }
+
   -- what is known of a row that has a component
   row-state : (row : ℕ) (steps : List Step) (is : IsRow tree row steps)
       → row_at (components_start tree number) row ≡ row_start tree number is.row (Some is.leaf.variable)
@@ -150,6 +158,29 @@ module _ (tree : Tree) (pairs : List (ℕ × ℕ)) (number activations : ℕ) (v
       get_or-map own (rows_of tree) row is.row no_row (slice_get_within (rows_of tree) row is.row is.is)
       ∙ ap own (get_or_from_slice_get (rows_of tree) row is.row is.row is.is)
       ∙ ap (row_start tree number is.row) (ap (slice_get declared) (is.leaf.root_is ∙ e) ∙ is.leaf.variable_is)
+
+  -- one that isn't visible has no value, and of one that is what is known is of the block's start
+  in-row : (row : Row) (root : ℕ) (variable : Variable) (steps : List Step) (v : Value) → slice_get declared root ≡ Some variable
+      → value_at (moment visible store) root steps ≡ Some v → IsIn (limits_or_integer row.leaf.values) v
+      → IsIn (row_start tree number row (Some variable)).range v
+  in-row row root variable steps v is at own =
+      cond_both (is_round (outline_of tree) number variable.block) (seen-start row variable) no_row (λ (state : RowState). IsIn state.range v)
+      (λ round. in-start root variable steps v (limits_or_integer row.leaf.values) is at own)
+      (λ away.
+      absurd
+      (has-start root variable steps v is at
+      (or_left (not (is_round (outline_of tree) number variable.block)) (is_own number variable) (ap not away))))
+
+  row-passed : (row : Row) (variable : Variable) → (row_start tree number row (Some variable)).is_defined ≡ true → is_passed_value number variable ≡ true
+  row-passed row variable =
+      cond_both (is_round (outline_of tree) number variable.block) (seen-start row variable) no_row
+      (λ (state : RowState). state.is_defined ≡ true → is_passed_value number variable ≡ true) (λ round is. is) (λ away is. absurd (false≢true is))
+
+  row-index : (row : Row) (variable : Variable) (range : OrdinalRange) → (row_start tree number row (Some variable)).index ≡ Some range
+      → row.leaf.index ≡ Some range
+  row-index row variable range =
+      cond_both (is_round (outline_of tree) number variable.block) (seen-start row variable) no_row
+      (λ (state : RowState). state.index ≡ Some range → row.leaf.index ≡ Some range) (λ round is. is) (λ away is. absurd (none-some range is))
 
   row-root : (row : ℕ) (steps : List Step) (is : IsRow tree row steps)
       → slice_get declared (slice_index_or (all_parts tree) row no_parts).root ≡ Some is.leaf.variable
@@ -171,17 +202,18 @@ module _ (tree : Tree) (pairs : List (ℕ × ℕ)) (number activations : ℕ) (v
         let own : IsIn (limits_or_integer is.row.leaf.values) v =
         subst (λ (range : Option OrdinalRange). IsIn (limits_or_integer range) v) values (in_types.components row steps v of_row at) in
         subst (λ (state : RowState). IsIn state.range v) (sym (row-state row steps is))
-        (in-start root is.leaf.variable steps v (limits_or_integer is.row.leaf.values) (row-root row steps is) at own);
+        (in-row is.row root is.leaf.variable steps v (row-root row steps is) at own);
     defined = λ row defined_is steps of_row.
         let is = row-is tree row steps of_row in
-        let passed : is_passed_value number is.leaf.variable ≡ true = sym (ap (λ (state : RowState). state.is_defined) (row-state row steps is)) ∙ defined_is in
+        let passed : is_passed_value number is.leaf.variable ≡ true =
+        row-passed is.row is.leaf.variable (sym (ap (λ (state : RowState). state.is_defined) (row-state row steps is)) ∙ defined_is) in
         defined (slice_index_or (all_parts tree) row no_parts).root is.leaf.variable steps (row-root row steps is) passed
         (has-contains (components_of tree.types is.leaf.variable.type_id) steps is.of_type);
     indexes = λ row range index_is steps of_row.
         let is = row-is tree row steps of_row in
         indexes-are tree row steps range of_row
         (ap (Rattle.std.specs.Option.option_and_then (λ (r : Row). r.leaf.index)) is.is
-        ∙ sym (ap (λ (state : RowState). state.index) (row-state row steps is)) ∙ index_is);
+        ∙ row-index is.row is.leaf.variable range (sym (ap (λ (state : RowState). state.index) (row-state row steps is)) ∙ index_is));
     stretches = λ stretch inside. absurd (omega (arith, inside.1));
   }
 

@@ -1,8 +1,9 @@
 -- What is known where an activation of a block begins (ISO 7185:1990, 6.2.3.2, 6.6.3.2): its own variables and its
 -- result are undefined, its value parameters are defined, each other variable that is visible has a value of its type
 -- or none; and what a certificate claims beside that. It does not say that calls keep to these claims.
-use Rattle.std.specs.Prelude.{ℕ, suc, ◌&&◌, ◌||◌, Bool, not, List, [], ◌∷◌, Option, Some, None, if◌then◌else◌, map}
-use Rattle.std.specs.Prelude.{nat_eq, slice_get}
+use Rattle.std.specs.Prelude.{ℕ, suc, ◌&&◌, ◌||◌, Bool, not, List, [], ◌∷◌, Option, Some, None, if◌then◌else◌, length}
+use Rattle.std.specs.Prelude.{map, min, nat_eq, slice_get}
+use Rattle.std.specs.List.{range_with_len}
 use Rattle.domain.specs.Interval.{Interval, vacant}
 use Rattle.domain.specs.Facts.{Fact}
 use Rattle.types.specs.Types.{is_ordinal}
@@ -13,7 +14,7 @@ use Rattle.abstract_state.specs.State as variables
 use Rattle.abstract_state.specs.Loops.{with_claims}
 use Rattle.leaf_rows.specs.Rows.{Row, rows_of}
 use Rattle.component_states.specs.Components as components
-use Rattle.component_states.specs.Components.{Components, RowState}
+use Rattle.component_states.specs.Components.{Components, RowState, no_row}
 use Rattle.component_states.specs.States.{State}
 use Rattle.structured_states.specs.Loops.{component_facts, limits_or_integer, plain_facts, type_limits}
 
@@ -51,14 +52,17 @@ variables_start tree block =
     values_defined tree block 0 tree.variables.items
     (variables.Live (record { ranges = map (variable_start tree block) tree.variables.items; facts = [] }))
 
--- the same of a row of a variable
+-- the same of a row of a variable, if that is visible
 abbrev pub row_start : Tree → ℕ → Row → Option Variable → RowState
-row_start tree block row None = components.undefined_row row.leaf.index
-row_start tree block row (Some variable) = record {
-  range = start_range tree block variable (limits_or_integer row.leaf.values);
-  is_defined = is_passed_value block variable;
-  index = row.leaf.index;
-}
+row_start tree block row None = no_row
+row_start tree block row (Some variable) =
+    if is_round (outline_of tree) block variable.block
+    then record {
+      range = start_range tree block variable (limits_or_integer row.leaf.values);
+      is_defined = is_passed_value block variable;
+      index = row.leaf.index;
+    }
+    else no_row
 
 abbrev pub components_start : Tree → ℕ → Components
 components_start tree block = record {
@@ -72,3 +76,19 @@ block_start tree block facts = record {
   variables = with_claims (plain_facts tree facts) (variables_start tree block);
   components = components.with_claims (component_facts tree facts) (components_start tree block);
 }
+
+-- ---- the variables that blocks declare
+
+-- of variables, the first of which has this root, those whose block has a number, or none of so many blocks
+abbrev pub declared_by : (blocks block root : ℕ) → List Variable → List ℕ
+declared_by blocks block root [] = []
+declared_by blocks block root (variable ∷ declared) =
+    if nat_eq (min variable.block blocks) block
+    then root ∷ declared_by blocks block (suc root) declared
+    else declared_by blocks block (suc root) declared
+
+-- the variables of each block of a program by its number, and behind them those whose block isn't there
+abbrev pub all_declared : Tree → List (List ℕ)
+all_declared tree =
+    map (λ block. declared_by (length tree.blocks.items) block 0 tree.variables.items)
+    (range_with_len 0 (suc (length tree.blocks.items)))

@@ -1,16 +1,20 @@
 -- Calls of the program as the definitions see them: what is passed, what is claimed of blocks, what calls change. It
 -- does not say what is known of them.
-use Rattle.std.specs.Prelude.{ℕ, suc, ◌⊎◌, ◌≤◌, ℤ, neg_ℤ, pos, ◌≡◌, ◌<◌, ◌≤ℤ◌, Bool, false, List, [], ◌∷◌, Option}
-use Rattle.std.specs.Prelude.{Some, None, get_or}
-use Rattle.std.specs.Prelude.{if◌then◌else◌, length, map, nat_eq, slice_get}
+use Rattle.std.specs.Prelude.{ℕ, suc, ℤ, neg_ℤ, pos, ◌≡◌, ◌<◌, ◌≤ℤ◌, ◌&&◌, ◌++◌, Bool, false, List, [], ◌∷◌, Option}
+use Rattle.std.specs.Prelude.{Some, None, flat_map, get_or, if◌then◌else◌, length, map, min, nat_eq, slice_get}
+use Rattle.std.specs.Prelude.{slice_set}
 use denote.Ref.{Bor}
+use Rattle.domain.specs.Interval.{Interval, vacant}
+use Rattle.types.specs.Types.{is_ordinal}
+use Rattle.typed_tree.specs.declared.tree.Block.{Block}
 use Rattle.typed_tree.specs.declared.tree.Selector.{Selector}
 use Rattle.typed_tree.specs.declared.tree.Tree.{Tree}
 use Rattle.typed_tree.specs.declared.tree.Variable.{Variable}
 use Rattle.abstract_state.specs.State as variables
-use Rattle.leaf_rows.specs.Rows.{Row, rows_of}
-use Rattle.component_states.specs.Components.{RowState, no_row, undefined_row}
-use Rattle.call_states.specs.Starts.{row_start, variable_start}
+use Rattle.leaf_rows.specs.Rows.{Row, rows_of, rows_under}
+use Rattle.component_states.specs.Components as components
+use Rattle.component_states.specs.Components.{RowState, with_row}
+use Rattle.call_states.specs.Starts.{is_passed_value, row_start, variable_start}
 use Rattle.structured_states.specs.Loops.{is_ordinal_variable}
 use Rattle.certificate.specs.declared.Section.{Section as KeptSection}
 use Rattle.certificate.specs.Contents.{said_fact}
@@ -29,7 +33,6 @@ use Rattle.call_states.specs.Actuals.{Actual, Bearer, Binding, OfRows, OfValue, 
 use Rattle.call_states.specs.Actuals as actuals
 use Rattle.call_states.specs.Actuals.{bound_to}
 use Rattle.call_states.specs.Entry.{Limit}
-use Rattle.component_states.specs.States.{State}
 
 -- ---- what is claimed of a block
 
@@ -71,41 +74,74 @@ pub record AreFound (old new : List (Option (Bor KeptSection))) (found : ℕ →
 
 -- ---- where a block begins
 
--- variables, of which the first has this root, have their ranges
-abbrev pub with_starts : Tree → ℕ → ℕ → List Variable → variables.State → variables.State
-with_starts tree block root [] state = state
-with_starts tree block root (variable ∷ declared) state =
-    with_starts tree block (suc root) declared (variables.with_range root (variable_start tree block variable) state)
+-- the variables of a block by those of each block, and those that are visible in one
+abbrev pub own_roots : Tree → List (List ℕ) → ℕ → List ℕ
+own_roots tree declared block = get_or declared (min block (length tree.blocks.items)) []
 
--- the row of a number in a program, where there is one; what is known of it where nothing has a value, and where a
--- block begins
+abbrev pub visible_by : Tree → List (List ℕ) → ℕ → Option Block → List ℕ
+visible_by tree declared block None = []
+visible_by tree declared block (Some found) =
+    flat_map (own_roots tree declared) found.heading.around.items ++ own_roots tree declared block
+
+abbrev pub visible_roots : Tree → List (List ℕ) → ℕ → List ℕ
+visible_roots tree declared block = visible_by tree declared block (slice_get tree.blocks.items block)
+
+-- some variables have their ranges
+abbrev pub range_begun : Tree → ℕ → Option Variable → Interval
+range_begun tree block None = vacant
+range_begun tree block (Some variable) = variable_start tree block variable
+
+abbrev pub ranges_begun : Tree → ℕ → List ℕ → variables.State → variables.State
+ranges_begun tree block [] state = state
+ranges_begun tree block (root ∷ roots) state =
+    ranges_begun tree block roots
+    (variables.with_range root (range_begun tree block (slice_get tree.variables.items root)) state)
+
+-- those of them are defined that are ordinal value parameters
+abbrev pub value_begun : Tree → ℕ → ℕ → Option Variable → variables.State → variables.State
+value_begun tree block root None state = state
+value_begun tree block root (Some variable) state =
+    if is_passed_value block variable && is_ordinal tree.types variable.type_id
+    then variables.with_defined root state
+    else state
+
+abbrev pub values_begun : Tree → ℕ → List ℕ → variables.State → variables.State
+values_begun tree block [] state = state
+values_begun tree block (root ∷ roots) state =
+    values_begun tree block roots (value_begun tree block root (slice_get tree.variables.items root) state)
+
+-- the row of a number in a program, where there is one, and what is known of it where a block begins
 abbrev pub no_leaf : Row
 no_leaf = record { root = 0; leaf = record { steps = []; values = None; index = None } }
 
 abbrev pub numbered : Tree → ℕ → Row
 numbered tree number = get_or (rows_of tree) number no_leaf
 
-abbrev pub begun_row : Tree → ℕ → ℕ → RowState
-begun_row tree block number =
-    row_start tree block (numbered tree number) (slice_get tree.variables.items (numbered tree number).root)
+abbrev pub row_begun : Tree → ℕ → Option Variable → ℕ → RowState
+row_begun tree block variable row = row_start tree block (numbered tree row) variable
 
--- of each row it is known what is where a block begins, or it is still to come and has no value
-pub record AreBegun (tree : Tree) (block : ℕ) (IsToCome : ℕ → Type 0) (rows : List RowState) : Type 0 where
-  pub count : length rows ≡ length (rows_of tree)
-  pub each : (number : ℕ) → number < length (rows_of tree)
-      → (get_or rows number no_row ≡ begun_row tree block number)
-      ⊎ ((get_or rows number no_row ≡ undefined_row (numbered tree number).leaf.index) × IsToCome number)
+-- some rows of a variable begin
+abbrev pub rows_begun : Tree → ℕ → Option Variable → List ℕ → components.Components → components.Components
+rows_begun tree block variable [] known = known
+rows_begun tree block variable (row ∷ rows) known =
+    rows_begun tree block variable rows (with_row row (row_begun tree block variable row) known)
 
--- the rows of a variable and of those behind it are still to come
-abbrev pub ComeFrom : Tree → ℕ → ℕ → Type 0
-ComeFrom tree root number = root ≤ (numbered tree number).root
+-- those of several variables
+abbrev pub all_rows_begun : Tree → ℕ → List ℕ → components.Components → components.Components
+all_rows_begun tree block [] known = known
+all_rows_begun tree block (root ∷ roots) known =
+    all_rows_begun tree block roots
+    (rows_begun tree block (slice_get tree.variables.items root) (rows_under (rows_of tree) root []) known)
 
--- the rows of a variable begin
-pub record RowsBegin (tree : Tree) (block root : ℕ) (old new : State) : Type 0 where
-  pub variables_are : new.variables ≡ old.variables
-  pub stretches_are : new.components.stretches ≡ old.components.stretches
-  pub rows_are : AreBegun tree block (ComeFrom tree root) old.components.rows
-      → AreBegun tree block (ComeFrom tree (suc root)) new.components.rows
+-- a variable is put behind those of a block
+abbrev pub with_root : (block root : ℕ) → List (List ℕ) → List (List ℕ)
+with_root block root rows = slice_set rows block (get_or rows block [] ++ root ∷ [])
+
+-- variables, of which the first has this root, are put behind those of their blocks
+abbrev pub with_roots : (blocks root : ℕ) → List Variable → List (List ℕ) → List (List ℕ)
+with_roots blocks root [] rows = rows
+with_roots blocks root (variable ∷ declared) rows =
+    with_roots blocks (suc root) declared (with_root (min variable.block blocks) root rows)
 
 -- ---- what is passed
 

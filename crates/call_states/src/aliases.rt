@@ -1,4 +1,4 @@
-ghost use Rattle.std.specs.Prelude.{◌≡◌, map};
+ghost use Rattle.std.specs.Prelude.{◌≡◌, IfOk, map};
 ghost use Rattle.abstract_state.specs.Loops.{is_among};
 ghost use Rattle.abstract_state.specs.View.{said_form};
 ghost use Rattle.component_states.specs.View.{said_index, said_reach, viewed};
@@ -15,6 +15,7 @@ use domain::Domain;
 use domain::facts::Bound;
 use domain::interval::Interval;
 use leaf_rows::{Rows, Span};
+use std::alloc::AllocError;
 use typed_tree::tree::Tree;
 use types::OrdinalRange;
 
@@ -28,17 +29,23 @@ pub struct Stored {
 }
 
 /// What is known of the aliases of a variable through which others see what is stored (ISO 7185:1990, 6.6.3.3).
-pub fn store(state: &mut State, rows: &Rows, aliases: &[u32], stored: &[Stored])
-    ensures { viewed state.new
-        ≡ with_aliases_stored rows.now aliases.now (map said_stored stored.now) (viewed state.old) }
+pub fn store(
+    state: &mut State,
+    rows: &Rows,
+    aliases: &[u32],
+    stored: &[Stored],
+) -> Result<(), AllocError>
+    ensures { IfOk result (λ _. viewed state.new
+        ≡ with_aliases_stored rows.now aliases.now (map said_stored stored.now) (viewed state.old)) }
 {
     if aliases.is_empty() {
-        return;
+        return Ok(());
     }
     drop_all(state, aliases);
     for one in stored {
-        join_aliases(state, rows, one, aliases);
+        join_aliases(state, rows, one, aliases)?;
     }
+    Ok(())
 }
 
 /// Facts that rest on some variables are known no longer.
@@ -52,34 +59,54 @@ pub fn drop_all(state: &mut State, roots: &[u32])
 }
 
 /// Aliases may have what is stored.
-fn join_aliases(state: &mut State, rows: &Rows, stored: &Stored, aliases: &[u32])
-    ensures { viewed state.new ≡ aliases_joined rows.now (said_stored stored.now) aliases.now (viewed state.old) }
+fn join_aliases(
+    state: &mut State,
+    rows: &Rows,
+    stored: &Stored,
+    aliases: &[u32],
+) -> Result<(), AllocError>
+    ensures { IfOk result
+        (λ _. viewed state.new ≡ aliases_joined rows.now (said_stored stored.now) aliases.now (viewed state.old)) }
 {
     for alias in aliases {
-        join_alias(state, rows, stored, *alias);
+        join_alias(state, rows, stored, *alias)?;
     }
+    Ok(())
 }
 
 /// An alias may have it, as a whole or in its components.
-fn join_alias(state: &mut State, rows: &Rows, stored: &Stored, alias: u32)
-    ensures { viewed state.new ≡ alias_joined rows.now (said_stored stored.now) alias (viewed state.old) }
+fn join_alias(
+    state: &mut State,
+    rows: &Rows,
+    stored: &Stored,
+    alias: u32,
+) -> Result<(), AllocError>
+    ensures { IfOk result
+        (λ _. viewed state.new ≡ alias_joined rows.now (said_stored stored.now) alias (viewed state.old)) }
 {
     if is_same(stored.values, variable_values(rows.tree(), alias)) {
         let range = state.variables.range(alias).join(&stored.range);
-        state.variables.set_range(alias, range);
+        state.variables.set_range(alias, range)?;
     }
-    join_rows(state, rows, stored, rows.of_variable(alias));
+    join_rows(state, rows, stored, rows.of_variable(alias))
 }
 
 /// Components of some rows may have it.
-fn join_rows(state: &mut State, rows: &Rows, stored: &Stored, span: Span)
-    ensures { viewed state.new ≡ rows_joined rows.now (said_stored stored.now) (numbers span) (viewed state.old) }
+fn join_rows(
+    state: &mut State,
+    rows: &Rows,
+    stored: &Stored,
+    span: Span,
+) -> Result<(), AllocError>
+    ensures { IfOk result
+        (λ _. viewed state.new ≡ rows_joined rows.now (said_stored stored.now) (numbers span) (viewed state.old)) }
 {
     for row in span.first..span.end() {
         if is_same(stored.values, rows.values(row)) {
-            state.touch_row(row, state.row_range(row).join(&stored.range));
+            state.touch_row(row, state.row_range(row).join(&stored.range))?;
         }
     }
+    Ok(())
 }
 
 /// Whether the values of two types are the same.

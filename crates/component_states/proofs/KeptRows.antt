@@ -1,5 +1,6 @@
 -- Rows of components in lists.
-use Rattle.std.proofs.Common.{arith, ◌≡◌, ap, refl, ℕ, zero, suc, ◌≤◌, List, [], ◌∷◌, length, map, set}
+use Rattle.std.proofs.Common.{arith, ◌≡◌, ap, refl, ℕ, zero, suc, ◌≤◌, List, [], ◌∷◌, length, map, replicate, set, false, None}
+use Rattle.domain.specs.Interval.{vacant}
 use Rattle.component_states.specs.declared.row_list.Row.{Row}
 use Rattle.component_states.specs.Components.{RowState}
 use Rattle.component_states.specs.View.{said_row}
@@ -12,3 +13,12 @@ pub set-beyond : (rows : List RowState) (i : ℕ) (row : RowState) → length ro
 set-beyond [] i row beyond = refl
 set-beyond (first ∷ rows) zero row beyond = absurd (omega (arith, beyond))
 set-beyond (first ∷ rows) (suc i) row beyond = ap (λ (rest : List RowState). first ∷ rest) (set-beyond rows i row (omega (arith, beyond)))
+
+-- that of a row of which no component has a value
+abbrev pub none : Row
+none = record { range = vacant; is_defined = false; index = None }
+
+-- so many rows that are the same
+pub said-replicate : (count : ℕ) (row : Row) → said_rows (replicate count row) ≡ replicate count (said_row row)
+said-replicate zero row = refl
+said-replicate (suc count) row = ap (λ (rest : List RowState). said_row row ∷ rest) (said-replicate count row)

@@ -1,6 +1,6 @@
 -- What a checker knows at a point of a program: of the variables, and of the components of those that are structured
 -- (ISO 7185:1990, 6.5.1). It does not say how that comes about, nor what it means for a run.
-use Rattle.std.specs.Prelude.{ℕ, Bool, false, ◌&&◌, ◌||◌, List, [], Option, Some, None, if◌then◌else◌, filter, length}
+use Rattle.std.specs.Prelude.{ℕ, Bool, false, ◌&&◌, ◌||◌, List, Option, Some, None, if◌then◌else◌, filter, length}
 use Rattle.std.specs.Prelude.{map, max}
 use Rattle.std.specs.List.{list_all, range_with_len}
 use Rattle.std.specs.Int.{int_max, int_min}

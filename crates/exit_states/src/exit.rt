@@ -80,7 +80,7 @@ fn go_behind(
     ensures { IfOk result (λ _. viewed state.new ≡ left_behind rows.now block (said_bindings bindings.entry)
         (said_touches touches.now) (map said_fact exit.now) (viewed state.old)) }
 {
-    touch(state, rows, touches.changes, touches.touched);
+    touch(state, rows, touches.changes, touches.touched)?;
     add_exits(alloc, state, rows, block, bindings, touches, exit)
 }
 
@@ -108,39 +108,61 @@ fn touched(
 }
 
 /// What is known of what a call touches, where nothing is claimed of its end but where values lie.
-fn touch(state: &mut State, rows: &Rows, changes: &[Change], touched: &[u32])
-    ensures { viewed state.new
-        ≡ touched_behind rows.now (map said_change changes.now) touched.now (viewed state.old) }
+fn touch(
+    state: &mut State,
+    rows: &Rows,
+    changes: &[Change],
+    touched: &[u32],
+) -> Result<(), AllocError>
+    ensures { IfOk result (λ _. viewed state.new
+        ≡ touched_behind rows.now (map said_change changes.now) touched.now (viewed state.old)) }
 {
     drop_all(state, touched);
-    touch_variables(state, rows.tree(), changes, touched);
-    touch_rows(state, rows, changes, touched);
+    touch_variables(state, rows.tree(), changes, touched)?;
+    touch_rows(state, rows, changes, touched)
 }
 
-fn touch_variables(state: &mut State, tree: &Tree, changes: &[Change], touched: &[u32])
-    ensures { viewed state.new ≡ over_variables (variables_behind tree.now (map said_change changes.now) touched.now)
-        (viewed state.old) }
+fn touch_variables(
+    state: &mut State,
+    tree: &Tree,
+    changes: &[Change],
+    touched: &[u32],
+) -> Result<(), AllocError>
+    ensures { IfOk result (λ _. viewed state.new
+        ≡ over_variables (variables_behind tree.now (map said_change changes.now) touched.now) (viewed state.old)) }
 {
     for root in touched {
         let range = state.variables.range(*root);
         let values = variable_values(tree, *root);
         let range = behind(values, changes, &Bearer::Variable(*root), range);
-        state.variables.set_range(*root, range);
+        state.variables.set_range(*root, range)?;
     }
+    Ok(())
 }
 
-fn touch_rows(state: &mut State, rows: &Rows, changes: &[Change], touched: &[u32])
-    ensures { viewed state.new ≡ over_components (λ _. rows_behind rows.now (map said_change changes.now)
-        (rows_touched (rows_of rows.now) touched.now)) (viewed state.old) }
+fn touch_rows(
+    state: &mut State,
+    rows: &Rows,
+    changes: &[Change],
+    touched: &[u32],
+) -> Result<(), AllocError>
+    ensures { IfOk result (λ _. viewed state.new ≡ over_components (λ _. rows_behind rows.now
+        (map said_change changes.now) (rows_touched (rows_of rows.now) touched.now)) (viewed state.old)) }
 {
     for root in touched {
-        touch_span(state, rows, changes, rows.of_variable(*root));
+        touch_span(state, rows, changes, rows.of_variable(*root))?;
     }
+    Ok(())
 }
 
-fn touch_span(state: &mut State, rows: &Rows, changes: &[Change], span: Span)
-    ensures { viewed state.new ≡ over_components (λ _. rows_behind rows.now (map said_change changes.now)
-        (numbers span)) (viewed state.old) }
+fn touch_span(
+    state: &mut State,
+    rows: &Rows,
+    changes: &[Change],
+    span: Span,
+) -> Result<(), AllocError>
+    ensures { IfOk result (λ _. viewed state.new
+        ≡ over_components (λ _. rows_behind rows.now (map said_change changes.now) (numbers span)) (viewed state.old)) }
 {
     for row in span.first..span.end() {
         let all = Bearer::Components {
@@ -148,8 +170,9 @@ fn touch_span(state: &mut State, rows: &Rows, changes: &[Change], span: Span)
             reach: Reach::Entire,
         };
         let range = behind(rows.values(row), changes, &all, state.row_range(row));
-        state.touch_row(row, range);
+        state.touch_row(row, range)?;
     }
+    Ok(())
 }
 
 /// Where the values lie of what was in a range, by the changes of just this, or else by all.
@@ -309,10 +332,7 @@ fn define(state: &mut State, rows: &Rows, bearer: Bearer) -> Result<(), AllocErr
 {
     match bearer {
         Bearer::Passed(_) => Ok(()),
-        Bearer::Variable(root) => {
-            state.variables.define(root);
-            Ok(())
-        }
+        Bearer::Variable(root) => state.variables.define(root),
         Bearer::Components {
             row,
             reach: Reach::Entire,

@@ -2,7 +2,7 @@
 use Rattle.std.proofs.Common.{◌≡◌, ℕ, zero, suc, ◌+◌, ◌-◌, ◌<◌, ◌≤◌, ◌≢◌, List, [], ◌∷◌, length, get_or, set, replicate, Some, None, Result, Ok, Err, IfOk}
 use Rattle.std.proofs.Common.{IfErr, slice_get, refl, sym, ap, subst, ◌∙◌, arith}
 use Rattle.std.specs.List.{insert}
-use Rattle.std.proofs.lemmas.Option.{slice_get_past, slice_get-get_or}
+use Rattle.std.proofs.lemmas.Option.{get_or_from_slice_get, slice_get_past, slice_get-get_or}
 use Rattle.std.specs.List.Sorted.{IsSearchInRange, IsBinarySearchResult, IsNonDecreasingBy}
 use Rattle.std.specs.Ordering.{nat_cmp, ordering_index}
 use Rattle.std.proofs.lemmas.Cmp.{ranked}
@@ -80,6 +80,22 @@ module _ {T : Type 0} (l : List (ℕ × T)) (rises : IsAscending l) (k : ℕ) wh
       let indices_rise : (get_or l i pair).0 ≤ (get_or l j pair).0 =
       grind (arith, rises i j pair, λ (same : i ≡ j). ap (λ q. (get_or l q pair).0) same) in
       grind (arith, nat_tests)
+
+  -- an index that is greater than the last one goes behind all
+  pub behind_last : (pair : ℕ × T) → slice_get l (length l - 1) ≡ Some pair → pair.0 < k → IsGapFor l k (length l)
+  behind_last last is greater =
+      let is_last : (d : ℕ × T) → (get_or l (length l - 1) d).0 ≡ last.0 =
+      λ d. ap (λ (pair : ℕ × T). pair.0) (get_or_from_slice_get l (length l - 1) last d is) in
+      record {
+        in_range = omega arith;
+        smaller_before = λ i d lt. grind (
+          arith,
+          rises i (length l - 1) d,
+          is_last d,
+          λ (same : i ≡ length l - 1). ap (λ j. (get_or l j d).0) same,
+        );
+        greater_after = λ i d le lt. absurd (omega arith);
+      }
 
   -- a binary search by index ends at the index, or at the gap for it
   pub searched : (r : Result ℕ ℕ) → IsSearchInRange r (length l) → IsBinarySearchResult (λ (pair : ℕ × T). nat_cmp pair.0 k) l r

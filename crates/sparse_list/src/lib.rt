@@ -1,7 +1,7 @@
 //! A list most of whose items are a usual one: it stores only those that may differ.
 #![tactic(auto)]
 
-ghost use Rattle.std.specs.Prelude.{◌≡◌, length, replicate, slice_get, slice_index_or, slice_set, IfErr, IfOk};
+ghost use Rattle.std.specs.Prelude.{◌≡◌, length, replicate, slice_get, slice_index_or, slice_set, true, IfErr, IfOk};
 ghost use Rattle.sparse_list.specs.Sparse.{AreJoined, AreUnusual, AreUnusualOfEither};
 ghost use Rattle.sparse_list.specs.Stored.{IsAscending, IsAt, IsGapFor};
 
@@ -154,7 +154,7 @@ impl<T: Join> SparseList<T> {
 }
 
 /// The indices at which an item of one of two lists may differ from its usual one, or be missing.
-fn unusual_of_either<T: Copy>(
+pub fn unusual_of_either<T: Copy>(
     alloc: Global,
     list: &SparseList<T>,
     other: &SparseList<T>,
@@ -175,5 +175,32 @@ fn search<T: Copy>(stored: &[(usize, T)], index: usize) -> Result<usize, usize>
     ensures found { IfOk result (IsAt stored.now index) }
     ensures absent { IfErr result (IsGapFor stored.now index) }
 {
+    if is_at_own_place(stored, index) {
+        return Ok(index);
+    }
+    if is_behind_all(stored, index) {
+        return Err(stored.len());
+    }
     stored.binary_search_by_key(&index, |&(index, _)| index)
+}
+
+// Whether an item of this index is stored where it lies if none before it is missing.
+fn is_at_own_place<T: Copy>(stored: &[(usize, T)], index: usize) -> bool
+    ensures { result ≡ true → IsAt stored.now index index }
+{
+    match stored.get(index) {
+        Some(pair) => pair.0 == index,
+        None => false,
+    }
+}
+
+// Whether an item of this index would go behind all others.
+fn is_behind_all<T: Copy>(stored: &[(usize, T)], index: usize) -> bool
+    requires { IsAscending stored.now }
+    ensures { result ≡ true → IsGapFor stored.now index (length stored.now) }
+{
+    match stored.last() {
+        Some(pair) => pair.0 < index,
+        None => true,
+    }
 }

@@ -200,27 +200,29 @@ fn components_head(
         touched.now (rows_touched (rows_of rows.now) touched.now) (map said_component claims.now)) (viewed state.old)) }
 {
     state.touch_roots(touched);
-    touch_rows(state, rows, touched);
+    touch_rows(state, rows, touched)?;
     state.claim_all(claims)
 }
 
 /// Each row of several variables may have other values of its type.
-fn touch_rows(state: &mut State, rows: &Rows, touched: &[u32])
-    ensures { viewed state.new ≡ over_components (λ _. with_touched (row_limits (rows_of rows.now))
-        (rows_touched (rows_of rows.now) touched.now)) (viewed state.old) }
+fn touch_rows(state: &mut State, rows: &Rows, touched: &[u32]) -> Result<(), AllocError>
+    ensures { IfOk result (λ _. viewed state.new ≡ over_components (λ _. with_touched (row_limits (rows_of rows.now))
+        (rows_touched (rows_of rows.now) touched.now)) (viewed state.old)) }
 {
     for root in touched {
-        touch_span(state, rows, rows.of_variable(*root));
+        touch_span(state, rows, rows.of_variable(*root))?;
     }
+    Ok(())
 }
 
-fn touch_span(state: &mut State, rows: &Rows, span: Span)
-    ensures { viewed state.new ≡ over_components (λ _. with_touched (row_limits (rows_of rows.now)) (numbers span))
-        (viewed state.old) }
+fn touch_span(state: &mut State, rows: &Rows, span: Span) -> Result<(), AllocError>
+    ensures { IfOk result (λ _. viewed state.new
+        ≡ over_components (λ _. with_touched (row_limits (rows_of rows.now)) (numbers span)) (viewed state.old)) }
 {
     for row in span.first..span.end() {
-        state.touch_row(row, row_limits(rows, row));
+        state.touch_row(row, row_limits(rows, row))?;
     }
+    Ok(())
 }
 
 /// The values of the type of a row's components.

@@ -159,8 +159,8 @@ impl Way {
         ensures { IfOk result (λ _. viewed state.new ≡ turn_begun (said_way self.now) (viewed state.old)) }
     {
         let range = self.values(state.range(self.control));
-        state.narrow(self.control, range);
-        state.define(self.control);
+        state.narrow(self.control, range)?;
+        state.define(self.control)?;
         in_order(state, self.direction, self.first.form, self.own())?;
         in_order(state, self.direction, self.own(), self.last.form)
     }

@@ -20,7 +20,7 @@ loop-row-preserved c =
     join-next tree stored row c.end-row-end.result old (viewed c.if-is_same.state) _ c.loop-row-test.true
     (elim c.if-is_same.branch [
       | then-is_same w ↦
-          ap viewed w.state-is ∙ w.touch_row.ensures
+          ap viewed w.state-is ∙ w.in_ok-touch_row.ensures
           ∙ ap (λ range. over_components (λ known. with_range row range) old)
           (w.join.ensures.answer ∙ ap (λ range. joined range stored.range) w.row_range.ensures)
           ∙ ap (λ b. cond b more old) (sym w.if-is_same.true ∙ same)

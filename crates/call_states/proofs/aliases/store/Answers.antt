@@ -30,7 +30,7 @@ loop-one-preserved c =
     let stored = c.args.stored.now in
     let i = c.loop-one.one-index in
     let rest = map said_stored (drop (i + 1) stored) in
-    ap (all_joined_to tree rest aliases) c.join_aliases.ensures
+    ap (all_joined_to tree rest aliases) c.in_ok-join_aliases.ensures
     ∙ ap (λ one. all_joined_to tree (said_stored one ∷ rest) aliases (viewed c.loop-one.state)) c.one-item.is
     ∙ ap (λ some. all_joined_to tree (map said_stored some) aliases (viewed c.loop-one.state))
     (sym (drop_more stored i c.one-item.result c.loop-one-test.true))

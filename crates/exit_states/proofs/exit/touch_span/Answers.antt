@@ -16,4 +16,4 @@ loop-row-preserved c =
     (c.behind-range.ensures
     ∙ ap (λ values. behind values changes (Components row components.Entire) c.row_range.result) c.values.ensures
     ∙ ap (behind _ changes (Components row components.Entire)) c.row_range.ensures)
-    c.touch_row.ensures c.loop-row.invariant
+    c.in_ok-touch_row.ensures c.loop-row.invariant
