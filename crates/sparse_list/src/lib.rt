@@ -184,7 +184,7 @@ fn search<T: Copy>(stored: &[(usize, T)], index: usize) -> Result<usize, usize>
     stored.binary_search_by_key(&index, |&(index, _)| index)
 }
 
-// Whether an item of this index is stored where it lies if none before it is missing.
+/// Whether an item of an index is stored where it lies if none before it is missing.
 fn is_at_own_place<T: Copy>(stored: &[(usize, T)], index: usize) -> bool
     ensures { result ≡ true → IsAt stored.now index index }
 {
@@ -194,7 +194,7 @@ fn is_at_own_place<T: Copy>(stored: &[(usize, T)], index: usize) -> bool
     }
 }
 
-// Whether an item of this index would go behind all others.
+/// Whether an item of an index would go behind all others.
 fn is_behind_all<T: Copy>(stored: &[(usize, T)], index: usize) -> bool
     requires { IsAscending stored.now }
     ensures { result ≡ true → IsGapFor stored.now index (length stored.now) }
