@@ -6,7 +6,7 @@ use Rattle.std.specs.List.{Contains}
 use Rattle.std.proofs.lemmas.List.Elements.{Contains-append_left, Contains-append_right}
 use Rattle.std.proofs.Common.{arith, ◌≡◌, ◌⊎◌, inl, inr, ⊎_elim, ℕ, suc, ◌+◌, zero-add, List, [], ◌∷◌, ◌++◌, Bool, true, false, ◌&&◌, ◌||◌}
 use Rattle.std.proofs.Common.{Option, Some, None, nat_eq, refl, sym, ap, ◌∙◌, subst}
-use Rattle.std.proofs.lemmas.Bool.{and_parts, cases_Bool, eq-eqb, eqb-true, false≢true, or_cases}
+use Rattle.std.proofs.lemmas.Bool.{and_parts, cases_Bool, eq-eqb, eqb-true, false≢true, or_cases, or_right}
 use Rattle.types.specs.Components.{components_of}
 use Rattle.types.specs.Forms.{Form}
 use Rattle.typed_tree.specs.declared.tree.Tree.{Tree}
@@ -190,10 +190,6 @@ later-passed root other roots argument arguments is =
 among-first : (root : ℕ) (roots : List ℕ) → is_among root (root ∷ roots) ≡ true
 among-first root roots = ap (λ (same : Bool). same || is_among root roots) (eq-eqb root root refl)
 
-or-second : (a b : Bool) → b ≡ true → (a || b) ≡ true
-or-second true b is = refl
-or-second false b is = is
-
 -- one that stands behind is another
 other-root : (root other : ℕ) (roots : List ℕ) → is_among root roots ≡ false → is_among other roots ≡ true → nat_eq root other ≡ false
 other-root root other roots apart among =
@@ -215,7 +211,7 @@ keeps-assign_all at tree visible (root ∷ roots) (argument ∷ arguments) apart
     (λ other among.
     subst (IsPlaced at (visible.variables other))
     (later-passed root other roots argument arguments (other-root root other roots apart.0 among))
-    (placed other (or-second (nat_eq root other) (is_among other roots) among))))
+    (placed other (or_right (nat_eq root other) (is_among other roots) among))))
 
 -- ---- an activation
 

@@ -2,7 +2,7 @@
 use Rattle.std.proofs.Common.{◌≡◌, ⊎_elim, ◌∙◌, sym, ap, refl, subst, ℕ, Bool, true, false, not, ◌&&◌, ◌||◌, nat_eq, List, [], ◌∷◌, ◌++◌, Some}
 use Rattle.std.proofs.Common.{None}
 use Rattle.std.specs.List.{list_all}
-use Rattle.std.proofs.lemmas.Bool.{and_parts, eqb-true, or_cases}
+use Rattle.std.proofs.lemmas.Bool.{and_parts, eqb-true, or_cases, or_left, or_right}
 use Rattle.std.proofs.lemmas.List.Folds.{list_any-append}
 use Rattle.std.proofs.lemmas.List.Elements.{Contains-push_cases}
 use Rattle.typed_tree.specs.WellFormed.{is_visible, outline_of}
@@ -14,14 +14,6 @@ use Rattle.call_states.proofs.Places.{listed-pair, pair-back, pair-listed}
 use Rattle.expression_checker.specs.Walk.{Context}
 use Rattle.expression_checker.proofs.Sound.{Goes, IsClosed, World, is_seen}
 use Rattle.cert_checker.specs.Walk.{are_hidden}
-
-or-second : (a b : Bool) → b ≡ true → (a || b) ≡ true
-or-second true b is = refl
-or-second false b is = is
-
-or-first : (a b : Bool) → a ≡ true → (a || b) ≡ true
-or-first true b is = refl
-or-first false b is = absurd (cc)
 
 not-both : (b : Bool) → b ≡ true → b ≡ false → ⊥
 not-both b is isnt = cc
@@ -37,10 +29,10 @@ among-all pairs (other ∷ roots) root alias among is =
     list_any-append (λ (x : ℕ). nat_eq x alias) (aliases_of pairs other) (all_aliases pairs roots)
     ∙ ⊎_elim
     (λ (same : nat_eq other root ≡ true).
-    or-first (is_among alias (aliases_of pairs other)) (is_among alias (all_aliases pairs roots))
+    or_left (is_among alias (aliases_of pairs other)) (is_among alias (all_aliases pairs roots))
     (subst (λ (r : ℕ). is_among alias (aliases_of pairs r) ≡ true) (sym (eqb-true other root same)) is))
     (λ (later : is_among root roots ≡ true).
-    or-second (is_among alias (aliases_of pairs other)) (is_among alias (all_aliases pairs roots)) (among-all pairs roots root alias later is))
+    or_right (is_among alias (aliases_of pairs other)) (is_among alias (all_aliases pairs roots)) (among-all pairs roots root alias later is))
     (or_cases (nat_eq other root) (is_among root roots) among)
 
 -- an alias of a variable has it as an alias
@@ -63,8 +55,8 @@ module _ (world : World) (block : ℕ) (context : Context) (number : ℕ) (pairs
   pub loop-closed : IsClosed world block loop
   loop-closed root alias shown other among is =
       touched_parts None loop alias
-      ∙ or-second (is_among alias loop.controls) (is_among alias loop.changes || is_among alias loop.aliases)
-      (or-second (is_among alias loop.changes) (is_among alias loop.aliases) (among-aliases root alias among is))
+      ∙ or_right (is_among alias loop.controls) (is_among alias loop.changes || is_among alias loop.aliases)
+      (or_right (is_among alias loop.changes) (is_among alias loop.aliases) (among-aliases root alias among is))
 
   -- and where it is one, whose control variable has no aliases that are visible
   pub inside-closed : (control : ℕ) → is_seen world block control ≡ true
@@ -76,10 +68,10 @@ module _ (world : World) (block : ℕ) (context : Context) (number : ℕ) (pairs
       list_any-append (λ (x : ℕ). nat_eq x root) loop.controls loop.changes
       ∙ ⊎_elim
       (λ (one : is_among root (all_but control loop.controls) ≡ true).
-      or-first (is_among root loop.controls) (is_among root loop.changes)
+      or_left (is_among root loop.controls) (is_among root loop.changes)
       (and_parts (not (nat_eq control root)) (is_among root loop.controls) (sym (among-but root control loop.controls) ∙ one)).1)
       (λ (two : is_among root (all_but control loop.changes) ≡ true).
-      or-second (is_among root loop.controls) (is_among root loop.changes)
+      or_right (is_among root loop.controls) (is_among root loop.changes)
       (and_parts (not (nat_eq control root)) (is_among root loop.changes) (sym (among-but root control loop.changes) ∙ two)).1)
       (or_cases (is_among root (all_but control loop.controls)) (is_among root (all_but control loop.changes)) (sym parts ∙ among)) in
       let listed = among-aliases root alias inner is in
@@ -89,9 +81,9 @@ module _ (world : World) (block : ℕ) (context : Context) (number : ℕ) (pairs
       (hidden root (aliases-back world.pairs root control
       (subst (λ (a : ℕ). is_among a (aliases_of world.pairs root) ≡ true) (sym (eqb-true control alias same)) is)))) in
       inside-parts control loop alias
-      ∙ or-second (not (nat_eq control alias) && is_among alias loop.controls)
+      ∙ or_right (not (nat_eq control alias) && is_among alias loop.controls)
       ((not (nat_eq control alias) && is_among alias loop.changes) || (not (nat_eq control alias) && is_among alias loop.aliases))
-      (or-second (not (nat_eq control alias) && is_among alias loop.changes) (not (nat_eq control alias) && is_among alias loop.aliases)
+      (or_right (not (nat_eq control alias) && is_among alias loop.changes) (not (nat_eq control alias) && is_among alias loop.aliases)
       (ap (λ (b : Bool). not b && is_among alias loop.aliases) apart ∙ listed))
     where
       none : (b : Bool) → (b ≡ true → ⊥) → b ≡ false

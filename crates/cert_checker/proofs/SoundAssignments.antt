@@ -48,7 +48,7 @@ use Rattle.expression_checker.specs.Walk as flow
 use Rattle.expression_checker.specs.Walk.{Context, Walked, Walking, followed, may_change, value_walk}
 use Rattle.expression_checker.proofs.Sound.{Any_value, Good, IsValue, SoundCalls, SoundFrom, World, declared_in, from-then, good-weaker}
 use Rattle.expression_checker.proofs.Sound.{is_seen, sites_in, sound-anywhere, sound-here, types_in, unbroken-left}
-use Rattle.expression_checker.proofs.SoundAccesses.{LeadsTo, leads-seen, leads-tests, leads-type, part-none, required-leaves, required-true, type-of}
+use Rattle.expression_checker.proofs.SoundAccesses.{LeadsTo, leads-seen, leads-tests, leads-type, no-way, part-none, required-leaves, required-true, type-of}
 use Rattle.expression_checker.proofs.SoundCalls.{CallLaws}
 use Rattle.expression_checker.proofs.SoundExpressions.{SoundAction, access-sound, value-sound}
 use Rattle.expression_checker.proofs.SoundOperations.{IsKnownOf, fitting-sound}
@@ -59,10 +59,6 @@ use Rattle.cert_checker.proofs.Targets.{alike-at, alike-targets}
 use Rattle.cert_checker.proofs.Written.{Fit, Foretold, kept-rule, listed-good, stores-good}
 
 -- ---- what is accessed
-
-no-way : (way : List Step) → Matches [] way → way ≡ []
-no-way [] matches = refl
-no-way (s ∷ way) matches = absurd matches
 
 no-selector : (selector : Selector) (selectors : List Selector) → selector ∷ selectors ≡ [] → ⊥
 no-selector selector selectors is = cc

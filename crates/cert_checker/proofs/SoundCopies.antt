@@ -28,7 +28,7 @@ use Rattle.component_states.specs.Components.{Reach}
 use Rattle.structured_states.specs.Loops.{all_limits}
 use Rattle.expression_checker.specs.Walk as flow
 use Rattle.expression_checker.specs.Walk.{fits_whole}
-use Rattle.expression_checker.proofs.Fitting.{fits-lie, many-numbers, same-type}
+use Rattle.expression_checker.proofs.Fitting.{contains-at, fits-lie, many-numbers, same-type}
 use Rattle.expression_checker.proofs.Sound.{Any_value, Good, SoundCalls, SoundFrom, World, declared_in, from-then, is_seen, sound-anywhere, sound-here}
 use Rattle.expression_checker.proofs.Sound.{types_in}
 use Rattle.expression_checker.proofs.SoundAccesses.{IsWholeIn, LeadsTo, leads-seen, leads-tests, leads-type, type-of}
@@ -38,7 +38,7 @@ use Rattle.expression_checker.proofs.SoundRows.{IsReachedBy, IsWhole, Leads, row
 use Rattle.cert_checker.specs.Walk as walk
 use Rattle.cert_checker.specs.Walk.{paired, reach_before}
 use Rattle.cert_checker.proofs.SoundAssignments.{reached-then}
-use Rattle.cert_checker.proofs.Targets.{contains-at, paired-at, paired-targets}
+use Rattle.cert_checker.proofs.Targets.{paired-at, paired-targets}
 use Rattle.cert_checker.proofs.Written.{Fit, Foretold, stores-good}
 
 module _ (world : World) (limits_are : world.limits ≡ all_limits world.tree) (block : ℕ) (env : Surroundings) (laws : CallLaws world)

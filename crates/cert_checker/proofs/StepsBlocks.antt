@@ -13,6 +13,7 @@ use Rattle.structured_states.specs.View.{all_loop_aliases}
 use Rattle.typed_tree.specs.declared.tree.Block.{Block}
 use Rattle.component_states.specs.View.{viewed}
 use Rattle.structured_states.proofs.Claims.{item-cut, drop-past}
+use Rattle.call_states.specs.Starts.{all_declared}
 use Rattle.call_states.specs.Sections.{BlockClaims, all_block_claims, all_pairs, block_claims_at}
 use Rattle.expression_checker.specs.declared.fault.CheckFault.{CheckFault}
 use Rattle.expression_checker.specs.declared.fault.Rule.TheVariants.{Exit}
@@ -20,7 +21,7 @@ use Rattle.expression_checker.specs.Visits.{Visits}
 use Rattle.expression_checker.specs.Walk.{Context, IsBreachOf, Walking, ◌>>=◌}
 use Rattle.cert_checker.specs.declared.walk.Walk.{Walk}
 use Rattle.cert_checker.specs.Walk.{begin, block_walk, block_walk_by, blocks_walk, facts_given, first_context, result_use, statement_walk}
-use Rattle.cert_checker.specs.View.{AreLoops, Goes, Walks, context_of}
+use Rattle.cert_checker.specs.View.{AreDeclared, AreLoops, Goes, Walks, context_of}
 use Rattle.cert_checker.proofs.Steps.{Does, Stops, goes-as, goes-stopped, goes-then, walks-give}
 
 -- ---- blocks, from one of them on
@@ -47,6 +48,10 @@ blocks-stopped blocks i block old new before after fault inside is one =
     goes-as (blocks_walk i (drop i blocks)) (block_walk i block >>= λ _. blocks_walk (i + 1) (drop (i + 1) blocks)) old new before after (Err fault)
     (blocks-cut blocks i block inside is)
     (goes-stopped (block_walk i block) (λ _. blocks_walk (i + 1) (drop (i + 1) blocks)) old new before after fault one)
+
+-- behind a piece each block declares what it did
+pub declared-behind : (declared : List (Vec ℕ)) (old new : Walk) → context_of new ≡ context_of old → AreDeclared declared old → AreDeclared declared new
+declared-behind declared old new same are = are ∙ ap (λ (context : Context). all_declared context.tree) (sym same)
 
 -- no block is left
 pub blocks-end : (blocks : List Block) (i : ℕ) (old : Walk) (visits : Visits) → length blocks ≤ i
@@ -179,3 +184,11 @@ program-loops tree found certificate context pairs claims aliases context_is fou
           ∙ ap (λ (p : List (ℕ × ℕ)). all_loop_aliases found p (all_claims found certificate)) pairs_are
           ∙ ap (λ (t : Tree). all_loop_aliases t (all_pairs certificate) (all_claims t certificate)) found_is,
     )
+
+-- it has the variables that each block declares
+pub program-declared : (tree found : Tree) (certificate : Certificate) (walk : Walk) (declared made : List (Vec ℕ))
+    → context_of walk ≡ first_context tree certificate → found ≡ tree → declared ≡ made → map (λ row. row.items) made ≡ all_declared found
+    → AreDeclared declared walk
+program-declared tree found certificate walk declared made context_is found_is declared_is made_is =
+    ap (map (λ (row : Vec ℕ). row.items)) declared_is ∙ made_is ∙ ap all_declared found_is
+    ∙ ap (λ (context : Context). all_declared context.tree) (sym context_is)

@@ -19,6 +19,7 @@ use Rattle.leaf_rows.specs.Rows.{all_parts, first_index, is_structured, rows_acc
 use Rattle.component_states.specs.Components.{At, Entire, Inside, Reach}
 use Rattle.component_states.specs.Holds.{IsOfRow}
 use Rattle.component_states.specs.Laws.{IsReach, IsReached}
+use Rattle.expression_checker.proofs.Fitting.{contains-at, some-at}
 use Rattle.expression_checker.proofs.SoundRows.{IsReachedBy, LieIn, Matches, RowsAre, first-then, one-way}
 use Rattle.cert_checker.specs.Walk.{Stores, alike, paired}
 use Rattle.cert_checker.proofs.SoundStores.{AreReached, AreTargets, IsFormed, bound-once}
@@ -26,16 +27,8 @@ use Rattle.call_states.proofs.AliasedStores.{Pairs, at-head, head-or_tail, in-ta
 
 -- ---- lists
 
-pub contains-at : {X : Type 0} (xs : List X) (k : ℕ) (x : X) → slice_get xs k ≡ Some x → Contains xs x
-contains-at xs k x is = (k, slice_get_within xs k x is, get_or_from_slice_get xs k x x is)
-
 pub at-contained : {X : Type 0} (xs : List X) (x : X) → Contains xs x → (k : ℕ) × (slice_get xs k ≡ Some x)
 at-contained xs x (k, within, is) = (k, slice_get-get_or xs k x within ∙ ap (λ (y : _). Some y) is)
-
-pub some-at : {X : Type 0} (xs : List X) (k : ℕ) → k < length xs → (x : X) × (slice_get xs k ≡ Some x)
-some-at [] k within = absurd (omega arith)
-some-at (x ∷ xs) zero within = (x, refl)
-some-at (x ∷ xs) (suc k) within = some-at xs k (omega (arith, within))
 
 -- ---- components with numbers
 

@@ -27,6 +27,7 @@ use Rattle.structured_states.specs.Ways.{Way}
 use Rattle.place.specs.declared.Place.{Place}
 use Rattle.component_states.specs.States.{State, dead, joined_states}
 use Rattle.call_states.specs.Aliases.{Stored}
+use Rattle.call_states.specs.Starts.{all_declared}
 use Rattle.expression_checker.specs.View as expressions
 use Rattle.expression_checker.specs.Walk.{Context, IsBreachOf, Walking, give, numbers_of}
 use Rattle.cert_checker.specs.Walk.{facts_given, statement_walk}
@@ -41,6 +42,10 @@ abbrev pub AreLoops : Context → List (Vec ℕ) → Type 0
 AreLoops context aliases =
     (length context.claims ≡ length context.tree.loops.items)
     × (map (λ row. row.items) aliases ≡ all_loop_aliases context.tree context.pairs context.claims)
+
+-- these are the variables that each block of the checker's program declares
+abbrev pub AreDeclared : List (Vec ℕ) → Walk → Type 0
+AreDeclared declared walk = map (λ row. row.items) declared ≡ all_declared (context_of walk).tree
 
 -- the checker came from an old to a new point as the walk of a piece does, and has its value; it counted the entries of
 -- the piece; the piece breaks no rule; and it goes by what it went by before

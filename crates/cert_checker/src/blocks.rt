@@ -9,7 +9,7 @@ ghost use Rattle.structured_states.specs.Loops.{gives_claims};
 ghost use Rattle.call_states.specs.View.{said_claims};
 ghost use Rattle.expression_checker.specs.Visits.{Visits};
 ghost use Rattle.expression_checker.specs.declared.fault.Rule.TheVariants as rule;
-ghost use Rattle.cert_checker.specs.View.{Goes};
+ghost use Rattle.cert_checker.specs.View.{AreDeclared, Goes};
 ghost use Rattle.cert_checker.specs.Walk.{begin, block_walk, block_walk_by, blocks_walk, facts_given, result_use};
 
 use crate::walk::Walk;
@@ -30,26 +30,38 @@ use typed_tree::tree::{Block, FunctionResult, Tree};
 
 // Blocks, one after another.
 impl<'a> Walk<'a> {
-    /// The blocks of the program.
-    pub(crate) fn blocks(&mut self, visits: &mut Visits) -> Result<(), CheckFault>
-        ensures { Goes (blocks_walk 0 self.old.flow.grounds.rows.now.blocks.items)
+    /// The blocks of the program, by the variables that each declares.
+    pub(crate) fn blocks(
+        &mut self,
+        declared: &[Vec<u32>],
+        visits: &mut Visits,
+    ) -> Result<(), CheckFault>
+        ensures { AreDeclared declared.now self.old
+            → Goes (blocks_walk 0 self.old.flow.grounds.rows.now.blocks.items)
             self.old visits.old result self.new visits.new }
     {
         let tree = self.flow.grounds.rows.tree();
         for number in 0..block_count(tree)? {
             let block = &tree.blocks[number as usize];
-            self.block(number, block, visits)?;
+            self.block(number, block, declared, visits)?;
         }
         Ok(())
     }
 
     /// A block of a number. The walk is in no block before it and behind it.
-    fn block(&mut self, number: u32, block: &Block, visits: &mut Visits) -> Result<(), CheckFault>
-        ensures { Goes (block_walk number block.now) self.old visits.old result self.new visits.new }
+    fn block(
+        &mut self,
+        number: u32,
+        block: &Block,
+        declared: &[Vec<u32>],
+        visits: &mut Visits,
+    ) -> Result<(), CheckFault>
+        ensures { AreDeclared declared.now self.old
+            → Goes (block_walk number block.now) self.old visits.old result self.new visits.new }
     {
         let before = mem::replace(&mut self.flow.grounds.block, number);
         let claims = block_claims_at(&self.flow.grounds.sections, number);
-        self.block_by(number, block, claims, visits)?;
+        self.block_by(number, block, claims, declared, visits)?;
         self.flow.grounds.block = before;
         Ok(())
     }
@@ -60,23 +72,31 @@ impl<'a> Walk<'a> {
         number: u32,
         block: &Block,
         claims: Option<&Section>,
+        declared: &[Vec<u32>],
         visits: &mut Visits,
     ) -> Result<(), CheckFault>
-        ensures { Goes (block_walk_by number block.now (said_claims claims.entry))
+        ensures { AreDeclared declared.now self.old
+            → Goes (block_walk_by number block.now (said_claims claims.entry))
             self.old visits.old result self.new visits.new }
     {
-        self.begin(number, entry(claims))?;
+        self.begin(number, declared, entry(claims))?;
         self.statement(&block.body, visits)?;
         self.use_result(block.heading.result)?;
         self.leave_block(block.end, exit(claims))
     }
 
     /// Goes on where a block of a number begins, of which these facts are claimed.
-    fn begin(&mut self, number: u32, facts: &[Claim]) -> Result<(), CheckFault>
-        ensures { (visits : Visits)
+    fn begin(
+        &mut self,
+        number: u32,
+        declared: &[Vec<u32>],
+        facts: &[Claim],
+    ) -> Result<(), CheckFault>
+        ensures { (visits : Visits) → AreDeclared declared.now self.old
             → Goes (begin number (map said_fact facts.now)) self.old visits result self.new visits }
     {
-        self.flow.state = block_start(self.alloc, self.flow.grounds.rows, number, facts)?;
+        let rows = self.flow.grounds.rows;
+        self.flow.state = block_start(self.alloc, rows, declared, number, facts)?;
         Ok(())
     }
 

@@ -102,7 +102,7 @@ impl<'a> Walk<'a> {
             (joined_states state (viewed never))) self.old result self.new }
     {
         self.flow.state.join(self.alloc, never)?;
-        self.flow.state.undefine(control);
+        self.flow.state.undefine(control)?;
         Ok(())
     }
 

@@ -178,11 +178,11 @@ impl<'a> Walk<'a> {
         let rows = flow.grounds.rows;
         let aliases = flow.grounds.pairs.aliases(root);
         let stored = stored_in_rows(self.alloc, rows, stores)?;
-        aliases::store(&mut flow.state, rows, aliases, &stored);
+        aliases::store(&mut flow.state, rows, aliases, &stored)?;
         let reach = reach_unless_alias(aliases, reach);
         store_all(self.alloc, &mut flow.state, &reach, stores)?;
         let values = limits_at(&flow.grounds.limits, root);
-        flow.state.variables.touch(root, values);
+        flow.state.variables.touch(root, values)?;
         Ok(())
     }
 
@@ -211,7 +211,7 @@ impl<'a> Walk<'a> {
             values: variable_values(rows.tree(), root),
             range,
         };
-        aliases::store(&mut flow.state, rows, aliases, &[stored]);
+        aliases::store(&mut flow.state, rows, aliases, &[stored])?;
         let form = form_unless_alias(aliases, form);
         flow.state.assign(root, range, form)?;
         Ok(())

@@ -17,6 +17,7 @@ ghost use Rattle.cert_checker.specs.Walk.{while_round};
 
 use abstract_state::{Known, entire};
 use call_states::sections::{all_block_claims, all_pairs};
+use call_states::starts::all_declared;
 use certificate::{Certificate, LoopClaims};
 use component_states::{Reach, State};
 use domain::Domain;
@@ -63,6 +64,7 @@ pub(crate) fn program(
     let pairs = Pairs::of(alloc, all_pairs(alloc, certificate)?)?;
     let claims = all_claims(alloc, tree, certificate)?;
     let aliases = all_loop_aliases(alloc, tree, &pairs, &claims)?;
+    let declared = all_declared(alloc, tree)?;
     let grounds = Grounds {
         rows,
         limits: all_limits(alloc, tree)?,
@@ -72,7 +74,7 @@ pub(crate) fn program(
         rounds: Vec::new(alloc),
     };
     let mut walk = Walk::new(alloc, grounds, claims, &aliases);
-    walk.blocks(visits)?;
+    walk.blocks(&declared, visits)?;
     let flow = walk.flow;
     Ok(flow.open_ids)
 }

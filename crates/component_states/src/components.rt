@@ -8,38 +8,39 @@ ghost use Rattle.component_states.specs.View.{said_component, said_reach, said_r
 
 use crate::facts::{ComponentFact, Reach, Stretch};
 use crate::row_list::Row;
-use crate::{bound_rules, row_list, stretches};
+use crate::{bound_rules, stretches};
 use abstract_state::State;
 use domain::Domain;
 use domain::facts::Bound;
 use domain::interval::Interval;
+use sparse_list::SparseList;
 use std::alloc::{AllocError, Global};
 
 /// What is known of the components of structured variables.
 #[derive(Drop)]
 pub(crate) struct Components {
-    /// What is known of each row, by its number.
-    pub(crate) rows: Vec<Row>,
+    /// What is known of each row, by its number; of most of them that none has a value.
+    pub(crate) rows: SparseList<Row>,
     /// Those that are defined, each once.
     pub(crate) stretches: Vec<Stretch>,
 }
 
 impl Components {
     /// So many rows, none of which has a value.
-    pub(crate) fn undefined(alloc: Global, count: usize) -> Result<Components, AllocError>
-        ensures { IfOk result (λ known. viewed_components known ≡ no_values count) }
+    pub(crate) fn undefined(alloc: Global, count: usize) -> Components
+        ensures { viewed_components result ≡ no_values count }
     {
-        Ok(Components {
-            rows: vec![in alloc; Row::NONE; count]?,
+        Components {
+            rows: SparseList::new(alloc, count, Row::NONE),
             stretches: Vec::new(alloc),
-        })
+        }
     }
 
     /// What is known of a row.
     pub(crate) fn row(&self, row: u32) -> Row
         ensures { said_row result ≡ row_at (viewed_components self.now) row }
     {
-        row_list::row_at(&self.rows, row as usize)
+        self.rows.get_or(row as usize, Row::NONE)
     }
 
     /// What is known of a row from here on, if it is there.
@@ -47,7 +48,7 @@ impl Components {
         ensures { IfOk result
             (λ _. viewed_components self.new ≡ with_row row (said_row state) (viewed_components self.old)) }
     {
-        row_list::set(&mut self.rows, row as usize, state)
+        self.rows.set(row as usize, state)
     }
 
     /// The values of a row lie in a range from here on.
@@ -180,7 +181,7 @@ impl Components {
         ensures { IfOk result (λ known. viewed_components known ≡ viewed_components self.now) }
     {
         Ok(Components {
-            rows: Vec::from_slice(alloc, &self.rows)?,
+            rows: self.rows.copied(alloc)?,
             stretches: Vec::from_slice(alloc, &self.stretches)?,
         })
     }

@@ -19,6 +19,7 @@ use abstract_state::State as Variables;
 use domain::Domain;
 use domain::facts::Bound;
 use domain::interval::Interval;
+use sparse_list::SparseList;
 use std::alloc::{AllocError, Global};
 use types::OrdinalRange;
 
@@ -33,15 +34,13 @@ pub struct State {
 
 impl State {
     /// The start of a block with so many variables and so many rows: each is undefined.
-    pub fn undefined(alloc: Global, roots: usize, rows: usize) -> Result<State, AllocError>
-        ensures { IfOk result (λ state. viewed state ≡ start roots rows) }
+    pub fn undefined(alloc: Global, roots: usize, rows: usize) -> State
+        ensures { viewed result ≡ start roots rows }
     {
-        let variables = Variables::undefined(alloc, roots)?;
-        let components = Components::undefined(alloc, rows)?;
-        Ok(State {
-            variables,
-            components,
-        })
+        State {
+            variables: Variables::undefined(alloc, roots),
+            components: Components::undefined(alloc, rows),
+        }
     }
 
     /// No run comes here.
@@ -50,10 +49,7 @@ impl State {
     {
         State {
             variables: Variables::Dead,
-            components: Components {
-                rows: Vec::new(alloc),
-                stretches: Vec::new(alloc),
-            },
+            components: Components::undefined(alloc, 0),
         }
     }
 
@@ -274,13 +270,16 @@ impl State {
     }
 
     /// What is known of each row behind this way and another.
-    fn joined_rows(&self, alloc: Global, other: &State) -> Result<Vec<Row>, AllocError>
+    fn joined_rows(&self, alloc: Global, other: &State) -> Result<SparseList<Row>, AllocError>
         ensures { IfOk result (λ rows. map said_row rows.items ≡ joined_rows (viewed self.now) (viewed other.now)) }
     {
-        let count = row_list::longer(&self.components.rows, &other.components.rows)?;
-        let mut rows = Vec::with_capacity(alloc, count as usize)?;
-        for row in 0..count {
-            rows.push(self.joined_row(other, row))?;
+        let one = &self.components.rows;
+        let another = &other.components.rows;
+        let usual = one.usual().joined(another.usual(), false);
+        let mut rows = SparseList::new(alloc, one.len().max(another.len()), usual);
+        for &row in &row_list::to_join(alloc, one, another)? {
+            let state = self.joined_row(other, row_list::number_of(row)?);
+            rows.set(row, state)?;
         }
         Ok(rows)
     }
@@ -291,12 +290,9 @@ impl State {
     {
         let one = self.components.row(row);
         let another = other.components.row(row);
-        Row {
-            range: one.range.join(&another.range),
-            is_defined: one.is_defined && other.is_whole(row)
-                || another.is_defined && self.is_whole(row),
-            index: row_list::joined_index(one.index, another.index),
-        }
+        let is_defined = one.is_defined && other.is_whole(row)
+            || another.is_defined && self.is_whole(row);
+        one.joined(another, is_defined)
     }
 
     /// Whether each component of a row is known to be defined.

@@ -101,10 +101,10 @@ module _ (tree : Tree) (blocks : List BlockClaims) (declares : DeclareTheirs tre
       let deeper = λ (range : Interval). walk.deeper (record { form = walk.form_before piece.form (pieces indexes); range = range }) reach in
       let behind = walk.behind_next others in
       let one = yields-then context piece.walk
-          (λ known. walk.◌>>=◌ (walk.index_test (walk.next_test others) known)
-          (λ range. walk.indexes_walk behind (pieces indexes) (deeper range))) result yields in
+      (λ known. walk.◌>>=◌ (walk.index_test (walk.next_test others) known)
+      (λ range. walk.indexes_walk behind (pieces indexes) (deeper range))) result yields in
       let two = yields-then context (walk.index_test (walk.next_test others) one.0)
-          (λ range. walk.indexes_walk behind (pieces indexes) (deeper range)) result one.2 in
+      (λ range. walk.indexes_walk behind (pieces indexes) (deeper range)) result one.2 in
       keeps-then at _ _ (index.1 context one.0 stands one.1)
       (λ v. keeps-then at _ _ (keeps-require at (is_in fits.range v) fits.site)
       (λ _. keeps-selected selectors behind indexes (part found (step.Element (number_of v) ∷ [])) context (deeper two.0) result stands two.2))
@@ -121,7 +121,7 @@ module _ (tree : Tree) (blocks : List BlockClaims) (declares : DeclareTheirs tre
   under-selected root (Element fits cells ∷ selectors) (index ∷ indexes) found result under given =
       let at_index = λ (v : Value). part found (step.Element (number_of v) ∷ []) in
       let one = can-then (index here)
-          (λ v. effect.◌>>=◌ (require (is_in fits.range v) fits.site) (λ _. selected selectors indexes here (at_index v))) result given in
+      (λ v. effect.◌>>=◌ (require (is_in fits.range v) fits.site) (λ _. selected selectors indexes here (at_index v))) result given in
       let two = can-then (require (is_in fits.range one.0) fits.site) (λ _. selected selectors indexes here (at_index one.0)) result one.2 in
       under-selected root selectors indexes (at_index one.0) result
       (part-under at.visible root found (step.Element (number_of one.0) ∷ []) under) two.2
@@ -148,7 +148,7 @@ module _ (tree : Tree) (blocks : List BlockClaims) (declares : DeclareTheirs tre
       keeps-then at _ _ (keeps-enter at number at.visible) (λ _. keeps-give at (map pos characters.items))
   keeps-components (VariableOf access type_id cells defined) indexes context ranges stands yields =
       let one = yields-then context (walk.access_walk access (pieces indexes))
-          (λ reach. walk.whole_use type_id access.root access.selectors.items reach defined) ranges yields in
+      (λ reach. walk.whole_use type_id access.root access.selectors.items reach defined) ranges yields in
       keeps-then at _ _ (keeps-accessed access indexes context one.0 stands one.1)
       (λ found. keeps-fetch_all at found (components_of at.visible.types type_id) defined)
 
@@ -180,9 +180,10 @@ module _ (tree : Tree) (blocks : List BlockClaims) (declares : DeclareTheirs tre
       let later = all_passed (map passing_of (map (λ p. p.0) rest)) here in
       let run_first = can-then (passing_of one.0 here) (λ argument. effect.◌>>=◌ later (λ more. give (argument ∷ more))) arguments given in
       let run_rest = can-then later (λ more. give (run_first.0 ∷ more)) arguments run_first.2 in
-      let tied : AllTied at.visible (here_first.0 ∷ here_rest.0) (run_first.0 ∷ run_rest.0) =
-          ((one.1 context here_first.0 stands here_first.1).tied run_first.0 run_first.1,
-          tied-passed rest context here_rest.0 stands here_rest.1 run_rest.0 run_rest.1) in
+      let tied : AllTied at.visible (here_first.0 ∷ here_rest.0) (run_first.0 ∷ run_rest.0) = (
+        (one.1 context here_first.0 stands here_first.1).tied run_first.0 run_first.1,
+        tied-passed rest context here_rest.0 stands here_rest.1 run_rest.0 run_rest.1,
+      ) in
       subst (λ (actuals : List Actual). AllTied at.visible actuals arguments) here_rest.2.value_is
       (subst (λ (all : List Argument). AllTied at.visible (here_first.0 ∷ here_rest.0) all)
       (given-same (run_first.0 ∷ run_rest.0) arguments run_rest.2) tied)
@@ -194,7 +195,7 @@ module _ (tree : Tree) (blocks : List BlockClaims) (declares : DeclareTheirs tre
       let all = map walk.passed_piece_of (map (λ p. p.0) actuals) in
       let holds = walk.actuals_hold_call all in
       let one = yields-then context (walk.enter call.number)
-          (λ _. walk.◌>>=◌ (walk.actuals_walk all) (λ passed. walk.called call holds passed)) tt yields in
+      (λ _. walk.◌>>=◌ (walk.actuals_walk all) (λ passed. walk.called call holds passed)) tt yields in
       let two = yields-then context (walk.actuals_walk all) (λ passed. walk.called call holds passed) tt one.2 in
       keeps-then at _ _ (keeps-enter at call.number at.visible)
       (λ _. keeps-when at _ _ (keeps-passed actuals context two.0 stands two.1)
@@ -245,7 +246,7 @@ module _ (tree : Tree) (blocks : List BlockClaims) (declares : DeclareTheirs tre
       keeps-then at _ _ (keeps-enter at number at.visible) (λ _. keeps-give at (Number value))
   layer (Variable access indexes defined) context known stands yields =
       let one = yields-then context (walk.access_walk access (pieces indexes.items))
-          (λ reach. walk.value_use access.root access.selectors.items reach defined) known yields in
+      (λ reach. walk.value_use access.root access.selectors.items reach defined) known yields in
       keeps-then at _ _ (keeps-accessed access indexes.items context one.0 stands one.1) (λ found. keeps-fetch at found defined)
   layer (MonadicOf number operation operand) context known stands yields =
       let inner = walk.value_walk operand.value.0 in
@@ -270,7 +271,7 @@ module _ (tree : Tree) (blocks : List BlockClaims) (declares : DeclareTheirs tre
   layer (CallOf call actuals) context known stands yields =
       let all = map walk.passed_piece_of (map (λ p. p.0) actuals.items) in
       let one = yields-then context (walk.call_walk call all)
-          (λ _ around. walk.result_walk call (walk.result_of (walk.called_block around call)) around) known yields in
+      (λ _ around. walk.result_walk call (walk.result_of (walk.called_block around call)) around) known yields in
       keeps-calling call actuals.items context stands one.1
 
   tie-given : (known actual : Actual) (passed argument : Argument) → known ≡ actual → passed ≡ argument → Ties at.visible known passed
@@ -302,7 +303,7 @@ module _ (tree : Tree) (blocks : List BlockClaims) (declares : DeclareTheirs tre
         tied = λ argument given.
             let run = can-then (whole_of value (values indexes.items) here) (λ numbers. give (OfRow numbers)) argument given in
             tie-given (OfRows (cond (walk.fits_whole context.tree.types type_id value) one.0 [])) actual (OfRow run.0) argument one.2.value_is
-                (given-same (OfRow run.0) argument run.2) tt;
+            (given-same (OfRow run.0) argument run.2) tt;
       }
   passed-layer (Reference type_id access indexes) context actual stands yields =
       let known = λ (reach : Reach). OfVariable access.root access.selectors.items reach in

@@ -4,7 +4,7 @@ use Rattle.std.specs.Prelude.{slice_get, if◌then◌else◌}
 use Rattle.std.specs.List.{Contains, list_all}
 use Rattle.std.proofs.Common.{arith, ◌≡◌, ◌⊎◌, inl, inr, ⊎_elim, ℕ, zero, suc, ◌<◌, ◌≤◌, List, [], ◌∷◌, ◌++◌, Bool, true, false, ◌&&◌, ◌||◌, Option}
 use Rattle.std.proofs.Common.{Some, None, map, nat_eq, refl, sym, ap, ◌∙◌, subst}
-use Rattle.std.proofs.lemmas.Bool.{and_parts, cases_Bool, eqb-true, eq-eqb, false≢true, or_cases}
+use Rattle.std.proofs.lemmas.Bool.{and_parts, cases_Bool, eqb-true, eq-eqb, false≢true, or_cases, or_parts}
 use Rattle.std.proofs.lemmas.List.Folds.{list_all-append}
 use Rattle.place.specs.declared.Place.{Place as SourcePlace}
 use Rattle.typed_tree.specs.declared.tree.Tree.{Tree}
@@ -55,9 +55,11 @@ pub yields-then : {A B : Type 0} (context : Context) (first : Walking A) (next :
     → (a : A) × Yields context first a × Yields context (next a) b
 yields-then context first next b both =
     let one = first context both.state in
-    let two = next one.value context one.after in
-    (one.value, record { state = both.state; unbroken = unbroken-first one.broken two.broken both.unbroken; value_is = refl },
-    record { state = one.after; unbroken = unbroken-second one.broken two.broken both.unbroken; value_is = both.value_is })
+    let two = next one.value context one.after in (
+      one.value,
+      record { state = both.state; unbroken = unbroken-first one.broken two.broken both.unbroken; value_is = refl },
+      record { state = one.after; unbroken = unbroken-second one.broken two.broken both.unbroken; value_is = both.value_is },
+    )
 
 kept-rule : (kept : Bool) (rule : Rule) (place : SourcePlace) → breach_unless kept rule place ≡ [] → kept ≡ true
 kept-rule true rule place is = refl
@@ -103,8 +105,8 @@ module _ (tree : Tree) (blocks : List BlockClaims) (block : ℕ) (at : Standing)
       → Contains at.changes root
   listed-here context stands root is =
       let changes_are : (block_claims_at context.blocks context.block).changes ≡ (block_claims_at blocks block).changes =
-          ap (λ (claims : List BlockClaims). (block_claims_at claims context.block).changes) stands.blocks_are
-          ∙ ap (λ (number : ℕ). (block_claims_at blocks number).changes) stands.block_is in
+      ap (λ (claims : List BlockClaims). (block_claims_at claims context.block).changes) stands.blocks_are
+      ∙ ap (λ (number : ℕ). (block_claims_at blocks number).changes) stands.block_is in
       grounds.lists root
       (subst (λ (changes : List ℕ). Contains changes root) changes_are
       (among-contains root (block_claims_at context.blocks context.block).changes is))
@@ -114,8 +116,8 @@ module _ (tree : Tree) (blocks : List BlockClaims) (block : ℕ) (at : Standing)
       → MayWrite at home
   own-here context stands root home is seen =
       let here : of_one (is_own block) (slice_get tree.variables.items root) ≡ true =
-          subst (λ (t : Tree). of_one (is_own block) (slice_get t.variables.items root) ≡ true) stands.tree_is
-          (subst (λ (number : ℕ). of_one (is_own number) (slice_get context.tree.variables.items root) ≡ true) stands.block_is is) in
+      subst (λ (t : Tree). of_one (is_own block) (slice_get t.variables.items root) ≡ true) stands.tree_is
+      (subst (λ (number : ℕ). of_one (is_own number) (slice_get context.tree.variables.items root) ≡ true) stands.block_is is) in
       let (variable, found, owns) = owned block (slice_get tree.variables.items root) here in
       (grounds.own root variable home found owns seen).1
 
@@ -207,16 +209,12 @@ unbound-here : (same : Bool) (actual : Actual) (found : Option Actual) → same 
 unbound-here true actual found other none = absurd (cc)
 unbound-here false actual found other none = none
 
-neither : (a b : Bool) → (a || b) ≡ false → (a ≡ false) × (b ≡ false)
-neither true b is = absurd (cc)
-neither false b is = (refl, is)
-
 unbound : (root : ℕ) (parameters : List ℕ) (actuals : List Actual) → is_among root parameters ≡ false
     → actual_of (bound_to parameters actuals) root ≡ None
 unbound root [] actuals other = refl
 unbound root (parameter ∷ parameters) [] other = refl
 unbound root (parameter ∷ parameters) (actual ∷ actuals) other =
-    let parts = neither (nat_eq parameter root) (is_among root parameters) other in
+    let parts = or_parts (nat_eq parameter root) (is_among root parameters) other in
     unbound-here (nat_eq parameter root) actual (actual_of (bound_to parameters actuals) root) parts.0 (unbound root parameters actuals parts.1)
 
 pub not-among : (root : ℕ) (roots : List ℕ) → (is_among root roots ≡ true → ⊥) → is_among root roots ≡ false
@@ -265,9 +263,12 @@ outer-caller : (activation : Activation) (root : ℕ) (variable : DeclaredVariab
     → nat_eq variable.block activation.block ≡ false
     → (if around then activation.caller.variables root else None) ≡ Some home → IsOuter activation root (Some variable) home
 outer-caller activation root variable home true other is =
-    inr (is, λ own found same.
-    let one : variable.block ≡ own.block = cc in
-    false≢true (sym other ∙ eq-eqb variable.block activation.block (one ∙ same)))
+    inr (
+      is,
+      λ own found same.
+          let one : variable.block ≡ own.block = cc in
+          false≢true (sym other ∙ eq-eqb variable.block activation.block (one ∙ same)),
+    )
 outer-caller activation root variable home false other is = absurd (cc)
 
 outer-variable : (activation : Activation) (root : ℕ) (variable : DeclaredVariable) (home : Place) (own : Bool)
@@ -340,14 +341,14 @@ module _ (tree : Tree) (blocks : List BlockClaims) (declares : DeclareTheirs tre
         → home.activation < at.number → IsListed at.changes at.visible home
     outer-listed root home allowed (inl passed) earlier =
         let (other, selectors, reach, actual_is, outer_home, seen, lies) =
-            borne at.visible root home callee.heading.parameters.items actuals arguments tied passed in
+        borne at.visible root home callee.heading.parameters.items actuals arguments tied passed in
         let may = allowed-one other (subst (Allowed root) actual_is allowed) in
         under-write at other (Some home) may
         (λ place is. (outer_home, seen, subst (λ (p : Place). LiesUnder outer_home p) (let same : home ≡ place = cc in same) lies)) home refl earlier
     outer-listed root home allowed (inr (seen, elsewhere)) earlier =
         let free : is_among root callee.heading.parameters.items ≡ false =
-            not-among root callee.heading.parameters.items (λ is.
-            let (variable, there, own) = declares number callee root found is in elsewhere variable there own) in
+        not-among root callee.heading.parameters.items (λ is.
+        let (variable, there, own) = declares number callee root found is in elsewhere variable there own) in
         let may = allowed-one root (subst (Allowed root) (unbound root callee.heading.parameters.items actuals free) allowed) in
         under-write at root (Some home) may (λ place is. (home, seen, let same : home ≡ place = cc in subst (LiesUnder home) same (lies-itself home)))
         home refl earlier
@@ -380,16 +381,16 @@ module _ (tree : Tree) (blocks : List BlockClaims) (declares : DeclareTheirs tre
       let claims = block_claims_at context.blocks call.block in
       let bound = bound_to (parameters_of (called_block context call)) (settled holds_call actuals) in
       let whole : Yields context (call_with call claims bound) tt =
-          record { state = yields.state; unbroken = yields.unbroken; value_is = yields.value_is } in
+      record { state = yields.state; unbroken = yields.unbroken; value_is = yields.value_is } in
       let one = yields-then context (call_aliases call bound)
-          (λ _. call_entry call bound claims >>= λ _. call_change call.name bound claims >>= λ _. call_behind call bound claims) tt whole in
+      (λ _. call_entry call bound claims >>= λ _. call_change call.name bound claims >>= λ _. call_behind call bound claims) tt whole in
       let two = yields-then context (call_entry call bound claims)
-          (λ _. call_change call.name bound claims >>= λ _. call_behind call bound claims) tt one.2 in
+      (λ _. call_change call.name bound claims >>= λ _. call_behind call bound claims) tt one.2 in
       let three = yields-then context (call_change call.name bound claims) (λ _. call_behind call bound claims) tt two.2 in
       let changes = list_all (may_change context) (roots_changed bound claims.changes) in
       let typed = are_of_types context.tree context.limits bound in
       let rule : Yields context (asked (changes && typed) Changes call.name) three.0 =
-          record { state = three.1.state; unbroken = three.1.unbroken; value_is = three.1.value_is } in
+      record { state = three.1.state; unbroken = three.1.unbroken; value_is = three.1.value_is } in
       let kept = (and_parts changes typed (yields-asked context (changes && typed) Changes call.name three.0 rule)).0 in
       let actual = settled holds_call actuals in
       subst (λ (t : Tree). list_all (may_change context)

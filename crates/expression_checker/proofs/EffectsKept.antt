@@ -24,6 +24,7 @@ use Rattle.meaning.specs.Effect.{State, Reply, Gives, Stops, Action, Round, ◌>
 use Rattle.meaning.specs.Effect.{another, looped, looping, fetch, fetch_all, fetched, store, store_all, undefine, write, number_of}
 use Rattle.meaning.specs.Meaning.{combined, line_ended, operated, whole}
 use Rattle.meaning.specs.Laws.{state_after}
+use Rattle.abstract_state.proofs.Apart.{place-same}
 use Rattle.call_states.specs.Environments.{IsListed, LiesUnder}
 
 -- where a piece stands: what lies in activations of lower numbers is changed only where it is listed, and what lies in those below another number stays
@@ -75,22 +76,6 @@ step-same (Field a) (Element j) is = absurd (cc)
 step-itself : (a : Step) → step_eq a a ≡ true
 step-itself (Element i) = int_eq_equiv.refl i
 step-itself (Field a) = eq-eqb a a refl
-
-steps-same : (first second : List Step) → pointwise step_eq first second ≡ true → first ≡ second
-steps-same [] [] is = refl
-steps-same [] (b ∷ second) is = absurd (cc)
-steps-same (a ∷ first) [] is = absurd (cc)
-steps-same (a ∷ first) (b ∷ second) is =
-    let parts = and_parts (step_eq a b) (pointwise step_eq first second) is in
-    ap (λ (x : Step). x ∷ first) (step-same a b parts.0) ∙ ap (λ (xs : List Step). b ∷ xs) (steps-same first second parts.1)
-
-place-same : (p q : Place) → place_eq p q ≡ true → p ≡ q
-place-same p q is =
-    let one = and_parts (nat_eq p.activation q.activation) (nat_eq p.variable q.variable && pointwise step_eq p.steps q.steps) is in
-    let two = and_parts (nat_eq p.variable q.variable) (pointwise step_eq p.steps q.steps) one.1 in
-    ap (λ (a : ℕ). record { activation = a; variable = p.variable; steps = p.steps }) (eqb-true p.activation q.activation one.0)
-    ∙ ap (λ (v : ℕ). record { activation = q.activation; variable = v; steps = p.steps }) (eqb-true p.variable q.variable two.0)
-    ∙ ap (λ (s : List Step). record { activation = q.activation; variable = q.variable; steps = s }) (steps-same p.steps q.steps two.1)
 
 begins-itself : (steps : List Step) → is_beginning steps steps ≡ true
 begins-itself [] = refl

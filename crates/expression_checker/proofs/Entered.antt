@@ -169,7 +169,8 @@ actuals-entered (piece ∷ pieces) (numbers ∷ rows) all context state =
     (and_no_more rest.linked [] (joined rows) (actuals-entered pieces rows all.1 context first.after) refl)
 
 -- the call itself enters nothing more, nor does its value
-called-entered : (call : Call) (pieces : List PassedPiece) (rows : List (List ℕ)) → AllPass pieces rows → Enters (call_walk call pieces) (call_entries call rows)
+called-entered : (call : Call) (pieces : List PassedPiece) (rows : List (List ℕ)) → AllPass pieces rows
+    → Enters (call_walk call pieces) (call_entries call rows)
 called-entered call pieces rows all context state =
     ap (λ (numbers : List ℕ). call.number ∷ numbers)
     (and_no_more (actuals_walk pieces context state).linked [] (joined rows) (actuals-entered pieces rows all context state) refl)
@@ -184,9 +185,11 @@ fitting-silent fits (Ordinal range) context state = refl
 
 value-parts : (y : Expr-F EnteredExpr EnteredPassed EnteredLink)
     → Enters (piece_step
-    (map-Expr Expr Passed Link Piece PassedPiece Joint piece_of passed_piece_of joint_of (map-Expr EnteredExpr EnteredPassed EnteredLink Expr Passed Link (λ e. e.0) (λ p. p.0) (λ l. l.0) y))).walk
+    (map-Expr Expr Passed Link Piece PassedPiece Joint piece_of passed_piece_of joint_of
+    (map-Expr EnteredExpr EnteredPassed EnteredLink Expr Passed Link (λ e. e.0) (λ p. p.0) (λ l. l.0) y))).walk
     (expression_entries
-    (map-Expr Expr Passed Link (List ℕ) (List ℕ) (List ℕ) entries_of_expression entries_of_passed entries_of_link (map-Expr EnteredExpr EnteredPassed EnteredLink Expr Passed Link (λ e. e.0) (λ p. p.0) (λ l. l.0) y)))
+    (map-Expr Expr Passed Link (List ℕ) (List ℕ) (List ℕ) entries_of_expression entries_of_passed entries_of_link
+    (map-Expr EnteredExpr EnteredPassed EnteredLink Expr Passed Link (λ e. e.0) (λ p. p.0) (λ l. l.0) y)))
 value-parts (Constant number value) context state = refl
 value-parts (Variable access indexes defined) context state =
     let pieces = index_pieces (map (λ (e : EnteredExpr). e.0) indexes.items) in
@@ -215,7 +218,6 @@ value-parts (Compare number relation left left_indexes right right_indexes) cont
     (number ∷ whole_entries right right_rows) (whole-of left pieces rows (all-entered left_indexes.items) context state)
     (ap (λ (numbers : List ℕ). number ∷ numbers) (and_no_more end.linked [] (whole_entries right right_rows)
     (whole-of right right_pieces right_rows (all-entered right_indexes.items) context begun.after) refl))
-
 value-parts (CallOf call actuals) context state =
     let passed = map (λ (p : EnteredPassed). p.0) actuals.items in
     let begun = call_walk call (map passed_piece_of passed) context state in
@@ -249,9 +251,11 @@ passed-parts (Reference type_id access indexes) context state =
 
 link-parts : (y : Link-F EnteredExpr EnteredPassed EnteredLink)
     → EntersFrom
-    (link_step (map-Link Expr Passed Link Piece PassedPiece Joint piece_of passed_piece_of joint_of (map-Link EnteredExpr EnteredPassed EnteredLink Expr Passed Link (λ e. e.0) (λ p. p.0) (λ l. l.0) y))).combination
+    (link_step (map-Link Expr Passed Link Piece PassedPiece Joint piece_of passed_piece_of joint_of
+    (map-Link EnteredExpr EnteredPassed EnteredLink Expr Passed Link (λ e. e.0) (λ p. p.0) (λ l. l.0) y))).combination
     (link_entries
-    (map-Link Expr Passed Link (List ℕ) (List ℕ) (List ℕ) entries_of_expression entries_of_passed entries_of_link (map-Link EnteredExpr EnteredPassed EnteredLink Expr Passed Link (λ e. e.0) (λ p. p.0) (λ l. l.0) y)))
+    (map-Link Expr Passed Link (List ℕ) (List ℕ) (List ℕ) entries_of_expression entries_of_passed entries_of_link
+    (map-Link EnteredExpr EnteredPassed EnteredLink Expr Passed Link (λ e. e.0) (λ p. p.0) (λ l. l.0) y)))
 link-parts y left context state =
     let begun = value_walk y.operand.0 context state in
     let after = combined y.operation left begun.value context begun.after in

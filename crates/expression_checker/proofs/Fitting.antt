@@ -28,7 +28,7 @@ some-at [] k within = absurd (omega (arith, within))
 some-at (x ∷ xs) zero within = (x, refl)
 some-at (x ∷ xs) (suc k) within = some-at xs k (omega (arith, within))
 
-contains-at : {A : Type 0} (xs : List A) (k : ℕ) (x : A) → slice_get xs k ≡ Some x → Contains xs x
+pub contains-at : {A : Type 0} (xs : List A) (k : ℕ) (x : A) → slice_get xs k ≡ Some x → Contains xs x
 contains-at xs k x is = (k, slice_get_within xs k x is, get_or_from_slice_get xs k x x is)
 
 -- in the range of all

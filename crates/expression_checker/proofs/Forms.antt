@@ -175,4 +175,3 @@ whole-holds (VariableOf access type_id cells defined) expressions = pieces-hold 
 -- index expressions hold a call where the walk knows it
 pub indexes-hold : (indexes : List Expr) → walk.hold_call (walk.index_pieces indexes) ≡ hold_call indexes
 indexes-hold indexes = pieces-hold indexes
-

@@ -65,8 +65,13 @@ joined : (passed : List Actual) (value : Actual) (more : List Actual) (after : S
     (linked behind : List Linked)
     → ◌≡◌ {A = Walked (List Actual)}
     (record { value = (passed ++ value ∷ []) ++ more; after = after; open_ids = ids ++ rest; broken = broken ++ others; linked = linked ++ behind })
-    (record { value = passed ++ (value ∷ more); after = after; open_ids = ids ++ (rest ++ []); broken = broken ++ (others ++ []);
-      linked = linked ++ (behind ++ []) })
+    (record {
+      value = passed ++ (value ∷ more);
+      after = after;
+      open_ids = ids ++ (rest ++ []);
+      broken = broken ++ (others ++ []);
+      linked = linked ++ (behind ++ []);
+    })
 joined passed value more after ids rest broken others linked behind =
     ap (λ v. record { value = v; after = after; open_ids = ids ++ rest; broken = broken ++ others; linked = linked ++ behind })
     (append_assoc passed (value ∷ []) more)
@@ -74,8 +79,13 @@ joined passed value more after ids rest broken others linked behind =
     (sym (append-nil rest))
     ∙ ap (λ b. record { value = passed ++ (value ∷ more); after = after; open_ids = ids ++ (rest ++ []); broken = broken ++ b; linked = linked ++ behind })
     (sym (append-nil others))
-    ∙ ap (λ l. record { value = passed ++ (value ∷ more); after = after; open_ids = ids ++ (rest ++ []); broken = broken ++ (others ++ []);
-      linked = linked ++ l })
+    ∙ ap (λ l. record {
+      value = passed ++ (value ∷ more);
+      after = after;
+      open_ids = ids ++ (rest ++ []);
+      broken = broken ++ (others ++ []);
+      linked = linked ++ l;
+    })
     (sym (append-nil behind))
 
 pub passing-step : (items : List Passed) (i : ℕ) (one : Passed) (passed : List Actual) (actual : Actual) (old mid new : Flow) (before between after : Visits)
@@ -88,10 +98,10 @@ passing-step items i one passed actual old mid new before between after result i
     let more = actuals_from items (i + 1) in
     let next = λ (a : Actual). prefixed (passed ++ a ∷ []) more in
     let same : Alike (walk >>= next) (prefixed passed (actuals_from items i)) = λ context state.
-        let w = walk context state in
-        let r = more context w.after in
-        joined passed w.value r.value r.after w.open_ids r.open_ids w.broken r.broken w.linked r.linked
-        ∙ ap (λ (whole : Walking (List Actual)). prefixed passed whole context state) (sym (actual-cut items i one inside is)) in
+    let w = walk context state in
+    let r = more context w.after in
+    joined passed w.value r.value r.after w.open_ids r.open_ids w.broken r.broken w.linked r.linked
+    ∙ ap (λ (whole : Walking (List Actual)). prefixed passed whole context state) (sym (actual-cut items i one inside is)) in
     goes-alike (walk >>= next) (prefixed passed (actuals_from items i)) old new before after result same
     (goes-then walk next old mid new before between after actual result first rest)
 

@@ -132,7 +132,8 @@ whole-as type_id root selectors reach site context state tree rows is rows_are =
 pub whole-goes : (type_id : TypeId) (root : ℕ) (selectors : List Selector) (reach : Reach) (site : ℕ) (rows : List ℕ) (closed : Bool)
     (ranges : List Interval) (old mid : Flow) (last : Kept) (visits : Visits)
     → rows ≡ rows_accessed (rows_of old.grounds.rows.now) root selectors
-    → closed ≡ (is_dead (viewed old.state) || (is_structured old.grounds.rows.now.types type_id && is_covered old.grounds.rows.now (viewed old.state) reach rows))
+    → closed ≡ (is_dead (viewed old.state)
+    || (is_structured old.grounds.rows.now.types type_id && is_covered old.grounds.rows.now (viewed old.state) reach rows))
     → ranges ≡ ranges_of (viewed old.state) rows → Goes (opened closed site) old visits (Ok (tt {0})) mid visits
     → viewed last ≡ with_used reach rows (viewed mid.state)
     → Goes (whole_use type_id root selectors reach site) old visits (Ok ranges) (record mid { state = last }) visits

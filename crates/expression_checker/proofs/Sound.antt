@@ -40,6 +40,7 @@ use Rattle.exit_states.specs.Exit.{result_range}
 use Rattle.call_states.specs.Sections.{BlockClaims, block_claims_at}
 use Rattle.call_states.proofs.Claimed.{AllHold}
 use Rattle.call_states.proofs.Passed.{AllFit}
+pub use Rattle.call_states.proofs.Reached.{alive}
 use Rattle.expression_checker.proofs.Keeping.{Keeps, keeps-itself, keeps-then}
 
 -- what is fixed for a program: the program, the values of its variables' types, the sites that the whole walk leaves open, the states that it links, the
@@ -219,6 +220,9 @@ SoundCalls world calls =
 
 -- ---- one after the other
 
+pub gives-state : {A : Type 0} (a b : A) (s t : effect.State) → effect.Gives a s ≡ effect.Gives b t → t ≡ s
+gives-state a b s t is = cc
+
 pub unbroken-left : (first second : List Breach) → first ++ second ≡ [] → first ≡ []
 unbroken-left [] second is = refl
 unbroken-left (breach ∷ first) second is = absurd (cc)
@@ -292,8 +296,9 @@ good-then world P Q s (effect.Gives a t) next good two =
 good-then world P Q s (effect.Stops e t) next good two = record { errs = good.errs; new = good.new; gives = tt }
 
 -- where a walk stands behind a piece
-pub here-behind : {A B : Type 0} (world : World) (block : ℕ) (env : Environment) (R : B → A → Store → Type 0) (context : Context) (state : State) (walked : Walked B)
-    (s t : effect.State) (a : A) → Here world block env context state s → Behind world (IsForetold world env R context walked s.store) s a t
+pub here-behind : {A B : Type 0} (world : World) (block : ℕ) (env : Environment) (R : B → A → Store → Type 0) (context : Context)
+    (state : State) (walked : Walked B) (s t : effect.State) (a : A)
+    → Here world block env context state s → Behind world (IsForetold world env R context walked s.store) s a t
     → Here world block env context walked.after t
 here-behind world block env R context state walked s t a here behind = record {
   block_is = here.block_is;
@@ -326,7 +331,8 @@ pub sound-anywhere : {A B : Type 0} (world : World) (block : ℕ) (env : Environ
     → ((store : Store) → SoundFrom world block env store R action walking) → Sound world block env R action walking
 sound-anywhere world block env R action walking one context state s unbroken part here = one s.store context state s refl unbroken part here
 
-pub sound-here : {A B : Type 0} (world : World) (block : ℕ) (env : Environment) (store : Store) (R : B → A → Store → Type 0) (action : Action A) (walking : Walking B)
+pub sound-here : {A B : Type 0} (world : World) (block : ℕ) (env : Environment) (store : Store) (R : B → A → Store → Type 0) (action : Action A)
+    (walking : Walking B)
     → Sound world block env R action walking → SoundFrom world block env store R action walking
 sound-here world block env store R action walking one context state s same unbroken part here = one context state s unbroken part here
 
@@ -497,12 +503,6 @@ sound-use world block env root site seen below context state s unbroken part her
 -- a value that passes a test lies in the range that passes
 abbrev pub Passes : Bool → Value → Interval → Unit {0} → Store → Type 0
 Passes test v range done store = IsIn range v × (test ≡ true)
-
--- a state that holds is no dead one
-pub alive : (roots : ℕ) (env : Environment) (state : variables.State) (store : Store) → entire.Knows roots env state store
-    → variables.is_dead state ≡ false
-alive roots env variables.Dead store known = absurd known
-alive roots env (variables.Live facts) store known = refl
 
 -- where a site is closed, no run comes or the test holds
 pub closed-passes : (rows : List Parts) (roots : ℕ) (env : Environment) (state : State) (store : Store) (closed test : Bool)

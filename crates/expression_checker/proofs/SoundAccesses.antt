@@ -5,7 +5,7 @@ use Rattle.std.specs.Prelude.{slice_get, slice_index_or}
 use Rattle.std.specs.List.{All, Contains, list_all}
 use Rattle.std.specs.Option.{option_and_then}
 use Rattle.std.proofs.lemmas.Int.{ints}
-use Rattle.std.proofs.lemmas.Bool.{and_parts, eqb-true, ltb-true, or_cases}
+use Rattle.std.proofs.lemmas.Bool.{and_parts, eqb-true, ltb-true, or_cases, or_left, or_right}
 use Rattle.std.proofs.lemmas.List.{length-map}
 use Rattle.std.proofs.lemmas.List.Elements.{All-cons, All-nil}
 use Rattle.std.proofs.lemmas.Option.{get_or_from_slice_get, none-some, same_Some, slice_get-get_or, slice_get_within}
@@ -62,9 +62,10 @@ use Rattle.call_states.specs.Environments.{Fine, Typed}
 use Rattle.expression_checker.specs.Walk.{Context, Piece, Walking, access_walk, all_joined, deeper, form_before, hold_call, index_test, indexes_walk}
 use Rattle.expression_checker.specs.Walk.{is_covered}
 use Rattle.expression_checker.specs.Walk.{range_in, ranges_of, text_range, value_use, whole_walk, with_used}
+use Rattle.expression_checker.proofs.Fitting.{contains-at, same-type}
 use Rattle.expression_checker.proofs.Keeping.{Keeps, keeps-itself}
 use Rattle.expression_checker.proofs.Sound.{World, Any_value, Good, Here, IsForetold, IsPartOf, IsValue, Leaves, Sound, SoundFrom, Stands, alive, declared_in}
-use Rattle.expression_checker.proofs.Sound.{errs-here, false-true, from-then, good-give, good-then, good-weaker, is_seen, nothing-new, open-here, parts_in}
+use Rattle.expression_checker.proofs.Sound.{errs-here, false-true, from-then, gives-state, good-give, good-then, good-weaker, is_seen, nothing-new, open-here, parts_in}
 use Rattle.expression_checker.proofs.Sound.{sites_in, sound-anywhere, sound-enter, sound-give, sound-here, sound-named, sound-then, sound-use, stands-as}
 use Rattle.expression_checker.proofs.Sound.{nonempty-stands, types_in, variables_in}
 use Rattle.expression_checker.proofs.SoundOperations.{IsKnownOf, fitting-sound}
@@ -141,9 +142,6 @@ field-same position offset selectors [] reach = refl
 field-same position offset selectors (index ∷ pieces) reach = refl
 
 -- ---- replies
-
-pub gives-state : {A : Type 0} (a b : A) (s t : effect.State) → effect.Gives a s ≡ effect.Gives b t → t ≡ s
-gives-state a b s t is = cc
 
 entered-leaves : (number : ℕ) (env : Environment) → Leaves (effect.enter number env)
 entered-leaves number env s t done is = ap (λ (u : effect.State). u.store)
@@ -281,14 +279,6 @@ formless-deeper form range true (At first) formless is = formless refl
 formless-deeper form range true (Inside first) formless is = formless refl
 formless-deeper form range false reach formless is = absurd (false-true is)
 
-or-right : (a b : Bool) → b ≡ true → (a || b) ≡ true
-or-right true b is = refl
-or-right false b is = is
-
-or-left : (a b : Bool) → a ≡ true → (a || b) ≡ true
-or-left true b is = refl
-or-left false b is = absurd (false-true is)
-
 -- ---- what is found
 
 in-program : (world : World) (context : Context) (P : Context → Type 0) → context.tree ≡ world.tree → P (record context { tree = world.tree }) → P context
@@ -302,9 +292,6 @@ alone : {A : Type 0} (x y : A) → Contains (x ∷ []) y → x ≡ y
 alone x y (zero, within, at) = at
 alone x y (suc k, within, at) = absurd (omega (arith, within))
 
-get-contains : {A : Type 0} (xs : List A) (k : ℕ) (x : A) → slice_get xs k ≡ Some x → Contains xs x
-get-contains xs k x is = (k, slice_get_within xs k x is, get_or_from_slice_get xs k x x is)
-
 contains-get : {A : Type 0} (xs : List A) (x : A) → (inside : Contains xs x) → slice_get xs inside.0 ≡ Some x
 contains-get xs x inside = slice_get-get_or xs inside.0 x inside.1 ∙ ap Some inside.2
 
@@ -313,16 +300,13 @@ mapped-at f [] k y is = absurd (none-some y is)
 mapped-at f (x ∷ xs) zero y is = (x, refl, same_Some (f x) y is)
 mapped-at f (x ∷ xs) (suc k) y is = mapped-at f xs k y is
 
-same-type : (a b : TypeId) → is_same a b ≡ true → a ≡ b
-same-type a b is = ap (λ (n : ℕ). record { index = n }) (eqb-true a.index b.index is)
-
 number-back : (v : Value) → Number (number_of v) ≡ v
 number-back (Number n) = refl
 
 integer-number : (v : Value) → IsIn integer v → HasMember integer (number_of v)
 integer-number (Number n) inside = inside
 
-no-way : (way : List Step) → Matches [] way → way ≡ []
+pub no-way : (way : List Step) → Matches [] way → way ≡ []
 no-way [] matches = refl
 no-way (s ∷ way) matches = absurd matches
 
@@ -421,7 +405,7 @@ module _ (world : World) (block : ℕ) (env : Surroundings) where
       let form : IsOfForm (moment visible t.store) (bound_of index.form) v = all.0.form s t v is in
       let reached_now : IsReachedBy visible t.store before way reach =
       later-reached visible store t.store before way reach index.holds_call (λ without. all.0.leaves without s t v is ∙ from)
-      (λ holds. formless (or-left index.holds_call (hold_call pieces) holds)) reached in
+      (λ holds. formless (or_left index.holds_call (hold_call pieces) holds)) reached in
       let more = way ++ step.Element (number_of v) ∷ [] in
       let inner_is : inner_of v ≡ part (visible.variables root) more =
       ap (λ (p : Option Place). part p (step.Element (number_of v) ∷ [])) place_is
@@ -445,7 +429,7 @@ module _ (world : World) (block : ℕ) (env : Surroundings) where
       (form-unless (moment visible t.store) (bound_of index.form) (hold_call pieces) (number_of v)
       (of-form (moment visible t.store) (bound_of index.form) v form)) matches reached_now))
       (formless-deeper (bound_of index.form) range (hold_call pieces) reach
-      (λ holds. formless (or-right index.holds_call (hold_call pieces) holds))))))
+      (λ holds. formless (or_right index.holds_call (hold_call pieces) holds))))))
 
   -- an access
   pub reached-sound : (access : Access) (evaluations : List Evaluation) (pieces : List Piece) → AllSound world block env evaluations pieces
@@ -501,7 +485,8 @@ module _ (world : World) (block : ℕ) (env : Surroundings) where
       (many : (selectors ≡ [] → is_structured (types_in world) id ≡ true) → length (rows root selectors) ≡ length (leaves_of (types_in world) id))
       (site : ℕ) (below : site < (sites_in world)) (reach : Reach) (way : List Step) (matches : Matches selectors way) where
     -- each component that is given has a value
-    given-has : (state : State) (store : Store) → Knows (parts_in world) (variables_in world) visible state store → IsReachedBy visible store selectors way reach
+    given-has : (state : State) (store : Store) → Knows (parts_in world) (variables_in world) visible state store
+        → IsReachedBy visible store selectors way reach
         → (selectors ≡ [] → is_structured (types_in world) id ≡ true) → is_covered world.tree state reach (rows root selectors) ≡ true
         → (rest : List Step) → Contains (components_of (types_in world) id) rest → HasValue (moment visible store) root (way ++ rest)
     given-has state store known reached structured covered rest of_type =
@@ -569,7 +554,8 @@ module _ (world : World) (block : ℕ) (env : Surroundings) where
       abbrev IsRead : List Step → Value → Store → Type 0
       IsRead rest v after = (value_at (moment visible before) root (way ++ rest) ≡ Some v) × (after ≡ before)
 
-      found-good : (rest : List Step) (s : effect.State) → Fine world.tree s → s.store ≡ before → (found : Option Value) → value_at (moment visible before) root (way ++ rest) ≡ found
+      found-good : (rest : List Step) (s : effect.State) → Fine world.tree s → s.store ≡ before → (found : Option Value)
+          → value_at (moment visible before) root (way ++ rest) ≡ found
           → (found ≡ None → Contains world.ids site) → Good world (IsRead rest) s (effect.fetched found site s)
       found-good rest s fine same None is opens = record {
         errs = errs-here world site (opens refl) below;
@@ -603,7 +589,7 @@ module _ (world : World) (block : ℕ) (env : Surroundings) where
           good-give world (AreRead before (first ∷ components)) (number_of v ∷ numbers) u more.fine (
             more.so.0,
             All-cons (HasMember integer) (number_of v) numbers (integer-number v (integer-at s.store root (way ++ first) v fine.typed
-            (ap (λ (x : Store). value_at (moment visible x) root (way ++ first)) same ∙ read.so.0))) more.so.1,
+                (ap (λ (x : Store). value_at (moment visible x) root (way ++ first)) same ∙ read.so.0))) more.so.1,
             ap suc more.so.2,
             pairs-then (λ rest n. value_at (moment visible before) root (way ++ rest) ≡ Some (Number n)) first components (number_of v) numbers
                 (read.so.0 ∙ ap Some (sym (number-back v))) more.so.3,
@@ -617,8 +603,8 @@ module _ (world : World) (block : ℕ) (env : Surroundings) where
         → AreRead store (components_of (types_in world) id) numbers after → LieIn (types_in world) id (ranges_of state (rows root selectors)) numbers
     read-in state store after numbers known read k j rest leaf n range of_type of_leaf named at ranged =
         let row = mapped-at (λ (r : ℕ). (row_at state.components r).range) (rows root selectors) j range ranged in
-        let of_row = laws.placed way rest j row.0 leaf matches (get-contains (components_of (types_in world) id) k rest of_type) of_leaf named row.1 in
-        let lies = row-in state store known row.0 rest (Number n) (get-contains (rows root selectors) j row.0 row.1) of_row (read.3 k rest n of_type at) in
+        let of_row = laws.placed way rest j row.0 leaf matches (contains-at (components_of (types_in world) id) k rest of_type) of_leaf named row.1 in
+        let lies = row-in state store known row.0 rest (Number n) (contains-at (rows root selectors) j row.0 row.1) of_row (read.3 k rest n of_type at) in
         subst (λ (r : Interval). HasMember r n) row.2 lies
 
     read-has : (store after : Store) (numbers : List ℤ) → AreRead store (components_of (types_in world) id) numbers after
@@ -654,7 +640,8 @@ module _ (world : World) (block : ℕ) (env : Surroundings) where
         part.ids site (open-here site (closed state) unclosed)
 
     whole-good : (value : Whole) → ((ranges : List Interval) (numbers : List ℤ) → AreIntegers numbers
-        → length numbers ≡ length (components_of (types_in world) id) → (is_structured (types_in world) id ≡ true → length ranges ≡ length (leaves_of (types_in world) id))
+        → length numbers ≡ length (components_of (types_in world) id)
+        → (is_structured (types_in world) id ≡ true → length ranges ≡ length (leaves_of (types_in world) id))
         → LieIn (types_in world) id ranges numbers
         → IsWhole (types_in world) value ranges numbers)
         → (place : Option Place) → place ≡ part (visible.variables root) way → (context : Context) (state : State) (s : effect.State)
@@ -671,7 +658,8 @@ module _ (world : World) (block : ℕ) (env : Surroundings) where
         let known = used-known world.tree (variables_in world) visible s.store root selectors id laws way matches reach reached
         (read-has s.store t.store numbers read.so) state here.stands.known in
         record {
-          tie = so (ranges_of state (rows root selectors)) numbers read.so.1 read.so.2 (ranges-many state) (read-in state s.store t.store numbers here.stands.known read.so);
+          tie = so (ranges_of state (rows root selectors)) numbers read.so.1 read.so.2 (ranges-many state)
+              (read-in state s.store t.store numbers here.stands.known read.so);
           stands = subst (λ (store : Store). Stands world visible context behind store) (sym read.so.0)
               (stands-as world visible context state behind s.store here.stands known);
           kept = subst (λ (store : Store). Keeps visible context.rounds s.store store) (sym read.so.0) (keeps-itself visible context.rounds s.store);

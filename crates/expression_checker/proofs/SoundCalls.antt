@@ -1,8 +1,9 @@
 -- The walk over calls is sound, where that over their actual parameters is, and where calls are.
-use Rattle.std.proofs.Common.{arith, ◌≡◌, ⊎_elim, ◌∙◌, sym, ap, refl, subst, ℕ, Bool, true, false, cond, ◌&&◌, ◌||◌, List, [], ◌∷◌, ◌++◌, map, Option, Some, None}
+use Rattle.std.proofs.Common.{arith, ◌≡◌, ⊎_elim, ◌∙◌, sym, ap, refl, subst, ℕ, Bool, true, false, cond, ◌&&◌, ◌||◌, List, [], ◌∷◌, ◌++◌, map, Option}
+use Rattle.std.proofs.Common.{Some, None}
 use Rattle.std.specs.Prelude.{nat_eq, slice_get}
 use Rattle.std.specs.List.{Contains, list_all}
-use Rattle.std.proofs.lemmas.Bool.{and_parts, cases_eq, eq-eqb, eqb-true, or_parts}
+use Rattle.std.proofs.lemmas.Bool.{and_parts, cases_eq, eq-eqb, eqb-true, or_left, or_parts, or_right}
 use Rattle.std.proofs.lemmas.List.Folds.{list_any-append, list_all_at}
 use Rattle.std.proofs.lemmas.Option.{none-some}
 use Rattle.place.specs.declared.Place.{Place as SourcePlace}
@@ -41,8 +42,9 @@ use Rattle.expression_checker.specs.Walk as walk
 use Rattle.expression_checker.specs.Walk.{Context, PassedPiece, Walked, Walking, actuals_hold_call, actuals_walk, called_block, may_change}
 use Rattle.expression_checker.proofs.Keeping.{Keeps, keeps-itself}
 use Rattle.expression_checker.proofs.Sound.{World, Any_value, Behind, Called, Good, Goes, Here, IsClosed, IsForetold, IsPartOf, IsValue, Leaves, LiesInResult}
-use Rattle.expression_checker.proofs.Sound.{Returned, Sound, SoundCalls, SoundFrom, Stands, from-then, good-give, good-weaker, is_seen, nonempty-stands}
-use Rattle.expression_checker.proofs.Sound.{part-left, parts_in, sound-anywhere, sound-enter, sound-give, sound-here, unbroken-left, unbroken-right, variables_in}
+use Rattle.expression_checker.proofs.Sound.{Returned, Sound, SoundCalls, SoundFrom, Stands, from-then, gives-state, good-give, good-weaker, is_seen}
+use Rattle.expression_checker.proofs.Sound.{part-left, parts_in, sound-anywhere, sound-enter, sound-give, sound-here, unbroken-left, unbroken-right}
+use Rattle.expression_checker.proofs.Sound.{nonempty-stands, variables_in}
 
 -- ---- what is passed
 
@@ -170,9 +172,6 @@ pub then-gives : {A B : Type 0} (reply : effect.Reply A) (next : A → effect.Ac
 then-gives (effect.Gives a u) next b t is = (u, a, refl, is)
 then-gives (effect.Stops e u) next b t is = absurd (cc)
 
-gives-state : {A : Type 0} (a b : A) (s t : effect.State) → effect.Gives a s ≡ effect.Gives b t → t ≡ s
-gives-state a b s t is = cc
-
 -- ---- actual parameters
 
 module _ (world : World) (block : ℕ) (env : Surroundings) where
@@ -255,9 +254,12 @@ module _ (world : World) (block : ℕ) (env : Surroundings) where
       (actuals_walk pieces) (λ actuals. walk.give (actual ∷ actuals)) (passed-from hold roots passings pieces others (λ free. (none free).1) t.store)
       (λ actuals arguments s2 u gives same more. λ context state s3 now unbroken part here.
       let stays = λ (free : hold ≡ false). now ∙ all-leaves roots passings pieces others (none free).1 s2 u arguments gives ∙ same in
-      let tie : R (actual ∷ actuals) (argument ∷ arguments) s3.store =
-      (formal, at, settled-later hold formal actual argument t.store s3.store stays passed,
-      subst (λ (x : Store). ArePassed world visible roots (map (settle hold) actuals) arguments x) (sym now) more) in
+      let tie : R (actual ∷ actuals) (argument ∷ arguments) s3.store = (
+        formal,
+        at,
+        settled-later hold formal actual argument t.store s3.store stays passed,
+        subst (λ (x : Store). ArePassed world visible roots (map (settle hold) actuals) arguments x) (sym now) more,
+      ) in
       good-give world (IsForetold world visible R context (walk.give (actual ∷ actuals) context state) s3.store) (argument ∷ arguments) s3 here.fine
       (record { tie = tie; stands = here.stands; kept = keeps-itself visible context.rounds s3.store })))
 
@@ -274,19 +276,12 @@ module _ (world : World) (block : ℕ) (env : Surroundings) where
       let own = listed other among in
       let inner : is_among other (round.controls ++ round.changes) ≡ true =
       list_any-append (λ (r : ℕ). nat_eq r other) round.controls round.changes
-      ∙ or-second (is_among other round.controls) (is_among other round.changes) own in
-      (λ same. not-both (is_among root (touched round)) (touches round root (subst (λ (r : ℕ). is_among r round.changes ≡ true) same own)) untouched,
-      false-if (is_among root (aliases_of world.pairs other))
-      (λ alias. not-both (is_among root (touched round)) (closed other root seen_other shown inner alias) untouched))
+      ∙ or_right (is_among other round.controls) (is_among other round.changes) own in (
+        λ same. not-both (is_among root (touched round)) (touches round root (subst (λ (r : ℕ). is_among r round.changes ≡ true) same own)) untouched,
+        false-if (is_among root (aliases_of world.pairs other))
+            (λ alias. not-both (is_among root (touched round)) (closed other root seen_other shown inner alias) untouched),
+      )
     where
-      or-second : (a b : Bool) → b ≡ true → (a || b) ≡ true
-      or-second true b is = refl
-      or-second false b is = is
-
-      or-first : (a b : Bool) → a ≡ true → (a || b) ≡ true
-      or-first true b is = refl
-      or-first false b is = absurd (false-is is)
-
       not-both : (b : Bool) → b ≡ true → b ≡ false → ⊥
       not-both b is isnt = cc
 
@@ -297,9 +292,9 @@ module _ (world : World) (block : ℕ) (env : Surroundings) where
       touches : (round : Round) (r : ℕ) → is_among r round.changes ≡ true → is_among r (touched round) ≡ true
       touches round r is =
           list_any-append (λ (other : ℕ). nat_eq other r) round.controls (round.changes ++ round.aliases)
-          ∙ or-second (is_among r round.controls) (is_among r (round.changes ++ round.aliases))
+          ∙ or_right (is_among r round.controls) (is_among r (round.changes ++ round.aliases))
           (list_any-append (λ (other : ℕ). nat_eq other r) round.changes round.aliases
-          ∙ or-first (is_among r round.changes) (is_among r round.aliases) is)
+          ∙ or_left (is_among r round.changes) (is_among r round.aliases) is)
 
   hidden-same : (before after : Store) (root : ℕ) (steps : List Step) → visible.variables root ≡ None
       → value_at (moment visible after) root steps ≡ value_at (moment visible before) root steps
@@ -344,7 +339,8 @@ module _ (world : World) (block : ℕ) (env : Surroundings) where
         → of_one (is_round (outline_of world.tree) block) (declarer callee.heading.around.items) ≡ true
         → (walk.call_with call claims bindings (in_world world context) state).broken ≡ []
         → Here world block visible context state s → ArePassed world visible callee.heading.parameters.items actuals arguments s.store
-        → Good world (IsForetold world visible (BehindCall call.block callee) context (walk.call_with call claims bindings (in_world world context) state) s.store)
+        → Good world (IsForetold world visible (BehindCall call.block callee) context
+        (walk.call_with call claims bindings (in_world world context) state) s.store)
         s (env.calls call.block arguments visible s)
     call-good context state s at callable unbroken here passed =
         let own = in_world world context in
@@ -440,7 +436,8 @@ module _ (world : World) (block : ℕ) (env : Surroundings) where
         let result_at = λ (c : Context). walk.result_walk call (walk.result_of (walk.called_block c call)) c first.after in
         let second = result_at context in
         let range = result_range world.tree (block_claims_at world.blocks call.block) result.root in
-        good-weaker world (IsForetold world visible Behind_it context first s.store) (IsForetold world visible IsValue context (walk.followed first second) s.store)
+        good-weaker world (IsForetold world visible Behind_it context first s.store)
+        (IsForetold world visible IsValue context (walk.followed first second) s.store)
         s (meaning.call_of call passings env s)
         (λ v t is behind.
         let told = behind.so in
@@ -449,7 +446,8 @@ module _ (world : World) (block : ℕ) (env : Surroundings) where
         let own = in_world world context in
         by-world world context P here.stands.goes
         (subst (λ (found : Option Block).
-        IsForetold world visible IsValue context (walk.followed first (walk.result_walk call (walk.result_of found) own first.after)) s.store v t.store) (sym at)
+        IsForetold world visible IsValue context (walk.followed first (walk.result_walk call (walk.result_of found) own first.after)) s.store v t.store)
+        (sym at)
         (subst (λ (found : Option FunctionResult).
         IsForetold world visible IsValue context (walk.followed first (walk.result_walk call found own first.after)) s.store v t.store) (sym result_is)
         (record {

@@ -77,10 +77,11 @@ use Rattle.expression_checker.specs.Walk.{passed_step, piece_of, piece_step, ran
 use Rattle.expression_checker.proofs.Fitting.{fits-lie, many-numbers, same-type}
 use Rattle.expression_checker.proofs.Forms.{bound-same, form-same, pieces-hold, whole-holds}
 use Rattle.expression_checker.proofs.Keeping.{keeps-itself}
-use Rattle.expression_checker.proofs.Sound.{World, Any_value, IsForetold, IsValue, Leaves, LiesInResult, Passes, Sound, SoundCalls, declared_in, from-then, good-give}
+use Rattle.expression_checker.proofs.Sound.{World, Any_value, IsForetold, IsValue, Leaves, LiesInResult, Passes, Sound, SoundCalls, declared_in}
+use Rattle.expression_checker.proofs.Sound.{from-then, gives-state, good-give}
 use Rattle.expression_checker.proofs.Sound.{sites_in, sound-anywhere, sound-enter, sound-give, sound-given, sound-here, sound-named, sound-then, sound-written}
 use Rattle.expression_checker.proofs.Sound.{types_in}
-use Rattle.expression_checker.proofs.SoundAccesses.{AllSound, IndexIsSound, IsWholeIn, LeadsTo, gives-state, known-range, leads-count, leads-seen, leads-tests}
+use Rattle.expression_checker.proofs.SoundAccesses.{AllSound, IndexIsSound, IsWholeIn, LeadsTo, known-range, leads-count, leads-seen, leads-tests}
 use Rattle.expression_checker.proofs.SoundAccesses.{leads-type, reached-sound, required-leaves, required-true, stored-sound, string-sound, type-of, used-sound}
 use Rattle.expression_checker.proofs.SoundCalls.{AllPassed, CallLaws, IsPassed, PassedIsSound, call-sound, function-sound, place-kind, then-gives}
 use Rattle.expression_checker.proofs.SoundRows.{Leads, LieIn}
@@ -131,7 +132,8 @@ module _ (world : World) (block : ℕ) (env : Surroundings) (laws : CallLaws wor
   SoundValue well evaluation walking = well ≡ true → Sound world block visible IsValue (evaluation env) walking
 
   abbrev SoundLink : Bool → meaning.Combination → walk.Combination → Type 0
-  SoundLink well combination walking = well ≡ true → (known : Known) (v : Value) → IsKnown known v → Sound world block visible IsValue (combination env v) (walking known)
+  SoundLink well combination walking =
+      well ≡ true → (known : Known) (v : Value) → IsKnown known v → Sound world block visible IsValue (combination env v) (walking known)
 
   abbrev ValueIsSound : Expr → Type 0
   ValueIsSound e = SoundValue (well_expr e) (value_of e) (value_walk e)
@@ -269,7 +271,8 @@ module _ (world : World) (block : ℕ) (env : Surroundings) (laws : CallLaws wor
       let both = and_parts (well_expr value) (passes_value outline block fits callee position) well in
       let tests = and_parts (is_well_formed_test outline block fits) (is_passed_to outline block (takes_value outline fits) callee position) both.1 in
       let site = and_parts (nat_lt fits.site (sites_in world)) (is_whole fits.range.first && is_whole fits.range.last) tests.0 in
-      let takes : takes_value outline fits formal ≡ true = subst (λ (found : Option DeclaredVariable). of_one (takes_value outline fits) found ≡ true) at tests.1 in
+      let takes : takes_value outline fits formal ≡ true =
+      subst (λ (found : Option DeclaredVariable). of_one (takes_value outline fits) found ≡ true) at tests.1 in
       let kind = and_parts (is_value_kind formal.kind)
       (is_ordinal (types_in world) formal.type_id && is_range_of fits.range (range_of (types_in world) formal.type_id)) takes in
       let typed = and_parts (is_ordinal (types_in world) formal.type_id) (is_range_of fits.range (range_of (types_in world) formal.type_id)) kind.1 in
@@ -418,7 +421,8 @@ module _ (world : World) (block : ℕ) (env : Surroundings) (laws : CallLaws wor
       let there = leads.place_is ∙ ap (λ (found : Option Place). part found leads.way) shown.1 in
       let leads_now : Leads visible access.root selectors s2.store reach place =
       subst (λ (x : Store). Leads visible access.root selectors x reach place) (sym now) leads in
-      good-give world (IsForetold world visible R context (walk.give (OfVariable access.root selectors reach) context state) s2.store) (meaning.OfPlace place) s2
+      good-give world (IsForetold world visible R context (walk.give (OfVariable access.root selectors reach) context state) s2.store)
+      (meaning.OfPlace place) s2
       here.fine (record {
         tie = record {
           known = (leads_now, typed, λ way number matches first. indexes-integer outline block selectors way number tests matches first);
@@ -477,7 +481,8 @@ module _ (world : World) (block : ℕ) (env : Surroundings) (laws : CallLaws wor
   placed-sound number heading at position [] suffix (actual ∷ actuals) count well = absurd (omega (arith, count))
   placed-sound number heading at position (root ∷ roots) suffix [] count well = absurd (omega (arith, count))
   placed-sound number heading at position (root ∷ roots) suffix (actual ∷ actuals) count well =
-      let both = and_parts (well_passed actual.0 number position) (all_hold (placed number (suc position) (map well_passed (map (λ (p : ProvedPassed). p.0) actuals))))
+      let both = and_parts (well_passed actual.0 number position)
+      (all_hold (placed number (suc position) (map well_passed (map (λ (p : ProvedPassed). p.0) actuals))))
       well in
       let here : slice_get heading.parameters.items position ≡ Some root =
       ap (slice_get heading.parameters.items) (let e : position ≡ position + 0 = omega arith in e) ∙ sym (suffix 0) in
@@ -485,11 +490,14 @@ module _ (world : World) (block : ℕ) (env : Surroundings) (laws : CallLaws wor
       ap (λ (found : Option Heading). option_and_then (λ (r : ℕ). slice_get (declared_in world) r)
       (option_and_then (λ (h : Heading). slice_get h.parameters.items position) found)) at
       ∙ ap (λ (found : Option ℕ). option_and_then (λ (r : ℕ). slice_get (declared_in world) r) found) here in
-      let own = actual.1 number position both.0 in
-      (own.0, sym of_root ∙ own.1, own.2,
-      placed-sound number heading at (suc position) roots
-      (λ k. suffix (suc k) ∙ ap (slice_get heading.parameters.items) (let e : position + suc k ≡ suc position + k = omega arith in e)) actuals
-      (omega (arith, count)) both.1)
+      let own = actual.1 number position both.0 in (
+        own.0,
+        sym of_root ∙ own.1,
+        own.2,
+        placed-sound number heading at (suc position) roots
+            (λ k. suffix (suc k) ∙ ap (slice_get heading.parameters.items) (let e : position + suc k ≡ suc position + k = omega arith in e)) actuals
+            (omega (arith, count)) both.1,
+      )
 
   -- a routine that is called
   pub callee-found : (is_function : Bool) (number count : ℕ) → may_call outline block is_function number count ≡ true
@@ -513,7 +521,8 @@ module _ (world : World) (block : ℕ) (env : Surroundings) (laws : CallLaws wor
   function-result None is = absurd (cc)
   function-result (Some own) is = (own, refl)
 
-  value-layer : (y : Expr-F ProvedExpr ProvedPassed ProvedLink) → ExprLayer (map-Expr ProvedExpr ProvedPassed ProvedLink Expr Passed Link (λ e. e.0) (λ p. p.0) (λ l. l.0) y)
+  value-layer : (y : Expr-F ProvedExpr ProvedPassed ProvedLink) → ExprLayer
+      (map-Expr ProvedExpr ProvedPassed ProvedLink Expr Passed Link (λ e. e.0) (λ p. p.0) (λ l. l.0) y)
   value-layer (Constant number value) well =
       entered-sound world block visible IsValue number (effect.give (Number value)) (walk.ordinal (record { first = value; last = value }))
       (given-sound world block visible (record { first = value; last = value }) value (constant-in value))
@@ -531,7 +540,8 @@ module _ (world : World) (block : ℕ) (env : Surroundings) (laws : CallLaws wor
       let parts = and_parts (monadic_is_well_formed outline block operation) (well_expr operand.value.0) well in
       entered-sound world block visible IsValue number (effect.◌>>=◌ (value_of operand.value.0 env) (meaning.operated operation))
       (walk.◌>>=◌ (value_walk operand.value.0) (walk.operated operation))
-      (sound-then world block visible IsValue IsValue (value_of operand.value.0 env) (meaning.operated operation) (value_walk operand.value.0) (walk.operated operation)
+      (sound-then world block visible IsValue IsValue (value_of operand.value.0 env) (meaning.operated operation) (value_walk operand.value.0)
+      (walk.operated operation)
       (operand.value.1 parts.1) (λ known v store inside. operated-sound world block visible operation known v parts.0 inside))
   value-layer (Chain first rest) well =
       let links = map (λ (l : ProvedLink). l.0) rest.items in
@@ -571,7 +581,6 @@ module _ (world : World) (block : ℕ) (env : Surroundings) (laws : CallLaws wor
       (walk.whole_walk right right_pieces) (λ done. walk.ordinal truth_values) (whole-sound right right_indexes.items three.0 right_sized)
       (λ c b store tie. given-sound world block visible truth_values (truth (meaning.relates relation (meaning.order_of a b) (pos 0)))
       (truth_values-has (meaning.relates relation (meaning.order_of a b) (pos 0))))))
-
   value-layer (CallOf call actuals) well =
       let passed = map (λ (p : ProvedPassed). p.0) actuals.items in
       let n = length (map well_passed passed) in
@@ -583,7 +592,8 @@ module _ (world : World) (block : ℕ) (env : Surroundings) (laws : CallLaws wor
       let result = function-result found.0.heading.result found.4 in
       function-sound world block env laws calls call found.0 found.1 found.3 (map passing_of passed) (map passed_piece_of passed) all result.0 result.1
 
-  link-layer : (y : Link-F ProvedExpr ProvedPassed ProvedLink) → LinkLayer (map-Link ProvedExpr ProvedPassed ProvedLink Expr Passed Link (λ e. e.0) (λ p. p.0) (λ l. l.0) y)
+  link-layer : (y : Link-F ProvedExpr ProvedPassed ProvedLink) → LinkLayer
+      (map-Link ProvedExpr ProvedPassed ProvedLink Expr Passed Link (λ e. e.0) (λ p. p.0) (λ l. l.0) y)
   link-layer y well known v inside =
       let right = y.operand.0 in
       let meant = meaning.combined y.operation v in
@@ -715,7 +725,8 @@ module _ (world : World) (block : ℕ) (env : Surroundings) (laws : CallLaws wor
 
   -- the numbers of a whole value lie in the ranges that the walk tells
   pub whole_value-sound : (value : Whole) (indexes : List Expr) → is_well_formed_value outline block value indexes ≡ true
-      → Sound world block visible (IsWholeIn world block env value) (meaning.whole_of value (values_of indexes) env) (walk.whole_walk value (walk.index_pieces indexes))
+      → Sound world block visible (IsWholeIn world block env value) (meaning.whole_of value (values_of indexes) env)
+      (walk.whole_walk value (walk.index_pieces indexes))
   whole_value-sound (Text number text) indexes well =
       string-sound world block env number text
       (and_parts true (is_well_formed_whole outline block (Text number text) (length indexes)) well).1
@@ -729,7 +740,8 @@ module _ (world : World) (block : ℕ) (env : Surroundings) (laws : CallLaws wor
 
   -- a width that has to be at least 1
   width-tested : (site : ℕ) (known : Known) (w : Value) → nat_lt site (sites_in world) ≡ true → IsKnown known w
-      → Sound {B = Unit {0}} world block visible Any_value (effect.◌>>=◌ (effect.require (is_positive w) site) (λ tested. effect.give w)) (walk.width_test site known)
+      → Sound {B = Unit {0}} world block visible Any_value (effect.◌>>=◌ (effect.require (is_positive w) site) (λ tested. effect.give w))
+      (walk.width_test site known)
   width-tested site (Ordinal range) w below inside =
       sound-then {D = Unit {0}} world block visible (Passes (is_positive w) w) Any_value (effect.require (is_positive w) site) (λ tested. effect.give w)
       (walk.positive site range) (λ passed. walk.give tt)
@@ -754,7 +766,8 @@ module _ (world : World) (block : ℕ) (env : Surroundings) (laws : CallLaws wor
       sound-then world block visible Any_value Any_value (value_of value env)
       (λ v. effect.◌>>=◌ (width_of width default env) (λ w. effect.write (text_of representation v w)))
       (walk.written_walk (written.Ordinal value representation)) (λ done. width_walk width)
-      (sound-named world block visible IsValue Any_value (λ known. tt) (λ known v store inside. tt) (value_of value env) (value_walk value) (value-sound value well))
+      (sound-named world block visible IsValue Any_value (λ known. tt) (λ known v store inside. tt) (value_of value env) (value_walk value)
+      (value-sound value well))
       (λ done v store tie. sound-written world block visible Any_value (text_of representation v) (width_of width default env) (width_walk width)
       (width-sound width default wide))
   written-sound (written.String value indexes) width well wide =

@@ -66,7 +66,8 @@ module _ (world : World) (block : ℕ) (env : Environment) where
   fitting-sound fits (Ordinal range) v below inside =
       let test = is_in fits.range v in
       let limits = limits_of fits.range in
-      sound-named world block env (Passes test v) (IsKnownOf v) (λ passed. Ordinal passed) (λ passed done store passes. passes.0) (effect.require test fits.site)
+      sound-named world block env (Passes test v) (IsKnownOf v) (λ passed. Ordinal passed) (λ passed done store passes. passes.0)
+      (effect.require test fits.site)
       (walk.within limits fits.site range) (within-sound limits fits.site range v test below (is_in-limits fits.range v) (limits-is_in fits.range v) inside)
 
   -- a number that has to be at least 1

@@ -37,7 +37,8 @@ use Rattle.domain.specs.Interval.{Interval, between}
 use Rattle.std.proofs.lemmas.Int.{ints}
 use Rattle.expression_checker.specs.Visits.{Visits, all_counted, counted}
 use Rattle.expression_checker.specs.Walk.{Breach, Context, Linked, Walked, Walking, IsBreachOf, use_of, tested, positive, within, width_test, fitting, ◌>>=◌}
-use Rattle.expression_checker.specs.Walk.{behind_next, deeper, form_before, give, index_test, index_pieces, indexes_walk, next_test, related_walk, variable_walk}
+use Rattle.expression_checker.specs.Walk.{behind_next, deeper, form_before, give, index_test, index_pieces, indexes_walk, next_test, related_walk}
+use Rattle.expression_checker.specs.Walk.{variable_walk}
 use Rattle.expression_checker.specs.Walk.{whole_walk, joint_of, piece_of, range_in}
 use Rattle.expression_checker.specs.Walk.{actuals_walk, function_walk, passed_piece_of, value_passed, variable_passed, whole_passed}
 use Rattle.expression_checker.specs.Walk.{ordinal, enter, first_breach, left_open, operated, combined, in_turn, value_walk, link_walk, numbers_of}

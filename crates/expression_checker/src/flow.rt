@@ -22,12 +22,12 @@ use crate::visits::Visits;
 use abstract_state::{Known, bound_form, limits};
 use call_states::actuals::{Actual, Bindings, settle};
 use call_states::entry::are_given;
-use exit_states::exit;
 use call_states::sections::{block_claims_at, changes, entry};
 use component_states::{Index, Reach, State};
 use domain::Domain;
 use domain::facts::Bound;
 use domain::interval::Interval;
+use exit_states::exit;
 use place::Place;
 use typed_tree::calls::{actuals_hold_call, hold_call};
 use typed_tree::tree::{
@@ -312,7 +312,9 @@ impl<'a> Flow<'a> {
                 Ok(self.copied(*type_id, value, ranges))
             }
             Passed::Reference {
-                access, indexes, ..
+                access,
+                indexes,
+                ..
             } => {
                 let reach = self.access(access, indexes, visits)?;
                 Ok(Actual::Variable {
@@ -558,8 +560,18 @@ impl<'a> Flow<'a> {
         };
         let alloc = *self.open_ids.allocator();
         let claims = block_claims_at(&self.grounds.sections, call.block);
-        asked(self.grounds.is_separate(call, bindings), Rule::Aliases, call.name)?;
-        let given = are_given(alloc, self.grounds.rows, bindings, &self.state, entry(claims))?;
+        asked(
+            self.grounds.is_separate(call, bindings),
+            Rule::Aliases,
+            call.name,
+        )?;
+        let given = are_given(
+            alloc,
+            self.grounds.rows,
+            bindings,
+            &self.state,
+            entry(claims),
+        )?;
         asked(given, Rule::CallEntry, call.name)?;
         let may = self.grounds.may_call(alloc, bindings, changes(claims))?;
         asked(may, Rule::Changes, call.name)?;

@@ -12,13 +12,13 @@ ghost use Rattle.expression_checker.specs.View.{call_range, context_of, found_bl
 ghost use Rattle.expression_checker.specs.Walk.{around_of, block_lists, fits_whole, may_change, parameters_of};
 
 use call_states::actuals::{Bindings, are_of_types};
-use exit_states::changes::roots_changed;
-use exit_states::exit::result_range;
 use call_states::overlaps::are_separate;
 use call_states::sections::{block_claims_at, changes};
 use call_states::starts::is_own;
 use certificate::Section;
 use domain::interval::Interval;
+use exit_states::changes::roots_changed;
+use exit_states::exit::result_range;
 use leaf_rows::Rows;
 use std::alloc::{AllocError, Global};
 use structured_states::pairs::Pairs;
@@ -136,7 +136,11 @@ impl<'a> Grounds<'a> {
         };
         match result {
             None => Interval::INTEGER,
-            Some(own) => result_range(self.rows.tree(), block_claims_at(&self.sections, call.block), own.root),
+            Some(own) => result_range(
+                self.rows.tree(),
+                block_claims_at(&self.sections, call.block),
+                own.root,
+            ),
         }
     }
 

@@ -6,7 +6,7 @@ use Rattle.expression_checker.specs.Visits.{all_counted}
 use Rattle.cert_checker.specs.View.{context_of}
 use Rattle.cert_checker.proofs.Entered.{program-entered}
 use Rattle.cert_checker.proofs.Steps.{program-open, program-visits, program-unbroken, program-given_up}
-use Rattle.cert_checker.proofs.StepsBlocks.{program-context, program-loops}
+use Rattle.cert_checker.proofs.StepsBlocks.{program-context, program-declared, program-loops}
 use Rattle.cert_checker.proofs.walk.program.Goals as goal
 
 pub returns-clause-sites : goal.returns-clause-sites
@@ -23,7 +23,9 @@ returns-clause-sites c =
     let loops = program-loops tree c.tree-tree.result.now certificate (context_of walk) c.in_ok-pairs.pairs (map said_loop c.deref.result.now)
     walk.aliases.now context_is c.tree-tree.ensures pairs_are (ap (map said_loop) c.deref.ensures.value ∙ c.in_ok-claims.ensures)
     (ap (map (λ (row : Vec ℕ). row.items)) (c.new-walk.ensures.aliases_are ∙ c.deref-2.ensures.value) ∙ c.in_ok-aliases.ensures) in
-    program-open tree certificate walk context_is loops c.new-walk.ensures.state_is c.new-walk.ensures.open_is _ _ _ c.in_ok-blocks.ensures
+    let declared = program-declared tree c.tree-tree.result.now certificate walk c.deref-3.result.now c.in_ok-declared.declared.items context_is
+    c.tree-tree.ensures c.deref-3.ensures.value c.in_ok-declared.ensures in
+    program-open tree certificate walk context_is loops c.new-walk.ensures.state_is c.new-walk.ensures.open_is _ _ _ (c.in_ok-blocks.ensures declared)
 
 pub returns-clause-entries : goal.returns-clause-entries
 returns-clause-entries c =
@@ -39,7 +41,9 @@ returns-clause-entries c =
     let loops = program-loops tree c.tree-tree.result.now certificate (context_of walk) c.in_ok-pairs.pairs (map said_loop c.deref.result.now)
     walk.aliases.now context_is c.tree-tree.ensures pairs_are (ap (map said_loop) c.deref.ensures.value ∙ c.in_ok-claims.ensures)
     (ap (map (λ (row : Vec ℕ). row.items)) (c.new-walk.ensures.aliases_are ∙ c.deref-2.ensures.value) ∙ c.in_ok-aliases.ensures) in
-    program-visits tree certificate walk context_is loops c.new-walk.ensures.state_is c.new-walk.ensures.open_is _ _ _ c.in_ok-blocks.ensures
+    let declared = program-declared tree c.tree-tree.result.now certificate walk c.deref-3.result.now c.in_ok-declared.declared.items context_is
+    c.tree-tree.ensures c.deref-3.ensures.value c.in_ok-declared.ensures in
+    program-visits tree certificate walk context_is loops c.new-walk.ensures.state_is c.new-walk.ensures.open_is _ _ _ (c.in_ok-blocks.ensures declared)
     ∙ ap (λ numbers. all_counted numbers c.args.visits.now) (program-entered tree certificate)
 
 pub returns-clause-rules : goal.returns-clause-rules
@@ -56,7 +60,9 @@ returns-clause-rules c =
     let loops = program-loops tree c.tree-tree.result.now certificate (context_of walk) c.in_ok-pairs.pairs (map said_loop c.deref.result.now)
     walk.aliases.now context_is c.tree-tree.ensures pairs_are (ap (map said_loop) c.deref.ensures.value ∙ c.in_ok-claims.ensures)
     (ap (map (λ (row : Vec ℕ). row.items)) (c.new-walk.ensures.aliases_are ∙ c.deref-2.ensures.value) ∙ c.in_ok-aliases.ensures) in
-    program-unbroken tree certificate walk context_is loops c.new-walk.ensures.state_is c.new-walk.ensures.open_is _ _ _ c.in_ok-blocks.ensures
+    let declared = program-declared tree c.tree-tree.result.now certificate walk c.deref-3.result.now c.in_ok-declared.declared.items context_is
+    c.tree-tree.ensures c.deref-3.ensures.value c.in_ok-declared.ensures in
+    program-unbroken tree certificate walk context_is loops c.new-walk.ensures.state_is c.new-walk.ensures.open_is _ _ _ (c.in_ok-blocks.ensures declared)
 
 pub returns-in_err-blocks-clause-rules : goal.returns-in_err-blocks-clause-rules
 returns-in_err-blocks-clause-rules c =
@@ -72,5 +78,7 @@ returns-in_err-blocks-clause-rules c =
     let loops = program-loops tree c.tree-tree.result.now certificate (context_of walk) c.in_ok-pairs.pairs (map said_loop c.deref.result.now)
     walk.aliases.now context_is c.tree-tree.ensures pairs_are (ap (map said_loop) c.deref.ensures.value ∙ c.in_ok-claims.ensures)
     (ap (map (λ (row : Vec ℕ). row.items)) (c.new-walk.ensures.aliases_are ∙ c.deref-2.ensures.value) ∙ c.in_ok-aliases.ensures) in
+    let declared = program-declared tree c.tree-tree.result.now certificate walk c.deref-3.result.now c.in_ok-declared.declared.items context_is
+    c.tree-tree.ensures c.deref-3.ensures.value c.in_ok-declared.ensures in
     program-given_up tree certificate walk context_is loops c.new-walk.ensures.state_is c.new-walk.ensures.open_is _
-    c.from_residual-in_err-blocks.result c.in_err-blocks.field-0.0 c.from_residual-in_err-blocks.ensures c.in_err-blocks.ensures
+    c.from_residual-in_err-blocks.result c.in_err-blocks.field-0.0 c.from_residual-in_err-blocks.ensures (c.in_err-blocks.ensures declared)

@@ -425,7 +425,7 @@ actual-returns-in_ok-passed-in-Value t c =
     let passed = c.in_ok-passed-in-Value.passed in
     let actual = OfValue (range_in passed) (bound_of (piece_of it.value).form) in
     let is : actual ≡ OfValue c.range.result (said_form c.bound_form.result) =
-        ap₂ OfValue (range-in passed c.range.result c.range.ensures) (bound-same it.value ∙ sym c.bound_form.ensures) in
+    ap₂ OfValue (range-in passed c.range.result c.range.ensures) (bound-same it.value ∙ sym c.bound_form.ensures) in
     subst (λ (a : Actual). Goes walk old before (Ok a) new after) is
     (goes-as walk (value_passed (piece_of it.value) it.fits) old new before after (Ok actual)
     (ap (λ p. (passed_piece_of p).walk) it.is ∙ passed-Value it.value it.fits)
