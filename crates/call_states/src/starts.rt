@@ -106,7 +106,7 @@ fn unclaimed(
 {
     let tree = rows.tree();
     let visible = visible_roots(alloc, tree, declared, block)?;
-    let mut state = State::undefined(alloc, tree.variables.len(), rows.count())?;
+    let mut state = State::undefined(alloc, tree.variables.len(), rows.count());
     begin_ranges(&mut state.variables, tree, block, &visible)?;
     begin_values(&mut state.variables, tree, block, own_roots(tree, declared, block))?;
     begin_rows(&mut state, rows, block, &visible)?;

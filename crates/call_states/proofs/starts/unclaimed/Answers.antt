@@ -30,9 +30,9 @@ returns c = λ table.
     c.own_roots.ensures ∙ ap (λ (t : Tree). own_roots t given block) same ∙ ap (λ rows. own_roots tree rows block) table in
     let count : c.len.result ≡ length declared =
     omega (arith, c.len.ensures, c.tree-tree.result.now.variables.ok.0, ap (λ (t : Tree). length t.variables.items) same) in
-    let started : viewed c.in_ok-state.state ≡ start (length declared) (length (rows_of tree)) =
-    c.in_ok-state.ensures ∙ ap₂ (λ (roots rows : ℕ). start roots rows) count c.count.ensures in
-    let first = viewing.viewed c.in_ok-state.state.variables in
+    let started : viewed c.undefined-state.result ≡ start (length declared) (length (rows_of tree)) =
+    c.undefined-state.ensures ∙ ap₂ (λ (roots rows : ℕ). start roots rows) count c.count.ensures in
+    let first = viewing.viewed c.undefined-state.result.variables in
     let ranged = viewing.viewed c.begin_ranges.new.state in
     let ranges : ranged ≡ live (map (variable_start tree block) declared) =
     c.in_ok-begin_ranges.ensures
@@ -46,8 +46,8 @@ returns c = λ table.
     ∙ ap (λ roots. values_begun tree block roots ranged) own
     ∙ ap (values_begun tree block (own_roots tree all block)) ranges
     ∙ values-are tree block (live (map (variable_start tree block) declared)) in
-    let components : all_rows_begun tree block c.deref-2.result.now (viewed_components c.in_ok-state.state.components) ≡ components_start tree block =
-    ap (λ roots. all_rows_begun tree block roots (viewed_components c.in_ok-state.state.components)) (c.deref-2.ensures.value ∙ visible)
+    let components : all_rows_begun tree block c.deref-2.result.now (viewed_components c.undefined-state.result.components) ≡ components_start tree block =
+    ap (λ roots. all_rows_begun tree block roots (viewed_components c.undefined-state.result.components)) (c.deref-2.ensures.value ∙ visible)
     ∙ ap (all_rows_begun tree block seen) (ap (λ (s : State). s.components) started)
     ∙ rows-are tree block in
     c.in_ok-begin_rows.ensures ∙ ap₂ whole known components
