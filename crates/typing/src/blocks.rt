@@ -160,16 +160,6 @@ impl Typer {
     }
 
     /// It ends, with these parameters and this result; the block round it has so many cells so far.
-    #[tactic(
-        auto,
-        unfolding(
-            crate::specs::Blocks::heading_ends,
-            crate::specs::Steps::close_block,
-            crate::specs::Steps::enclosing_now,
-            crate::specs::Steps::with_enclosing,
-            crate::specs::Steps::add_heading,
-        )
-    )]
     pub fn end_heading(
         &mut self,
         cells: u32,
@@ -195,16 +185,6 @@ impl Typer {
     }
 
     /// A block begins, behind the heading of its number, which defines these names, in small letters.
-    #[tactic(
-        auto,
-        unfolding(
-            crate::specs::Blocks::block_begins,
-            crate::specs::Steps::enclosing_now,
-            crate::specs::Steps::with_enclosing,
-            crate::specs::Steps::open_beside,
-            crate::specs::Steps::heading_at,
-        )
-    )]
     pub fn begin_block(&mut self, number: u32, names: &[Vec<u8>]) -> Result<BegunBlock, TypeFault>
         ensures { BeginsBlock (block_begins number (map (λ name. name.items) names.now) self.old) result self.new }
     {
@@ -239,14 +219,6 @@ impl Typer {
     }
 
     /// It ends, and the block round it goes on.
-    #[tactic(
-        auto,
-        unfolding(
-            crate::specs::Blocks::block_ends,
-            crate::specs::Steps::close_block,
-            crate::specs::Steps::with_enclosing,
-        )
-    )]
     pub fn end_block(&mut self, round: EnclosingBlock)
         ensures { block_ends (enclosing_of round) self.old ≡ Ok (after tt [] self.new) }
     {

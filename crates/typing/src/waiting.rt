@@ -50,14 +50,6 @@ impl Typer {
     }
 
     /// A routine of the block waits for its block, by the place of its name, or no longer.
-    #[tactic(
-        auto,
-        unfolding(
-            crate::specs::Routines::told_waiting,
-            crate::specs::Steps::enclosing_now,
-            crate::specs::Steps::with_enclosing,
-        )
-    )]
     pub fn told_waiting(&mut self, number: u32, place: Option<Place>) -> Result<(), TypeFault>
         ensures { Takes (spec.told_waiting number place self.old) result self.new }
     {
@@ -78,16 +70,6 @@ impl Typer {
 
     /// The variable that is assigned by the name of a function, which is its result, inside its block alone (6.8.2.2):
     /// K2 at the place elsewhere, and where the routine is a procedure.
-    #[tactic(
-        auto,
-        unfolding(
-            crate::specs::Statements::function_target,
-            crate::specs::Steps::enclosing_now,
-            crate::specs::Steps::heading_at,
-            crate::specs::Steps::assign_result,
-            crate::specs::Steps::variable_at,
-        )
-    )]
     pub fn function_target(&mut self, place: Place, block: u32) -> Result<(u32, TypeId), TypeFault>
         ensures { Takes (statements.function_target place block self.old) result self.new }
     {
