@@ -3,22 +3,21 @@ use Rattle.std.proofs.Common.{arith, ◌≡◌, ◌≢◌, ◌∙◌, sym, ap, r
 use Rattle.std.proofs.Common.{◌&&◌, ◌||◌, List, [], ◌∷◌, ◌++◌, add-one, append-nil, append_assoc, drop, drop-cons, get_or, inl, inr, length, map}
 use Rattle.std.proofs.Common.{min, replicate, set}
 use Rattle.std.proofs.Common.{Option, Some, None, ◌⊎◌}
-use Rattle.std.specs.List.{All, list_any, range_with_len}
+use Rattle.std.specs.List.{All, range_with_len}
 use Rattle.std.specs.Option.{option_map}
 use Rattle.std.specs.Prelude.{flat_map, slice_get}
-use Rattle.std.proofs.lemmas.Bool.{and_parts, both_ways, cond_both, eq-eqb, eqb-true, false≢true, or_cases, or_left, or_right}
+use Rattle.std.proofs.lemmas.Bool.{and_parts, cond_both, eq-eqb, eqb-true, false≢true, or_cases, or_left, or_right}
 use Rattle.std.proofs.lemmas.List.{drop_more, ext_get_or, get_or-map, get_or-replicate, get_or-set_other, get_or-set_same, length-map, length-set, length-replicate}
 use Rattle.std.proofs.lemmas.List.Elements.{All-append, All-get_or, All-nil, All-cons, All-map}
 use Rattle.std.proofs.lemmas.List.Folds.{list_any-append}
 use Rattle.std.proofs.lemmas.List.FromFn.{get_or-map-range_with_len, length-map-range_with_len}
-use Rattle.std.proofs.lemmas.Option.{get_or_from_slice_get, slice_get-map, slice_get_within}
+use Rattle.std.proofs.lemmas.Option.{get_or_from_slice_get, slice_get-map}
 use Rattle.domain.specs.Interval.{Interval, vacant}
 use Rattle.types.specs.Forms.{Form}
 use Rattle.types.specs.Types.{is_ordinal}
 use Rattle.types.specs.declared.form.OrdinalRange.{OrdinalRange}
 use Rattle.typed_tree.specs.WellFormed.{encloses, heading_of, is_one_of, is_round, is_value_kind, of_one, outline_of}
 use Rattle.typed_tree.specs.declared.tree.Block.{Block}
-use Rattle.typed_tree.specs.declared.tree.Heading.{Heading}
 use Rattle.typed_tree.specs.declared.tree.Tree.{Tree}
 use Rattle.typed_tree.specs.declared.tree.Variable.{Variable}
 use Rattle.abstract_state.specs.Loops.{is_among}
@@ -253,10 +252,10 @@ among-seen tree block root variable (Some found) is round =
     ∙ elim (or_cases (nat_eq variable.block block) (is_one_of around variable.block) round) [
       | inl here ↦
           or_right (is_among root (flat_map own around)) (is_among root (own block))
-              (ap (λ b. is_among root (own b)) (sym (eqb-true variable.block block here)) ∙ among-own tree root variable is)
+          (ap (λ b. is_among root (own b)) (sym (eqb-true variable.block block here)) ∙ among-own tree root variable is)
       | inr outer ↦
           or_left (is_among root (flat_map own around)) (is_among root (own block))
-              (among-flat own around variable.block root (among-contains around variable.block outer) (among-own tree root variable is))
+          (among-flat own around variable.block root (among-contains around variable.block outer) (among-own tree root variable is))
     ]
 
 pub among-visible : (tree : Tree) (block root : ℕ) (variable : Variable) → slice_get tree.variables.items root ≡ Some variable

@@ -119,11 +119,7 @@ impl<'b, 'a> Bindings<'b, 'a> {
 }
 
 /// What has the values of the leaves of a formal parameter, leaf by leaf.
-pub fn bearers_of(
-    alloc: Global,
-    rows: &Rows,
-    actual: &Actual,
-) -> Result<Vec<Bearer>, AllocError>
+pub fn bearers_of(alloc: Global, rows: &Rows, actual: &Actual) -> Result<Vec<Bearer>, AllocError>
     ensures { IfOk result (λ bearers. map said_bearer bearers.items ≡ bearers_of rows.now (said_actual actual.now)) }
 {
     match actual {
@@ -319,7 +315,8 @@ fn is_copy_for(rows: &Rows, root: u32, ranges: &[Interval]) -> bool
     match rows.tree().variables.get(root as usize) {
         None => false,
         Some(variable) => {
-            rows.is_structured(variable.type_id) && are_of_rows(rows, rows.of_variable(root), ranges)
+            rows.is_structured(variable.type_id)
+                && are_of_rows(rows, rows.of_variable(root), ranges)
         }
     }
 }

@@ -75,12 +75,7 @@ fn join_aliases(
 }
 
 /// An alias may have it, as a whole or in its components.
-fn join_alias(
-    state: &mut State,
-    rows: &Rows,
-    stored: &Stored,
-    alias: u32,
-) -> Result<(), AllocError>
+fn join_alias(state: &mut State, rows: &Rows, stored: &Stored, alias: u32) -> Result<(), AllocError>
     ensures { IfOk result
         (λ _. viewed state.new ≡ alias_joined rows.now (said_stored stored.now) alias (viewed state.old)) }
 {
@@ -92,12 +87,7 @@ fn join_alias(
 }
 
 /// Components of some rows may have it.
-fn join_rows(
-    state: &mut State,
-    rows: &Rows,
-    stored: &Stored,
-    span: Span,
-) -> Result<(), AllocError>
+fn join_rows(state: &mut State, rows: &Rows, stored: &Stored, span: Span) -> Result<(), AllocError>
     ensures { IfOk result
         (λ _. viewed state.new ≡ rows_joined rows.now (said_stored stored.now) (numbers span) (viewed state.old)) }
 {

@@ -108,7 +108,12 @@ fn unclaimed(
     let visible = visible_roots(alloc, tree, declared, block)?;
     let mut state = State::undefined(alloc, tree.variables.len(), rows.count());
     begin_ranges(&mut state.variables, tree, block, &visible)?;
-    begin_values(&mut state.variables, tree, block, own_roots(tree, declared, block))?;
+    begin_values(
+        &mut state.variables,
+        tree,
+        block,
+        own_roots(tree, declared, block),
+    )?;
     begin_rows(&mut state, rows, block, &visible)?;
     Ok(state)
 }
@@ -210,12 +215,7 @@ fn begin_values(
 }
 
 /// A variable is defined at the start, if it is such a parameter.
-fn begin_value(
-    state: &mut Variables,
-    tree: &Tree,
-    block: u32,
-    root: u32,
-) -> Result<(), AllocError>
+fn begin_value(state: &mut Variables, tree: &Tree, block: u32, root: u32) -> Result<(), AllocError>
     ensures { IfOk result (λ _. viewed_variables state.new
         ≡ value_begun tree.now block root (slice_get tree.now.variables.items root) (viewed_variables state.old)) }
 {
@@ -231,12 +231,7 @@ fn begin_value(
 }
 
 /// What is known of the rows of some variables at the start.
-fn begin_rows(
-    state: &mut State,
-    rows: &Rows,
-    block: u32,
-    roots: &[u32],
-) -> Result<(), AllocError>
+fn begin_rows(state: &mut State, rows: &Rows, block: u32, roots: &[u32]) -> Result<(), AllocError>
     ensures { IfOk result (λ _. viewed state.new
         ≡ over_components (λ _. all_rows_begun rows.now block roots.now) (viewed state.old)) }
 {
@@ -295,7 +290,12 @@ fn begin_row_of(
     let tree = rows.tree();
     if is_round(tree, block, variable.block) {
         let range = start_range(tree, block, variable, row_limits(rows, row));
-        state.begin_row(row, range, is_passed_value(block, variable), rows.index(row))
+        state.begin_row(
+            row,
+            range,
+            is_passed_value(block, variable),
+            rows.index(row),
+        )
     } else {
         state.begin_row(row, Interval::EMPTY, false, None)
     }

@@ -1,10 +1,10 @@
 -- The variables that are listed in a pair with each: what one pair more adds.
-use Rattle.std.proofs.Common.{arith, ◌≡◌, ◌≢◌, ◌∙◌, sym, ap, refl, subst, ℕ, ◌+◌, ◌<◌, ◌≤◌, Bool, true, false, cond, nat_eq, List, [], ◌∷◌, ◌++◌, map}
+use Rattle.std.proofs.Common.{arith, ◌≡◌, ◌≢◌, ◌∙◌, sym, ap, refl, subst, ℕ, ◌+◌, ◌<◌, Bool, true, false, cond, nat_eq, List, [], ◌∷◌, ◌++◌, map}
 use Rattle.std.proofs.Common.{append-nil, append_assoc, get_or, length, take}
-use Rattle.std.specs.Prelude.{flat_map, slice_set}
+use Rattle.std.specs.Prelude.{slice_set}
 use Rattle.std.specs.Global.{Vec}
 use Rattle.std.proofs.lemmas.Bool.{eq-eqb, eqb-true}
-use Rattle.std.proofs.lemmas.List.{flat_map_more, length-map, map-append, get_or_past, get_or-set_other, get_or-set_same, length-set, take_more}
+use Rattle.std.proofs.lemmas.List.{flat_map_more, map-append, get_or_past, get_or-set_other, get_or-set_same, length-set, take_more}
 use Rattle.certificate.specs.declared.AliasPair.{AliasPair}
 use Rattle.structured_states.specs.Pairs.{aliases_of, partner}
 use Rattle.structured_states.specs.View.{ArePartners, HaveEntered, partners_at, said_pair, said_pairs}

@@ -21,7 +21,7 @@ returns-then-not-lies_among c =
     let rest = are_of_rows tree (range_with_len (span.first + (i + 1)) (span.count - (i + 1))) (drop (i + 1) c.args.ranges.now) in
     let within : i < length c.args.ranges.now = omega (arith, c.loop-i-test.true, c.if-ranges-span.false) in
     let among : lies_among (values_at (rows_of tree) (span.first + i)) range ≡ false =
-        ap (λ values. lies_among values range) (sym c.values.ensures) ∙ sym c.lies_among.ensures ∙ c.if-not-lies_among.true in
+    ap (λ values. lies_among values range) (sym c.values.ensures) ∙ sym c.lies_among.ensures ∙ c.if-not-lies_among.true in
     sym (rows-on tree span.first span.count i c.args.ranges.now range c.loop-i-test.true within c.index-ranges-i.is
     ∙ ap (λ one. one && rest) among)
     ∙ c.loop-i.invariant
@@ -35,7 +35,7 @@ loop-i-preserved c =
     let rest = are_of_rows tree (range_with_len (span.first + (i + 1)) (span.count - (i + 1))) (drop (i + 1) c.args.ranges.now) in
     let within : i < length c.args.ranges.now = omega (arith, c.loop-i-test.true, c.if-ranges-span.false) in
     let among : lies_among (values_at (rows_of tree) (span.first + i)) range ≡ true =
-        ap (λ values. lies_among values range) (sym c.values.ensures) ∙ sym c.lies_among.ensures ∙ c.if-not-lies_among.false in
+    ap (λ values. lies_among values range) (sym c.values.ensures) ∙ sym c.lies_among.ensures ∙ c.if-not-lies_among.false in
     sym (rows-on tree span.first span.count i c.args.ranges.now range c.loop-i-test.true within c.index-ranges-i.is
     ∙ ap (λ one. one && rest) among)
     ∙ c.loop-i.invariant

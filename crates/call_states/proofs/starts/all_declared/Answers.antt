@@ -29,7 +29,7 @@ loop-root-preserved c =
       long = omega (arith, same, set, long-same old, long-same new, so_far.long);
       left =
           roots-next blocks root place declared c.index.result.now (rows_in old) (rows_in new) _ (omega (arith, c.loop-root-test.true, c.in_ok-count.ensures))
-              c.index.ensures place_is put so_far.left;
+          c.index.ensures place_is put so_far.left;
     }
 
 pub returns : goal.returns

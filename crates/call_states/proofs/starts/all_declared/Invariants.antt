@@ -1,4 +1,4 @@
-use Rattle.std.proofs.Common.{◌≡◌, ℕ, suc, List, [], drop, length, map, replicate}
+use Rattle.std.proofs.Common.{◌≡◌, ℕ, suc, [], drop, length, map, replicate}
 use Rattle.std.specs.Global.{Vec}
 use Rattle.call_states.specs.View.{with_roots}
 use Rattle.call_states.proofs.starts.all_declared.Given as goal

@@ -5,8 +5,6 @@ use Rattle.typed_tree.specs.declared.tree.Tree.{Tree}
 use Rattle.component_states.specs.Components.{RowState, with_row}
 use Rattle.component_states.specs.States.{State, over_components}
 use Rattle.component_states.specs.View.{viewed}
-use Rattle.leaf_rows.specs.Rows.{rows_of}
-use Rattle.structured_states.specs.Loops.{row_limits}
 use Rattle.call_states.specs.Starts.{start_range}
 use Rattle.call_states.specs.View.{row_begun}
 use Rattle.call_states.proofs.Beginning.{begun, row-seen}
