@@ -340,7 +340,6 @@ fn required_call(
 }
 
 // The call of a procedure that a program declares (6.8.2.3): K3 at the name of a function.
-#[tactic(auto, using(typed_tree::proofs::Looks::look_procedure_call))]
 fn declared_call(
     typer: &mut Typer,
     callee: u32,
