@@ -7,7 +7,8 @@ use Rattle.std.specs.List.{All, range_with_len}
 use Rattle.std.specs.Option.{option_map}
 use Rattle.std.specs.Prelude.{flat_map, slice_get}
 use Rattle.std.proofs.lemmas.Bool.{and_parts, cond_both, eq-eqb, eqb-true, false≢true, or_cases, or_left, or_right}
-use Rattle.std.proofs.lemmas.List.{drop_more, ext_get_or, get_or-map, get_or-replicate, get_or-set_other, get_or-set_same, length-map, length-set, length-replicate}
+use Rattle.std.proofs.lemmas.List.{drop_more, ext_get_or, get_or-map, get_or-replicate, get_or-set_other, get_or-set_same, length-map, length-replicate}
+use Rattle.std.proofs.lemmas.List.{length-set}
 use Rattle.std.proofs.lemmas.List.Elements.{All-append, All-get_or, All-nil, All-cons, All-map}
 use Rattle.std.proofs.lemmas.List.Folds.{list_any-append}
 use Rattle.std.proofs.lemmas.List.FromFn.{get_or-map-range_with_len, length-map-range_with_len}
@@ -184,7 +185,9 @@ set_all-each new none [] items each i inside =
 set_all-each new none (k ∷ more) items each i inside =
     let same = length-set items k (new k) in
     set_all-each new none more (set items k (new k))
-    (λ j within. let inside_j : j < length items = omega (arith, within, same) in set-cases new items none k j more (nat_eq k j) refl inside_j (each j inside_j))
+    (λ j within.
+    let below : j < length items = omega (arith, within, same) in
+    set-cases new items none k j more (nat_eq k j) refl below (each j below))
     i (omega (arith, inside, same))
 
 -- ---- the variables that a block sees

@@ -18,9 +18,9 @@ ghost use Rattle.call_states.specs.View.{said_claims, said_found};
 ghost use Rattle.exit_states.specs.View.{left_behind, said_change, said_touches, steady_at};
 ghost use Rattle.exit_states.specs.View.{touched_by};
 
+use crate::changes::{Change, all_changes, exit_range, roots_changed};
 use call_states::actuals::{Actual, Bearer, Bindings, bearers_named, is_entire};
 use call_states::aliases::{drop_all, is_among, is_same, variable_values};
-use crate::changes::{Change, all_changes, exit_range, roots_changed};
 use call_states::sections;
 use certificate::{Fact as Claim, Path, Section};
 use component_states::{ComponentFact, Reach, State, Stretch, all_of_row, moved};
