@@ -52,7 +52,7 @@ use Rattle.expression_checker.proofs.SoundAccesses.{LeadsTo, leads-seen, leads-t
 use Rattle.expression_checker.proofs.SoundCalls.{CallLaws}
 use Rattle.expression_checker.proofs.SoundExpressions.{SoundAction, access-sound, value-sound}
 use Rattle.expression_checker.proofs.SoundOperations.{IsKnownOf, fitting-sound}
-use Rattle.expression_checker.proofs.SoundRows.{IsReachedBy, Leads, Matches, rows-are}
+use Rattle.expression_checker.proofs.SoundRows.{IsReachedBy, Leads, rows-are}
 use Rattle.cert_checker.specs.Walk as walk
 use Rattle.cert_checker.specs.Walk.{Stores, alike, reach_before}
 use Rattle.cert_checker.proofs.Targets.{alike-at, alike-targets}

@@ -3,11 +3,10 @@ use Rattle.std.specs.Prelude.{int_div, int_le, int_lt, not, if◌then◌else◌}
 use Rattle.std.specs.Int.{int_rem_euclid}
 use Rattle.std.specs.Ordering.{int_eq}
 use Rattle.std.proofs.Common.{arith, ◌≡◌, ◌⊎◌, inl, inr, ⊎_elim, ℕ, zero, suc, ℤ, pos, ◌+ℤ◌, ◌-ℤ◌, ◌*ℤ◌, ◌<◌, ◌≤◌, List, [], ◌∷◌, ◌++◌, Bool}
-use Rattle.std.proofs.Common.{true, false, ◌&&◌, Option, Some, None, nat_eq, refl, sym, ap, ◌∙◌, subst}
+use Rattle.std.proofs.Common.{true, false, Option, Some, None, refl, sym, ap, ◌∙◌, subst}
 use Rattle.std.proofs.lemmas.Bool.{and_parts, and_from, eqb-true, eq-eqb}
 use Rattle.std.proofs.lemmas.Int.{ints}
 use Rattle.std.specs.Cmp.{int_eq_equiv}
-use Rattle.std.specs.Cmp.Lexicographic.{pointwise}
 use Rattle.types.specs.declared.form.Step.{Step}
 use Rattle.types.specs.declared.form.Step.TheVariants.{Element, Field}
 use Rattle.typed_tree.specs.declared.tree.Monadic.{Monadic}

@@ -33,7 +33,6 @@ use Rattle.abstract_state.specs.declared.known.Known.TheVariants.{Ordinal}
 use Rattle.expression_checker.specs.Visits.{Visits, all_counted, counted}
 use Rattle.component_states.specs.Components.{Reach, Entire}
 use Rattle.component_states.specs.States.{State}
-use Rattle.abstract_state.specs.Forms.{bound_of}
 use Rattle.expression_checker.specs.Walk.{Context, Joint, Linked, Piece, Walking, Combination, numbers_of, operated, combined, width_test}
 use Rattle.expression_checker.specs.Walk.{PassedPiece, actuals_walk, call_walk, called_block, fitting, form_before, passed_piece_of, passed_step, result_of}
 use Rattle.expression_checker.specs.Walk.{result_walk}

@@ -1,11 +1,10 @@
 -- The walk over calls is sound, where that over their actual parameters is, and where calls are.
-use Rattle.std.proofs.Common.{arith, ◌≡◌, ⊎_elim, ◌∙◌, sym, ap, refl, subst, ℕ, Bool, true, false, cond, ◌&&◌, ◌||◌, List, [], ◌∷◌, ◌++◌, map, Option}
+use Rattle.std.proofs.Common.{◌≡◌, ◌∙◌, sym, ap, refl, subst, ℕ, Bool, true, false, cond, ◌&&◌, ◌||◌, List, [], ◌∷◌, ◌++◌, map, Option}
 use Rattle.std.proofs.Common.{Some, None}
 use Rattle.std.specs.Prelude.{nat_eq, slice_get}
 use Rattle.std.specs.List.{Contains, list_all}
-use Rattle.std.proofs.lemmas.Bool.{and_parts, cases_eq, eq-eqb, eqb-true, or_left, or_parts, or_right}
+use Rattle.std.proofs.lemmas.Bool.{and_parts, eqb-true, or_left, or_parts, or_right}
 use Rattle.std.proofs.lemmas.List.Folds.{list_any-append, list_all_at}
-use Rattle.std.proofs.lemmas.Option.{none-some}
 use Rattle.place.specs.declared.Place.{Place as SourcePlace}
 use Rattle.types.specs.declared.form.Step.{Step}
 use Rattle.typed_tree.specs.declared.tree.Block.{Block}
@@ -13,19 +12,15 @@ use Rattle.typed_tree.specs.declared.tree.Call.{Call}
 use Rattle.typed_tree.specs.declared.tree.FunctionResult.{FunctionResult}
 use Rattle.typed_tree.specs.declared.tree.Variable.{Variable}
 use Rattle.typed_tree.specs.WellFormed.{declarer, is_round, is_value_kind, is_variable_kind, of_one, outline_of}
-use Rattle.domain.specs.Interval.{Interval}
 use Rattle.meaning.specs.declared.store.Value.{Value}
 use Rattle.meaning.specs.Effect as effect
 use Rattle.meaning.specs.Meaning as meaning
 use Rattle.meaning.specs.Meaning.{Argument, Passing, Surroundings, all_passed}
 use Rattle.meaning.specs.Store.{Environment, Place, Store}
 use Rattle.abstract_state.specs.Holds.{HasValue, IsIn, part_of, value_at}
-use Rattle.abstract_state.specs.Knows.{IsKept, moment}
+use Rattle.abstract_state.specs.Knows.{moment}
 use Rattle.abstract_state.specs.Loops.{is_among}
-use Rattle.abstract_state.specs.declared.known.Known.{Known}
-use Rattle.abstract_state.specs.declared.known.Known.TheVariants.{Ordinal}
-use Rattle.abstract_state.specs.State.{unless_empty}
-use Rattle.component_states.specs.States.{State, over_variables}
+use Rattle.component_states.specs.States.{State}
 use Rattle.component_states.specs.Holds.{Knows}
 use Rattle.structured_states.specs.Loops.{Round, all_list, touched}
 use Rattle.structured_states.specs.Pairs.{aliases_of}
@@ -41,8 +36,8 @@ use Rattle.expression_checker.specs.declared.fault.Rule.TheVariants.{Aliases, Ca
 use Rattle.expression_checker.specs.Walk as walk
 use Rattle.expression_checker.specs.Walk.{Context, PassedPiece, Walked, Walking, actuals_hold_call, actuals_walk, called_block, may_change}
 use Rattle.expression_checker.proofs.Keeping.{Keeps, keeps-itself}
-use Rattle.expression_checker.proofs.Sound.{World, Any_value, Behind, Called, Good, Goes, Here, IsClosed, IsForetold, IsPartOf, IsValue, Leaves, LiesInResult}
-use Rattle.expression_checker.proofs.Sound.{Returned, Sound, SoundCalls, SoundFrom, Stands, from-then, gives-state, good-give, good-weaker, is_seen}
+use Rattle.expression_checker.proofs.Sound.{World, Any_value, Called, Good, Goes, Here, IsClosed, IsForetold, IsPartOf, IsValue, Leaves, LiesInResult}
+use Rattle.expression_checker.proofs.Sound.{Returned, Sound, SoundCalls, SoundFrom, from-then, gives-state, good-give, good-weaker, is_seen}
 use Rattle.expression_checker.proofs.Sound.{part-left, parts_in, sound-anywhere, sound-enter, sound-give, sound-here, unbroken-left, unbroken-right}
 use Rattle.expression_checker.proofs.Sound.{nonempty-stands, variables_in}
 

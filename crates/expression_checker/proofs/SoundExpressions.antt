@@ -1,8 +1,7 @@
 -- The walk over expressions is sound, form by form, and so is that over values that are written.
-use Rattle.std.proofs.Common.{arith, ◌≡◌, ◌∙◌, ap, refl, sym, subst, ℕ, zero, suc, ◌+◌, ◌<◌, ℤ, pos, Bool, true, false, cond, ◌&&◌, ◌||◌, nat_eq, nat_lt}
+use Rattle.std.proofs.Common.{arith, ◌≡◌, ◌∙◌, ap, refl, sym, subst, ℕ, suc, ◌+◌, ◌<◌, ℤ, pos, Bool, true, false, cond, ◌&&◌, nat_eq, nat_lt}
 use Rattle.std.proofs.Common.{ap₂, length, List, [], ◌∷◌, ◌++◌, map, not, Option, Some, None}
 use Rattle.std.specs.Prelude.{slice_get}
-use Rattle.std.specs.List.{list_any}
 use Rattle.std.specs.Option.{option_and_then, option_map}
 use Rattle.std.specs.Ordering.{int_eq}
 use Rattle.std.proofs.lemmas.Bool.{and_parts, eqb-true, ltb-true}
@@ -37,8 +36,6 @@ use Rattle.typed_tree.specs.declared.tree.Expr.TheOpen.Passed-F.{Value as Passed
 use Rattle.typed_tree.specs.declared.tree.Expr.TheViews.{roll-Expr, roll-Link, roll-Passed}
 use Rattle.typed_tree.specs.declared.tree.Expr.TheFolds.{map-Expr, map-Link, map-Passed, fold-roll-Expr, fold-roll-Link, fold-roll-Passed, ind-Expr, ind-Passed}
 use Rattle.typed_tree.specs.Accesses as accesses
-use Rattle.typed_tree.specs.Calls.{any_holds, expression_holds_call, hold_call, holds_call, link_holds_call, link_holds_call_of, passed_holds_call}
-use Rattle.typed_tree.specs.Calls.{passed_step_holds_call, whole_holds_call}
 use Rattle.typed_tree.specs.WellFormed.{Outline, all_hold, declarer, dyadic_is_well_formed, expr_is_well_formed, formal_of, heading_of, is_callable, is_kind_of}
 use Rattle.typed_tree.specs.WellFormed.{is_passed_to, is_range_of, is_round, is_value_kind, is_variable_kind, is_well_formed_call, is_well_formed_expr}
 use Rattle.typed_tree.specs.WellFormed.{is_well_formed_link, is_well_formed_parameter, is_well_formed_passed, is_well_formed_test, is_well_formed_width}
@@ -58,9 +55,7 @@ use Rattle.domain.specs.Facts.{Bound}
 use Rattle.domain.specs.Interval.{Interval, truth_values}
 use Rattle.abstract_state.specs.declared.known.Known.{Known}
 use Rattle.abstract_state.specs.declared.known.Known.TheVariants.{Ordinal}
-use Rattle.abstract_state.specs.Conditions.{Condition, Conjunct, bound_form, condition_of, condition_step, conjunct_of, link_condition, operand_of}
-use Rattle.abstract_state.specs.Conditions.{passed_condition}
-use Rattle.abstract_state.specs.Forms.{Form, Operand, bound_of, chain_form, sign_form}
+use Rattle.abstract_state.specs.Forms.{bound_of}
 use Rattle.abstract_state.specs.Holds.{IsIn}
 use Rattle.abstract_state.specs.Knows.{IsOfForm, moment}
 use Rattle.abstract_state.specs.State.{limits_of}

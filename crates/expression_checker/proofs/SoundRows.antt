@@ -1,15 +1,12 @@
 -- What an access reaches of the rows of components, and what is known of the values there.
-use Rattle.std.proofs.Common.{arith, ◌≡◌, ⊎_elim, ◌⊎◌, inl, inr, ◌∙◌, sym, ap, refl, subst, ℕ, zero, suc, ℤ, pos, ◌≤ℤ◌, Bool, true, false, cond}
-use Rattle.std.proofs.Common.{List, [], ◌∷◌, ◌++◌, length, map, Option, Some, None}
-use Rattle.std.specs.Prelude.{Contains, slice_get}
+use Rattle.std.proofs.Common.{arith, ◌≡◌, ◌∙◌, sym, ap, refl, subst, ℕ, zero, suc, ℤ, pos, Bool, true}
+use Rattle.std.proofs.Common.{List, [], ◌∷◌, ◌++◌, length, map, Some}
+use Rattle.std.specs.Prelude.{Contains}
 use Rattle.std.specs.List.{All, list_all}
-use Rattle.std.proofs.lemmas.Bool.{or_cases}
-use Rattle.std.proofs.lemmas.Int.{ints}
 use Rattle.std.proofs.lemmas.List.Elements.{All-contains}
 use Rattle.std.proofs.lemmas.List.Sums.{AllPass-from_list_all}
 use Rattle.types.specs.Components.{components_of}
 use Rattle.types.specs.Forms.{Form}
-use Rattle.types.specs.declared.form.OrdinalRange.{OrdinalRange}
 use Rattle.types.specs.declared.form.Step.{Step}
 use Rattle.types.specs.declared.form.Step.TheVariants as step
 use Rattle.types.specs.declared.form.TypeId.{TypeId}
@@ -19,28 +16,22 @@ use Rattle.typed_tree.specs.declared.tree.Tree.{Tree}
 use Rattle.typed_tree.specs.declared.tree.Whole.{Whole}
 use Rattle.typed_tree.specs.declared.tree.Whole.TheVariants.{Text, Variable as VariableOf}
 use Rattle.typed_tree.specs.Accesses.{index_count}
-use Rattle.domain.specs.Facts.{Bound, Number as NumberBound, Plus}
 use Rattle.domain.specs.Interval.{HasMember, Interval}
 use Rattle.meaning.specs.declared.store.Value.{Value}
-use Rattle.meaning.specs.declared.store.Value.TheVariants.{Number}
-use Rattle.meaning.specs.Integers.{is_integer_number}
-use Rattle.meaning.specs.Store.{Environment, Place, Store, part}
-use Rattle.abstract_state.specs.Holds.{HasValue, IsBound, IsIn, Moment}
+use Rattle.meaning.specs.Store.{Environment, Store}
+use Rattle.abstract_state.specs.Holds.{HasValue, IsIn}
 use Rattle.abstract_state.specs.State.{integer}
 use Rattle.abstract_state.specs.Knows.{moment}
-use Rattle.leaf_rows.specs.Leaves.{Leaf, is_named, leaves_of}
+use Rattle.leaf_rows.specs.Leaves.{leaves_of}
 use Rattle.leaf_rows.specs.Rows.{Parts, all_parts, first_index, index_at, is_structured, rows_accessed, rows_of}
-use Rattle.leaf_rows.proofs.Accessed.{indexes-are}
 pub use Rattle.leaf_rows.proofs.Accessed.{RowsAre, rows-are}
 pub use Rattle.leaf_rows.proofs.Selected.{Matches}
 pub use Rattle.call_states.proofs.FormalRows.{one-way}
 pub use Rattle.call_states.proofs.Passed.{IsIndexOn, IsReachedBy, Leads, LieIn}
 pub use Rattle.call_states.proofs.Reached.{first-then, reached-has}
-use Rattle.component_states.specs.Components.{At, Defined, Entire, Index, Inside, Reach, Stretch, Stretched, at_index, between, row_at, with_defined}
+use Rattle.component_states.specs.Components.{At, Entire, Inside, Reach, row_at, with_defined}
 use Rattle.component_states.specs.Holds.{HasComponent, IsOfRow, Knows}
-use Rattle.component_states.specs.States.{State, all_of_row, gives_component, gives_form, gives_index, gives_reached, gives_some, is_dead, over_components}
-use Rattle.component_states.specs.States.{range_stretch}
-use Rattle.component_states.proofs.Given.{given-holds}
+use Rattle.component_states.specs.States.{State, gives_reached, over_components}
 use Rattle.component_states.proofs.Joins.{in-left, in-right}
 use Rattle.component_states.proofs.Rows.{with_defined-holds}
 use Rattle.expression_checker.specs.Walk.{all_defined, all_joined, is_covered, ranges_of, text_range, with_used}

@@ -25,8 +25,6 @@ use Rattle.expression_checker.specs.declared.fault.CheckFault.TheVariants.{Memor
 use Rattle.expression_checker.specs.declared.flow.Flow.{Flow}
 use Rattle.abstract_state.specs.declared.known.Known.{Known}
 use Rattle.abstract_state.specs.declared.known.Known.TheVariants.{Ordinal}
-use Rattle.abstract_state.specs.Conditions.{bound_form}
-use Rattle.abstract_state.specs.Forms.{bound_of}
 use Rattle.abstract_state.specs.State.{is_defined, limits_of, range_of, unless_empty}
 use Rattle.abstract_state.specs.State as variables
 use Rattle.component_states.specs.declared.state.State.{State as Kept}
