@@ -46,8 +46,8 @@ use Rattle.abstract_state.specs.Forms.{Form, Literal, Signed, Entire, Moved, Oth
 use Rattle.abstract_state.specs.Forms.{offset_form}
 use Rattle.abstract_state.specs.Forms.{sign_form, signed}
 use Rattle.abstract_state.specs.Conditions.{Condition, Conjunct, all_refined, bound_form, branched, chain_refined, condition_of, condition_step, conjunct_of}
-use Rattle.abstract_state.specs.Conditions.{link_condition, monadic_refined, passed_condition, operand_of, operation_refined, related_forms, single_refined, takes_both}
-use Rattle.abstract_state.specs.Conditions.{told, unless_excluded}
+use Rattle.abstract_state.specs.Conditions.{link_condition, monadic_refined, passed_condition, operand_of}
+use Rattle.abstract_state.specs.Conditions.{operation_refined, related_forms, single_refined, takes_both, told, unless_excluded}
 use Rattle.abstract_state.specs.Holds.{Moment, HasNumber, IsIn, part_of, value_at}
 use Rattle.abstract_state.proofs.Apart.{entire-stored}
 use Rattle.abstract_state.proofs.Bounded.{opposite-relates, related-known}

@@ -63,8 +63,8 @@ use Rattle.expression_checker.specs.Walk.{range_in, ranges_of, text_range, value
 use Rattle.expression_checker.proofs.Fitting.{contains-at, same-type}
 use Rattle.expression_checker.proofs.Keeping.{Keeps, keeps-itself}
 use Rattle.expression_checker.proofs.Sound.{World, Any_value, Good, Here, IsForetold, IsPartOf, IsValue, Leaves, Sound, SoundFrom, Stands, alive, declared_in}
-use Rattle.expression_checker.proofs.Sound.{errs-here, false-true, from-then, gives-state, good-give, good-then, good-weaker, is_seen, nothing-new, open-here, parts_in}
-use Rattle.expression_checker.proofs.Sound.{sites_in, sound-anywhere, sound-enter, sound-give, sound-here, sound-named, sound-then, sound-use, stands-as}
+use Rattle.expression_checker.proofs.Sound.{errs-here, false-true, from-then, gives-state, good-give, good-then, good-weaker, is_seen, nothing-new}
+use Rattle.expression_checker.proofs.Sound.{open-here, parts_in, sites_in, sound-anywhere, sound-enter, sound-give, sound-here, sound-named, sound-then, sound-use, stands-as}
 use Rattle.expression_checker.proofs.Sound.{nonempty-stands, types_in, variables_in}
 use Rattle.expression_checker.proofs.SoundOperations.{IsKnownOf, fitting-sound}
 use Rattle.expression_checker.proofs.SoundRows.{AreIntegers, IsIndexOn, IsReachedBy, IsWhole, Leads, LieIn, Matches, RowsAre, covered-row, first-behind}

@@ -281,7 +281,8 @@ pub record OwnField (laid : List LaidOut) (before : List Leafed) (fields : List 
   pub of_components : Has (components_at laid field.type_id) rest
   pub named : is_named own.steps rest ≡ true
 
-pub own-field : (laid : List LaidOut) (before : List Leafed) (fields : List FieldForm) (leaf : Leaf) (steps : Steps) → Has (fields_components laid 0 fields) steps
+pub own-field : (laid : List LaidOut) (before : List Leafed) (fields : List FieldForm) (leaf : Leaf) (steps : Steps)
+    → Has (fields_components laid 0 fields) steps
     → Has (fields_leaves before 0 fields) leaf → is_named leaf.steps steps ≡ true → OwnField laid before fields leaf steps
 own-field laid before fields leaf steps of_row of_leaf named =
     let found = in-field laid 0 fields of_row.0 steps of_row.1 in
