@@ -64,8 +64,8 @@ use Rattle.expression_checker.proofs.Fitting.{contains-at, same-type}
 use Rattle.expression_checker.proofs.Keeping.{Keeps, keeps-itself}
 use Rattle.expression_checker.proofs.Sound.{World, Any_value, Good, Here, IsForetold, IsPartOf, IsValue, Leaves, Sound, SoundFrom, Stands, alive, declared_in}
 use Rattle.expression_checker.proofs.Sound.{errs-here, false-true, from-then, gives-state, good-give, good-then, good-weaker, is_seen, nothing-new}
-use Rattle.expression_checker.proofs.Sound.{open-here, parts_in, sites_in, sound-anywhere, sound-enter, sound-give, sound-here, sound-named, sound-then, sound-use, stands-as}
-use Rattle.expression_checker.proofs.Sound.{nonempty-stands, types_in, variables_in}
+use Rattle.expression_checker.proofs.Sound.{sound-anywhere, sound-enter, sound-give, sound-here, sound-named, sound-then, sound-use, stands-as}
+use Rattle.expression_checker.proofs.Sound.{sites_in, parts_in, open-here, nonempty-stands, types_in, variables_in}
 use Rattle.expression_checker.proofs.SoundOperations.{IsKnownOf, fitting-sound}
 use Rattle.expression_checker.proofs.SoundRows.{AreIntegers, IsIndexOn, IsReachedBy, IsWhole, Leads, LieIn, Matches, RowsAre, covered-row, first-behind}
 use Rattle.expression_checker.proofs.SoundRows.{first-then, joined-in, matches-then, reached-has, rows-are, used-known}
