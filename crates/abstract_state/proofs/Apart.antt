@@ -1,15 +1,15 @@
--- Variables that share no place: what is written at the place of one leaves each part of another alone.
-use Rattle.std.proofs.Common.{arith, ◌≡◌, ◌≢◌, ⊎_elim, ◌∙◌, ap, refl, sym, ℕ, Bool, true, false, cond, ◌&&◌, nat_eq, List, [], ◌∷◌, ◌++◌, append-nil, Option}
+-- Places that don't overlap: what is put at one, or at a part of it, leaves each part of the other alone.
+use Rattle.std.proofs.Common.{arith, ◌≡◌, ◌∙◌, ap, refl, sym, ℕ, Bool, true, false, cond, ◌&&◌, nat_eq, List, [], ◌∷◌, ◌++◌, append-nil, Option}
 use Rattle.std.proofs.Common.{Some}
-use Rattle.std.proofs.Common.{None}
+use Rattle.std.proofs.lemmas.Int.{ints}
 use Rattle.std.proofs.lemmas.Bool.{and_parts, and_from, eq-eqb, eqb-true, false_from_ne_true}
 use Rattle.std.specs.Cmp.{int_eq_equiv}
 use Rattle.std.specs.Cmp.Lexicographic.{pointwise}
 use Rattle.meaning.specs.declared.store.Value.{Value}
 use Rattle.types.specs.declared.form.Step.{Step}
 use Rattle.types.specs.declared.form.Step.TheVariants.{Element, Field}
-use Rattle.meaning.specs.Store.{Place, Store, Environment, step_eq, place_eq, is_beginning, overlap, stored, written}
-use Rattle.abstract_state.specs.Holds.{Separate, part_of}
+use Rattle.meaning.specs.Store.{Place, Store, step_eq, place_eq, is_beginning, overlap, stored, written}
+use Rattle.abstract_state.specs.Holds.{part_of}
 
 -- ---- places
 
@@ -96,27 +96,54 @@ written-stored store p v = ap (λ (same : Bool). cond same (Some v) (stored stor
 
 -- ---- others
 
--- no pair is listed, so no two variables share a place
-pub share-none : (env : Environment) → Separate env [] → (a b : ℕ) (p q : Place) → env.variables a ≡ Some p → env.variables b ≡ Some q → a ≢ b
-    → overlap p q ≡ true → ⊥
-share-none env separate a b p q at_a at_b differ overlaps =
-    ⊎_elim (λ listed. absurd (omega (arith, listed.1))) (λ listed. absurd (omega (arith, listed.1))) (separate a b p q at_a at_b differ overlaps)
+-- what was put at a place leaves each part of one that it doesn't overlap
+pub entry-kept : (store : Store) (entry : Option Value) (p q : Place) (steps : List Step) → (overlap p q ≡ true → ⊥)
+    → part_of ((p, entry) ∷ store) (Some q) steps ≡ part_of store (Some q) steps
+entry-kept store entry p q steps apart =
+    ap (λ (same : Bool). cond same entry (stored store (part q steps)))
+    (false_from_ne_true (place_eq p (part q steps)) (λ same. apart (part-overlaps p q steps same)))
 
--- a part of another variable has the value that it had
-pub other-kept : (env : Environment) → Separate env [] → (store : Store) (v : Value) (a b : ℕ) (p : Place) → env.variables a ≡ Some p → a ≢ b
-    → (found : Option Place) → env.variables b ≡ found → (steps : List Step)
-    → part_of (written store p v) found steps ≡ part_of store found steps
-other-kept env separate store v a b p at_a differ None at_b steps = refl
-other-kept env separate store v a b p at_a differ (Some q) at_b steps =
-    ap (λ (same : Bool). cond same (Some v) (stored store (part q steps)))
-    (false_from_ne_true (place_eq p (part q steps)) (λ same. share-none env separate a b p q at_a at_b differ (part-overlaps p q steps same)))
+-- the same where it was put at a part of the one
+pub part-kept : (store : Store) (entry : Option Value) (first : List Step) (p q : Place) (steps : List Step) → (overlap p q ≡ true → ⊥)
+    → part_of ((part p first, entry) ∷ store) (Some q) steps ≡ part_of store (Some q) steps
+part-kept store entry first p q steps apart =
+    ap (λ (same : Bool). cond same entry (stored store (part q steps)))
+    (false_from_ne_true (place_eq (part p first) (part q steps)) (λ same. apart (parts-overlap p q first steps same)))
 
--- the same where a part of the one is written
-pub part-others : (env : Environment) → Separate env [] → (store : Store) (v : Value) (first : List Step) (a b : ℕ) (p : Place) → env.variables a ≡ Some p
-    → a ≢ b → (found : Option Place) → env.variables b ≡ found → (steps : List Step)
-    → part_of (written store (part p first) v) found steps ≡ part_of store found steps
-part-others env separate store v first a b p at_a differ None at_b steps = refl
-part-others env separate store v first a b p at_a differ (Some q) at_b steps =
-    ap (λ (same : Bool). cond same (Some v) (stored store (part q steps)))
-    (false_from_ne_true (place_eq (part p first) (part q steps))
-    (λ same. share-none env separate a b p q at_a at_b differ (parts-overlap p q first steps same)))
+-- ---- places that are the same
+
+step-same : (s t : Step) → step_eq s t ≡ true → s ≡ t
+step-same (Element i) (Element j) is = let same : i ≡ j = grind (arith, ints) in ap Element same
+step-same (Field a) (Field b) is = ap Field (eqb-true a b is)
+step-same (Element i) (Field b) is = absurd (cc)
+step-same (Field a) (Element j) is = absurd (cc)
+
+steps-same : (first second : List Step) → pointwise step_eq first second ≡ true → first ≡ second
+steps-same [] [] is = refl
+steps-same [] (t ∷ second) is = absurd (cc)
+steps-same (s ∷ first) [] is = absurd (cc)
+steps-same (s ∷ first) (t ∷ second) is =
+    let parts = and_parts (step_eq s t) (pointwise step_eq first second) is in
+    let one = step-same s t parts.0 in
+    let rest = steps-same first second parts.1 in
+    ap (λ (x : Step). x ∷ first) one ∙ ap (λ (xs : List Step). t ∷ xs) rest
+
+behind-same : (ps first second : List Step) → pointwise step_eq (ps ++ first) (ps ++ second) ≡ true → first ≡ second
+behind-same [] first second is = steps-same first second is
+behind-same (s ∷ ps) first second is =
+    behind-same ps first second (and_parts (step_eq s s) (pointwise step_eq (ps ++ first) (ps ++ second)) is).1
+
+-- parts of a place that are the same
+pub parts-same : (p : Place) (first second : List Step) → place_eq (part p first) (part p second) ≡ true → first ≡ second
+parts-same p first second is =
+    let rest = nat_eq p.variable p.variable && pointwise step_eq (p.steps ++ first) (p.steps ++ second) in
+    let one = and_parts (nat_eq p.activation p.activation) rest is in
+    behind-same p.steps first second (and_parts (nat_eq p.variable p.variable) (pointwise step_eq (p.steps ++ first) (p.steps ++ second)) one.1).1
+
+pub place-same : (p q : Place) → place_eq p q ≡ true → p ≡ q
+place-same p q is =
+    let one = and_parts (nat_eq p.activation q.activation) (nat_eq p.variable q.variable && pointwise step_eq p.steps q.steps) is in
+    let two = and_parts (nat_eq p.variable q.variable) (pointwise step_eq p.steps q.steps) one.1 in
+    ap (λ (n : ℕ). record p { activation = n }) (eqb-true p.activation q.activation one.0)
+    ∙ ap (λ (n : ℕ). record p { activation = q.activation; variable = n }) (eqb-true p.variable q.variable two.0)
+    ∙ ap (λ (s : List Step). record q { steps = s }) (steps-same p.steps q.steps two.1)

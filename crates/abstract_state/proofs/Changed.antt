@@ -1,40 +1,30 @@
 -- What is known of a variable's new value, and what is left of the facts, holds after the value was written.
-use Rattle.std.proofs.Common.{arith, ◌≡◌, ◌≢◌, ⊎_elim, ◌∙◌, sym, ap, refl, subst, ℕ, ℤ, ◌+ℤ◌, neg_ℤ, ◌≤ℤ◌, ◌<◌, Bool, true, false, cond, nat_eq, List, [], ◌∷◌}
-use Rattle.std.proofs.Common.{◌++◌, get_or, set, Option, Some, None}
+use Rattle.std.proofs.Common.{arith, ◌≡◌, ⊎_elim, ◌∙◌, sym, ap, refl, subst, ℕ, ℤ, ◌+ℤ◌, neg_ℤ, ◌≤ℤ◌, ◌<◌, Bool, true, false, cond, ◌||◌, nat_eq, List, []}
+use Rattle.std.proofs.Common.{◌∷◌, get_or, set, Option, Some, None}
 use Rattle.std.specs.List.{filter_map}
 use Rattle.std.proofs.lemmas.Int.{ints}
-use Rattle.std.proofs.lemmas.Bool.{cases_eq, eqb-true, eq-eqb, or_parts, cond_both}
+use Rattle.std.proofs.lemmas.Bool.{cases_Bool, cases_eq, cond_both, eqb-true, false_from_ne_true}
 use Rattle.std.proofs.lemmas.List.{get_or-set_same, length-set}
 use Rattle.std.proofs.lemmas.List.Elements.{All-contains}
 use Rattle.domain.specs.Interval.{Interval, vacant}
 use Rattle.domain.specs.Facts as fact
-use Rattle.domain.specs.Facts.{Path, Bound, Plus, Fact, Range, Defined, Stretch, Order, entire, with_fact}
+use Rattle.domain.specs.Facts.{Bound, Plus, Fact, Range, Defined, Stretch, Order, entire, with_fact}
 use Rattle.meaning.specs.declared.store.Value.{Value}
 use Rattle.meaning.specs.declared.store.Value.TheVariants.{Number}
 use Rattle.meaning.specs.Integers.{is_integer_number}
 use Rattle.types.specs.declared.form.Step.{Step}
-use Rattle.types.specs.declared.form.Step.TheVariants.{Element}
-use Rattle.meaning.specs.Store.{Place, Environment, Store, place_eq, stored, written}
+use Rattle.meaning.specs.Store.{Environment, Store}
 use Rattle.abstract_state.specs.State.{State, Facts, Dead, Live, with_value}
-use Rattle.abstract_state.specs.Changes.{assigned, bound_rests_on, changed, ordered, raised, raised_number, rests_on, unless_resting, with_change, with_equal}
+use Rattle.abstract_state.specs.Changes.{assigned, changed, ordered, raised, raised_number, rests_on, unless_resting, with_change, with_equal}
 use Rattle.abstract_state.specs.Changes.{with_some}
-use Rattle.abstract_state.specs.Holds.{Moment, Holds, HasNumber, HasValue, IsBound, IsIn, part_of, value_at}
+use Rattle.abstract_state.specs.Holds.{Moment, Holds, HasNumber, IsIn, value_at}
+use Rattle.abstract_state.specs.Loops.{is_among}
+use Rattle.abstract_state.specs.Knows.{IsFormApart, IsKept, IsLoose, IsLooseIn, rests_on_any}
 pub use Rattle.abstract_state.specs.Knows.{IsOfForm}
-use Rattle.abstract_state.proofs.Apart.{part, written-stored, other-kept}
 use Rattle.abstract_state.proofs.Given.{named-entire, same-number}
-use Rattle.abstract_state.proofs.Knows.{IsHeld, Knows, Shows, at-place, defined-known, entire-value, moment, place_of, set-at, with_some-known}
+use Rattle.abstract_state.proofs.Knows.{IsHeld, Knows, defined-known, moment, set-at, with_some-known}
 use Rattle.abstract_state.proofs.Like.{changed-all, each-of}
-
--- ---- what is defined stays so
-
-still-some : (same : Bool) (v : Value) (before : Option Value) → (w : Value) × (before ≡ Some w) → (w : Value) × (cond same (Some v) before ≡ Some w)
-still-some true v before has = (v, refl)
-still-some false v before has = has
-
-still-value : (store : Store) (p : Place) (v : Value) (found : Option Place) (steps : List Step) → (w : Value) × (part_of store found steps ≡ Some w)
-    → (w : Value) × (part_of (written store p v) found steps ≡ Some w)
-still-value store p v None steps has = has
-still-value store p v (Some q) steps has = still-some (place_eq p (part q steps)) v (stored store (part q steps)) has
+use Rattle.abstract_state.proofs.Steady.{apart-both, fact-stays}
 
 -- ---- order facts with numbers that facts have
 
@@ -57,60 +47,31 @@ ordered-known variables env (Live facts) store a b m n k left right less known =
 
 -- ---- the value of a variable is written
 
-module _ (variables : ℕ) (env : Environment) (shows : Shows variables env) (store : Store) (root : ℕ) (v : Value) (within : root < variables) where
+module _ (variables : ℕ) (env : Environment) (store later : Store) (root : ℕ) (aliases : List ℕ) (v : Value) (within : root < variables)
+    (kept : IsKept env (root ∷ aliases) [] store later) (own-value : value_at (moment env later) root [] ≡ Some v) where
   abbrev before : Moment
   before = moment env store
 
-  abbrev after_store : Store
-  after_store = written store (place_of env root) v
-
   abbrev after : Moment
-  after = moment env after_store
+  after = moment env later
 
-  own-value : value_at after root [] ≡ Some v
-  own-value = entire-value variables env shows after_store root within ∙ written-stored store (place_of env root) v
-
-  other-value : (other : ℕ) → root ≢ other → (steps : List Step) → value_at after other steps ≡ value_at before other steps
-  other-value other differ steps =
-      other-kept env shows.separate store v root other (place_of env root) (at-place variables env shows root within) differ (env.variables other) refl steps
+  other-value : (other : ℕ) → nat_eq root other ≡ false → is_among other aliases ≡ false → (steps : List Step)
+      → value_at after other steps ≡ value_at before other steps
+  other-value other differ free steps = kept.values other (ap (λ (b : Bool). b || is_among other aliases) differ ∙ free) steps
 
   -- ---- facts that don't rest on the variable
 
-  apart-from : (other : ℕ) → nat_eq root other ≡ false → root ≢ other
-  apart-from other is same = let yes = eq-eqb root other same in cc
+  other-number : (other : ℕ) (n : ℤ) → nat_eq root other ≡ false → is_among other aliases ≡ false → HasNumber before other n → HasNumber after other n
+  other-number other n differ free has = other-value other differ free [] ∙ has
 
-  other-number : (other : ℕ) (n : ℤ) → nat_eq root other ≡ false → HasNumber before other n → HasNumber after other n
-  other-number other n is has = other-value other (apart-from other is) [] ∙ has
+  pub kept-fact : (one : Fact) → rests_on root one ≡ false → rests_on_any aliases one ≡ false → Holds one before → Holds one after
+  kept-fact one rests free holds =
+      fact-stays env (root ∷ aliases) [] store later kept one (ap (λ (b : Bool). b || rests_on_any aliases one) rests ∙ free) refl holds
 
-  bound-kept : (bound : Bound) (n : ℤ) → bound_rests_on root bound ≡ false → IsBound before bound n → IsBound after bound n
-  bound-kept (fact.Number m) n rests is = is
-  bound-kept (Plus other m) n rests (number, has, is) = (number, other-number other number rests has, is)
-
-  still-has : (other : ℕ) (steps : List Step) → HasValue before other steps → HasValue after other steps
-  still-has other steps has = still-value store (place_of env root) v (env.variables other) steps has
-
-  pub kept-fact : (one : Fact) → rests_on root one ≡ false → Holds one before → Holds one after
-  kept-fact (Range path range) rests holds = λ steps w named is.
-      holds steps w named (sym (other-value path.root (apart-from path.root rests) steps) ∙ is)
-  kept-fact (Defined path) rests holds = (holds.0, holds.1, still-has path.root holds.0 holds.2)
-  kept-fact (Stretch path first last) rests (from, to, from_is, to_is, steps, named, each) =
-      let parts = or_parts (bound_rests_on root first) (bound_rests_on root last) rests in (
-        from,
-        to,
-        bound-kept first from parts.0 from_is,
-        bound-kept last to parts.1 to_is,
-        steps,
-        named,
-        λ index low high. still-has path.root (steps ++ Element index ∷ []) (each index low high),
-      )
-  kept-fact (Order a b number) rests (m, n, left, right, less) =
-      let parts = or_parts (nat_eq root a) (nat_eq root b) rests in
-      (m, n, other-number a m parts.0 left, other-number b n parts.1 right, less)
-
-  unless-kept : (one other : Fact) → unless_resting root one ≡ Some other → Holds one before → Holds other after
-  unless-kept one other is holds =
+  unless-kept : (one other : Fact) → unless_resting root one ≡ Some other → rests_on_any aliases one ≡ false → Holds one before → Holds other after
+  unless-kept one other is free holds =
       let parts = unless-if (rests_on root one) one other is in
-      subst (λ (fact : Fact). Holds fact after) parts.1 (kept-fact one parts.0 holds)
+      subst (λ (fact : Fact). Holds fact after) parts.1 (kept-fact one parts.0 free holds)
 
   -- ---- facts after the variable rose by a number
 
@@ -124,47 +85,55 @@ module _ (variables : ℕ) (env : Environment) (shows : Shows variables env) (st
     number-after : (other : ℕ) → nat_eq root other ≡ true → HasNumber after other (old +ℤ k)
     number-after other is = subst (λ (r : ℕ). HasNumber after r (old +ℤ k)) (eqb-true root other is) own-number
 
-    raised-order : (a b : ℕ) (number : ℤ) (left right : Bool) → nat_eq root a ≡ left → nat_eq root b ≡ right → Holds (Order a b number) before
-        → Holds (Order a b (raised_number left right k number)) after
-    raised-order a b number true true left_is right_is (m, n, at_a, at_b, less) =
+    raised-order : (a b : ℕ) (number : ℤ) (left right : Bool) → nat_eq root a ≡ left → nat_eq root b ≡ right → is_among a aliases ≡ false
+        → is_among b aliases ≡ false → Holds (Order a b number) before → Holds (Order a b (raised_number left right k number)) after
+    raised-order a b number true true left_is right_is a_free b_free (m, n, at_a, at_b, less) =
         let first = same-old a m left_is at_a in
         let second = same-old b n right_is at_b in
         (old +ℤ k, old +ℤ k, number-after a left_is, number-after b right_is, omega (arith, ints))
-    raised-order a b number true false left_is right_is (m, n, at_a, at_b, less) =
+    raised-order a b number true false left_is right_is a_free b_free (m, n, at_a, at_b, less) =
         let first = same-old a m left_is at_a in
-        (old +ℤ k, n, number-after a left_is, other-number b n right_is at_b, omega (arith, ints))
-    raised-order a b number false true left_is right_is (m, n, at_a, at_b, less) =
+        (old +ℤ k, n, number-after a left_is, other-number b n right_is b_free at_b, omega (arith, ints))
+    raised-order a b number false true left_is right_is a_free b_free (m, n, at_a, at_b, less) =
         let second = same-old b n right_is at_b in
-        (m, old +ℤ k, other-number a m left_is at_a, number-after b right_is, omega (arith, ints))
-    raised-order a b number false false left_is right_is (m, n, at_a, at_b, less) =
-        (m, n, other-number a m left_is at_a, other-number b n right_is at_b, less)
+        (m, old +ℤ k, other-number a m left_is a_free at_a, number-after b right_is, omega (arith, ints))
+    raised-order a b number false false left_is right_is a_free b_free (m, n, at_a, at_b, less) =
+        (m, n, other-number a m left_is a_free at_a, other-number b n right_is b_free at_b, less)
 
-    raised-fact : (one other : Fact) → raised root k one ≡ Some other → Holds one before → Holds other after
-    raised-fact (Order a b number) other is holds =
+    raised-fact : (one other : Fact) → raised root k one ≡ Some other → rests_on_any aliases one ≡ false → Holds one before → Holds other after
+    raised-fact (Order a b number) other is free holds =
         let new = raised_number (nat_eq root a) (nat_eq root b) k number in
+        let both = apart-both (λ alias. nat_eq alias a) (λ alias. nat_eq alias b) aliases free in
         subst (λ (fact : Fact). Holds fact after) (some-if (is_integer_number new) (Order a b new) other is)
-        (raised-order a b number (nat_eq root a) (nat_eq root b) refl refl holds)
-    raised-fact (Range path range) other is holds = unless-kept (Range path range) other is holds
-    raised-fact (Defined path) other is holds = unless-kept (Defined path) other is holds
-    raised-fact (Stretch path first last) other is holds = unless-kept (Stretch path first last) other is holds
+        (raised-order a b number (nat_eq root a) (nat_eq root b) refl refl both.0 both.1 holds)
+    raised-fact (Range path range) other is free holds = unless-kept (Range path range) other is free holds
+    raised-fact (Defined path) other is free holds = unless-kept (Defined path) other is free holds
+    raised-fact (Stretch path first last) other is free holds = unless-kept (Stretch path first last) other is free holds
 
   changed-if : (same : Bool) (by : ℕ) (k : ℤ) → nat_eq root by ≡ same → (one other : Fact) → IsOfForm before (Some (Plus by k)) v
-      → cond same (raised root k one) (unless_resting root one) ≡ Some other → Holds one before → Holds other after
-  changed-if true by k same one other (n, v_is, (old, old_is, n_is)) is holds =
-      raised-fact old k (subst (λ (r : ℕ). HasNumber before r old) (sym (eqb-true root by same)) old_is) (v_is ∙ ap Number (sym n_is)) one other is holds
-  changed-if false by k same one other of_form is holds = unless-kept one other is holds
+      → cond same (raised root k one) (unless_resting root one) ≡ Some other → rests_on_any aliases one ≡ false → Holds one before → Holds other after
+  changed-if true by k same one other (n, v_is, (old, old_is, n_is)) is free holds =
+      raised-fact old k (subst (λ (r : ℕ). HasNumber before r old) (sym (eqb-true root by same)) old_is) (v_is ∙ ap Number (sym n_is)) one other is free holds
+  changed-if false by k same one other of_form is free holds = unless-kept one other is free holds
 
-  pub changed-fact : (form : Option Bound) → IsOfForm before form v → (one other : Fact) → changed root form one ≡ Some other → Holds one before
-      → Holds other after
-  changed-fact None of_form one other is holds = unless-kept one other is holds
-  changed-fact (Some (fact.Number n)) of_form one other is holds = unless-kept one other is holds
-  changed-fact (Some (Plus by k)) of_form one other is holds = changed-if (nat_eq root by) by k refl one other of_form is holds
+  pub changed-fact : (form : Option Bound) → IsOfForm before form v → (one other : Fact) → changed root form one ≡ Some other
+      → rests_on_any aliases one ≡ false → Holds one before → Holds other after
+  changed-fact None of_form one other is free holds = unless-kept one other is free holds
+  changed-fact (Some (fact.Number n)) of_form one other is free holds = unless-kept one other is free holds
+  changed-fact (Some (Plus by k)) of_form one other is free holds = changed-if (nat_eq root by) by k refl one other of_form is free holds
 
   -- ---- rows
 
-  row-after : (facts : Facts) (range : Interval) → IsHeld variables env facts store → IsIn range v → (other : ℕ)
+  -- that of another variable had its value before, or it is an alias
+  old-row : (facts : Facts) → IsHeld variables env facts store → IsLoose env aliases facts later → (other : ℕ) → nat_eq root other ≡ false
+      → Holds (Range (entire other) (get_or facts.ranges other vacant)) after
+  old-row facts known loose other differ steps w named is =
+      ⊎_elim (λ alias. loose.ranges other w alias (subst (λ (s : List Step). value_at after other s ≡ Some w) (named-entire steps named) is))
+      (λ free. known.hold.ranges other steps w named (sym (other-value other differ free steps) ∙ is)) (cases_Bool (is_among other aliases))
+
+  row-after : (facts : Facts) (range : Interval) → IsHeld variables env facts store → IsLoose env aliases facts later → IsIn range v → (other : ℕ)
       → Holds (Range (entire other) (get_or (set facts.ranges root range) other vacant)) after
-  row-after facts range known inside other steps w named is =
+  row-after facts range known loose inside other steps w named is =
       ⊎_elim
       (λ same.
       let whole : value_at after root [] ≡ Some w =
@@ -177,7 +146,7 @@ module _ (variables : ℕ) (env : Environment) (shows : Shows variables env) (st
       ∙ ap (λ (r : ℕ). get_or (set facts.ranges root range) r vacant) same in
       subst (λ (i : Interval). IsIn i w) two (subst (λ (u : Value). IsIn range u) one inside))
       (λ differ.
-      let was = known.hold.ranges other steps w named (sym (other-value other differ steps) ∙ is) in
+      let was = old-row facts known loose other (false_from_ne_true (nat_eq root other) (λ same. differ (eqb-true root other same))) steps w named is in
       ⊎_elim (λ kept. subst (λ (r : Interval). IsIn r w) (sym kept) was)
       (λ (both : (root ≡ other) × (get_or (set facts.ranges root range) other vacant ≡ range)). absurd (differ both.0))
       (set-at facts.ranges root other range))
@@ -185,46 +154,53 @@ module _ (variables : ℕ) (env : Environment) (shows : Shows variables env) (st
 
   -- ---- states
 
-  pub value-known : (form : Option Bound) → IsOfForm before form v → (state : State) (range : Interval) → IsIn range v → Knows variables env state store
-      → Knows variables env (with_value root range (with_change root form state)) after_store
-  value-known form of_form Dead range inside known = known
-  value-known form of_form (Live facts) range inside known =
+  pub value-known : (form : Option Bound) → IsOfForm before form v → (state : State) (range : Interval) → IsIn range v → IsLooseIn env aliases state later
+      → Knows variables env state store → Knows variables env (with_value root range (with_change root form state)) later
+  value-known form of_form Dead range inside loose known = known
+  value-known form of_form (Live facts) range inside loose known =
       let left : Facts = record { ranges = set facts.ranges root range; facts = filter_map (changed root form) facts.facts } in
-      let held : IsHeld variables env left after_store = record {
+      let held : IsHeld variables env left later = record {
         rows_are = omega (arith, length-set facts.ranges root range, known.rows_are);
         hold = record {
-          ranges = row-after facts range known inside;
+          ranges = row-after facts range known loose inside;
           facts = λ one listed.
               let P = λ (one : Fact). Holds one after in
-              let Q = λ (one : Fact). Holds one before in
+              let Q = λ (one : Fact). (rests_on_any aliases one ≡ false) × Holds one before in
               All-contains P left.facts one
-              (changed-all P Q (changed root form) (λ one other is holds. changed-fact form of_form one other is holds) facts.facts
-              (each-of Q facts.facts known.hold.facts)) listed;
+              (changed-all P Q (changed root form)
+              (λ one other is both. changed-fact form of_form one other is both.0 both.1) facts.facts
+              (each-of Q facts.facts (λ one listed. (loose.facts one listed, known.hold.facts one listed)))) listed;
         };
       } in
-      defined-known variables env (Live left) after_store root (v, own-value) held
+      defined-known variables env (Live left) later root (v, own-value) held
 
-  equal-if : (same : Bool) (by : ℕ) (k : ℤ) → nat_eq root by ≡ same → IsOfForm before (Some (Plus by k)) v → (state : State)
-      → Knows variables env state after_store
-      → Knows variables env (cond same state (with_some (ordered by root (neg_ℤ k)) (with_some (ordered root by k) state))) after_store
-  equal-if true by k same of_form state known = known
-  equal-if false by k same (n, v_is, (old, old_is, n_is)) state known =
+  equal-if : (same : Bool) (by : ℕ) (k : ℤ) → nat_eq root by ≡ same → is_among by aliases ≡ false → IsOfForm before (Some (Plus by k)) v → (state : State)
+      → Knows variables env state later
+      → Knows variables env (cond same state (with_some (ordered by root (neg_ℤ k)) (with_some (ordered root by k) state))) later
+  equal-if true by k same free of_form state known = known
+  equal-if false by k same free (n, v_is, (old, old_is, n_is)) state known =
       let own : HasNumber after root n = own-value ∙ ap Some v_is in
-      let other = other-number by old same old_is in
-      ordered-known variables env (with_some (ordered root by k) state) after_store by root old n (neg_ℤ k) other own (omega (arith, ints, n_is))
-      (ordered-known variables env state after_store root by n old k own other (omega (arith, ints, n_is)) known)
+      let other = other-number by old same free old_is in
+      ordered-known variables env (with_some (ordered root by k) state) later by root old n (neg_ℤ k) other own (omega (arith, ints, n_is))
+      (ordered-known variables env state later root by n old k own other (omega (arith, ints, n_is)) known)
 
-  equal-known : (form : Option Bound) → IsOfForm before form v → (state : State) → Knows variables env state after_store
-      → Knows variables env (with_equal root form state) after_store
-  equal-known None of_form state known = known
-  equal-known (Some (fact.Number n)) of_form state known = known
-  equal-known (Some (Plus by k)) of_form state known = equal-if (nat_eq root by) by k refl of_form state known
+  equal-known : (form : Option Bound) → IsOfForm before form v → IsFormApart aliases form → (state : State) → Knows variables env state later
+      → Knows variables env (with_equal root form state) later
+  equal-known None of_form apart state known = known
+  equal-known (Some (fact.Number n)) of_form apart state known = known
+  equal-known (Some (Plus by k)) of_form apart state known = equal-if (nat_eq root by) by k refl (apart by k refl) of_form state known
 
 -- an assignment of a value of a range, perhaps of a bound form
-pub assigned-known : (variables : ℕ) (env : Environment) → Shows variables env → (state : State) (store : Store) (root : ℕ) (range : Interval)
+pub assigned-known : (variables : ℕ) (env : Environment) (aliases : List ℕ) (state : State) (before after : Store) (root : ℕ) (range : Interval)
     (form : Option Bound) (v : Value)
-    → root < variables → Knows variables env state store → IsIn range v → IsOfForm (moment env store) form v
-    → Knows variables env (assigned root range form state) (written store (place_of env root) v)
-assigned-known variables env shows state store root range form v within known inside of_form =
-    equal-known variables env shows store root v within form of_form (with_value root range (with_change root form state))
-    (value-known variables env shows store root v within form of_form state range inside known)
+    → root < variables → IsKept env (root ∷ aliases) [] before after → value_at (moment env after) root [] ≡ Some v → Knows variables env state before
+    → IsLooseIn env aliases state after → IsIn range v → IsOfForm (moment env before) form v → IsFormApart aliases form
+    → Knows variables env (assigned root range form state) after
+assigned-known variables env aliases state before after root range form v within kept own known loose inside of_form apart =
+    equal-known variables env before after root aliases v within kept own form of_form apart (with_value root range (with_change root form state))
+    (value-known variables env before after root aliases v within kept own form of_form state range inside loose known)
+
+-- nothing is loose where there is no alias
+pub none-loose : (env : Environment) (state : State) (after : Store) → IsLooseIn env [] state after
+none-loose env Dead after = tt
+none-loose env (Live known) after = record { facts = λ one listed. refl; ranges = λ alias v among is. absurd (cc) }

@@ -9,7 +9,7 @@ use Rattle.std.proofs.lemmas.Bool.{cases_eq, cases_lt, eq-eqb, eqb-true}
 use Rattle.std.proofs.lemmas.Bool.Decides.{nat_tests}
 use Rattle.std.proofs.lemmas.List.Folds.{list_any-append, list_any_at}
 use Rattle.std.proofs.Math.Seq.{take-suc}
-use Rattle.std.proofs.lemmas.List.{map-append, length-map, get_or-set_same, get_or-set_other}
+use Rattle.std.proofs.lemmas.List.{map-append, length-map, get_or_default, get_or-set_same, get_or-set_other}
 use Rattle.std.proofs.lemmas.List.Elements.{filter-append, filter_map-append}
 use Rattle.domain.specs.Interval.{Interval}
 use Rattle.domain.specs.Facts.{Path, Bound, Number, Plus, Fact, Defined, entire, fact_order, has_fact, put, with_fact}
@@ -18,9 +18,9 @@ use Rattle.abstract_state.specs.declared.orders.Order.{Order as KeptOrder}
 use Rattle.abstract_state.specs.State.{State, Facts, Live, gives, joined_facts, says_at_most, start, with_defined, with_facts, with_range}
 use Rattle.abstract_state.specs.Changes.{changed, with_change, with_some}
 use Rattle.abstract_state.specs.Loops.{defines, in_place, replaced, with_forgotten}
-use Rattle.abstract_state.specs.View.{AreJoined, defined_from, no_row, said_order, said_some}
-use Rattle.abstract_state.proofs.Rows.{all-ranges, and-back, bit, filter-defined, has-row, none-defined, past, range-kept, range-set, ranges-both, ranges_of}
-use Rattle.abstract_state.proofs.Rows.{row-defined, same-defined, tested-bit, tested_bits, with-had}
+use Rattle.abstract_state.specs.View.{defined_from, no_row, said_order, said_some}
+use Rattle.abstract_state.proofs.Rows.{AreJoined, all-ranges, and-back, bit, filter-defined, has-row, none-defined, past, range-kept, range-set}
+use Rattle.abstract_state.proofs.Rows.{ranges-both, ranges_of, row-defined, same-defined, tested-bit, tested_bits, with-had}
 
 abbrev pub said_orders : List KeptOrder → List Fact
 said_orders = map said_order
@@ -142,6 +142,28 @@ pub not-ranged_kept : (rows : List Row) (orders : List KeptOrder) (root : ℕ) (
 not-ranged_kept rows orders root range beyond =
     ap (λ (ranges : List Interval). state_of ranges (kept_facts rows orders).facts)
     (sym (set-beyond (ranges_of rows) root range (rw length-map beyond)))
+
+-- a row is set, if it is there
+pub defined-set : (rows : List Row) (orders : List KeptOrder) (root : ℕ) (row : Row) → row ≡ record (get_or rows root no_row) { is_defined = true }
+    → kept_state (set rows root row) orders ≡ with_defined root (kept_state rows orders)
+defined-set rows orders root row is =
+    ⊎_elim (λ (inside : root < length rows).
+    defined-kept rows orders root row inside
+    (ap (λ (r : Row). r.range) (get_or_default rows root row no_row inside) ∙ sym (ap (λ (r : Row). r.range) is)) (ap (λ (r : Row). r.is_defined) is))
+    (λ (beyond : length rows ≤ root).
+    ap (λ (some : List Row). kept_state some orders) (set-beyond rows root row beyond) ∙ not-defined_kept rows orders root beyond)
+    (cases_lt root (length rows))
+
+pub ranged-set : (rows : List Row) (orders : List KeptOrder) (root : ℕ) (range : Interval) (row : Row)
+    → row ≡ record (get_or rows root no_row) { range = range }
+    → kept_state (set rows root row) orders ≡ with_range root range (kept_state rows orders)
+ranged-set rows orders root range row is =
+    ⊎_elim (λ (inside : root < length rows).
+    ranged-kept rows orders root row inside (ap (λ (r : Row). r.is_defined) is)
+    ∙ ap (λ (r : Row). with_range root r.range (kept_state rows orders)) is)
+    (λ (beyond : length rows ≤ root).
+    ap (λ (some : List Row). kept_state some orders) (set-beyond rows root row beyond) ∙ not-ranged_kept rows orders root range beyond)
+    (cases_lt root (length rows))
 
 -- so many rows that say nothing
 pub started : (rows : List Row) (n : ℕ) → rows ≡ replicate n no_row → kept_state rows [] ≡ start n
@@ -375,6 +397,16 @@ not-forgotten_kept rows orders root beyond =
     ap (λ (b : Bool). b && not (nat_eq root i)) none ∙ sym none)
     (cases_lt i (length rows))))
     (order-stays root orders)))
+
+pub forgotten-set : (rows : List Row) (orders : List KeptOrder) (root : ℕ) (row : Row) → row ≡ record (get_or rows root no_row) { is_defined = false }
+    → kept_state (set rows root row) orders ≡ with_forgotten root (kept_state rows orders)
+forgotten-set rows orders root row is =
+    ⊎_elim (λ (inside : root < length rows).
+    forgotten-kept rows orders root row inside
+    (ap (λ (r : Row). r.range) (get_or_default rows root row no_row inside) ∙ sym (ap (λ (r : Row). r.range) is)) (ap (λ (r : Row). r.is_defined) is))
+    (λ (beyond : length rows ≤ root).
+    ap (λ (some : List Row). kept_state some orders) (set-beyond rows root row beyond) ∙ not-forgotten_kept rows orders root beyond)
+    (cases_lt root (length rows))
 
 -- ---- orders of a bound in the place of a variable
 

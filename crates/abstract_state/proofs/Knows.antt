@@ -1,9 +1,8 @@
 -- What a state says of a run, with what the walk keeps of its states: a row for each variable. The steps of a run keep
 -- it.
-use Rattle.std.proofs.Common.{arith, ◌≡◌, ⊎_elim, ◌⊎◌, inl, inr, ◌∙◌, sym, ap, refl, subst, ℕ, zero, suc, ◌<◌, Bool, true, cond, List, [], ◌∷◌, get_or, length}
+use Rattle.std.proofs.Common.{arith, ◌≡◌, ⊎_elim, ◌⊎◌, inl, inr, ◌∙◌, sym, ap, refl, subst, ℕ, zero, suc, Bool, true, cond, List, [], ◌∷◌, get_or, length}
 use Rattle.std.proofs.Common.{set, Option, Some, None}
 use Rattle.std.specs.Prelude.{nat_lt}
-use Rattle.std.specs.Option.{unwrap_or}
 use Rattle.std.proofs.lemmas.Bool.{cond_both}
 use Rattle.std.proofs.lemmas.List.{length-replicate, length-set}
 use Rattle.std.proofs.lemmas.List.Elements.{All-contains}
@@ -49,38 +48,24 @@ known-start env variables = record {
 
 -- ---- entire variables
 
--- where a visible variable lies
-abbrev pub place_of : Environment → ℕ → Place
-place_of env root = unwrap_or (env.variables root) (record { activation = 0; variable = root; steps = [] })
-
-pub at-place : (variables : ℕ) (env : Environment) → Shows variables env → (root : ℕ) → root < variables → env.variables root ≡ Some (place_of env root)
-at-place variables env shows root within =
-    let at = shows.visible root within in
-    at.1 ∙ ap (λ (found : Option Place). Some (unwrap_or found (record { activation = 0; variable = root; steps = [] }))) (sym at.1)
-
 -- an entire variable has the value that lies at its place
-pub entire-value : (variables : ℕ) (env : Environment) → Shows variables env → (store : Store) (root : ℕ) → root < variables
-    → value_at (moment env store) root [] ≡ stored store (place_of env root)
-entire-value variables env shows store root within =
-    let at = shows.visible root within in
-    let other : Place = record { activation = 0; variable = root; steps = [] } in
-    ap (λ (found : Option Place). part_of store found []) at.1 ∙ entire-stored store at.0
-    ∙ sym (ap (λ (found : Option Place). stored store (unwrap_or found other)) at.1)
+pub entire-value : (env : Environment) (store : Store) (root : ℕ) (place : Place) → env.variables root ≡ Some place
+    → value_at (moment env store) root [] ≡ stored store place
+entire-value env store root place at = ap (λ (found : Option Place). part_of store found []) at ∙ entire-stored store place
 
 -- the value that is read lies in the range of the variable
-pub read-in : (variables : ℕ) (env : Environment) → Shows variables env → (state : State) (store : Store) (root : ℕ) (v : Value) → root < variables
-    → Knows variables env state store → stored store (place_of env root) ≡ Some v → IsIn (range_of state root) v
-read-in variables env shows Dead store root v within known is = absurd known
-read-in variables env shows (Live facts) store root v within known is =
-    known.hold.ranges root [] v refl (entire-value variables env shows store root within ∙ is)
+pub read-in : (variables : ℕ) (env : Environment) (state : State) (store : Store) (root : ℕ) (place : Place) (v : Value)
+    → env.variables root ≡ Some place → Knows variables env state store → stored store place ≡ Some v → IsIn (range_of state root) v
+read-in variables env Dead store root place v at known is = absurd known
+read-in variables env (Live facts) store root place v at known is = known.hold.ranges root [] v refl (entire-value env store root place at ∙ is)
 
 -- a variable that is known to be defined is
-pub defined-stored : (variables : ℕ) (env : Environment) → Shows variables env → (state : State) (store : Store) (root : ℕ) → root < variables
-    → Knows variables env state store → is_defined state root ≡ true → (v : Value) × (stored store (place_of env root) ≡ Some v)
-defined-stored variables env shows Dead store root within known is = absurd known
-defined-stored variables env shows (Live facts) store root within known is =
+pub defined-stored : (variables : ℕ) (env : Environment) (state : State) (store : Store) (root : ℕ) (place : Place) → env.variables root ≡ Some place
+    → Knows variables env state store → is_defined state root ≡ true → (v : Value) × (stored store place ≡ Some v)
+defined-stored variables env Dead store root place at known is = absurd known
+defined-stored variables env (Live facts) store root place at known is =
     let has = defined-number facts (moment env store) known.hold root is in
-    (Number has.0, sym (entire-value variables env shows store root within) ∙ has.1)
+    (Number has.0, sym (entire-value env store root place at) ∙ has.1)
 
 -- a fact that is given holds
 pub given-known : (variables : ℕ) (env : Environment) (state : State) (store : Store) (one : Fact) → Knows variables env state store
@@ -125,10 +110,10 @@ defined-known variables env (Live facts) store root has known =
     } in
     cond_both (nat_lt root (length facts.ranges)) (Live more) (Live facts) (λ state. Knows variables env state store) (λ listed. held) (λ unlisted. known)
 
-pub used-known : (variables : ℕ) (env : Environment) → Shows variables env → (state : State) (store : Store) (root : ℕ) (v : Value) → root < variables
-    → Knows variables env state store → stored store (place_of env root) ≡ Some v → Knows variables env (with_defined root state) store
-used-known variables env shows state store root v within known is =
-    defined-known variables env state store root (v, entire-value variables env shows store root within ∙ is) known
+pub used-known : (variables : ℕ) (env : Environment) (state : State) (store : Store) (root : ℕ) (place : Place) (v : Value)
+    → env.variables root ≡ Some place → Knows variables env state store → stored store place ≡ Some v → Knows variables env (with_defined root state) store
+used-known variables env state store root place v at known is =
+    defined-known variables env state store root (v, entire-value env store root place at ∙ is) known
 
 -- ---- ranges
 

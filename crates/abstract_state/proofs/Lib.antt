@@ -13,3 +13,4 @@ pub mod Ranged
 pub mod Refined
 pub mod Rows
 pub mod Shapes
+pub mod Steady

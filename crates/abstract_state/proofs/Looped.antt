@@ -1,9 +1,9 @@
 -- What is known after turns of a loop, at its head and behind it holds there.
 use Rattle.std.proofs.Common.{arith, ◌≡◌, ◌⊎◌, ⊎_elim, inl, inr, ◌∙◌, sym, ap, refl, subst, ℕ, ℤ, ◌+ℤ◌, neg_ℤ, ◌<◌, ◌≤◌, Bool, true, false, not, cond, ◌||◌}
-use Rattle.std.proofs.Common.{nat_eq, List, [], ◌∷◌, ◌++◌, get_or, length, set, Option, Some, None}
-use Rattle.std.specs.List.{Contains, All, filter, filter_map, list_any}
+use Rattle.std.proofs.Common.{nat_eq, List, [], ◌∷◌, get_or, length, set, Option, Some, None}
+use Rattle.std.specs.List.{Contains, All, filter, filter_map}
 use Rattle.std.proofs.lemmas.Int.{ints}
-use Rattle.std.proofs.lemmas.Bool.{and_parts, cases_lt, eq-eqb, cond_both, eqb-true, or_parts}
+use Rattle.std.proofs.lemmas.Bool.{and_parts, cases_lt, eq-eqb, cond_both, eqb-true}
 use Rattle.std.proofs.lemmas.List.{get_or-set_same, get_or-set_other, length-set}
 use Rattle.std.proofs.lemmas.List.Elements.{All-cons, All-nil, All-contains, All-head, All-tail}
 use Rattle.domain.specs.Interval.{Interval, common, vacant}
@@ -12,19 +12,19 @@ use Rattle.domain.specs.Facts.{Path, Bound, Plus, Fact, Range, Defined, Stretch,
 use Rattle.meaning.specs.declared.store.Value.{Value}
 use Rattle.meaning.specs.Integers.{is_integer_number}
 use Rattle.types.specs.declared.form.Step.{Step}
-use Rattle.types.specs.declared.form.Step.TheVariants.{Element}
 use Rattle.meaning.specs.Store.{Environment, Place, Store}
 use Rattle.abstract_state.specs.State.{State, Facts, Dead, Live, gives_fact, is_entire, range_of, with_defined, with_facts, with_range}
-use Rattle.abstract_state.specs.Changes.{bound_rests_on, changed, ordered, raised_number, rests_on}
+use Rattle.abstract_state.specs.Changes.{changed, ordered, raised_number, rests_on}
 use Rattle.abstract_state.specs.Loops.{after_turns, all_forgotten, all_touched, defines, gives_all, head, in_place, is_among, replaced, with_claim, with_claims}
 use Rattle.abstract_state.specs.Loops.{with_forgotten, with_touched, with_undefined}
 use Rattle.abstract_state.specs.Holds.{Holds, HasNumber, HasValue, IsBound, IsIn, is_named, part_of, value_at}
-use Rattle.abstract_state.specs.Knows.{InLimits, IsKept, Knows, Shows, moment}
+use Rattle.abstract_state.specs.Knows.{InLimits, IsKept, IsLooseIn, Knows, Shows, moment, rests_on_any}
 use Rattle.abstract_state.proofs.Changed.{some-if, unless-if}
 use Rattle.abstract_state.proofs.Given.{named-entire, entire-steps, same-number}
 use Rattle.abstract_state.proofs.Knows.{defined-known, given-known, ranged-known, with_some-known}
 use Rattle.abstract_state.proofs.Like.{changed-all, each-of, filter-all, with-all_facts}
 use Rattle.abstract_state.proofs.Ranged.{common-in}
+use Rattle.abstract_state.proofs.Steady.{defines_any, fact-stays}
 
 -- ---- what turns leave
 
@@ -54,18 +54,17 @@ or-first : (a b : Bool) → a ≡ true → (a || b) ≡ true
 or-first true b is = refl
 or-first false b is = absurd (cc)
 
+both-false : (a b : Bool) → a ≡ false → b ≡ false → (a || b) ≡ false
+both-false true b one other = one
+both-false false b one other = other
+
+either-false : (a b : Bool) → (a || b) ≡ false → a ≡ false
+either-false true b is = is
+either-false false b is = refl
+
 or-second : (a b : Bool) → b ≡ true → (a || b) ≡ true
 or-second true b is = refl
 or-second false b is = is
-
--- no element passes either of two tests
-apart-both : (p q : ℕ → Bool) (roots : List ℕ) → list_any (λ root. p root || q root) roots ≡ false → (list_any p roots ≡ false) × (list_any q roots ≡ false)
-apart-both p q [] is = (refl, refl)
-apart-both p q (root ∷ roots) is =
-    let parts = or_parts (p root || q root) (list_any (λ r. p r || q r) roots) is in
-    let first = or_parts (p root) (q root) parts.0 in
-    let rest = apart-both p q roots parts.1 in
-    (ap (λ (b : Bool). b || list_any p roots) first.0 ∙ rest.0, ap (λ (b : Bool). b || list_any q roots) first.1 ∙ rest.1)
 
 pub kept-itself : (env : Environment) (touched controls : List ℕ) (store : Store) → IsKept env touched controls store store
 kept-itself env touched controls store = record { values = λ root apart steps. refl; defined = λ root apart steps has. has }
@@ -76,38 +75,6 @@ kept-then env touched controls first second third one two = record {
   values = λ root apart steps. two.values root apart steps ∙ one.values root apart steps;
   defined = λ root apart steps has. two.defined root apart steps (one.defined root apart steps has);
 }
-
-abbrev rests_on_any : List ℕ → Fact → Bool
-rests_on_any roots one = list_any (λ root. rests_on root one) roots
-
-abbrev defines_any : List ℕ → Fact → Bool
-defines_any roots one = list_any (λ root. defines root one) roots
-
-module _ (env : Environment) (touched controls : List ℕ) (before after : Store) (kept : IsKept env touched controls before after) where
-  number-kept : (root : ℕ) (n : ℤ) → is_among root touched ≡ false → HasNumber (moment env before) root n → HasNumber (moment env after) root n
-  number-kept root n apart has = kept.values root apart [] ∙ has
-
-  bound-kept : (bound : Bound) (n : ℤ) → list_any (λ root. bound_rests_on root bound) touched ≡ false → IsBound (moment env before) bound n
-      → IsBound (moment env after) bound n
-  bound-kept (fact.Number m) n apart is = is
-  bound-kept (Plus other m) n apart (number, has, is) = (number, number-kept other number apart has, is)
-
-  fact-stays : (one : Fact) → rests_on_any touched one ≡ false → defines_any controls one ≡ false → Holds one (moment env before) → Holds one (moment env after)
-  fact-stays (Range path range) rests says holds = λ steps v named there. holds steps v named (sym (kept.values path.root rests steps) ∙ there)
-  fact-stays (Defined path) rests says holds = (holds.0, holds.1, kept.defined path.root says holds.0 holds.2)
-  fact-stays (Stretch path first last) rests says (from, to, from_is, to_is, steps, named, each) =
-      let bounds = apart-both (λ root. bound_rests_on root first) (λ root. bound_rests_on root last) touched rests in (
-        from,
-        to,
-        bound-kept first from bounds.0 from_is,
-        bound-kept last to bounds.1 to_is,
-        steps,
-        named,
-        λ index low high. kept.defined path.root says (steps ++ Element index ∷ []) (each index low high),
-      )
-  fact-stays (Order a b number) rests says (m, n, left, right, less) =
-      let both = apart-both (λ root. nat_eq root a) (λ root. nat_eq root b) touched rests in
-      (m, n, number-kept a m both.0 left, number-kept b n both.1 right, less)
 
 -- a variable that isn't shown has no value
 hidden : (variables : ℕ) (env : Environment) → Shows variables env → (store : Store) (root : ℕ) (steps : List Step) (v : Value) → variables ≤ root
@@ -239,6 +206,34 @@ known-left variables env touched controls (Live facts) before after kept known =
   ranges = λ root apart steps v named is. known.hold.ranges root steps v named (sym (kept.values root apart steps) ∙ is);
   facts = λ one listed rests says. fact-stays env touched controls before after kept one rests says (known.hold.facts one listed);
 }
+
+-- what is left where what is known rests on no alias of a variable that is touched, and their ranges have what they hold
+loose-left : (variables : ℕ) (env : Environment) (root : ℕ) (aliases : List ℕ) (state : State) (after : Store) → IsLooseIn env aliases state after
+    → LeftOf variables env (root ∷ aliases) [] state after → LeftOf variables env (root ∷ []) [] state after
+loose-left variables env root aliases Dead after loose left = tt
+loose-left variables env root aliases (Live facts) after loose left = record {
+  rows_are = left.rows_are;
+  ranges = λ other apart steps v named is.
+      ⊎_elim
+      (λ (alias : is_among other aliases ≡ true).
+      loose.ranges other v alias (subst (λ (s : List Step). value_at (moment env after) other s ≡ Some v) (named-entire steps named) is))
+      (λ (free : is_among other aliases ≡ false).
+      left.ranges other (both-false (nat_eq root other) (is_among other aliases) (either-false (nat_eq root other) false apart) free) steps v named is)
+      (either-so (is_among other aliases));
+  facts = λ one listed rests says.
+      left.facts one listed
+      (both-false (rests_on root one) (rests_on_any aliases one) (either-false (rests_on root one) false rests) (loose.facts one listed)) says;
+}
+
+-- what is known where a variable may have another value of its type, which its aliases may have then too
+pub stored-known : (variables : ℕ) (env : Environment) → Shows variables env → (limits : ℕ → Interval) (root : ℕ) (aliases : List ℕ) (state : State)
+    (before after : Store) → IsKept env (root ∷ aliases) [] before after
+    → ((v : Value) → value_at (moment env after) root [] ≡ Some v → IsIn (limits root) v) → Knows variables env state before
+    → IsLooseIn env aliases state after → Knows variables env (with_touched limits root state) after
+stored-known variables env shows limits root aliases state before after kept inside known loose =
+    left-known variables env (with_touched limits root state) after (touched-live limits root state (known-live variables env state before known))
+    (touched-left variables env shows limits after root [] [] state inside
+    (loose-left variables env root aliases state after loose (known-left variables env (root ∷ aliases) [] state before after kept known)))
 
 -- what is known after turns
 pub turned-known : (variables : ℕ) (env : Environment) → Shows variables env → (limits : ℕ → Interval) (touched controls : List ℕ) (state : State)

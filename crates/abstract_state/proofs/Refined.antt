@@ -1,5 +1,5 @@
 -- Where a condition had a truth value, what is known of its branch holds: an induction over expressions, which change
--- no variable.
+-- no variable unless they hold a call. Of these none has a bound form.
 use Rattle.std.proofs.Common.{arith, ◌≡◌, ◌∙◌, sym, ap, ap₂, refl, subst, ℕ, ℤ, pos, ◌+ℤ◌, ◌-ℤ◌, ◌*ℤ◌, neg_ℤ, int_div, int_le, int_lt, Bool, true, false, not}
 use Rattle.std.proofs.Common.{◌&&◌, ◌||◌, cond, List, [], ◌∷◌, ◌++◌, map, Option, Some, None}
 use Rattle.std.specs.List.{All, list_all}
@@ -23,9 +23,13 @@ use Rattle.types.specs.declared.form.Step.TheVariants as step
 use Rattle.types.specs.Components.{components_of}
 use Rattle.typed_tree.specs.declared.tree.Expr.{Expr}
 use Rattle.typed_tree.specs.declared.tree.Link.{Link}
+use Rattle.typed_tree.specs.declared.tree.Passed.{Passed}
 use Rattle.typed_tree.specs.declared.tree.Expr.TheOpen.{Expr-F, Link-F}
 use Rattle.typed_tree.specs.declared.tree.Expr.TheViews.{roll-Expr, roll-Link}
-use Rattle.typed_tree.specs.declared.tree.Expr.TheOpen.Expr-F.{Constant, Variable, Monadic as MonadicOf, Chain, Compare}
+use Rattle.typed_tree.specs.WellFormed.{whole_indexes}
+use Rattle.typed_tree.specs.Calls.{any_holds, expression_holds_call, hold_call, holds_call, link_holds_call, link_holds_call_of, passed_holds_call}
+use Rattle.typed_tree.specs.Calls.{passed_step_holds_call, whole_holds_call}
+use Rattle.typed_tree.specs.declared.tree.Expr.TheOpen.Expr-F.{Constant, Variable, Monadic as MonadicOf, Chain, Compare, Call}
 use Rattle.typed_tree.specs.declared.tree.Expr.TheFolds.{map-Expr, map-Link, fold-roll-Expr, fold-roll-Link, ind-Expr}
 use Rattle.domain.specs.Interval.{Interval, HasMember, always_true, never_true, has_number}
 use Rattle.domain.specs.Facts.{Bound}
@@ -36,14 +40,14 @@ use Rattle.meaning.specs.Store.{Environment, Place, Store, held, part}
 use Rattle.meaning.specs.Effect as effect
 use Rattle.meaning.specs.Effect.{Reply, Gives, Stops, and_then, fetch, fetch_all, is_in, number_of}
 use Rattle.meaning.specs.Meaning as meaning
-use Rattle.meaning.specs.Meaning.{Evaluation, accessed, is_so, link_of, relates, selected, value_of, values_of, whole_of}
+use Rattle.meaning.specs.Meaning.{Evaluation, Passing, Surroundings, accessed, is_so, link_of, passing_of, relates, selected, value_of, values_of, whole_of}
 use Rattle.abstract_state.specs.State.{State, Dead}
 use Rattle.abstract_state.specs.Forms.{Form, Literal, Signed, Entire, Moved, Other, access_form, bound_of, chain_form, constant_of, moved_form, negative}
 use Rattle.abstract_state.specs.Forms.{offset_form}
 use Rattle.abstract_state.specs.Forms.{sign_form, signed}
 use Rattle.abstract_state.specs.Conditions.{Condition, Conjunct, all_refined, bound_form, branched, chain_refined, condition_of, condition_step, conjunct_of}
-use Rattle.abstract_state.specs.Conditions.{link_condition, monadic_refined, operand_of, operation_refined, refined, related_forms, single_refined, takes_both}
-use Rattle.abstract_state.specs.Conditions.{told, unless_excluded}
+use Rattle.abstract_state.specs.Conditions.{link_condition, monadic_refined, passed_condition, operand_of}
+use Rattle.abstract_state.specs.Conditions.{operation_refined, related_forms, single_refined, takes_both, told, unless_excluded}
 use Rattle.abstract_state.specs.Holds.{Moment, HasNumber, IsIn, part_of, value_at}
 use Rattle.abstract_state.proofs.Apart.{entire-stored}
 use Rattle.abstract_state.proofs.Bounded.{opposite-relates, related-known}
@@ -184,31 +188,47 @@ combined-gives (dyadic.Relation r) a b w s t is =
 
 -- ---- what an expression tells
 
--- an expression was evaluated over a store, with a value: the store stays, the form tells of the value, and what is
--- known where the value was true, or false, holds
-pub record Evaluates (env : Environment) (condition : Condition) (before after : Store) (v : Value) : Type 0 where
-  pub store_is : after ≡ before
-  pub form_is : IsForm condition.form (moment env before) v
-  pub refines : (variables : ℕ) (state : State) → Knows variables env state before → Knows variables env (condition.refined (is_so v) state) before
+-- an expression of a form that is part of a bound form changes no variable
+abbrev pub Still : Form → Store → Store → Type 0
+Still (Literal n) before after = after ≡ before
+Still (Signed n) before after = after ≡ before
+Still (Entire root) before after = after ≡ before
+Still (Moved root k) before after = after ≡ before
+Still Other before after = Unit {0}
+
+-- an expression was evaluated over a store, with a value: the form tells of the value; and if it holds no call, the
+-- store stays, and what is known where the value was true, or false, holds
+pub record Evaluates (env : Environment) (condition : Condition) (holds : Bool) (before after : Store) (v : Value) : Type 0 where
+  pub form_is : IsForm condition.form (moment env after) v
+  pub still : Still condition.form before after
+  pub store_is : holds ≡ false → after ≡ before
+  pub refines : holds ≡ false → (variables : ℕ) (state : State) → Knows variables env state before
+      → Knows variables env (condition.refined (is_so v) state) before
 
 -- an operator and its right operand were evaluated
-pub record Combines (env : Environment) (conjunct : Conjunct) (before after : Store) (left result : Value) : Type 0 where
-  pub store_is : after ≡ before
+pub record Combines (env : Environment) (conjunct : Conjunct) (holds : Bool) (before after : Store) (left result : Value) : Type 0 where
   pub right : Value
-  pub right_is : Evaluates env conjunct.right before before right
+  pub right_is : Evaluates env conjunct.right holds before after right
   pub a : ℤ
   pub b : ℤ
   pub left_is : left ≡ Number a
   pub b_is : right ≡ Number b
   pub result_is : IsResult conjunct.operation a b result
 
-abbrev pub EvaluatesAs : Evaluation → Condition → Type 0
-EvaluatesAs evaluation condition = (env : Environment) (s t : effect.State) (v : Value) → evaluation env s ≡ Gives v t
-    → Evaluates env condition s.store t.store v
+abbrev pub EvaluatesAs : Evaluation → Condition → Bool → Type 0
+EvaluatesAs evaluation condition holds = (env : Surroundings) (s t : effect.State) (v : Value) → evaluation env s ≡ Gives v t
+    → Evaluates env.visible condition holds s.store t.store v
 
-abbrev pub CombinesAs : meaning.Combination → Conjunct → Type 0
-CombinesAs combination conjunct = (env : Environment) (s t : effect.State) (left result : Value) → combination env left s ≡ Gives result t
-    → Combines env conjunct s.store t.store left result
+abbrev pub CombinesAs : meaning.Combination → Conjunct → Bool → Type 0
+CombinesAs combination conjunct holds = (env : Surroundings) (s t : effect.State) (left result : Value) → combination env left s ≡ Gives result t
+    → Combines env.visible conjunct holds s.store t.store left result
+
+still-same : (form : Form) (before after : Store) → after ≡ before → Still form before after
+still-same (Literal n) before after same = same
+still-same (Signed n) before after same = same
+still-same (Entire root) before after same = same
+still-same (Moved root k) before after same = same
+still-same Other before after same = tt
 
 -- ---- operators from left to right
 
@@ -262,10 +282,13 @@ both-so (dyadic.Relation r) a b w true takes is so = absurd (cc)
 both-so (dyadic.Relation r) a b w false takes is so = absurd (cc)
 
 abbrev pub ProvedExpr : Type 0
-ProvedExpr = (e : Expr) × EvaluatesAs (value_of e) (condition_of e)
+ProvedExpr = (e : Expr) × EvaluatesAs (value_of e) (condition_of e) (holds_call e)
+
+abbrev pub ProvedPassed : Type 0
+ProvedPassed = (p : Passed) × Unit {0}
 
 abbrev pub ProvedLink : Type 0
-ProvedLink = (l : Link) × CombinesAs (link_of l) (conjunct_of l)
+ProvedLink = (l : Link) × CombinesAs (link_of l) (conjunct_of l) (link_holds_call_of l)
 
 abbrev links_of : List ProvedLink → List Link
 links_of = map (λ (l : ProvedLink). l.0)
@@ -276,53 +299,66 @@ conjuncts_of links = map conjunct_of (links_of links)
 abbrev turns : List ProvedLink → meaning.Combination
 turns links = meaning.in_turn (map link_of (links_of links))
 
--- the operators of a chain change no variable
-turns-kept : (links : List ProvedLink) (env : Environment) (s t : effect.State) (left result : Value) → turns links env left s ≡ Gives result t
-    → t.store ≡ s.store
-turns-kept [] env s t left result is = ap (λ (u : effect.State). u.store) (sym (given-same left result s t is).1)
-turns-kept (link ∷ links) env s t left result is =
+-- one of the operators holds a call
+abbrev calls_in : List ProvedLink → Bool
+calls_in links = any_holds (map link_holds_call_of (links_of links))
+
+-- the operators of a chain change no variable, if they hold no call
+turns-kept : (links : List ProvedLink) → calls_in links ≡ false → (env : Surroundings) (s t : effect.State) (left result : Value)
+    → turns links env left s ≡ Gives result t → t.store ≡ s.store
+turns-kept [] quiet env s t left result is = ap (λ (u : effect.State). u.store) (sym (given-same left result s t is).1)
+turns-kept (link ∷ links) quiet env s t left result is =
+    let none = or_parts (link_holds_call_of link.0) (calls_in links) quiet in
     let step = then-gives (link_of link.0 env left s) (turns links env) result t is in
-    turns-kept links env step.1 t step.0 result step.3 ∙ (link.1 env s step.1 left step.0 step.2).store_is
+    turns-kept links none.1 env step.1 t step.0 result step.3 ∙ (link.1 env s step.1 left step.0 step.2).right_is.store_is none.0
 
 -- where the whole takes its truth value from both operands at each operator, each operand has it
-turns-refine : (links : List ProvedLink) (env : Environment) (s t : effect.State) (left result : Value) (truth : Bool)
+turns-refine : (links : List ProvedLink) → calls_in links ≡ false → (env : Surroundings) (s t : effect.State) (left result : Value) (truth : Bool)
     → list_all (λ conjunct. takes_both truth conjunct.operation) (conjuncts_of links) ≡ true → turns links env left s ≡ Gives result t → is_so result ≡ truth
-    → (is_so left ≡ truth) × ((variables : ℕ) (state : State) → Knows variables env state s.store
-    → Knows variables env (all_refined truth (conjuncts_of links) state) s.store)
-turns-refine [] env s t left result truth takes is so =
+    → (is_so left ≡ truth) × ((variables : ℕ) (state : State) → Knows variables env.visible state s.store
+    → Knows variables env.visible (all_refined truth (conjuncts_of links) state) s.store)
+turns-refine [] quiet env s t left result truth takes is so =
     (ap is_so (given-same left result s t is).0 ∙ so, λ variables state known. known)
-turns-refine (link ∷ links) env s t left result truth takes is so =
+turns-refine (link ∷ links) quiet env s t left result truth takes is so =
+    let none = or_parts (link_holds_call_of link.0) (calls_in links) quiet in
     let conjunct = conjunct_of link.0 in
     let parts = and_parts (takes_both truth conjunct.operation) (list_all (λ c. takes_both truth c.operation) (conjuncts_of links)) takes in
     let step = then-gives (link_of link.0 env left s) (turns links env) result t is in
     let combines = link.1 env s step.1 left step.0 step.2 in
-    let rest = turns-refine links env step.1 t step.0 result truth parts.1 step.3 so in
+    let store_is = combines.right_is.store_is none.0 in
+    let rest = turns-refine links none.1 env step.1 t step.0 result truth parts.1 step.3 so in
     let both = both-so conjunct.operation combines.a combines.b step.0 truth parts.0 combines.result_is rest.0 in
     let right_so : is_so combines.right ≡ truth = ap is_so combines.b_is ∙ both.1 in (
       ap is_so combines.left_is ∙ both.0,
       λ variables state known.
-          let one : Knows variables env (conjunct.right.refined truth state) s.store =
-          subst (λ (b : Bool). Knows variables env (conjunct.right.refined b state) s.store) right_so (combines.right_is.refines variables state known) in
-          subst (λ (store : Store). Knows variables env (all_refined truth (conjuncts_of links) (conjunct.right.refined truth state)) store) combines.store_is
+          let one : Knows variables env.visible (conjunct.right.refined truth state) s.store =
+          subst (λ (b : Bool). Knows variables env.visible (conjunct.right.refined b state) s.store) right_so
+          (combines.right_is.refines none.0 variables state known) in
+          subst (λ (store : Store). Knows variables env.visible (all_refined truth (conjuncts_of links) (conjunct.right.refined truth state)) store) store_is
           (rest.1 variables (conjunct.right.refined truth state)
-          (subst (λ (store : Store). Knows variables env (conjunct.right.refined truth state) store) (sym combines.store_is) one)),
+          (subst (λ (store : Store). Knows variables env.visible (conjunct.right.refined truth state) store) (sym store_is) one)),
     )
 
 -- a single operator
-single-known : (links : List ProvedLink) (env : Environment) (s t : effect.State) (left result : Value) (form : Form) → turns links env left s ≡ Gives result t
-    → IsForm form (moment env s.store) left → (variables : ℕ) (state : State) → Knows variables env state s.store
-    → Knows variables env (single_refined (is_so result) form (conjuncts_of links) state) s.store
-single-known [] env s t left result form is form_is variables state known = known
-single-known (link ∷ []) env s t left result form is form_is variables state known =
+single-known : (links : List ProvedLink) → calls_in links ≡ false → (env : Surroundings) (s t : effect.State) (left result : Value) (form : Form)
+    → turns links env left s ≡ Gives result t
+    → IsForm form (moment env.visible s.store) left → (variables : ℕ) (state : State) → Knows variables env.visible state s.store
+    → Knows variables env.visible (single_refined (is_so result) form (conjuncts_of links) state) s.store
+single-known [] quiet env s t left result form is form_is variables state known = known
+single-known (link ∷ []) quiet env s t left result form is form_is variables state known =
+    let none = or_parts (link_holds_call_of link.0) (calls_in []) quiet in
     let step = then-gives (link_of link.0 env left s) (turns [] env) result t is in
     let combines = link.1 env s step.1 left step.0 step.2 in
     let conjunct = conjunct_of link.0 in
-    let m = moment env s.store in
+    let m = moment env.visible s.store in
     let same : step.0 ≡ result = (given-same step.0 result step.1 t step.3).0 in
-    operation-known variables env s.store conjunct.operation form conjunct.right.form combines.a combines.b result state
-    (subst (IsForm form m) combines.left_is form_is) (subst (IsForm conjunct.right.form m) combines.b_is combines.right_is.form_is)
+    let right_is : IsForm conjunct.right.form m combines.right =
+    subst (λ (store : Store). IsForm conjunct.right.form (moment env.visible store) combines.right) (combines.right_is.store_is none.0)
+    combines.right_is.form_is in
+    operation-known variables env.visible s.store conjunct.operation form conjunct.right.form combines.a combines.b result state
+    (subst (IsForm form m) combines.left_is form_is) (subst (IsForm conjunct.right.form m) combines.b_is right_is)
     (subst (IsResult conjunct.operation combines.a combines.b) same combines.result_is) known
-single-known (link ∷ next ∷ links) env s t left result form is form_is variables state known = known
+single-known (link ∷ next ∷ links) quiet env s t left result form is form_is variables state known = known
 
 -- ---- forms of chains
 
@@ -359,26 +395,77 @@ offset-form root dyadic.And form moment a b w has form_is is = tt
 offset-form root dyadic.Or form moment a b w has form_is is = tt
 offset-form root (dyadic.Relation r) form moment a b w has form_is is = tt
 
+-- a form tells of the value behind it, and what comes between changes no variable, if the form is part of a bound form
+abbrev Tells : Form → Environment → Store → Store → Value → Type 0
+Tells form env before after v = IsForm form (moment env after) v × Still form before after
+
+offset-none : (root : ℕ) (operation : Dyadic) (env : Environment) (before after : Store) (w : Value)
+    → Tells (offset_form root operation None) env before after w
+offset-none root (dyadic.Plus overflow) env before after w = (tt, tt)
+offset-none root (dyadic.Minus overflow) env before after w = (tt, tt)
+offset-none root (dyadic.Times overflow) env before after w = (tt, tt)
+offset-none root (dyadic.Div by_zero) env before after w = (tt, tt)
+offset-none root (dyadic.Mod by_zero_or_less) env before after w = (tt, tt)
+offset-none root dyadic.And env before after w = (tt, tt)
+offset-none root dyadic.Or env before after w = (tt, tt)
+offset-none root (dyadic.Relation r) env before after w = (tt, tt)
+
+offset-tells : (root : ℕ) (operation : Dyadic) (form : Form) (env : Environment) (before after : Store) (a b : ℤ) (w : Value)
+    → HasNumber (moment env before) root a → IsForm form (moment env after) (Number b) → Still form before after → IsResult operation a b w
+    → Tells (offset_form root operation (constant_of form)) env before after w
+offset-tells root operation (Literal n) env before after a b w has form_is still is = (
+  offset-form root operation (Literal n) (moment env after) a b w
+      (subst (λ (store : Store). HasNumber (moment env store) root a) (sym still) has) form_is is,
+  still-same (offset_form root operation (Some n)) before after still,
+)
+offset-tells root operation (Signed n) env before after a b w has form_is still is = (
+  offset-form root operation (Signed n) (moment env after) a b w
+      (subst (λ (store : Store). HasNumber (moment env store) root a) (sym still) has) form_is is,
+  still-same (offset_form root operation (Some n)) before after still,
+)
+offset-tells root operation (Entire other) env before after a b w has form_is still is = offset-none root operation env before after w
+offset-tells root operation (Moved other k) env before after a b w has form_is still is = offset-none root operation env before after w
+offset-tells root operation Other env before after a b w has form_is still is = offset-none root operation env before after w
+
 abbrev chain_of : Form → List ProvedLink → Form
 chain_of form links = chain_form form (map operand_of (conjuncts_of links))
 
-chain-form : (links : List ProvedLink) (form : Form) (env : Environment) (s t : effect.State) (left result : Value) → turns links env left s ≡ Gives result t
-    → IsForm form (moment env s.store) left → IsForm (chain_of form links) (moment env s.store) result
-chain-form links (Literal n) env s t left result is form_is = tt
-chain-form links (Signed n) env s t left result is form_is = tt
-chain-form links (Moved root k) env s t left result is form_is = tt
-chain-form links Other env s t left result is form_is = tt
-chain-form [] (Entire root) env s t left result is form_is = tt
-chain-form (link ∷ next ∷ links) (Entire root) env s t left result is form_is = tt
-chain-form (link ∷ []) (Entire root) env s t left result is form_is =
+chain-tells : (links : List ProvedLink) (form : Form) (env : Surroundings) (s t : effect.State) (left result : Value) → turns links env left s ≡ Gives result t
+    → IsForm form (moment env.visible s.store) left → Tells (chain_of form links) env.visible s.store t.store result
+chain-tells links (Literal n) env s t left result is form_is = (tt, tt)
+chain-tells links (Signed n) env s t left result is form_is = (tt, tt)
+chain-tells links (Moved root k) env s t left result is form_is = (tt, tt)
+chain-tells links Other env s t left result is form_is = (tt, tt)
+chain-tells [] (Entire root) env s t left result is form_is = (tt, tt)
+chain-tells (link ∷ next ∷ links) (Entire root) env s t left result is form_is = (tt, tt)
+chain-tells (link ∷ []) (Entire root) env s t left result is form_is =
     let step = then-gives (link_of link.0 env left s) (turns [] env) result t is in
     let combines = link.1 env s step.1 left step.0 step.2 in
     let conjunct = conjunct_of link.0 in
-    let m = moment env s.store in
-    let same : step.0 ≡ result = (given-same step.0 result step.1 t step.3).0 in
-    subst (IsForm (offset_form root conjunct.operation (constant_of conjunct.right.form)) m) same
-    (offset-form root conjunct.operation conjunct.right.form m combines.a combines.b step.0 (form_is ∙ ap Some combines.left_is)
-    (subst (IsForm conjunct.right.form m) combines.b_is combines.right_is.form_is) combines.result_is)
+    let last = given-same step.0 result step.1 t step.3 in
+    let whole = offset_form root conjunct.operation (constant_of conjunct.right.form) in
+    let here : Tells whole env.visible s.store step.1.store step.0 =
+    offset-tells root conjunct.operation conjunct.right.form env.visible s.store step.1.store combines.a combines.b step.0
+    (form_is ∙ ap Some combines.left_is) (subst (IsForm conjunct.right.form (moment env.visible step.1.store)) combines.b_is combines.right_is.form_is)
+    combines.right_is.still combines.result_is in
+    subst (λ (v : Value). Tells whole env.visible s.store t.store v) last.0
+    (subst (λ (u : effect.State). Tells whole env.visible s.store u.store step.0) last.1 here)
+
+chain-still : (form : Form) (links : List ProvedLink) (before between after : Store) → Still form before between → Still (chain_of form links) between after
+    → Still (chain_of form links) before after
+chain-still (Literal n) links before between after first rest = tt
+chain-still (Signed n) links before between after first rest = tt
+chain-still (Moved root k) links before between after first rest = tt
+chain-still Other links before between after first rest = tt
+chain-still (Entire root) links before between after first rest =
+    subst (λ (store : Store). Still (chain_of (Entire root) links) store after) first rest
+
+sign-still : (form : Form) (operation : Monadic) (before after : Store) → Still form before after → Still (sign_form form operation) before after
+sign-still (Literal n) operation before after still = still-same (sign_form (Literal n) operation) before after still
+sign-still (Signed n) operation before after still = tt
+sign-still (Entire root) operation before after still = tt
+sign-still (Moved root k) operation before after still = tt
+sign-still Other operation before after still = tt
 
 -- ---- the forms of expressions
 
@@ -413,57 +500,66 @@ monadic-known (monadic.Chr no_char) condition variables env store n w s t refine
 monadic-known (monadic.Succ no_successor last) condition variables env store n w s t refines is state known = known
 monadic-known (monadic.Pred no_predecessor first) condition variables env store n w s t refines is state known = known
 
-monadic-evaluates : (operation : Monadic) (condition : Condition) (env : Environment) (s u t : effect.State) (a w : Value)
-    → Evaluates env condition s.store u.store a → meaning.operated operation a u ≡ Gives w t
-    → Evaluates env (record { form = sign_form condition.form operation; refined = monadic_refined operation condition }) s.store t.store w
-monadic-evaluates operation condition env s u t (Number n) w one is = record {
-  store_is = ap (λ (x : effect.State). x.store) (operated-kept operation (Number n) w u t is) ∙ one.store_is;
-  form_is = sign-form condition.form operation (moment env s.store) n w u t one.form_is is;
-  refines = λ variables state known.
-      monadic-known operation condition variables env s.store n w u t (λ state known. one.refines variables state known) is state known;
-}
-
-chain-evaluates : (first : Condition) (links : List ProvedLink) (env : Environment) (s u t : effect.State) (left result : Value)
-    → Evaluates env first s.store u.store left → turns links env left u ≡ Gives result t
-    → Evaluates env (record { form = chain_of first.form links; refined = chain_refined first (conjuncts_of links) }) s.store t.store result
-chain-evaluates first links env s u t left result one is =
-    let conjuncts = conjuncts_of links in
-    let back = sym one.store_is in
-    let truth = is_so result in
+monadic-evaluates : (operation : Monadic) (condition : Condition) (holds : Bool) (env : Environment) (s u t : effect.State) (a w : Value)
+    → Evaluates env condition holds s.store u.store a → meaning.operated operation a u ≡ Gives w t
+    → Evaluates env (record { form = sign_form condition.form operation; refined = monadic_refined operation condition }) holds s.store t.store w
+monadic-evaluates operation condition holds env s u t (Number n) w one is =
+    let kept : t.store ≡ u.store = ap (λ (x : effect.State). x.store) (operated-kept operation (Number n) w u t is) in
     record {
-      store_is = turns-kept links env u t left result is ∙ one.store_is;
       form_is =
-          subst (λ (store : Store). IsForm (chain_of first.form links) (moment env store) result) one.store_is
-          (chain-form links first.form env u t left result is (subst (λ (store : Store). IsForm first.form (moment env store) left) back one.form_is));
-      refines = λ variables state known.
-          let Here = λ (state : State). Knows variables env state s.store in
+          subst (λ (store : Store). IsForm (sign_form condition.form operation) (moment env store) w) (sym kept)
+          (sign-form condition.form operation (moment env u.store) n w u t one.form_is is);
+      still =
+          subst (λ (store : Store). Still (sign_form condition.form operation) s.store store) (sym kept)
+          (sign-still condition.form operation s.store u.store one.still);
+      store_is = λ quiet. kept ∙ one.store_is quiet;
+      refines = λ quiet variables state known.
+          monadic-known operation condition variables env s.store n w u t (λ state known. one.refines quiet variables state known) is state known;
+    }
+
+chain-evaluates : (first : Condition) (holds : Bool) (links : List ProvedLink) (env : Surroundings) (s u t : effect.State) (left result : Value)
+    → Evaluates env.visible first holds s.store u.store left → turns links env left u ≡ Gives result t
+    → Evaluates env.visible (record { form = chain_of first.form links; refined = chain_refined first (conjuncts_of links) }) (holds || calls_in links)
+    s.store t.store result
+chain-evaluates first holds links env s u t left result one is =
+    let conjuncts = conjuncts_of links in
+    let truth = is_so result in
+    let tells = chain-tells links first.form env u t left result is one.form_is in
+    record {
+      form_is = tells.0;
+      still = chain-still first.form links s.store u.store t.store one.still tells.1;
+      store_is = λ quiet.
+          let none = or_parts holds (calls_in links) quiet in
+          turns-kept links none.1 env u t left result is ∙ one.store_is none.0;
+      refines = λ quiet variables state known.
+          let none = or_parts holds (calls_in links) quiet in
+          let store_is = one.store_is none.0 in
+          let back = sym store_is in
+          let Here = λ (state : State). Knows variables env.visible state s.store in
           cond_both (list_all (λ conjunct. takes_both truth conjunct.operation) conjuncts) (all_refined truth conjuncts (first.refined truth state))
           (single_refined truth first.form conjuncts state) Here
           (λ takes.
-          let rest = turns-refine links env u t left result truth takes is refl in
+          let rest = turns-refine links none.1 env u t left result truth takes is refl in
           let after_first : Here (first.refined truth state) =
-          subst (λ (b : Bool). Here (first.refined b state)) rest.0 (one.refines variables state known) in
-          subst (λ (store : Store). Knows variables env (all_refined truth conjuncts (first.refined truth state)) store) one.store_is
-          (rest.1 variables (first.refined truth state) (subst (λ (store : Store). Knows variables env (first.refined truth state) store) back after_first)))
+          subst (λ (b : Bool). Here (first.refined b state)) rest.0 (one.refines none.0 variables state known) in
+          subst (λ (store : Store). Knows variables env.visible (all_refined truth conjuncts (first.refined truth state)) store) store_is
+          (rest.1 variables (first.refined truth state)
+          (subst (λ (store : Store). Knows variables env.visible (first.refined truth state) store) back after_first)))
           (λ single.
-          subst (λ (store : Store). Knows variables env (single_refined truth first.form conjuncts state) store) one.store_is
-          (single-known links env u t left result first.form is (subst (λ (store : Store). IsForm first.form (moment env store) left) back one.form_is)
-          variables state (subst (λ (store : Store). Knows variables env state store) back known)));
+          subst (λ (store : Store). Knows variables env.visible (single_refined truth first.form conjuncts state) store) store_is
+          (single-known links none.1 env u t left result first.form is one.form_is
+          variables state (subst (λ (store : Store). Knows variables env.visible state store) back known)));
     }
 
-evaluated-same : (env : Environment) (condition : Condition) (before after : Store) (v : Value) → Evaluates env condition before after v
-    → Evaluates env condition before before v
-evaluated-same env condition before after v one = record { store_is = refl; form_is = one.form_is; refines = one.refines }
-
-link-combines : (operation : Dyadic) (condition : Condition) (env : Environment) (s u t : effect.State) (left right result : Value)
-    → Evaluates env condition s.store u.store right → meaning.combined operation left right u ≡ Gives result t
-    → Combines env (record { operation = operation; right = condition }) s.store t.store left result
-link-combines operation condition env s u t (Number a) (Number b) result one is =
+link-combines : (operation : Dyadic) (condition : Condition) (holds : Bool) (env : Environment) (s u t : effect.State) (left right result : Value)
+    → Evaluates env condition holds s.store u.store right → meaning.combined operation left right u ≡ Gives result t
+    → Combines env (record { operation = operation; right = condition }) holds s.store t.store left result
+link-combines operation condition holds env s u t (Number a) (Number b) result one is =
     let gives = combined-gives operation a b result u t is in
     record {
-      store_is = ap (λ (x : effect.State). x.store) gives.1 ∙ one.store_is;
       right = Number b;
-      right_is = evaluated-same env condition s.store u.store (Number b) one;
+      right_is =
+          subst (λ (x : effect.State). Evaluates env condition holds s.store x.store (Number b)) (sym gives.1) one;
       a = a;
       b = b;
       left_is = refl;
@@ -472,29 +568,31 @@ link-combines operation condition env s u t (Number a) (Number b) result one is 
     }
 
 -- a layer of an expression, of which the parts are proved
-abbrev ExprLayer : Expr-F Expr Link → Type 0
+abbrev ExprLayer : Expr-F Expr Passed Link → Type 0
 ExprLayer x =
-    EvaluatesAs (meaning.value_step (map-Expr Expr Link Evaluation meaning.Combination value_of link_of x))
-    (condition_step (map-Expr Expr Link Condition Conjunct condition_of conjunct_of x))
+    EvaluatesAs (meaning.value_step (map-Expr Expr Passed Link Evaluation Passing meaning.Combination value_of passing_of link_of x))
+    (condition_step (map-Expr Expr Passed Link Condition (Unit {0}) Conjunct condition_of (λ p. tt) conjunct_of x))
+    (expression_holds_call (map-Expr Expr Passed Link Bool Bool Bool holds_call passed_holds_call link_holds_call_of x))
 
-abbrev LinkLayer : Link-F Expr Link → Type 0
+abbrev LinkLayer : Link-F Expr Passed Link → Type 0
 LinkLayer x =
-    CombinesAs (meaning.link_step (map-Link Expr Link Evaluation meaning.Combination value_of link_of x))
-    (link_condition (map-Link Expr Link Condition Conjunct condition_of conjunct_of x))
+    CombinesAs (meaning.link_step (map-Link Expr Passed Link Evaluation Passing meaning.Combination value_of passing_of link_of x))
+    (link_condition (map-Link Expr Passed Link Condition (Unit {0}) Conjunct condition_of (λ p. tt) conjunct_of x))
+    (link_holds_call (map-Link Expr Passed Link Bool Bool Bool holds_call passed_holds_call link_holds_call_of x))
 
 abbrev entered : ℕ → Environment → effect.State → effect.State
 entered number env s =
     record s { visited = s.visited ++ record { number = number; environment = env; store = s.store } ∷ [] }
 
--- ---- accesses and whole values, which change no variable
+-- ---- accesses and whole values, which change no variable if they hold no call
 
 abbrev KeepsStore : Evaluation → Type 0
-KeepsStore evaluation = (env : Environment) (s t : effect.State) (v : Value) → evaluation env s ≡ Gives v t → t.store ≡ s.store
+KeepsStore evaluation = (env : Surroundings) (s t : effect.State) (v : Value) → evaluation env s ≡ Gives v t → t.store ≡ s.store
 
 given-kept : {A : Type 0} (a b : A) (s t : effect.State) → effect.give a s ≡ Gives b t → t.store ≡ s.store
 given-kept a b s t is = ap (λ (x : effect.State). x.store) (sym (given-same a b s t is).1)
 
-selected-kept : (selectors : List Selector) (indexes : List Evaluation) → All KeepsStore indexes → (env : Environment) (place : Option Place)
+selected-kept : (selectors : List Selector) (indexes : List Evaluation) → All KeepsStore indexes → (env : Surroundings) (place : Option Place)
     (s t : effect.State) (found : Option Place)
     → selected selectors indexes env place s ≡ Gives found t → t.store ≡ s.store
 selected-kept [] indexes all env place s t found is = given-kept place found s t is
@@ -511,10 +609,10 @@ selected-kept (Element fits cells ∷ selectors) (index ∷ indexes) all env pla
     selected-kept selectors indexes (All-tail KeepsStore index indexes all) env inner first.1 t found passed.1
     ∙ All-head KeepsStore index indexes all env s first.1 first.0 first.2
 
-accessed-kept : (access : Access) (indexes : List Evaluation) → All KeepsStore indexes → (env : Environment) (s t : effect.State) (found : Option Place)
+accessed-kept : (access : Access) (indexes : List Evaluation) → All KeepsStore indexes → (env : Surroundings) (s t : effect.State) (found : Option Place)
     → accessed access indexes env s ≡ Gives found t → t.store ≡ s.store
 accessed-kept access indexes all env s t found is =
-    selected-kept access.selectors.items indexes all env (env.variables access.root) (entered access.number env s) t found is
+    selected-kept access.selectors.items indexes all env (env.visible.variables access.root) (entered access.number env.visible s) t found is
 
 fetch-kept : (place : Option Place) (site : ℕ) (s t : effect.State) (v : Value) → fetch place site s ≡ Gives v t → t.store ≡ s.store
 fetch-kept place site s t v is = ap (λ (x : effect.State). x.store) (sym (fetch-gives (held s.store place) site s t v is).1)
@@ -530,134 +628,203 @@ fetched_all-kept place (steps ∷ components) site s t row is =
     given-kept (number_of first.0 ∷ second.0) row second.1 t second.3
     ∙ fetched_all-kept place components site first.1 second.1 second.0 second.2 ∙ fetch-kept (part place steps) site s first.1 first.0 first.2
 
-whole_of-kept : (value : Whole) (indexes : List Evaluation) → All KeepsStore indexes → (env : Environment) (s t : effect.State) (row : List ℤ)
-    → whole_of value indexes env s ≡ Gives row t → t.store ≡ s.store
-whole_of-kept (Text number characters) indexes all env s t row is = given-kept (map pos characters.items) row (entered number env s) t is
+whole_of-kept : (value : Whole) (indexes : List Evaluation) → All KeepsStore (whole_indexes value indexes) → (env : Surroundings) (s t : effect.State)
+    (row : List ℤ) → whole_of value indexes env s ≡ Gives row t → t.store ≡ s.store
+whole_of-kept (Text number characters) indexes all env s t row is = given-kept (map pos characters.items) row (entered number env.visible s) t is
 whole_of-kept (VariableOf access type_id cells defined) indexes all env s t row is =
-    let behind : Option Place → effect.Action (List ℤ) = λ place. fetch_all place (components_of env.types type_id) defined in
+    let components = components_of env.visible.types type_id in
+    let behind : Option Place → effect.Action (List ℤ) = λ place. fetch_all place components defined in
     let first = then-gives (accessed access indexes env s) behind row t is in
-    fetched_all-kept first.0 (components_of env.types type_id) defined first.1 t row first.3 ∙ accessed-kept access indexes all env s first.1 first.0 first.2
+    fetched_all-kept first.0 components defined first.1 t row first.3 ∙ accessed-kept access indexes all env s first.1 first.0 first.2
 
-compare-kept : (number : ℕ) (relation : Relation) (left right : Whole) (left_indexes right_indexes : List Evaluation) → All KeepsStore left_indexes
-    → All KeepsStore right_indexes → (env : Environment) (s t : effect.State) (v : Value)
+compare-kept : (number : ℕ) (relation : Relation) (left right : Whole) (left_indexes right_indexes : List Evaluation)
+    → All KeepsStore (whole_indexes left left_indexes) → All KeepsStore (whole_indexes right right_indexes)
+    → (env : Surroundings) (s t : effect.State) (v : Value)
     → effect.◌>>=◌ (whole_of left left_indexes env)
-    (λ a. effect.◌>>=◌ (effect.enter number env)
+    (λ a. effect.◌>>=◌ (effect.enter number env.visible)
     (λ done. effect.◌>>=◌ (whole_of right right_indexes env) (λ b. effect.give (meaning.compared relation a b)))) s ≡ Gives v t
     → t.store ≡ s.store
 compare-kept number relation left right left_indexes right_indexes of_left of_right env s t v is =
     let behind : List ℤ → effect.Action Value =
-    λ a. effect.◌>>=◌ (effect.enter number env)
+    λ a. effect.◌>>=◌ (effect.enter number env.visible)
     (λ done. effect.◌>>=◌ (whole_of right right_indexes env) (λ b. effect.give (meaning.compared relation a b))) in
     let first = then-gives (whole_of left left_indexes env s) behind v t is in
-    let start = entered number env first.1 in
+    let start = entered number env.visible first.1 in
     let second = then-gives (whole_of right right_indexes env start) (λ b. effect.give (meaning.compared relation first.0 b)) v t first.3 in
     given-kept (meaning.compared relation first.0 second.0) v second.1 t second.3
     ∙ whole_of-kept right right_indexes of_right env start second.1 second.0 second.2 ∙ whole_of-kept left left_indexes of_left env s first.1 first.0 first.2
 
 -- an entire variable has the value that is read
-access-form : (root : ℕ) (selectors : List Selector) (indexes : List Evaluation) (env : Environment) (s u t : effect.State) (found : Option Place) (site : ℕ)
+access-tells : (root : ℕ) (selectors : List Selector) (indexes : List Evaluation) (env : Surroundings) (s u t : effect.State) (found : Option Place) (site : ℕ)
     (v : Value)
-    → selected selectors indexes env (env.variables root) s ≡ Gives found u → fetch found site u ≡ Gives v t
-    → IsForm (access_form root selectors) (moment env s.store) v
-access-form root [] indexes env s u t found site v reached is =
-    let same = given-same (env.variables root) found s u reached in
+    → selected selectors indexes env (env.visible.variables root) s ≡ Gives found u → fetch found site u ≡ Gives v t
+    → Tells (access_form root selectors) env.visible s.store t.store v
+access-tells root [] indexes env s u t found site v reached is =
+    let same = given-same (env.visible.variables root) found s u reached in
     let fetched = fetch-gives (held u.store found) site u t v is in
-    held-part s.store (env.variables root) ∙ ap₂ (λ (x : effect.State) (place : Option Place). held x.store place) same.1 same.0 ∙ fetched.0
-access-form root (selector ∷ selectors) indexes env s u t found site v reached is = tt
+    let kept : s.store ≡ t.store = ap (λ (x : effect.State). x.store) (same.1 ∙ fetched.1) in (
+      held-part t.store (env.visible.variables root)
+          ∙ ap₂ (λ (store : Store) (place : Option Place). held store place) (sym (ap (λ (x : effect.State). x.store) fetched.1)) same.0
+          ∙ fetched.0,
+      sym kept,
+    )
+access-tells root (selector ∷ selectors) indexes env s u t found site v reached is = (tt, tt)
 
-all-kept : (parts : List ProvedExpr) → All KeepsStore (map value_of (map (λ e. e.0) parts))
-all-kept [] = All-nil KeepsStore
-all-kept (one ∷ parts) =
-    All-cons KeepsStore (value_of one.0) (map value_of (map (λ (e : ProvedExpr). e.0) parts)) (λ env s t v is. (one.1 env s t v is).store_is) (all-kept parts)
+-- index expressions that hold no call keep the store
+all-kept : (parts : List ProvedExpr) → any_holds (map holds_call (map (λ e. e.0) parts)) ≡ false
+    → All KeepsStore (map value_of (map (λ e. e.0) parts))
+all-kept [] quiet = All-nil KeepsStore
+all-kept (one ∷ parts) quiet =
+    let none = or_parts (holds_call one.0) (any_holds (map holds_call (map (λ (e : ProvedExpr). e.0) parts))) quiet in
+    All-cons KeepsStore (value_of one.0) (map value_of (map (λ (e : ProvedExpr). e.0) parts))
+    (λ env s t v is. (one.1 env s t v is).store_is none.0) (all-kept parts none.1)
 
-value-layer : (y : Expr-F ProvedExpr ProvedLink) → ExprLayer (map-Expr ProvedExpr ProvedLink Expr Link (λ e. e.0) (λ l. l.0) y)
+whole-parts-kept : (value : Whole) (parts : List ProvedExpr) → any_holds (whole_indexes value (map holds_call (map (λ e. e.0) parts))) ≡ false
+    → All KeepsStore (whole_indexes value (map value_of (map (λ e. e.0) parts)))
+whole-parts-kept (Text number characters) parts quiet = All-nil KeepsStore
+whole-parts-kept (VariableOf access type_id cells defined) parts quiet = all-kept parts quiet
+
+holds-none : true ≡ false → ⊥
+holds-none is = cc
+
+value-layer : (y : Expr-F ProvedExpr ProvedPassed ProvedLink)
+    → ExprLayer (map-Expr ProvedExpr ProvedPassed ProvedLink Expr Passed Link (λ e. e.0) (λ p. p.0) (λ l. l.0) y)
 value-layer (Constant number value) env s t v is =
-    let same = given-same (Number value) v (entered number env s) t is in
-    record {
-      store_is = ap (λ (x : effect.State). x.store) (sym same.1);
-      form_is = sym same.0;
-      refines = λ variables state known. known;
-    }
+    let same = given-same (Number value) v (entered number env.visible s) t is in
+    let kept : t.store ≡ s.store = ap (λ (x : effect.State). x.store) (sym same.1) in
+    record { form_is = sym same.0; still = kept; store_is = λ quiet. kept; refines = λ quiet variables state known. known }
 value-layer (Variable access indexes defined) env s t v is =
     let evaluations = map value_of (map (λ (e : ProvedExpr). e.0) indexes.items) in
-    let start = entered access.number env s in
+    let start = entered access.number env.visible s in
     let reached = then-gives (accessed access evaluations env s) (λ place. fetch place defined) v t is in
+    let tells = access-tells access.root access.selectors.items evaluations env start reached.1 t reached.0 defined v reached.2 reached.3 in
     record {
-      store_is = fetch-kept reached.0 defined reached.1 t v reached.3
-          ∙ accessed-kept access evaluations (all-kept indexes.items) env s reached.1 reached.0 reached.2;
-      form_is = access-form access.root access.selectors.items evaluations env start reached.1 t reached.0 defined v reached.2 reached.3;
-      refines = λ variables state known. known;
+      form_is = tells.0;
+      still = tells.1;
+      store_is = λ quiet.
+          fetch-kept reached.0 defined reached.1 t v reached.3
+          ∙ accessed-kept access evaluations (all-kept indexes.items quiet) env s reached.1 reached.0 reached.2;
+      refines = λ quiet variables state known. known;
     }
 value-layer (MonadicOf number operation operand) env s t v is =
-    let start = entered number env s in
+    let start = entered number env.visible s in
     let step = then-gives (value_of operand.value.0 env start) (meaning.operated operation) v t is in
-    monadic-evaluates operation (condition_of operand.value.0) env start step.1 t step.0 v (operand.value.1 env start step.1 step.0 step.2) step.3
+    monadic-evaluates operation (condition_of operand.value.0) (holds_call operand.value.0) env.visible start step.1 t step.0 v
+    (operand.value.1 env start step.1 step.0 step.2) step.3
 value-layer (Chain first rest) env s t v is =
     let step = then-gives (value_of first.value.0 env s) (turns rest.items env) v t is in
-    chain-evaluates (condition_of first.value.0) rest.items env s step.1 t step.0 v (first.value.1 env s step.1 step.0 step.2) step.3
+    chain-evaluates (condition_of first.value.0) (holds_call first.value.0) rest.items env s step.1 t step.0 v
+    (first.value.1 env s step.1 step.0 step.2) step.3
 value-layer (Compare number relation left left_indexes right right_indexes) env s t v is = record {
-  store_is =
-      compare-kept number relation left right (map value_of (map (λ (e : ProvedExpr). e.0) left_indexes.items))
-      (map value_of (map (λ (e : ProvedExpr). e.0) right_indexes.items)) (all-kept left_indexes.items) (all-kept right_indexes.items) env s t v is;
   form_is = tt;
-  refines = λ variables state known. known;
+  still = tt;
+  store_is = λ quiet.
+      let none = or_parts (any_holds (whole_indexes left (map holds_call (map (λ (e : ProvedExpr). e.0) left_indexes.items))))
+      (any_holds (whole_indexes right (map holds_call (map (λ (e : ProvedExpr). e.0) right_indexes.items)))) quiet in
+      compare-kept number relation left right (map value_of (map (λ (e : ProvedExpr). e.0) left_indexes.items))
+      (map value_of (map (λ (e : ProvedExpr). e.0) right_indexes.items)) (whole-parts-kept left left_indexes.items none.0)
+      (whole-parts-kept right right_indexes.items none.1) env s t v is;
+  refines = λ quiet variables state known. known;
+}
+value-layer (Call call actuals) env s t v is = record {
+  form_is = tt;
+  still = tt;
+  store_is = λ quiet. absurd (holds-none quiet);
+  refines = λ quiet variables state known. known;
 }
 
-link-layer : (y : Link-F ProvedExpr ProvedLink) → LinkLayer (map-Link ProvedExpr ProvedLink Expr Link (λ e. e.0) (λ l. l.0) y)
+link-layer : (y : Link-F ProvedExpr ProvedPassed ProvedLink)
+    → LinkLayer (map-Link ProvedExpr ProvedPassed ProvedLink Expr Passed Link (λ e. e.0) (λ p. p.0) (λ l. l.0) y)
 link-layer y env s t left result is =
-    let start = entered y.number env s in
+    let start = entered y.number env.visible s in
     let step = then-gives (value_of y.operand.0 env start) (meaning.combined y.operation left) result t is in
-    link-combines y.operation (condition_of y.operand.0) env start step.1 t left step.0 result (y.operand.1 env start step.1 step.0 step.2) step.3
+    link-combines y.operation (condition_of y.operand.0) (holds_call y.operand.0) env.visible start step.1 t left step.0 result
+    (y.operand.1 env start step.1 step.0 step.2) step.3
 
-rolled-expr : (x : Expr-F Expr Link) → ExprLayer x → EvaluatesAs (value_of (roll-Expr x)) (condition_of (roll-Expr x))
+abbrev valued : Expr-F Expr Passed Link → Evaluation
+valued x = meaning.value_step (map-Expr Expr Passed Link Evaluation Passing meaning.Combination value_of passing_of link_of x)
+
+abbrev conditioned : Expr-F Expr Passed Link → Condition
+conditioned x = condition_step (map-Expr Expr Passed Link Condition (Unit {0}) Conjunct condition_of (λ p. tt) conjunct_of x)
+
+abbrev linked : Link-F Expr Passed Link → meaning.Combination
+linked x = meaning.link_step (map-Link Expr Passed Link Evaluation Passing meaning.Combination value_of passing_of link_of x)
+
+abbrev conjoined : Link-F Expr Passed Link → Conjunct
+conjoined x = link_condition (map-Link Expr Passed Link Condition (Unit {0}) Conjunct condition_of (λ p. tt) conjunct_of x)
+
+rolled-expr : (x : Expr-F Expr Passed Link) → ExprLayer x → EvaluatesAs (value_of (roll-Expr x)) (condition_of (roll-Expr x)) (holds_call (roll-Expr x))
 rolled-expr x layer =
-    subst (λ (e : Evaluation). EvaluatesAs e (condition_of (roll-Expr x)))
-    (sym (fold-roll-Expr Evaluation meaning.Combination meaning.value_step meaning.link_step x))
-    (subst (λ (c : Condition). EvaluatesAs (meaning.value_step (map-Expr Expr Link Evaluation meaning.Combination value_of link_of x)) c)
-    (sym (fold-roll-Expr Condition Conjunct condition_step link_condition x)) layer)
+    subst (λ (e : Evaluation). EvaluatesAs e (condition_of (roll-Expr x)) (holds_call (roll-Expr x)))
+    (sym (fold-roll-Expr Evaluation Passing meaning.Combination meaning.value_step meaning.passed_step meaning.link_step x))
+    (subst (λ (c : Condition). EvaluatesAs (valued x) c (holds_call (roll-Expr x)))
+    (sym (fold-roll-Expr Condition (Unit {0}) Conjunct condition_step passed_condition link_condition x))
+    (subst (λ (b : Bool). EvaluatesAs (valued x) (conditioned x) b)
+    (sym (fold-roll-Expr Bool Bool Bool expression_holds_call passed_step_holds_call link_holds_call x)) layer))
 
-rolled-link : (x : Link-F Expr Link) → LinkLayer x → CombinesAs (link_of (roll-Link x)) (conjunct_of (roll-Link x))
+rolled-link : (x : Link-F Expr Passed Link) → LinkLayer x → CombinesAs (link_of (roll-Link x)) (conjunct_of (roll-Link x)) (link_holds_call_of (roll-Link x))
 rolled-link x layer =
-    subst (λ (e : meaning.Combination). CombinesAs e (conjunct_of (roll-Link x)))
-    (sym (fold-roll-Link Evaluation meaning.Combination meaning.value_step meaning.link_step x))
-    (subst (λ (c : Conjunct). CombinesAs (meaning.link_step (map-Link Expr Link Evaluation meaning.Combination value_of link_of x)) c)
-    (sym (fold-roll-Link Condition Conjunct condition_step link_condition x)) layer)
+    subst (λ (e : meaning.Combination). CombinesAs e (conjunct_of (roll-Link x)) (link_holds_call_of (roll-Link x)))
+    (sym (fold-roll-Link Evaluation Passing meaning.Combination meaning.value_step meaning.passed_step meaning.link_step x))
+    (subst (λ (c : Conjunct). CombinesAs (linked x) c (link_holds_call_of (roll-Link x)))
+    (sym (fold-roll-Link Condition (Unit {0}) Conjunct condition_step passed_condition link_condition x))
+    (subst (λ (b : Bool). CombinesAs (linked x) (conjoined x) b)
+    (sym (fold-roll-Link Bool Bool Bool expression_holds_call passed_step_holds_call link_holds_call x)) layer))
 
-pub evaluates : (e : Expr) → EvaluatesAs (value_of e) (condition_of e)
+pub evaluates : (e : Expr) → EvaluatesAs (value_of e) (condition_of e) (holds_call e)
 evaluates =
-    ind-Expr (λ e. EvaluatesAs (value_of e) (condition_of e)) (λ l. CombinesAs (link_of l) (conjunct_of l))
-    (λ x y is. subst (λ (z : Expr-F Expr Link). EvaluatesAs (value_of (roll-Expr z)) (condition_of (roll-Expr z))) is
-    (rolled-expr (map-Expr ProvedExpr ProvedLink Expr Link (λ e. e.0) (λ l. l.0) y) (value-layer y)))
-    (λ x y is. subst (λ (z : Link-F Expr Link). CombinesAs (link_of (roll-Link z)) (conjunct_of (roll-Link z))) is
-    (rolled-link (map-Link ProvedExpr ProvedLink Expr Link (λ e. e.0) (λ l. l.0) y) (link-layer y)))
+    ind-Expr (λ e. EvaluatesAs (value_of e) (condition_of e) (holds_call e)) (λ p. Unit {0})
+    (λ l. CombinesAs (link_of l) (conjunct_of l) (link_holds_call_of l))
+    (λ x y is. subst (λ (z : Expr-F Expr Passed Link). EvaluatesAs (value_of (roll-Expr z)) (condition_of (roll-Expr z)) (holds_call (roll-Expr z))) is
+    (rolled-expr (map-Expr ProvedExpr ProvedPassed ProvedLink Expr Passed Link (λ e. e.0) (λ p. p.0) (λ l. l.0) y) (value-layer y)))
+    (λ x y is. tt)
+    (λ x y is. subst (λ (z : Link-F Expr Passed Link). CombinesAs (link_of (roll-Link z)) (conjunct_of (roll-Link z)) (link_holds_call_of (roll-Link z))) is
+    (rolled-link (map-Link ProvedExpr ProvedPassed ProvedLink Expr Passed Link (λ e. e.0) (λ p. p.0) (λ l. l.0) y) (link-layer y)))
 
 -- ---- what the walk uses
 
-all-kept_of : (expressions : List Expr) → All KeepsStore (values_of expressions)
-all-kept_of [] = All-nil KeepsStore
-all-kept_of (e ∷ expressions) =
-    All-cons KeepsStore (value_of e) (values_of expressions) (λ env s t v is. (evaluates e env s t v is).store_is) (all-kept_of expressions)
+all-kept_of : (expressions : List Expr) → hold_call expressions ≡ false → All KeepsStore (values_of expressions)
+all-kept_of [] quiet = All-nil KeepsStore
+all-kept_of (e ∷ expressions) quiet =
+    let none = or_parts (holds_call e) (hold_call expressions) quiet in
+    All-cons KeepsStore (value_of e) (values_of expressions) (λ env s t v is. (evaluates e env s t v is).store_is none.0)
+    (all-kept_of expressions none.1)
 
--- an access changes no variable, nor does a whole value
-pub access-kept : (access : Access) (indexes : List Expr) (env : Environment) (s t : effect.State) (found : Option Place)
+whole-kept_of : (value : Whole) (indexes : List Expr) → whole_holds_call value indexes ≡ false → All KeepsStore (whole_indexes value (values_of indexes))
+whole-kept_of (Text number characters) indexes quiet = All-nil KeepsStore
+whole-kept_of (VariableOf access type_id cells defined) indexes quiet = all-kept_of indexes quiet
+
+-- an access that holds no call changes no variable, nor does such a whole value
+pub access-kept : (access : Access) (indexes : List Expr) → hold_call indexes ≡ false → (env : Surroundings) (s t : effect.State) (found : Option Place)
     → accessed access (values_of indexes) env s ≡ Gives found t → t.store ≡ s.store
-access-kept access indexes env s t found is = accessed-kept access (values_of indexes) (all-kept_of indexes) env s t found is
+access-kept access indexes quiet env s t found is = accessed-kept access (values_of indexes) (all-kept_of indexes quiet) env s t found is
 
-pub whole-kept : (value : Whole) (indexes : List Expr) (env : Environment) (s t : effect.State) (row : List ℤ)
+pub whole-kept : (value : Whole) (indexes : List Expr) → whole_holds_call value indexes ≡ false → (env : Surroundings) (s t : effect.State) (row : List ℤ)
     → whole_of value (values_of indexes) env s ≡ Gives row t → t.store ≡ s.store
-whole-kept value indexes env s t row is = whole_of-kept value (values_of indexes) (all-kept_of indexes) env s t row is
+whole-kept value indexes quiet env s t row is = whole_of-kept value (values_of indexes) (whole-kept_of value indexes quiet) env s t row is
 
--- an expression changes no variable
-pub expression-kept : (e : Expr) (env : Environment) (s t : effect.State) (v : Value) → value_of e env s ≡ Gives v t → t.store ≡ s.store
-expression-kept e env s t v is = (evaluates e env s t v is).store_is
+-- an expression that holds no call changes no variable
+pub expression-kept : (e : Expr) → holds_call e ≡ false → (env : Surroundings) (s t : effect.State) (v : Value) → value_of e env s ≡ Gives v t
+    → t.store ≡ s.store
+expression-kept e quiet env s t v is = (evaluates e env s t v is).store_is quiet
 
 -- the value of an expression of a bound form is its bound
-pub form-known : (e : Expr) (env : Environment) (s t : effect.State) (v : Value) → value_of e env s ≡ Gives v t
-    → IsOfForm (moment env t.store) (bound_form e) v
-form-known e env s t v is =
-    let one = evaluates e env s t v is in
-    subst (λ (store : Store). IsOfForm (moment env store) (bound_form e) v) (sym one.store_is)
-    (form-bound (condition_of e).form (moment env s.store) v one.form_is)
+pub form-known : (e : Expr) (env : Surroundings) (s t : effect.State) (v : Value) → value_of e env s ≡ Gives v t
+    → IsOfForm (moment env.visible t.store) (bound_form e) v
+form-known e env s t v is = form-bound (condition_of e).form (moment env.visible t.store) v (evaluates e env s t v is).form_is
+
+-- an expression of a bound form changes no variable
+still-bound : (form : Form) (before after : Store) (bound : Bound) → Still form before after → bound_of form ≡ Some bound → after ≡ before
+still-bound (Literal n) before after bound still is = still
+still-bound (Signed n) before after bound still is = still
+still-bound (Entire root) before after bound still is = still
+still-bound (Moved root k) before after bound still is = still
+still-bound Other before after bound still is = absurd (cc)
+
+pub form-kept : (e : Expr) (bound : Bound) (env : Surroundings) (s t : effect.State) (v : Value) → value_of e env s ≡ Gives v t
+    → bound_form e ≡ Some bound → t.store ≡ s.store
+form-kept e bound env s t v is found =
+    still-bound (condition_of e).form s.store t.store bound (evaluates e env s t v is).still found
 
 never-so : (range : Interval) (n : ℤ) → HasMember range n → is_true n ≡ true → never_true range ≡ true → ⊥
 never-so range n inside is never =
@@ -688,12 +855,15 @@ excluded-known variables env store n false range state inside is known =
     cond_both (always_true range) Dead state (λ state. Knows variables env state store) (λ always. absurd (always-so range n inside is always)) (λ may. known)
 
 -- what is known of the branch that is taken
-pub branched-known : (variables : ℕ) (env : Environment) (condition : Expr) (s t : effect.State) (v : Value) (range : Interval) (state : State)
-    → value_of condition env s ≡ Gives v t → IsIn range v → Knows variables env state t.store
-    → Knows variables env (branched (is_so v) condition range state) t.store
+pub branched-known : (variables : ℕ) (env : Surroundings) (condition : Expr) (s t : effect.State) (v : Value) (range : Interval) (state : State)
+    → value_of condition env s ≡ Gives v t → IsIn range v → Knows variables env.visible state t.store
+    → Knows variables env.visible (branched (is_so v) condition range state) t.store
 branched-known variables env condition s t (Number n) range state is inside known =
     let one = evaluates condition env s t (Number n) is in
     let taken = unless_excluded (is_true n) range state in
-    let here : Knows variables env taken t.store = excluded-known variables env t.store n (is_true n) range state inside refl known in
-    subst (λ (store : Store). Knows variables env (refined (is_true n) condition taken) store) (sym one.store_is)
-    (one.refines variables taken (subst (λ (store : Store). Knows variables env taken store) one.store_is here))
+    let Here = λ (state : State) (store : Store). Knows variables env.visible state store in
+    let here : Here taken t.store = excluded-known variables env.visible t.store n (is_true n) range state inside refl known in
+    cond_both (holds_call condition) taken ((condition_of condition).refined (is_true n) taken) (λ state. Here state t.store) (λ holds. here)
+    (λ quiet.
+    subst (λ (store : Store). Here ((condition_of condition).refined (is_true n) taken) store) (sym (one.store_is quiet))
+    (one.refines quiet variables taken (subst (λ (store : Store). Here taken store) (one.store_is quiet) here)))

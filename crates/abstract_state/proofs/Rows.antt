@@ -1,5 +1,5 @@
 -- The rows of the checker's state, as facts.
-use Rattle.std.proofs.Common.{arith, ◌≡◌, ◌∙◌, sym, ap, refl, ℕ, zero, suc, ◌+◌, ◌-◌, ◌++◌, append-nil, append_assoc, length-append, ◌<◌, ◌≤◌, Bool, true}
+use Rattle.std.proofs.Common.{arith, ◌≡◌, ◌∙◌, sym, ap, refl, ℕ, zero, suc, ◌+◌, ◌<◌, ◌≤◌, Bool, true}
 use Rattle.std.proofs.Common.{false, ◌&&◌, ◌||◌, cond, ⊎_elim, max, filter, List, [], ◌∷◌, length, map, replicate, set, get_or, ap₂}
 use Rattle.std.proofs.lemmas.Bool.Decides.{nat_tests}
 use Rattle.std.specs.declared.cmp.Ordering.{Ordering}
@@ -9,10 +9,10 @@ use Rattle.domain.specs.Interval.{Interval, vacant, joined}
 use Rattle.domain.specs.Facts.{Fact, Defined, entire, fact_order, has_fact, put, with_fact}
 use Rattle.abstract_state.specs.declared.state.Row.{Row}
 use Rattle.std.proofs.lemmas.Bool.{cases_lt}
-use Rattle.std.proofs.lemmas.List.{length-set, set-get_or, length-replicate, get_or-set_other, replicate_more}
-use Rattle.std.proofs.lemmas.Grind.{get_or-set_at}
-use Rattle.abstract_state.specs.State.{joined_ranges, start}
-use Rattle.abstract_state.specs.View.{AreJoined, defined_from, joined_row, no_row}
+use Rattle.std.proofs.lemmas.List.{set-get_or}
+use Rattle.abstract_state.specs.State.{joined_ranges}
+use Rattle.abstract_state.specs.View.{defined_from, joined_row, no_row}
+use Rattle.sparse_list.specs.Sparse.{AreJoined as BothJoined}
 
 -- ---- facts that variables are defined stand in the order of the variables
 
@@ -250,76 +250,21 @@ ranges-both (row ∷ one) (o ∷ other) (r ∷ both) count each =
     range-pair r.range (joined row.range o.range) (ranges_of both) (joined_ranges (ranges_of one) (ranges_of other)) (each 0)
     (ranges-both one other both (omega (arith, count)) (λ i. each (suc i)))
 
--- ---- rows that are filled up
+-- ---- rows of two ways, joined
 
-pub filled-none : (rows : List Row) (n : ℕ) → n ≡ 0 → rows ≡ rows ++ replicate n no_row
-filled-none rows n none = sym (append-nil rows) ∙ ap (λ (m : ℕ). rows ++ replicate m no_row) (sym none)
+-- rows behind two ways, as many as those of the way that has more
+pub record AreJoined (one other both : List Row) : Type 0 where
+  pub count : length both ≡ max (length one) (length other)
+  pub each : (root : ℕ) → get_or both root no_row ≡ joined_row (get_or one root no_row) (get_or other root no_row)
 
-pub filled-more : (rows old : List Row) (n m : ℕ) → rows ≡ old ++ replicate n no_row → m ≡ n + 1 → rows ++ no_row ∷ [] ≡ old ++ replicate m no_row
-filled-more rows old n m are more =
-    ap (λ (some : List Row). some ++ no_row ∷ []) are ∙ append_assoc old (replicate n no_row) (no_row ∷ [])
-    ∙ ap (λ (rest : List Row). old ++ rest) (replicate_more n no_row)
-    ∙ ap (λ (k : ℕ). old ++ replicate k no_row) (sym more)
-
-pub filled-all : (rows old : List Row) (n m : ℕ) → rows ≡ old ++ replicate n no_row → n ≡ m → rows ≡ old ++ replicate m no_row
-filled-all rows old n m are same = are ∙ ap (λ (k : ℕ). old ++ replicate k no_row) same
-
-pub filled-length : (rows old : List Row) (m : ℕ) → rows ≡ old ++ replicate (m - length old) no_row → length old ≤ m → length rows ≡ m
-filled-length rows old m are fits =
-    ap length are ∙ length-append old (replicate (m - length old) no_row) ∙ omega (arith, length-replicate (m - length old) no_row, fits)
-
-no-rows-at : (n k : ℕ) → get_or (replicate n no_row) k no_row ≡ no_row
-no-rows-at zero k = refl
-no-rows-at (suc n) zero = refl
-no-rows-at (suc n) (suc k) = no-rows-at n k
-
-filled-at : (rows : List Row) (n k : ℕ) → get_or (rows ++ replicate n no_row) k no_row ≡ get_or rows k no_row
-filled-at [] n k = no-rows-at n k
-filled-at (row ∷ rows) n zero = refl
-filled-at (row ∷ rows) n (suc k) = filled-at rows n k
-
-pub filled-at_as : (rows old : List Row) (n k : ℕ) → rows ≡ old ++ replicate n no_row → get_or rows k no_row ≡ get_or old k no_row
-filled-at_as rows old n k are = ap (λ (some : List Row). get_or some k no_row) are ∙ filled-at old n k
-
--- ---- the loop over the rows of two ways
-
--- the first rows are joined, and the others as they were
-pub record JoinedUpTo (start others rows : List Row) (i : ℕ) : Type 0 where
-  pub count : length rows ≡ length start
-  pub done : (k : ℕ) → k < i → get_or rows k no_row ≡ joined_row (get_or start k no_row) (get_or others k no_row)
-  pub left : (k : ℕ) → i ≤ k → get_or rows k no_row ≡ get_or start k no_row
-
-pub joined-none : (start others : List Row) → JoinedUpTo start others start 0
-joined-none start others = record { count = refl; done = λ k below. absurd (omega (arith, below)); left = λ k above. refl }
-
-pub joined-next : (start others rows : List Row) (i : ℕ) → JoinedUpTo start others rows i → i < length rows
-    → JoinedUpTo start others (set rows i (joined_row (get_or rows i no_row) (get_or others i no_row))) (i + 1)
-joined-next start others rows i so_far inside =
-    let row = joined_row (get_or rows i no_row) (get_or others i no_row) in
-    record {
-      count = length-set rows i row ∙ so_far.count;
-      done = λ k below.
-          ⊎_elim (λ before. get_or-set_other rows i k row no_row (λ same. absurd (omega (arith, before, same))) ∙ so_far.done k before)
-          (λ here.
-          let same : k ≡ i = omega (arith, below, here) in
-          get_or-set_at rows i k row no_row same inside
-          ∙ ap (λ (r : Row). joined_row r (get_or others i no_row)) (so_far.left i (omega arith))
-          ∙ ap (λ (r : ℕ). joined_row (get_or start r no_row) (get_or others r no_row)) (sym same))
-          (cases_lt k i);
-      left = λ k above.
-          get_or-set_other rows i k row no_row (λ same. absurd (omega (arith, above, same))) ∙ so_far.left k (omega (arith, above));
-    }
-
-pub joined-all : (one other start others rows : List Row) (n m count : ℕ) → JoinedUpTo start others rows count → count ≡ max (length one) (length other)
-    → start ≡ one ++ replicate n no_row → others ≡ other ++ replicate m no_row → length start ≡ count → AreJoined one other rows
-joined-all one other start others rows n m count all count_is start_is others_are length_is = record {
-  count = all.count ∙ length_is ∙ count_is;
+-- behind the last row of both, neither has one
+pub joined-rows : (one other both : List Row) → BothJoined joined_row no_row one other both → AreJoined one other both
+joined-rows one other both are = record {
+  count = are.count;
   each = λ root.
-      let first = filled-at_as start one n root start_is in
-      let second = filled-at_as others other m root others_are in
-      ⊎_elim (λ below. all.done root below ∙ ap₂ joined_row first second)
+      ⊎_elim (λ inside. are.each root inside)
       (λ beyond.
-      past rows root no_row (omega (arith, all.count, length_is, beyond))
-      ∙ sym (ap₂ joined_row (past one root no_row (omega (arith, count_is, beyond))) (past other root no_row (omega (arith, count_is, beyond)))))
-      (cases_lt root count);
+      past both root no_row (omega (arith, are.count, beyond))
+      ∙ sym (ap₂ joined_row (past one root no_row (omega (arith, beyond))) (past other root no_row (omega (arith, beyond)))))
+      (cases_lt root (max (length one) (length other)));
 }

@@ -15,7 +15,7 @@ use Rattle.typed_tree.specs.declared.tree.Expr.TheFolds.{the_lemmas}
 use Rattle.abstract_state.specs.State.{State}
 use Rattle.abstract_state.specs.Forms.{Form, Literal, access_form, bound_of, chain_form, sign_form}
 use Rattle.abstract_state.specs.Conditions.{Condition, Conjunct, all_refined, bound_form, chain_refined, condition_of, conjunct_of, monadic_refined, operand_of}
-use Rattle.abstract_state.specs.Conditions.{operation_refined, refined, single_refined, takes_both}
+use Rattle.abstract_state.specs.Conditions.{operation_refined, single_refined, takes_both}
 
 pub condition-Constant : (number : ℕ) (value : ℤ)
     → condition_of (expr.Constant number value) ≡ record { form = Literal value; refined = λ (truth : Bool) (state : State). state }
@@ -54,20 +54,20 @@ all-take truth (link ∷ links) =
 -- ---- a chain had a truth value
 
 module _ (e : Expr) (first : Box Expr Global) (rest : Vec Link Global) (truth : Bool) (state : State) (is : e ≡ expr.Chain first rest) where
-  chain-is : refined truth e state ≡ chain_refined (condition_of first.value) (map conjunct_of rest.items) truth state
+  chain-is : (condition_of e).refined truth state ≡ chain_refined (condition_of first.value) (map conjunct_of rest.items) truth state
   chain-is =
-      ap (λ (f : Expr). refined truth f state) is ∙ ap (λ (c : Condition). c.refined truth state) (condition-Chain first rest)
+      ap (λ (f : Expr). (condition_of f).refined truth state) is ∙ ap (λ (c : Condition). c.refined truth state) (condition-Chain first rest)
 
   pub chain-single : list_all (λ link. takes_both truth link.operation) rest.items ≡ false
-      → single_refined truth (condition_of first.value).form (map conjunct_of rest.items) state ≡ refined truth e state
+      → single_refined truth (condition_of first.value).form (map conjunct_of rest.items) state ≡ (condition_of e).refined truth state
   chain-single none =
-      sym (chain-is ∙ ap (λ (b : Bool). cond b (all_refined truth (map conjunct_of rest.items) (refined truth first.value state))
+      sym (chain-is ∙ ap (λ (b : Bool). cond b (all_refined truth (map conjunct_of rest.items) ((condition_of first.value).refined truth state))
       (single_refined truth (condition_of first.value).form (map conjunct_of rest.items) state)) (sym (all-take truth rest.items) ∙ none))
 
   pub chain-both : list_all (λ link. takes_both truth link.operation) rest.items ≡ true
-      → all_refined truth (map conjunct_of rest.items) (refined truth first.value state) ≡ refined truth e state
+      → all_refined truth (map conjunct_of rest.items) ((condition_of first.value).refined truth state) ≡ (condition_of e).refined truth state
   chain-both all =
-      sym (chain-is ∙ ap (λ (b : Bool). cond b (all_refined truth (map conjunct_of rest.items) (refined truth first.value state))
+      sym (chain-is ∙ ap (λ (b : Bool). cond b (all_refined truth (map conjunct_of rest.items) ((condition_of first.value).refined truth state))
       (single_refined truth (condition_of first.value).form (map conjunct_of rest.items) state)) (sym (all-take truth rest.items) ∙ all))
 
 -- ---- a single operator
@@ -89,7 +89,7 @@ single-one (own ∷ []) truth form state link one link_is =
 -- ---- the operators that are left
 
 pub refined-step : (truth : Bool) (links : List Link) (i : ℕ) (link : Link) (state next : State) → i < length links → link ≡ get_or links i link
-    → next ≡ refined truth link.operand state
+    → next ≡ (condition_of link.operand).refined truth state
     → all_refined truth (map conjunct_of (drop (i + 1) links)) next ≡ all_refined truth (map conjunct_of (drop i links)) state
 refined-step truth links i link state next inside link_is next_is =
     ap₂ (λ (k : ℕ) (s : State). all_refined truth (map conjunct_of (drop k links)) s) (let one : i + 1 ≡ suc i = omega arith in one) next_is

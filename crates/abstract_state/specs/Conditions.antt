@@ -12,10 +12,11 @@ use Rattle.typed_tree.specs.declared.tree.Relation.{Relation}
 use Rattle.typed_tree.specs.declared.tree.Relation.TheVariants as relation
 use Rattle.typed_tree.specs.declared.tree.Expr.{Expr}
 use Rattle.typed_tree.specs.declared.tree.Link.{Link}
-use Rattle.typed_tree.specs.declared.tree.Expr.TheOpen.{Expr-F, Link-F}
+use Rattle.typed_tree.specs.declared.tree.Expr.TheOpen.{Expr-F, Passed-F, Link-F}
 use Rattle.typed_tree.specs.declared.tree.Expr.TheOpen.Expr-F.{Constant, Variable, Monadic as MonadicOf, Chain}
-use Rattle.typed_tree.specs.declared.tree.Expr.TheOpen.Expr-F.{Compare}
+use Rattle.typed_tree.specs.declared.tree.Expr.TheOpen.Expr-F.{Compare, Call}
 use Rattle.typed_tree.specs.declared.tree.Expr.TheFolds.{fold-Expr, fold-Link}
+use Rattle.typed_tree.specs.Calls.{holds_call}
 use Rattle.domain.specs.Interval.{Interval, always_true, at_least, at_most, never_true}
 use Rattle.domain.specs.Facts.{Bound, Number, Plus}
 use Rattle.abstract_state.specs.State.{State, Dead, bound_range, range_of, unless_empty, with_range}
@@ -147,10 +148,14 @@ abbrev pub monadic_refined : Monadic → Condition → Bool → State → State
 monadic_refined monadic.Not operand truth state = operand.refined (not truth) state
 monadic_refined operation operand truth state = state
 
-abbrev pub link_condition : Link-F Condition Conjunct → Conjunct
+abbrev pub link_condition : Link-F Condition (Unit {0}) Conjunct → Conjunct
 link_condition link = record { operation = link.operation; right = link.operand }
 
-abbrev pub condition_step : Expr-F Condition Conjunct → Condition
+-- nothing is known of a condition by the actual parameters of calls in it
+abbrev pub passed_condition : Passed-F Condition (Unit {0}) Conjunct → Unit {0}
+passed_condition actual = tt
+
+abbrev pub condition_step : Expr-F Condition (Unit {0}) Conjunct → Condition
 condition_step (Constant number value) = record { form = Literal value; refined = λ truth state. state }
 condition_step (Variable access indexes defined) =
     record { form = access_form access.root access.selectors.items; refined = λ truth state. state }
@@ -164,22 +169,24 @@ condition_step (Chain first rest) = record {
 }
 condition_step (Compare number relation left left_indexes right right_indexes) =
     record { form = Other; refined = λ truth state. state }
+condition_step (Call call actuals) = record { form = Other; refined = λ truth state. state }
 
 -- an expression as a condition
 abbrev pub condition_of : Expr → Condition
-condition_of = fold-Expr Condition Conjunct condition_step link_condition
+condition_of = fold-Expr Condition (Unit {0}) Conjunct condition_step passed_condition link_condition
 
 -- an operator and its right operand
 abbrev pub conjunct_of : Link → Conjunct
-conjunct_of = fold-Link Condition Conjunct condition_step link_condition
+conjunct_of = fold-Link Condition (Unit {0}) Conjunct condition_step passed_condition link_condition
 
 -- the bound that an expression is, if it is a bound form
 abbrev pub bound_form : Expr → Option Bound
 bound_form expression = bound_of (condition_of expression).form
 
--- what is known where a condition had a truth value; it refers to no call
+-- what is known where a condition had a truth value; a call in it may have changed what it says
 abbrev pub refined : Bool → Expr → State → State
-refined truth condition state = (condition_of condition).refined truth state
+refined truth condition state =
+    if holds_call condition then state else (condition_of condition).refined truth state
 
 -- no run comes where a condition would have a truth value that its range excludes
 abbrev pub unless_excluded : Bool → Interval → State → State

@@ -9,14 +9,14 @@ use Rattle.domain.specs.Facts.{Bound, Fact}
 use Rattle.meaning.specs.declared.store.Value.{Value}
 use Rattle.meaning.specs.Effect as effect
 use Rattle.meaning.specs.Effect.{Gives}
-use Rattle.meaning.specs.Meaning.{is_so, value_of}
-use Rattle.meaning.specs.Store.{Environment, Place, Store, written}
+use Rattle.meaning.specs.Meaning.{Surroundings, is_so, value_of}
+use Rattle.meaning.specs.Store.{Environment, Store}
 use Rattle.abstract_state.specs.State.{State, gives_fact, joined_states}
 use Rattle.abstract_state.specs.Changes.{assigned}
 use Rattle.abstract_state.specs.Conditions.{bound_form, branched}
 use Rattle.abstract_state.specs.Loops.{head, replaced, with_undefined}
 use Rattle.abstract_state.specs.Holds.{Moment, HasNumber, Holds, IsBound, IsIn, StateHolds, value_at}
-use Rattle.abstract_state.specs.Knows.{InLimits, IsKept, IsOfForm, Knows, Shows, moment}
+use Rattle.abstract_state.specs.Knows.{InLimits, IsFormApart, IsKept, IsLooseIn, IsOfForm, Knows, Shows, moment}
 
 -- where two ways meet, what is known behind them holds, whichever was taken
 pub record JoinHolds : Type 0 where
@@ -34,24 +34,26 @@ GivenHolds =
 -- the value of an expression of a bound form is its bound
 abbrev pub FormsTell : Type 0
 FormsTell =
-    (expression : Expr) (env : Environment) (s t : effect.State) (v : Value) → value_of expression env s ≡ Gives v t
-    → IsOfForm (moment env t.store) (bound_form expression) v
+    (expression : Expr) (env : Surroundings) (s t : effect.State) (v : Value) → value_of expression env s ≡ Gives v t
+    → IsOfForm (moment env.visible t.store) (bound_form expression) v
 
--- after a value was written to a variable, what is known after its assignment holds
+-- after a value was written to a variable, which its aliases may have then too, and no other changed, what is known
+-- after its assignment holds
 abbrev pub AssignmentsHold : Type 0
 AssignmentsHold =
-    (variables : ℕ) (env : Environment) → Shows variables env
-    → (state : State) (store : Store) (root : ℕ) (place : Place) (range : Interval) (form : Option Bound) (v : Value)
-    → root < variables → env.variables root ≡ Some place → Knows variables env state store → IsIn range v
-    → IsOfForm (moment env store) form v
-    → Knows variables env (assigned root range form state) (written store place v)
+    (variables : ℕ) (env : Environment) (aliases : List ℕ) (state : State) (before after : Store) (root : ℕ)
+    (range : Interval) (form : Option Bound) (v : Value)
+    → root < variables → IsKept env (root ∷ aliases) [] before after
+    → value_at (moment env after) root [] ≡ Some v → Knows variables env state before
+    → IsLooseIn env aliases state after → IsIn range v → IsOfForm (moment env before) form v
+    → IsFormApart aliases form → Knows variables env (assigned root range form state) after
 
 -- where a condition had a truth value, what is known of that branch holds
 abbrev pub ConditionsTell : Type 0
 ConditionsTell =
-    (variables : ℕ) (env : Environment) (condition : Expr) (s t : effect.State) (v : Value) (range : Interval)
-    (state : State) → value_of condition env s ≡ Gives v t → IsIn range v → Knows variables env state t.store
-    → Knows variables env (branched (is_so v) condition range state) t.store
+    (variables : ℕ) (env : Surroundings) (condition : Expr) (s t : effect.State) (v : Value) (range : Interval)
+    (state : State) → value_of condition env s ≡ Gives v t → IsIn range v → Knows variables env.visible state t.store
+    → Knows variables env.visible (branched (is_so v) condition range state) t.store
 
 -- what is known at the head of a loop holds after any turns, if the claims do
 abbrev pub HeadsHold : Type 0

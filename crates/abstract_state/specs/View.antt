@@ -1,6 +1,6 @@
 -- The states of the program as the definitions see them. It does not say what a state means.
 use Rattle.std.specs.Prelude.{◌≡◌, ℕ, suc, ℤ, pos, neg_ℤ, ◌≤ℤ◌, ◌&&◌, false, List, [], ◌∷◌, ◌++◌, Option, Some, None}
-use Rattle.std.specs.Prelude.{if◌then◌else◌, map, max, length, slice_index_or, slice_set, ◌≤◌}
+use Rattle.std.specs.Prelude.{if◌then◌else◌, map, length, slice_set, ◌≤◌}
 use Rattle.std.specs.List.{insert}
 use Rattle.domain.specs.declared.facts.Bound.{Bound as KeptBound}
 use Rattle.domain.specs.Interval.{Interval, vacant, joined}
@@ -52,12 +52,6 @@ no_row = record { range = vacant; is_defined = false }
 abbrev pub joined_row : Row → Row → Row
 joined_row one other =
     record { range = joined one.range other.range; is_defined = one.is_defined && other.is_defined }
-
--- rows behind two ways, as many as those of the way that has more
-pub record AreJoined (one other both : List Row) : Type 0 where
-  pub count : length both ≡ max (length one) (length other)
-  pub each : (root : ℕ)
-      → slice_index_or both root no_row ≡ joined_row (slice_index_or one root no_row) (slice_index_or other root no_row)
 
 -- a number that is far from the greatest of 64 bits
 abbrev pub IsNear : ℤ → Type 0

@@ -8,14 +8,14 @@ use domain::interval::Interval;
 
 /// The ends of a range of numbers; it is empty where the first is above the last.
 #[derive(Clone, Copy)]
-pub(crate) struct Ends {
-    pub(crate) first: i64,
-    pub(crate) last: i64,
+pub struct Ends {
+    pub first: i64,
+    pub last: i64,
 }
 
 impl Ends {
     /// Those of a single number.
-    pub(crate) fn of(number: i32) -> Ends
+    pub fn of(number: i32) -> Ends
         ensures { AreEnds result (record { first = number; last = number }) }
     {
         let number = i64::from(number);
@@ -26,7 +26,7 @@ impl Ends {
     }
 
     /// Those of a range whose numbers are greater by a number.
-    pub(crate) fn moved(range: Interval, number: i32) -> Ends
+    pub fn moved(range: Interval, number: i32) -> Ends
         ensures { AreEnds result (moved number range) }
     {
         let number = i64::from(number);
@@ -37,7 +37,7 @@ impl Ends {
     }
 
     /// Whether neither range is empty, and each number of this is at most each of the other.
-    pub(crate) fn is_below(self, other: Ends) -> bool
+    pub fn is_below(self, other: Ends) -> bool
         ensures { result ≡ (not (int_lt self.last self.first || int_lt other.last other.first)
             && int_le self.last other.first) }
     {

@@ -3,7 +3,7 @@ ghost use Rattle.std.specs.List.{list_all};
 ghost use Rattle.domain.specs.Facts.{said_bound};
 ghost use Rattle.domain.specs.Interval.{always_true, never_true};
 ghost use Rattle.abstract_state.specs.Conditions.{bound_at_least, bound_at_most, bound_isnt, branched, condition_of};
-ghost use Rattle.abstract_state.specs.Conditions.{conjunct_of, narrowed, operation_refined, opposite, refined, related};
+ghost use Rattle.abstract_state.specs.Conditions.{conjunct_of, narrowed, operation_refined, opposite, related};
 ghost use Rattle.abstract_state.specs.Conditions.{related_forms, single_refined, takes_both, told, unless_excluded};
 ghost use Rattle.abstract_state.specs.Conditions.{unlike, with_different, with_le, with_order, without_first};
 ghost use Rattle.abstract_state.specs.Conditions.{without_last};
@@ -18,6 +18,7 @@ use domain::Domain;
 use domain::facts::Bound;
 use domain::interval::Interval;
 use std::alloc::AllocError;
+use typed_tree::calls::holds_call;
 use typed_tree::tree::{Dyadic, Expr, Link, Monadic, Relation};
 
 impl State {
@@ -33,15 +34,20 @@ impl State {
         if excludes(range, truth) {
             *self = State::Dead;
         }
+        if holds_call(condition) {
+            return Ok(());
+        }
         self.refine(condition, truth)
     }
 
-    /// What a condition tells that had a truth value.
+    /// What a condition tells that had a truth value, if no call in it changes that.
     fn refine(&mut self, condition: &Expr, truth: bool) -> Result<(), AllocError>
-        ensures { IfOk result (λ _. viewed self.new ≡ refined truth condition.now (viewed self.old)) }
+        ensures { IfOk result
+            (λ _. viewed self.new ≡ (condition_of condition.now).refined truth (viewed self.old)) }
     {
         match condition {
-            Expr::Constant { .. } | Expr::Variable { .. } | Expr::Compare { .. } => Ok(()),
+            Expr::Constant { .. } | Expr::Variable { .. } => Ok(()),
+            Expr::Compare { .. } | Expr::Call { .. } => Ok(()),
             Expr::Monadic {
                 operation: Monadic::Not,
                 operand,
@@ -135,10 +141,7 @@ impl State {
                 self.order(left, 0, right)?;
                 self.order(right, 0, left)
             }
-            Relation::NotEqual => {
-                self.part(left, right);
-                Ok(())
-            }
+            Relation::NotEqual => { self.part(left, right) }
             Relation::Less => self.order(left, 1, right),
             Relation::Greater => self.order(right, 1, left),
             Relation::LessOrEqual => self.order(left, 0, right),
@@ -154,9 +157,8 @@ impl State {
         let first = self.ends(left).first;
         let last = self.ends(right).last;
         self.insert_order(left, gap, right)?;
-        self.at_most(left, difference(last, gap));
-        self.at_least(right, sum(first, gap));
-        Ok(())
+        self.at_most(left, difference(last, gap))?;
+        self.at_least(right, sum(first, gap))
     }
 
     /// The order of two variables, where both bounds have one.
@@ -179,65 +181,78 @@ impl State {
     }
 
     /// Two bounds are different.
-    fn part(&mut self, left: Bound, right: Bound)
-        ensures { viewed self.new ≡ with_different (said_bound left) (said_bound right) (viewed self.old) }
+    fn part(&mut self, left: Bound, right: Bound) -> Result<(), AllocError>
+        ensures { IfOk result
+            (λ _. viewed self.new ≡ with_different (said_bound left) (said_bound right) (viewed self.old)) }
     {
         let ends = self.ends(right);
-        self.unlike(left, ends);
+        self.unlike(left, ends)?;
         let ends = self.ends(left);
-        self.unlike(right, ends);
+        self.unlike(right, ends)
     }
 
     /// A bound isn't the one number of a range.
-    fn unlike(&mut self, bound: Bound, ends: Ends)
+    fn unlike(&mut self, bound: Bound, ends: Ends) -> Result<(), AllocError>
         requires { AreEnds ends (record { first = ends.first; last = ends.last }) }
-        ensures { viewed self.new
-            ≡ unlike (said_bound bound) (record { first = ends.first; last = ends.last }) (viewed self.old) }
+        ensures { IfOk result (λ _. viewed self.new
+            ≡ unlike (said_bound bound) (record { first = ends.first; last = ends.last }) (viewed self.old)) }
     {
         if ends.first == ends.last {
-            self.isnt(bound, ends.first);
+            return self.isnt(bound, ends.first);
         }
+        Ok(())
     }
 
     /// A bound is at most a number.
-    fn at_most(&mut self, bound: Bound, number: i64)
+    fn at_most(&mut self, bound: Bound, number: i64) -> Result<(), AllocError>
         requires { IsNear number }
-        ensures { viewed self.new ≡ bound_at_most (said_bound bound) number (viewed self.old) }
+        ensures { IfOk result
+            (λ _. viewed self.new ≡ bound_at_most (said_bound bound) number (viewed self.old)) }
     {
         match bound {
-            Bound::Number(own) => self.unless(number < i64::from(own)),
+            Bound::Number(own) => {
+                self.unless(number < i64::from(own));
+                Ok(())
+            }
             Bound::Plus { root, number: own } => {
                 let range = self.range(root).at_most(difference(number, own));
-                self.narrow(root, range);
+                self.narrow(root, range)
             }
         }
     }
 
     /// A bound is at least a number.
-    fn at_least(&mut self, bound: Bound, number: i64)
+    fn at_least(&mut self, bound: Bound, number: i64) -> Result<(), AllocError>
         requires { IsNear number }
-        ensures { viewed self.new ≡ bound_at_least (said_bound bound) number (viewed self.old) }
+        ensures { IfOk result
+            (λ _. viewed self.new ≡ bound_at_least (said_bound bound) number (viewed self.old)) }
     {
         match bound {
-            Bound::Number(own) => self.unless(i64::from(own) < number),
+            Bound::Number(own) => {
+                self.unless(i64::from(own) < number);
+                Ok(())
+            }
             Bound::Plus { root, number: own } => {
                 let range = self.range(root).at_least(difference(number, own));
-                self.narrow(root, range);
+                self.narrow(root, range)
             }
         }
     }
 
     /// A bound isn't a number.
-    fn isnt(&mut self, bound: Bound, number: i64)
+    fn isnt(&mut self, bound: Bound, number: i64) -> Result<(), AllocError>
         requires { IsNear number }
-        ensures { viewed self.new ≡ bound_isnt (said_bound bound) number (viewed self.old) }
+        ensures { IfOk result (λ _. viewed self.new ≡ bound_isnt (said_bound bound) number (viewed self.old)) }
     {
         match bound {
-            Bound::Number(own) => self.unless(i64::from(own) == number),
+            Bound::Number(own) => {
+                self.unless(i64::from(own) == number);
+                Ok(())
+            }
             Bound::Plus { root, number: own } => {
                 let number = difference(number, own);
                 let range = without_last(number, without_first(number, self.range(root)));
-                self.narrow(root, range);
+                self.narrow(root, range)
             }
         }
     }
@@ -252,11 +267,12 @@ impl State {
     }
 
     /// The values of a variable lie in a range; no run goes on from an empty one.
-    pub fn narrow(&mut self, root: u32, range: Interval)
-        ensures { viewed self.new ≡ narrowed root range (viewed self.old) }
+    pub fn narrow(&mut self, root: u32, range: Interval) -> Result<(), AllocError>
+        ensures { IfOk result (λ _. viewed self.new ≡ narrowed root range (viewed self.old)) }
     {
-        self.set_range(root, range);
+        self.set_range(root, range)?;
         self.unless_empty(range);
+        Ok(())
     }
 }
 

@@ -22,6 +22,7 @@ pub fn bound_form(expression: &Expr) -> Option<Bound>
         } => number(signed(*operation, literal(operand))),
         Expr::Chain { first, rest } => chain_bound(first, rest),
         Expr::Compare { .. } => None,
+        Expr::Call { .. } => None,
     }
 }
 
@@ -101,6 +102,7 @@ fn constant(expression: &Expr) -> Option<i32>
         } => signed(*operation, literal(operand)),
         Expr::Chain { .. } => None,
         Expr::Compare { .. } => None,
+        Expr::Call { .. } => None,
     }
 }
 
@@ -132,6 +134,7 @@ fn literal(expression: &Expr) -> Option<i32>
         Expr::Monadic { .. } => None,
         Expr::Chain { .. } => None,
         Expr::Compare { .. } => None,
+        Expr::Call { .. } => None,
     }
 }
 
@@ -145,6 +148,7 @@ pub fn entire(expression: &Expr) -> Option<u32>
         Expr::Monadic { .. } => None,
         Expr::Chain { .. } => None,
         Expr::Compare { .. } => None,
+        Expr::Call { .. } => None,
     }
 }
 

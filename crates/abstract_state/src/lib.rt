@@ -10,6 +10,7 @@ mod loops;
 mod orders;
 mod state;
 
+pub use bounds::Ends;
 pub use forms::{bound_form, entire};
 pub use known::Known;
 pub use state::{State, limits};

@@ -26,36 +26,38 @@ impl State {
         ensures { IfOk result (λ _. viewed self.new ≡ head (λ root. slice_index_or limits.now root vacant)
             touched.now controls.now (map said claims.now) (viewed self.old)) }
     {
-        self.touch_all(limits, touched);
-        self.forget_all(controls);
+        self.touch_all(limits, touched)?;
+        self.forget_all(controls)?;
         self.claim_all(claims)
     }
 
     /// Each of several variables may have another value within its limits.
-    fn touch_all(&mut self, limits: &[Interval], touched: &[u32])
-        ensures { viewed self.new
-            ≡ all_touched (λ root. slice_index_or limits.now root vacant) touched.now (viewed self.old) }
+    fn touch_all(&mut self, limits: &[Interval], touched: &[u32]) -> Result<(), AllocError>
+        ensures { IfOk result (λ _. viewed self.new
+            ≡ all_touched (λ root. slice_index_or limits.now root vacant) touched.now (viewed self.old)) }
     {
         for root in touched {
-            self.touch(*root, limit(limits, *root));
+            self.touch(*root, limit(limits, *root))?;
         }
+        Ok(())
     }
 
     /// A variable may have another value of the range.
-    pub fn touch(&mut self, root: u32, range: Interval)
-        ensures { viewed self.new ≡ with_touched (λ _. range) root (viewed self.old) }
+    pub fn touch(&mut self, root: u32, range: Interval) -> Result<(), AllocError>
+        ensures { IfOk result (λ _. viewed self.new ≡ with_touched (λ _. range) root (viewed self.old)) }
     {
         self.change(root, None);
-        self.set_range(root, range);
+        self.set_range(root, range)
     }
 
     /// Each of several variables may be undefined.
-    fn forget_all(&mut self, controls: &[u32])
-        ensures { viewed self.new ≡ all_forgotten controls.now (viewed self.old) }
+    fn forget_all(&mut self, controls: &[u32]) -> Result<(), AllocError>
+        ensures { IfOk result (λ _. viewed self.new ≡ all_forgotten controls.now (viewed self.old)) }
     {
         for root in controls {
-            self.forget(*root);
+            self.forget(*root)?;
         }
+        Ok(())
     }
 
     /// Adds claims to what is known.
@@ -75,13 +77,9 @@ impl State {
         match claim {
             Fact::Range { root, range } => {
                 let both = self.range(*root).meet(range);
-                self.set_range(*root, both);
-                Ok(())
+                self.set_range(*root, both)
             }
-            Fact::Defined { root } => {
-                self.define(*root);
-                Ok(())
-            }
+            Fact::Defined { root } => self.define(*root),
             Fact::Order {
                 root,
                 other,
@@ -105,11 +103,12 @@ impl State {
     }
 
     /// A variable may be undefined.
-    fn forget(&mut self, root: u32)
-        ensures { viewed self.new ≡ with_forgotten root (viewed self.old) }
+    fn forget(&mut self, root: u32) -> Result<(), AllocError>
+        ensures { IfOk result (λ _. viewed self.new ≡ with_forgotten root (viewed self.old)) }
     {
-        if let State::Live(known) = self {
-            known.forget(root);
+        match self {
+            State::Dead => Ok(()),
+            State::Live(known) => known.forget(root),
         }
     }
 
@@ -129,11 +128,11 @@ impl State {
     }
 
     /// A variable is undefined from here on.
-    pub fn undefine(&mut self, root: u32)
-        ensures { viewed self.new ≡ with_undefined root (viewed self.old) }
+    pub fn undefine(&mut self, root: u32) -> Result<(), AllocError>
+        ensures { IfOk result (λ _. viewed self.new ≡ with_undefined root (viewed self.old)) }
     {
-        self.touch(root, Interval::EMPTY);
-        self.forget(root);
+        self.touch(root, Interval::EMPTY)?;
+        self.forget(root)
     }
 }
 

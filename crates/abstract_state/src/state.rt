@@ -1,4 +1,4 @@
-ghost use Rattle.std.specs.Prelude.{◌≡◌, ◌-◌, ◌++◌, IfOk, Some, filter, length, map, replicate};
+ghost use Rattle.std.specs.Prelude.{◌≡◌, IfOk, Some, filter, map};
 ghost use Rattle.std.specs.List.{list_any};
 ghost use Rattle.domain.specs.Facts.{said, said_bound};
 ghost use Rattle.abstract_state.specs.State.{Live, at_most, bound_range, gives, is_dead, is_defined, joined_facts};
@@ -6,7 +6,7 @@ ghost use Rattle.abstract_state.specs.State.{joined_states, le, limits_of, range
 ghost use Rattle.abstract_state.specs.State.{with_defined, with_range};
 ghost use Rattle.abstract_state.specs.Changes.{assigned, with_change, with_equal, with_some};
 ghost use Rattle.abstract_state.specs.Loops.{replaced, with_forgotten};
-ghost use Rattle.abstract_state.specs.View.{AreEnds, AreJoined, joined_row, no_row, said_form, said_order, said_some};
+ghost use Rattle.abstract_state.specs.View.{AreEnds, joined_row, said_form, said_order, said_some};
 ghost use Rattle.abstract_state.specs.View.{viewed, viewed_facts};
 
 use crate::bounds::{Ends, is_at_most};
@@ -15,6 +15,7 @@ use crate::orders::Order;
 use domain::Domain;
 use domain::facts::{Bound, Fact};
 use domain::interval::Interval;
+use sparse_list::{Join, SparseList};
 use std::alloc::{AllocError, Global};
 use types::OrdinalRange;
 
@@ -33,11 +34,13 @@ impl Row {
         range: Interval::EMPTY,
         is_defined: false,
     };
+}
+
+impl Join for Row {
+    ghost join = { joined_row };
 
     /// What is known of a variable behind two ways.
-    fn joined(self, other: Row) -> Row
-        ensures { result ≡ joined_row self other }
-    {
+    fn joined(self, other: Row) -> Row {
         Row {
             range: self.range.join(&other.range),
             is_defined: self.is_defined && other.is_defined,
@@ -58,20 +61,20 @@ pub enum State {
 #[derive(Drop)]
 pub struct Facts {
     /// A row for each variable, by root number.
-    rows: Vec<Row>,
+    rows: SparseList<Row>,
     /// In the order of facts, each once.
     orders: Vec<Order>,
 }
 
 impl State {
     /// The start of a block with this many variables: each is undefined.
-    pub fn undefined(alloc: Global, variables: usize) -> Result<State, AllocError>
-        ensures { IfOk result (λ state. viewed state ≡ start variables) }
+    pub fn undefined(alloc: Global, variables: usize) -> State
+        ensures { viewed result ≡ start variables }
     {
-        Ok(State::Live(Facts {
-            rows: vec![in alloc; Row::NONE; variables]?,
+        State::Live(Facts {
+            rows: SparseList::new(alloc, variables, Row::NONE),
             orders: Vec::new(alloc),
-        }))
+        })
     }
 
     /// Whether no run comes here.
@@ -115,11 +118,12 @@ impl State {
     }
 
     /// The variable is defined from here on.
-    pub fn define(&mut self, root: u32)
-        ensures { viewed self.new ≡ with_defined root (viewed self.old) }
+    pub fn define(&mut self, root: u32) -> Result<(), AllocError>
+        ensures { IfOk result (λ _. viewed self.new ≡ with_defined root (viewed self.old)) }
     {
-        if let State::Live(facts) = self {
-            facts.define(root);
+        match self {
+            State::Dead => Ok(()),
+            State::Live(facts) => facts.define(root),
         }
     }
 
@@ -134,13 +138,13 @@ impl State {
             (λ _. viewed self.new ≡ assigned root range (said_form form) (viewed self.old)) }
     {
         self.change(root, form);
-        self.set_range(root, range);
-        self.define(root);
+        self.set_range(root, range)?;
+        self.define(root)?;
         self.equate(root, form)
     }
 
     /// What is left of facts after a variable got a value.
-    pub(crate) fn change(&mut self, root: u32, form: Option<Bound>)
+    pub fn change(&mut self, root: u32, form: Option<Bound>)
         ensures { viewed self.new ≡ with_change root (said_form form) (viewed self.old) }
     {
         if let State::Live(facts) = self {
@@ -178,16 +182,17 @@ impl State {
     }
 
     /// The values of a variable lie in a range from here on.
-    pub fn set_range(&mut self, root: u32, range: Interval)
-        ensures { viewed self.new ≡ with_range root range (viewed self.old) }
+    pub fn set_range(&mut self, root: u32, range: Interval) -> Result<(), AllocError>
+        ensures { IfOk result (λ _. viewed self.new ≡ with_range root range (viewed self.old)) }
     {
-        if let State::Live(facts) = self {
-            facts.set_range(root, range);
+        match self {
+            State::Dead => Ok(()),
+            State::Live(facts) => facts.set_range(root, range),
         }
     }
 
     /// The ends of the range in which the number of a bound lies.
-    pub(crate) fn ends(&self, bound: Bound) -> Ends
+    pub fn ends(&self, bound: Bound) -> Ends
         ensures { AreEnds result (bound_range (viewed self.now) (said_bound bound)) }
     {
         match bound {
@@ -212,7 +217,7 @@ impl State {
         match self {
             State::Dead => Ok(State::Dead),
             State::Live(facts) => Ok(State::Live(Facts {
-                rows: Vec::from_slice(alloc, &facts.rows)?,
+                rows: facts.rows.copied(alloc)?,
                 orders: Vec::from_slice(alloc, &facts.orders)?,
             })),
         }
@@ -245,35 +250,31 @@ impl Facts {
     fn range(&self, root: u32) -> Interval
         ensures { result ≡ range_of (Live (viewed_facts self.now)) root }
     {
-        match self.rows.get(root as usize) {
-            Some(row) => row.range,
-            None => Interval::EMPTY,
-        }
+        self.rows.get_or(root as usize, Row::NONE).range
     }
 
     fn is_defined(&self, root: u32) -> bool
         ensures { result ≡ is_defined (Live (viewed_facts self.now)) root }
     {
-        match self.rows.get(root as usize) {
-            Some(row) => row.is_defined,
-            None => false,
-        }
+        self.rows.get_or(root as usize, Row::NONE).is_defined
     }
 
-    fn define(&mut self, root: u32)
-        ensures { Live (viewed_facts self.new) ≡ with_defined root (Live (viewed_facts self.old)) }
+    fn define(&mut self, root: u32) -> Result<(), AllocError>
+        ensures { IfOk result
+            (λ _. Live (viewed_facts self.new) ≡ with_defined root (Live (viewed_facts self.old))) }
     {
-        if (root as usize) < self.rows.len() {
-            self.rows[root as usize].is_defined = true;
-        }
+        let mut row = self.rows.get_or(root as usize, Row::NONE);
+        row.is_defined = true;
+        self.rows.set(root as usize, row)
     }
 
-    fn set_range(&mut self, root: u32, range: Interval)
-        ensures { Live (viewed_facts self.new) ≡ with_range root range (Live (viewed_facts self.old)) }
+    fn set_range(&mut self, root: u32, range: Interval) -> Result<(), AllocError>
+        ensures { IfOk result
+            (λ _. Live (viewed_facts self.new) ≡ with_range root range (Live (viewed_facts self.old))) }
     {
-        if (root as usize) < self.rows.len() {
-            self.rows[root as usize].range = range;
-        }
+        let mut row = self.rows.get_or(root as usize, Row::NONE);
+        row.range = range;
+        self.rows.set(root as usize, row)
     }
 
     fn insert(&mut self, order: Order) -> Result<(), AllocError>
@@ -291,12 +292,13 @@ impl Facts {
     }
 
     /// A variable may be undefined.
-    pub(crate) fn forget(&mut self, root: u32)
-        ensures { Live (viewed_facts self.new) ≡ with_forgotten root (Live (viewed_facts self.old)) }
+    pub(crate) fn forget(&mut self, root: u32) -> Result<(), AllocError>
+        ensures { IfOk result
+            (λ _. Live (viewed_facts self.new) ≡ with_forgotten root (Live (viewed_facts self.old))) }
     {
-        if (root as usize) < self.rows.len() {
-            self.rows[root as usize].is_defined = false;
-        }
+        let mut row = self.rows.get_or(root as usize, Row::NONE);
+        row.is_defined = false;
+        self.rows.set(root as usize, row)
     }
 
     /// The orders of a variable hold of its bound too, if it has one.
@@ -400,34 +402,10 @@ impl Facts {
         let given = self.given(alloc, &others.orders)?;
         let mut both = others.given(alloc, &self.orders)?;
         orders::insert_all(&mut both, &given)?;
-        join_rows(&mut self.rows, others.rows)?;
+        self.rows = self.rows.joined(alloc, &others.rows, Row::NONE)?;
         self.orders = both;
         Ok(())
     }
-}
-
-/// Row by row; a row that one of them lacks is that of a variable that has no value.
-fn join_rows(rows: &mut Vec<Row>, mut others: Vec<Row>) -> Result<(), AllocError>
-    ensures { IfOk result (λ _. AreJoined rows.old.items others.items rows.new.items) }
-{
-    let count = rows.len().max(others.len());
-    fill(rows, count)?;
-    fill(&mut others, count)?;
-    for i in 0..count {
-        rows[i] = rows[i].joined(others[i]);
-    }
-    Ok(())
-}
-
-/// So many rows at least.
-fn fill(rows: &mut Vec<Row>, count: usize) -> Result<(), AllocError>
-    ensures { IfOk result
-        (λ _. rows.new.items ≡ rows.old.items ++ replicate (count - length rows.old.items) no_row) }
-{
-    for _ in rows.len()..count {
-        rows.push(Row::NONE)?;
-    }
-    Ok(())
 }
 
 /// The values of a type, which are integers.

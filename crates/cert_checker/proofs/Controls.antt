@@ -1,5 +1,5 @@
 -- The control variables of the for statements in a program are ones of ordinal types, so none of them has rows of components.
-use Rattle.std.proofs.Common.{arith, ◌≡◌, ⊎_elim, ◌∙◌, sym, ap, subst, ℕ, ◌+◌, Bool, true, ◌&&◌, nat_eq, nat_lt, List, [], ◌∷◌, ◌++◌, map}
+use Rattle.std.proofs.Common.{arith, ◌≡◌, ⊎_elim, ◌∙◌, sym, ap, subst, ℕ, ◌+◌, Bool, true, ◌&&◌, nat_eq, nat_lt, List, [], ◌∷◌, ◌++◌, length, map}
 use Rattle.std.proofs.Common.{Option, Some, None}
 use Rattle.std.specs.Prelude.{flat_map, is_some, slice_get, slice_index_or}
 use Rattle.std.specs.List.{list_all}
@@ -12,13 +12,13 @@ use Rattle.types.specs.Forms.{Array, Record}
 use Rattle.types.specs.Types.{form_range, is_ordinal}
 use Rattle.typed_tree.specs.Accesses.{is_type, led}
 use Rattle.typed_tree.specs.Loops.{AreLoops, Inside, IsLoop, all_inside, inside_of, statement_inside}
-use Rattle.typed_tree.specs.WellFormed.{all_hold, are_whole, is_well_formed_expr, is_well_formed_stmt, is_well_formed_test, leads_to_ordinal}
-use Rattle.typed_tree.specs.WellFormed.{stmt_is_well_formed}
+use Rattle.typed_tree.specs.WellFormed.{all_hold, are_whole, is_control, is_declared, is_local_kind, is_visible, is_well_formed_expr, is_well_formed_stmt}
+use Rattle.typed_tree.specs.WellFormed.{is_well_formed_test, leads_to_ordinal, outline_of, stmt_is_well_formed}
 use Rattle.typed_tree.specs.declared.tree.Expr.{Expr}
 use Rattle.typed_tree.specs.declared.tree.Loop.{Loop}
 use Rattle.typed_tree.specs.declared.tree.Stmt.{Stmt}
 use Rattle.typed_tree.specs.declared.tree.Stmt.TheOpen.{Stmt-F}
-use Rattle.typed_tree.specs.declared.tree.Stmt.TheOpen.Stmt-F.{Empty, Assign, Copy, Write, Compound, If, While, Repeat, For, Case}
+use Rattle.typed_tree.specs.declared.tree.Stmt.TheOpen.Stmt-F.{Empty, Assign, Copy, Write, Call, Compound, If, While, Repeat, For, Case}
 use Rattle.typed_tree.specs.declared.tree.Stmt.TheViews.{roll-Stmt}
 use Rattle.typed_tree.specs.declared.tree.Stmt.TheFolds.{map-Stmt, fold-roll-Stmt, ind-Stmt}
 use Rattle.typed_tree.specs.declared.tree.Tree.{Tree}
@@ -28,14 +28,15 @@ use Rattle.leaf_rows.specs.Rows.{Parts, all_parts, has_components, no_parts, par
 use Rattle.leaf_rows.proofs.Accessed.{leaf-of, parts-at}
 use Rattle.component_states.specs.Laws.{AreEntire}
 use Rattle.structured_states.specs.Loops.{controls_inside, controls_of, has_ordinals, is_ordinal_variable}
-use Rattle.expression_checker.proofs.SoundAccesses.{leads-type}
-use Rattle.cert_checker.proofs.Targets.{some-at}
+use Rattle.expression_checker.proofs.Fitting.{some-at}
+use Rattle.expression_checker.proofs.SoundAccesses.{leads-seen, leads-type}
 
 -- ---- the loops of parts
 
-pub loops-parts : (rows : List Loop) (first second : List (ℕ × List ℕ)) → AreLoops rows (first ++ second) → AreLoops rows first × AreLoops rows second
-loops-parts rows [] second are = (tt, are)
-loops-parts rows (one ∷ first) second are = let parts = loops-parts rows first second are.1 in ((are.0, parts.0), parts.1)
+pub loops-parts : (rows : List Loop) (block : ℕ) (first second : List (ℕ × List ℕ)) → AreLoops rows block (first ++ second)
+    → AreLoops rows block first × AreLoops rows block second
+loops-parts rows block [] second are = (tt, are)
+loops-parts rows block (one ∷ first) second are = let parts = loops-parts rows block first second are.1 in ((are.0, parts.0), parts.1)
 
 -- ---- control variables
 
@@ -65,18 +66,24 @@ ordinal-of types None is = absurd (false≢true is)
 ordinal-of types (Some variable) is = is
 
 -- the control variable of a well formed for statement
-pub control-ordinal : (tree : Tree) (sites control : ℕ) → leads_to_ordinal tree.variables.items tree.types sites control [] 0 ≡ true
-    → is_ordinal_variable tree control ≡ true
-control-ordinal tree sites control leads =
+pub control-ordinal : (tree : Tree) (block control : ℕ) → is_control (outline_of tree) block control ≡ true → is_ordinal_variable tree control ≡ true
+control-ordinal tree block control is =
+    let leads = (and_parts (is_declared (outline_of tree) block is_local_kind control) (leads_to_ordinal (outline_of tree) block control [] 0) is).1 in
     ordinal-of tree.types (slice_get tree.variables.items control)
-    (leads-type tree.variables.items tree.types sites (is_ordinal tree.types) control [] 0 leads)
+    (leads-type (outline_of tree) block (is_ordinal tree.types) control [] 0 leads)
 
-module _ (tree : Tree) (sites : ℕ) where
+-- and it is visible in the block
+pub control-seen : (tree : Tree) (block control : ℕ) → is_control (outline_of tree) block control ≡ true → is_visible (outline_of tree) block control ≡ true
+control-seen tree block control is =
+    let leads = (and_parts (is_declared (outline_of tree) block is_local_kind control) (leads_to_ordinal (outline_of tree) block control [] 0) is).1 in
+    leads-seen (outline_of tree) block (is_ordinal tree.types) control [] 0 leads
+
+module _ (tree : Tree) (block : ℕ) where
   abbrev well_expr : Expr → Bool
-  well_expr = is_well_formed_expr tree.variables.items tree.types sites
+  well_expr = is_well_formed_expr (outline_of tree) block
 
   abbrev well_stmt : Stmt → Bool
-  well_stmt = is_well_formed_stmt tree.variables.items tree.types sites
+  well_stmt = is_well_formed_stmt (outline_of tree) block
 
   abbrev HasOrdinals : Bool → Inside → Type 0
   HasOrdinals well inside = well ≡ true → AreOrdinal tree inside.controls
@@ -98,7 +105,7 @@ module _ (tree : Tree) (sites : ℕ) where
 
   abbrev Layer : Stmt-F Stmt → Type 0
   Layer x =
-      HasOrdinals (stmt_is_well_formed tree.variables.items tree.types sites (map-Stmt Stmt Bool well_stmt x))
+      HasOrdinals (stmt_is_well_formed (outline_of tree) block (map-Stmt Stmt Bool well_stmt x))
       (statement_inside (map-Stmt Stmt Inside inside_of x))
 
   layer : (y : Stmt-F Proved) → Layer (map-Stmt Proved Stmt (λ s. s.0) y)
@@ -106,6 +113,7 @@ module _ (tree : Tree) (sites : ℕ) where
   layer (Assign number becomes target indexes fits value) well = none-ordinal tree
   layer (Copy number becomes target indexes type_id value value_indexes) well = none-ordinal tree
   layer (Write number name parameters ends_line) well = none-ordinal tree
+  layer (Call call actuals) well = none-ordinal tree
   layer (Compound number statements) well = all-proved statements.items well
   layer (If number condition consequence None) well =
       let parts = and_parts (well_expr condition) (well_stmt consequence.value.0 && true) well in
@@ -121,17 +129,18 @@ module _ (tree : Tree) (sites : ℕ) where
       all-proved statements.items
       (and_parts (all_hold (map well_stmt (map (λ (s : Proved). s.0) statements.items))) (well_expr condition) well).0
   layer (For number loop_number place control first first_fits direction last last_fits body) well =
-      let is_test = is_well_formed_test tree.variables.items tree.types sites in
-      let leads = leads_to_ordinal tree.variables.items tree.types sites control [] 0 in
-      let one = and_parts leads (well_expr first && (is_test first_fits && (well_expr last && (is_test last_fits && well_stmt body.value.0)))) well in
+      let is_test = is_well_formed_test (outline_of tree) block in
+      let one = and_parts (is_control (outline_of tree) block control)
+      (well_expr first && (is_test first_fits && (well_expr last && (is_test last_fits && well_stmt body.value.0)))) well in
       let two = and_parts (well_expr first) (is_test first_fits && (well_expr last && (is_test last_fits && well_stmt body.value.0))) one.1 in
       let three = and_parts (is_test first_fits) (well_expr last && (is_test last_fits && well_stmt body.value.0)) two.1 in
       let four = and_parts (well_expr last) (is_test last_fits && well_stmt body.value.0) three.1 in
       let five = and_parts (is_test last_fits) (well_stmt body.value.0) four.1 in
-      one-ordinal tree control (inside_of body.value.0).controls (control-ordinal tree sites control one.0) (body.value.1 five.1)
+      one-ordinal tree control (inside_of body.value.0).controls (control-ordinal tree block control one.0) (body.value.1 five.1)
   layer (Case number site index constants arms) well =
       let inner = map (λ (s : Proved). s.0) arms.items in
-      let one = and_parts (nat_lt site sites) (well_expr index && (list_all are_whole constants.items && all_hold (map well_stmt inner))) well in
+      let one = and_parts (nat_lt site (length tree.sites.items))
+      (well_expr index && (list_all are_whole constants.items && all_hold (map well_stmt inner))) well in
       let two = and_parts (well_expr index) (list_all are_whole constants.items && all_hold (map well_stmt inner)) one.1 in
       all-proved arms.items (and_parts (list_all are_whole constants.items) (all_hold (map well_stmt inner)) two.1).1
 
@@ -140,7 +149,7 @@ module _ (tree : Tree) (sites : ℕ) where
       subst (λ (w : Bool). HasOrdinals w inside) (sym zero) (subst (λ (i : Inside). HasOrdinals b i) (sym one) has)
 
   rolled : (x : Stmt-F Stmt) → Layer x → StatementHas (roll-Stmt x)
-  rolled x = along (fold-roll-Stmt Bool (stmt_is_well_formed tree.variables.items tree.types sites) x) (fold-roll-Stmt Inside statement_inside x)
+  rolled x = along (fold-roll-Stmt Bool (stmt_is_well_formed (outline_of tree) block) x) (fold-roll-Stmt Inside statement_inside x)
 
   pub controls-ordinal : (s : Stmt) → StatementHas s
   controls-ordinal =
@@ -177,7 +186,7 @@ ordinal-entire tree controls ordinal k within =
     (sym (ap (has_ordinals tree.types) leaf.variable_is) ∙ of_type) leaf.structured)
 
 -- inside a loop of the table
-pub inside-ordinal : (tree : Tree) (number : ℕ) (controls : List ℕ) → AreOrdinal tree controls → IsLoop tree.loops.items (number, controls)
+pub inside-ordinal : (tree : Tree) (block number : ℕ) (controls : List ℕ) → AreOrdinal tree controls → IsLoop tree.loops.items block (number, controls)
     → AreOrdinal tree (controls_inside tree number)
-inside-ordinal tree number controls ordinal (row, at, are) =
+inside-ordinal tree block number controls ordinal (row, at, of_block, are) =
     subst (AreOrdinal tree) (sym (ap controls_of at ∙ are)) ordinal

@@ -1,5 +1,5 @@
 -- The walk over a program links a state to each of its entries, once and in their order.
-use Rattle.std.proofs.Common.{◌≡◌, ◌∙◌, sym, ap, refl, ℕ, ℤ, true, false, List, [], ◌∷◌, ◌++◌, Option, Some, None, length, map}
+use Rattle.std.proofs.Common.{◌≡◌, ◌∙◌, sym, ap, refl, ℕ, suc, ℤ, true, false, List, [], ◌∷◌, ◌++◌, Option, Some, None, length, map}
 use Rattle.std.specs.Prelude.{flat_map, drop, slice_get}
 use Rattle.typed_tree.specs.declared.tree.Access.{Access}
 use Rattle.typed_tree.specs.declared.tree.Selector.{Selector}
@@ -10,18 +10,22 @@ use Rattle.typed_tree.specs.declared.tree.Expr.{Expr}
 use Rattle.typed_tree.specs.declared.tree.Stmt.{Stmt}
 use Rattle.typed_tree.specs.declared.tree.Stmt.TheOpen.{Stmt-F}
 use Rattle.typed_tree.specs.declared.tree.Stmt.TheOpen.Stmt-F.{Empty, Assign, Copy, Write, Compound, If, While, Repeat, For, Case}
+use Rattle.typed_tree.specs.declared.tree.Stmt.TheOpen.Stmt-F.{Call as Calling}
+use Rattle.typed_tree.specs.declared.tree.FunctionResult.{FunctionResult}
+use Rattle.typed_tree.specs.Calls.{holds_call}
 use Rattle.typed_tree.specs.declared.tree.Stmt.TheFolds.{map-Stmt, fold-roll-Stmt, ind-Stmt}
 use Rattle.typed_tree.specs.declared.tree.Tree.{Tree}
 use Rattle.typed_tree.specs.declared.tree.Block.{Block}
-use Rattle.typed_tree.specs.Entries.{joined, entries_of_expression, entries_of_parameter, statement_entries, entries_of_statement, entries_of}
+use Rattle.typed_tree.specs.Entries.{joined, entries_of_expression, entries_of_parameter, statement_entries, entries_of_block, entries_of_statement, entries_of}
 use Rattle.certificate.specs.declared.Certificate.{Certificate}
 use Rattle.abstract_state.specs.declared.known.Known.{Known}
 use Rattle.abstract_state.specs.declared.known.Known.TheVariants.{Ordinal}
 use Rattle.cert_checker.specs.Promise.{LinksEntries}
 use Rattle.abstract_state.specs.State.{limits_of}
 use Rattle.component_states.specs.Components.{Reach}
-use Rattle.component_states.specs.States.{State, dead, joined_states, over_variables, start}
-use Rattle.leaf_rows.specs.Rows.{indexes_of, rows_of}
+use Rattle.component_states.specs.States.{State, dead, joined_states, over_variables}
+use Rattle.call_states.specs.Sections.{block_claims_at}
+use Rattle.call_states.specs.Starts.{block_start}
 use Rattle.structured_states.specs.Loops.{claims_at, head_of, round_of, with_own, without_own}
 use Rattle.structured_states.specs.Ways.{Way, turn_begun, way_of, where_counts}
 use Rattle.std.specs.declared.alloc.Global.{Global}
@@ -33,12 +37,15 @@ use Rattle.place.specs.declared.Place.{Place}
 use Rattle.expression_checker.specs.Walk.{Context, Walking, ◌>>=◌, access_walk, index_pieces, numbers_of, fitting, value_walk, parameter_walk, whole_walk}
 use Rattle.cert_checker.specs.Walk.{first_context, assign, assign_to, arms_walk, case_walk, for_round, for_turns, for_walk, index_test, loop_walk}
 use Rattle.cert_checker.specs.Walk.{steady_in}
-use Rattle.cert_checker.specs.Walk.{tested_way, while_round, repeat_round, statement_step, statement_walk, where_so, all_of, block_walk, program_walk}
-use Rattle.expression_checker.proofs.Entered.{Enters, access-entered, and_no_more, and_then, parameter-entered, value-entered, whole-entered}
+use Rattle.cert_checker.specs.Walk.{tested_way, while_round, repeat_round, statement_step, statement_walk, where_so, all_of, block_walk, blocks_walk}
+use Rattle.cert_checker.specs.Walk.{program_walk, reach_before, result_use}
+use Rattle.expression_checker.proofs.Entered.{Enters, access-entered, and_no_more, and_then, call-entered, parameter-entered, value-entered}
+use Rattle.expression_checker.proofs.Entered.{whole-entered}
 
 abbrev stores : Place → Access → RangeTest → Expr → Reach → Known → Walking (Unit {0})
 stores becomes target fits value reach known =
-    fitting fits known >>= assign_to becomes target.root target.selectors.items reach (limits_of fits.range) (bound_form value)
+    fitting fits known
+    >>= assign_to becomes target.root target.selectors.items (reach_before (holds_call value) reach) (limits_of fits.range) (bound_form value)
 
 assigned-silent : (becomes : Place) (root : ℕ) (selectors : List Selector) (reach : Reach) (values : Interval) (form : Option Bound) (known : Known)
     → Enters (assign_to becomes root selectors reach values form known) []
@@ -49,7 +56,8 @@ stores-silent : (becomes : Place) (target : Access) (fits : RangeTest) (value : 
     → Enters (stores becomes target fits value reach known) []
 stores-silent becomes target fits value reach (Ordinal range) context state =
     let passed = fitting fits (Ordinal range) context state in
-    assigned-silent becomes target.root target.selectors.items reach (limits_of fits.range) (bound_form value) passed.value context passed.after
+    assigned-silent becomes target.root target.selectors.items (reach_before (holds_call value) reach) (limits_of fits.range) (bound_form value) passed.value
+    context passed.after
 
 -- walks one after another enter what each enters
 all-entered : {X : Type 0} (walk : X → Walking (Unit {0})) (numbers : X → List ℕ) → ((x : X) → Enters (walk x) (numbers x)) → (xs : List X)
@@ -76,7 +84,7 @@ loop-entered : (number : ℕ) (place : Place) (control : Option ℕ) (round : Wa
     → Enters (loop_walk number place control round) numbers
 loop-entered number place control round numbers each context state =
     let claims = claims_at context.claims number in
-    let loop = round_of context.tree context.claims number in
+    let loop = round_of context.tree context.pairs context.claims number in
     let own = with_own control loop in
     let within : Context = record context { rounds = context.rounds ++ without_own control loop ∷ [] } in
     let start = head_of context.tree context.limits own claims.facts state in
@@ -156,6 +164,7 @@ statement-parts (Copy number becomes target indexes type_id value value_indexes)
     (and_no_more first.linked [] _ (whole-entered value value_indexes.items context reached.after) refl))
 statement-parts (Write number name parameters ends_line) context state =
     ap (λ numbers. number ∷ numbers) (all-entered parameter_walk entries_of_parameter parameter-entered parameters.items context state)
+statement-parts (Calling call actuals) context state = call-entered call actuals.items context state
 statement-parts (Compound number statements) context state = ap (λ numbers. number ∷ numbers) (statements-entered statements.items context state)
 statement-parts (If number condition consequence None) context state =
     let first = value_walk condition context state in
@@ -197,6 +206,11 @@ statement-parts (Case number site index constants arms) context state =
     (and_then first.linked rest.linked _ _ (value-entered index context state)
     (case-entered site index constants.items arms.items first.value context first.after))
 
+-- the use of a result enters nothing
+result-silent : (result : Option FunctionResult) → Enters (result_use result) []
+result-silent None context state = refl
+result-silent (Some result) context state = refl
+
 statement-entered : (s : Stmt) → Enters (statement_walk s) (entries_of_statement s)
 statement-entered = ind-Stmt (λ s. Enters (statement_walk s) (entries_of_statement s))
     (λ x y is context state.
@@ -207,14 +221,27 @@ statement-entered = ind-Stmt (λ s. Enters (statement_walk s) (entries_of_statem
     ∙ sym (fold-roll-Stmt (List ℕ) statement_entries x))
 
 -- the walk over a block
-pub block-entered : (block : Block) → Enters (block_walk block) (entries_of_statement block.body)
-block-entered block context state =
-    statement-entered block.body context (start (length context.tree.variables.items) (indexes_of (rows_of context.tree)))
+pub block-entered : (number : ℕ) (block : Block) → Enters (block_walk number block) (entries_of_block block)
+block-entered number block context state =
+    let inside : Context = record context { block = number } in
+    let claims = block_claims_at context.blocks number in
+    let begun = block_start context.tree number claims.entry in
+    let body = statement_walk block.body inside begun in
+    let used = result_use block.heading.result inside body.after in
+    let silent : numbers_of (used.linked ++ []) ≡ [] = and_no_more used.linked [] [] (result-silent block.heading.result inside body.after) refl in
+    and_no_more body.linked (used.linked ++ []) (entries_of_block block) (statement-entered block.body inside begun) silent
+
+-- and that over blocks
+blocks-entered : (number : ℕ) (blocks : List Block) → Enters (blocks_walk number blocks) (flat_map entries_of_block blocks)
+blocks-entered number [] context state = refl
+blocks-entered number (block ∷ blocks) context state =
+    let first = block_walk number block context state in
+    let rest = blocks_walk (suc number) blocks context first.after in
+    and_then first.linked rest.linked _ _ (block-entered number block context state) (blocks-entered (suc number) blocks context first.after)
 
 -- and that over a program
 pub program-entered : (tree : Tree) (certificate : Certificate) → numbers_of (program_walk tree certificate).linked ≡ entries_of tree
-program-entered tree certificate =
-    all-entered block_walk (λ block. entries_of_statement block.body) block-entered tree.blocks.items (first_context tree certificate) dead
+program-entered tree certificate = blocks-entered 0 tree.blocks.items (first_context tree certificate) dead
 
 pub links_entries : (tree : Tree) (certificate : Certificate) → LinksEntries tree certificate
 links_entries tree certificate = record { of_block = block-entered; of_program = program-entered tree certificate }

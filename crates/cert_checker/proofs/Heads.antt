@@ -1,136 +1,35 @@
 -- What holds where a turn of a loop begins: what its turns leave, and the claims, of variables and of components.
-use Rattle.std.proofs.Common.{arith, ◌≡◌, ◌∙◌, sym, ap, refl, subst, ℕ, zero, suc, ◌+◌, ◌<◌, Bool, true, false, cond, ◌&&◌, ◌||◌, nat_eq}
-use Rattle.std.proofs.Common.{List, [], ◌∷◌, get_or, length}
-use Rattle.std.specs.Prelude.{slice_index_or}
-use Rattle.std.specs.List.{All, Contains}
-use Rattle.std.proofs.lemmas.Bool.{and_parts, eqb-true, eq-eqb}
-use Rattle.std.proofs.lemmas.List.{get_or-map, length-map}
-use Rattle.std.proofs.lemmas.List.Elements.{All-cons, All-nil, Contains-append_left, Contains-append_right}
+use Rattle.std.proofs.Common.{List, length}
 use Rattle.typed_tree.specs.declared.tree.Tree.{Tree}
-use Rattle.domain.specs.Interval.{Interval}
 use Rattle.domain.specs.Facts.{Fact}
 use Rattle.meaning.specs.Store.{Environment, Store}
-use Rattle.abstract_state.specs.Holds as entire
-use Rattle.abstract_state.specs.Knows.{IsKept, Shows, moment}
-use Rattle.abstract_state.specs.Loops.{gives_all, is_among}
-use Rattle.abstract_state.proofs.Looped.{given-all_known, head-known}
-use Rattle.leaf_rows.specs.Rows.{Parts, Row, all_parts, is_under, no_parts, numbers_where, parts_of, rows_of, rows_touched, rows_under}
-use Rattle.component_states.specs.Components.{ComponentFact}
-use Rattle.component_states.specs.Holds.{Holds, Knows}
-use Rattle.component_states.specs.Laws.{AreComponents, AreEntire, AreTouched}
-use Rattle.component_states.specs.States.{State, gives_component, gives_components}
-use Rattle.component_states.proofs.Given.{given-holds}
+use Rattle.abstract_state.specs.Knows.{IsKept, Shows}
+use Rattle.abstract_state.proofs.Looped.{head-known}
+use Rattle.leaf_rows.specs.Rows.{all_parts, rows_of, rows_touched}
+use Rattle.leaf_rows.proofs.Accessed.{components-inner}
+use Rattle.component_states.specs.Holds.{Knows}
+use Rattle.component_states.specs.Laws.{AreEntire}
+use Rattle.component_states.specs.States.{State}
 use Rattle.component_states.proofs.Looped.{heads-hold}
-use Rattle.structured_states.specs.Loops.{Round, component_facts, gives_claims, head_of, limits_at, plain_facts, row_limits, touched}
-use Rattle.expression_checker.proofs.Keeping.{InTypes}
-
--- ---- rows by their numbers
-
--- the root of a row's components is that of the row
-pub root-of_row : (tree : Tree) (k : ℕ) (row : Row) → k < length (rows_of tree) → get_or (rows_of tree) k row ≡ row
-    → (slice_index_or (all_parts tree) k no_parts).root ≡ row.root
-root-of_row tree k row within is =
-    ap (λ (p : Parts). p.root) (get_or-map (parts_of tree) (rows_of tree) k row no_parts within ∙ ap (parts_of tree) is)
-
-element-at : {X : Type 0} (xs : List X) (k : ℕ) → k < length xs → (x : X) × (get_or xs k x ≡ x)
-element-at [] k within = absurd (omega arith)
-element-at (x ∷ xs) zero within = (x, refl)
-element-at (x ∷ xs) (suc k) within = element-at xs k (omega arith)
-
-row-at : (tree : Tree) (k : ℕ) → k < length (all_parts tree) → (row : Row) × (k < length (rows_of tree)) × (get_or (rows_of tree) k row ≡ row)
-row-at tree k within =
-    let count = length-map (rows_of tree) (parts_of tree) in
-    let here : k < length (rows_of tree) = omega (arith, count, within) in
-    let found = element-at (rows_of tree) k here in
-    (found.0, here, found.1)
-
--- ---- the rows that a loop touches
-
-number-kept : (test : Row → Bool) (number : ℕ) (row : Row) (rows : List Row) (passes : Bool) → test row ≡ passes → passes ≡ true
-    → Contains (numbers_where test number (row ∷ rows)) number
-number-kept test number row rows true is passes =
-    subst (λ (b : Bool). Contains (cond b (number ∷ numbers_where test (suc number) rows) (numbers_where test (suc number) rows)) number) (sym is)
-    (0, omega arith, refl)
-number-kept test number row rows false is passes = absurd (cc)
-
-number-later : (test : Row → Bool) (number k : ℕ) (row : Row) (rows : List Row) (passes : Bool) → test row ≡ passes
-    → Contains (numbers_where test (suc number) rows) k → Contains (numbers_where test number (row ∷ rows)) k
-number-later test number k row rows true is (i, within, at) =
-    subst (λ (b : Bool). Contains (cond b (number ∷ numbers_where test (suc number) rows) (numbers_where test (suc number) rows)) k) (sym is)
-    (suc i, omega (arith, within), at)
-number-later test number k row rows false is inside =
-    subst (λ (b : Bool). Contains (cond b (number ∷ numbers_where test (suc number) rows) (numbers_where test (suc number) rows)) k) (sym is) inside
-
-numbers-where : (test : Row → Bool) (number : ℕ) (rows : List Row) (k : ℕ) (row : Row) → k < length rows → get_or rows k row ≡ row → test row ≡ true
-    → Contains (numbers_where test number rows) (number + k)
-numbers-where test number [] k row within is passes = absurd (omega arith)
-numbers-where test number (first ∷ rows) zero row within is passes =
-    let none : number + 0 ≡ number = omega arith in
-    subst (Contains (numbers_where test number (first ∷ rows))) (sym none) (number-kept test number first rows (test first) refl (ap test is ∙ passes))
-numbers-where test number (first ∷ rows) (suc k) row within is passes =
-    let next : suc number + k ≡ number + suc k = omega arith in
-    subst (Contains (numbers_where test number (first ∷ rows))) next
-    (number-later test number (suc number + k) first rows (test first) refl (numbers-where test (suc number) rows k row (omega (arith, within)) is passes))
-
-or-cases : (a b : Bool) (P : Type 0) → (a || b) ≡ true → (a ≡ true → P) → (b ≡ true → P) → P
-or-cases true b P is one other = one refl
-or-cases false b P is one other = other is
-
--- the rows of a variable that is among some are among those of these
-touched-row : (rows : List Row) (roots : List ℕ) (k : ℕ) (row : Row) → k < length rows → get_or rows k row ≡ row → is_among row.root roots ≡ true
-    → Contains (rows_touched rows roots) k
-touched-row rows [] k row within is among = absurd (cc)
-touched-row rows (root ∷ roots) k row within is among =
-    or-cases (nat_eq root row.root) (is_among row.root roots) (Contains (rows_touched rows (root ∷ roots)) k) among
-    (λ same.
-    let own : nat_eq row.root root ≡ true = eq-eqb row.root root (sym (eqb-true root row.root same)) in
-    Contains-append_left (rows_under rows root []) (rows_touched rows roots) k
-    (subst (Contains (rows_under rows root [])) (let e : 0 + k ≡ k = omega arith in e)
-    (numbers-where (is_under root []) 0 rows k row within is (ap (λ (b : Bool). b && true) own))))
-    (λ later. Contains-append_right (rows_under rows root []) (rows_touched rows roots) k (touched-row rows roots k row within is later))
-
-pub are-touched : (tree : Tree) (roots : List ℕ) → AreTouched (all_parts tree) roots (rows_touched (rows_of tree) roots)
-are-touched tree roots k within among =
-    let at = row-at tree k within in
-    touched-row (rows_of tree) roots k at.0 at.1 at.2
-    (ap (λ (r : ℕ). is_among r roots) (sym (root-of_row tree k at.0 at.1 at.2)) ∙ among)
-
--- ---- claims
-
--- what is claimed holds
-pub record AllHold (tree : Tree) (facts : List Fact) (env : Environment) (store : Store) : Type 0 where
-  pub variables : All (λ fact. entire.Holds fact (moment env store)) (plain_facts tree facts)
-  pub components : All (λ fact. Holds (all_parts tree) fact (moment env store)) (component_facts tree facts)
-
-given-components : (rows : List Parts) (roots : ℕ) (env : Environment) (state : State) (store : Store) (facts : List ComponentFact)
-    → Knows rows roots env state store → gives_components state facts ≡ true → All (λ fact. Holds rows fact (moment env store)) facts
-given-components rows roots env state store [] known given = All-nil (λ (fact : ComponentFact). Holds rows fact (moment env store))
-given-components rows roots env state store (fact ∷ facts) known given =
-    let parts = and_parts (gives_component state fact) (gives_components state facts) given in
-    All-cons (λ (fact : ComponentFact). Holds rows fact (moment env store)) fact facts (given-holds rows roots env state store fact known parts.0)
-    (given-components rows roots env state store facts known parts.1)
-
--- a state gives what holds where it does
-pub given-claims : (tree : Tree) (roots : ℕ) (env : Environment) (state : State) (store : Store) (facts : List Fact)
-    → Knows (all_parts tree) roots env state store → gives_claims tree state facts ≡ true → AllHold tree facts env store
-given-claims tree roots env state store facts known given =
-    let parts = and_parts (gives_all state.variables (plain_facts tree facts)) (gives_components state (component_facts tree facts)) given in
-    record {
-      variables = given-all_known roots env state.variables store (plain_facts tree facts) known.variables parts.0;
-      components = given-components (all_parts tree) roots env state store (component_facts tree facts) known parts.1;
-    }
+use Rattle.structured_states.specs.Loops.{Round, all_limits, component_facts, head_of, limits_at, plain_facts, row_limits, touched}
+pub use Rattle.call_states.proofs.Claimed.{AllHold, given-claims}
+use Rattle.call_states.proofs.AliasedTypes.{InTypes}
+use Rattle.exit_states.proofs.Behind.{rows-touched}
 
 -- ---- the head
 
 -- what is known there holds after any turns, if the claims do
-pub head-of_known : (tree : Tree) → AreComponents (all_parts tree) → (roots : ℕ) (env : Environment) → Shows roots env → (limits : List Interval)
-    (round : Round) (facts : List Fact) (state : State) (before after : Store) → AreEntire (all_parts tree) round.controls
-    → IsKept env (touched round) round.controls before after → InTypes tree limits env after → AllHold tree facts env after
-    → Knows (all_parts tree) roots env state before → Knows (all_parts tree) roots env (head_of tree limits round facts state) after
-head-of_known tree inner roots env shows limits round facts state before after controls kept typed hold known = record {
-  variables = head-known roots env shows (limits_at limits) (touched round) round.controls (plain_facts tree facts) state.variables before after kept
-      (λ root v among is. typed.ranges root v is) hold.variables known.variables;
-  components = heads-hold (all_parts tree) inner env (row_limits (rows_of tree)) (touched round) round.controls
-      (rows_touched (rows_of tree) (touched round)) (component_facts tree facts) state.components before after kept (are-touched tree (touched round)) controls
-      (λ row steps v inside of_row is. typed.components row steps v of_row is) hold.components known.components;
-}
+pub head-of_known : (tree : Tree) (env : Environment) → Shows (length tree.variables.items) env → (round : Round) (facts : List Fact) (state : State)
+    (before after : Store) → AreEntire (all_parts tree) round.controls → IsKept env (touched round) round.controls before after → InTypes tree env after
+    → AllHold tree facts env after → Knows (all_parts tree) (length tree.variables.items) env state before
+    → Knows (all_parts tree) (length tree.variables.items) env (head_of tree (all_limits tree) round facts state) after
+head-of_known tree env shown round facts state before after controls kept typed hold known =
+    let limits = all_limits tree in
+    record {
+      variables = head-known (length tree.variables.items) env shown (limits_at limits) (touched round) round.controls (plain_facts tree facts) state.variables
+          before after kept (λ root v among is. typed.ranges root v is) hold.variables known.variables;
+      components = heads-hold (all_parts tree) (components-inner tree) env (row_limits (rows_of tree)) (touched round) round.controls
+          (rows_touched (rows_of tree) (touched round)) (component_facts tree facts) state.components before after kept
+          (rows-touched tree (touched round)) controls (λ row steps v inside of_row is. typed.components row steps v of_row is) hold.components
+          known.components;
+    }

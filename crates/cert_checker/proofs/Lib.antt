@@ -4,7 +4,10 @@ pub mod Controls
 pub mod Entered
 pub mod Heads
 pub mod Keeping
+pub mod PassedLeft
+pub mod Rounds
 pub mod SoundAssignments
+pub mod SoundBlocks
 pub mod SoundCase
 pub mod SoundCopies
 pub mod SoundFor
@@ -13,9 +16,13 @@ pub mod SoundLoops
 pub mod SoundProgram
 pub mod SoundStores
 pub mod Steps
+pub mod StepsBlocks
 pub mod StepsCase
 pub mod StepsFor
 pub mod StepsStores
-pub mod Stored
 pub mod Targets
 pub mod Written
+pub mod EffectsStatements
+pub mod EffectsParameters
+pub mod EffectsRoutines
+pub mod ClaimsKnown

@@ -4,6 +4,7 @@ use Rattle.std.specs.Prelude.{drop, slice_get}
 use Rattle.std.specs.Ordering.{int_eq}
 use Rattle.std.specs.declared.alloc.Global.{Global}
 use Rattle.std.specs.declared.vec.Vec.{Vec}
+use Rattle.std.proofs.lemmas.Bool.{or_parts}
 use Rattle.std.proofs.lemmas.Int.{ints}
 use Rattle.std.proofs.lemmas.List.Folds.{list_any-append}
 use Rattle.domain.specs.Interval.{common}
@@ -12,7 +13,7 @@ use Rattle.domain.proofs.Numbers.{among-hull}
 use Rattle.meaning.specs.declared.store.Value.TheVariants.{Number}
 use Rattle.meaning.specs.declared.outcome.Ending.TheVariants.{Error}
 use Rattle.meaning.specs.Effect as effect
-use Rattle.meaning.specs.Meaning.{Execution, arm_of, is_among}
+use Rattle.meaning.specs.Meaning.{Execution, Surroundings, arm_of, is_among}
 use Rattle.meaning.specs.Store.{Environment, Store}
 use Rattle.abstract_state.specs.State as variables
 use Rattle.abstract_state.specs.State.{range_of}
@@ -66,16 +67,12 @@ pub first-constants : (row : Vec ℤ Global) (rows : List (Vec ℤ Global)) (arm
     → is_among (constants_before (suc arms) (row ∷ rows)) n ≡ (is_among row.items n || is_among (constants_before arms rows) n)
 first-constants row rows arms n = list_any-append (λ constant. int_eq constant n) row.items (constants_before arms rows)
 
-neither-one : (a b : Bool) → (a || b) ≡ false → (a ≡ false) × (b ≡ false)
-neither-one false b is = (refl, is)
-neither-one true b is = absurd (cc)
-
 -- where no constant is the value, it is an error
-pub arm-missing : (site : ℕ) (rows : List (Vec ℤ Global)) (arms : List Execution) (n : ℤ) (env : Environment) (t : effect.State)
+pub arm-missing : (site : ℕ) (rows : List (Vec ℤ Global)) (arms : List Execution) (n : ℤ) (env : Surroundings) (t : effect.State)
     → is_among (constants_before (length arms) rows) n ≡ false → arm_of site rows arms n env t ≡ effect.Stops (Error site) t
 arm-missing site [] arms n env t missing = refl
 arm-missing site (row ∷ rows) [] n env t missing = refl
 arm-missing site (row ∷ rows) (arm ∷ arms) n env t missing =
-    let parts = neither-one (is_among row.items n) (is_among (constants_before (length arms) rows) n)
+    let parts = or_parts (is_among row.items n) (is_among (constants_before (length arms) rows) n)
     (sym (first-constants row rows (length arms) n) ∙ missing) in
     ap (λ (b : Bool). cond b (arm env) (arm_of site rows arms n env) t) parts.0 ∙ arm-missing site rows arms n env t parts.1

@@ -1,57 +1,64 @@
 -- For statements are sound: in each turn the control variable lies on its way, and the body leaves it as it is.
-use Rattle.std.proofs.Common.{arith, ◌≡◌, ⊎_elim, ◌∙◌, sym, ap, refl, subst, ℕ, ◌<◌, ℤ, ◌+ℤ◌, Bool, true, false, cond, ◌&&◌, ◌||◌, List, [], ◌∷◌, ◌++◌}
-use Rattle.std.proofs.Common.{Option, Some}
-use Rattle.std.proofs.Common.{None}
+use Rattle.std.proofs.Common.{arith, ◌≡◌, ⊎_elim, ◌∙◌, sym, ap, refl, subst, ℕ, ◌<◌, ℤ, Bool, true, false, cond, ◌&&◌, ◌||◌, List, [], ◌∷◌, ◌++◌}
+use Rattle.std.proofs.Common.{Option, Some, None, nat_eq}
 use Rattle.std.specs.Ordering.{int_eq}
+use Rattle.std.specs.Prelude.{◌≤◌, is_some}
 use Rattle.std.proofs.lemmas.Int.{ints}
-use Rattle.std.proofs.lemmas.Bool.{and_parts, and_from, eq-eqb}
-use Rattle.std.proofs.lemmas.List.Folds.{list_all-append}
+use Rattle.std.proofs.lemmas.Bool.{and_parts, and_from, both_ways, eqb-true, false_from_ne_true}
+use Rattle.std.proofs.lemmas.List.Folds.{list_all-append, list_any-append}
 use Rattle.std.proofs.lemmas.List.Elements.{Contains-push_cases}
+use Rattle.std.proofs.lemmas.Option.{slice_get_within}
 use Rattle.place.specs.declared.Place.{Place as SourcePlace}
 use Rattle.typed_tree.specs.declared.tree.Tree.{Tree}
 use Rattle.typed_tree.specs.declared.tree.Direction.{Direction}
 use Rattle.typed_tree.specs.declared.tree.Direction.TheVariants.{To, DownTo}
-use Rattle.domain.specs.Interval.{Interval, HasMember, common, is_included}
+use Rattle.domain.specs.Interval.{Interval, HasMember, is_included}
 use Rattle.domain.specs.Facts.{Bound}
 use Rattle.meaning.specs.declared.store.Value.TheVariants.{Number}
 use Rattle.meaning.specs.Counting.{has_values, next_value, value_behind}
 use Rattle.meaning.specs.Effect as effect
 use Rattle.meaning.specs.Effect.{Action, is_in}
 use Rattle.meaning.specs.Meaning as meaning
+use Rattle.meaning.specs.Meaning.{Surroundings}
 use Rattle.meaning.specs.Store.{Environment, Place as StorePlace, Store, undefined, written}
 use Rattle.abstract_state.specs.declared.known.Known.TheVariants.{Ordinal}
-use Rattle.abstract_state.specs.State.{integer, limits_of}
+use Rattle.abstract_state.specs.State.{limits_of}
 use Rattle.abstract_state.specs.Loops.{is_among, with_undefined}
 use Rattle.abstract_state.specs.Holds.{HasNumber, IsIn}
 use Rattle.abstract_state.specs.Knows as entire
-use Rattle.abstract_state.specs.Knows.{IsKept, IsOfForm, Shows, moment}
-use Rattle.abstract_state.proofs.Knows.{at-place, place_of}
-use Rattle.abstract_state.proofs.Looped.{undefined-known}
+use Rattle.abstract_state.specs.Knows.{IsKept, IsOfForm, moment}
+use Rattle.abstract_state.proofs.Ranged.{included-in, is_in-limits, limits-is_in}
 use Rattle.component_states.specs.States.{State, over_bound, over_change, over_variables}
-use Rattle.component_states.specs.Laws.{AreComponents, AreEntire}
-use Rattle.component_states.proofs.Changed.{changes-hold}
-use Rattle.domain.specs.contracts.interval.IntervalDomain.TheImpl.Laws.{meet_has_common-law, meet_has_left-law, meet_has_right-law}
-use Rattle.abstract_state.proofs.Ranged.{is_in-integer, included-in, is_in-limits, limits-is_in}
-use Rattle.structured_states.specs.Loops.{Round, all_control, controls_inside, limits_at, round_of, touched, with_own, without_own}
+use Rattle.component_states.specs.Holds.{Knows}
+use Rattle.component_states.specs.Laws.{AreEntire}
+use Rattle.structured_states.specs.Loops.{Round, all_control, all_limits, controls_inside, limits_at, round_of, touched, with_own, without_own}
+use Rattle.structured_states.specs.Pairs.{aliases_of}
 use Rattle.structured_states.specs.Ways as ways
 use Rattle.structured_states.specs.Ways.{Way, met, step, turn_begun, turn_ended, way_out, where_counts, with_values}
+use Rattle.structured_states.proofs.OnWay.{Between, MayBe, begun-known, counts-known, counts-ordered, kept-may, met-in, next-between}
+use Rattle.structured_states.proofs.OnWay.{ordered-itself, untouched-form}
+use Rattle.structured_states.proofs.Touched.{inside-uncontrolled, inside-untouched, own-controls, own-untouched}
+use Rattle.call_states.specs.Aliases.{variable_values}
+use Rattle.call_states.specs.Environments.{Fine, Proper}
+use Rattle.call_states.proofs.AliasedStores.{AreWritten, IsApart, all-pass, aliases-apart, hidden-apart, one-kept}
+use Rattle.call_states.proofs.AliasedTypes.{declared, shows, written-begun, written-typed}
 use Rattle.expression_checker.specs.Walk as flow
-use Rattle.cert_checker.specs.Walk as walk
 use Rattle.expression_checker.specs.Walk.{Context, Walked, Walking, followed}
-use Rattle.cert_checker.specs.Walk.{steady_in}
 use Rattle.expression_checker.specs.declared.fault.Rule.TheVariants.{Changes}
 use Rattle.expression_checker.proofs.Keeping.{Keeps, keeps-itself, keeps-then}
-use Rattle.cert_checker.proofs.Keeping.{control-kept, gone-changes, gone-keeps, gone-kept, gone-none, gone-typed, own-value, written-typed}
-use Rattle.cert_checker.proofs.Changes.{assigned-knows, bound-knows, changed-known}
-use Rattle.structured_states.proofs.OnWay.{Between, MayBe, begun-known, counts-known, counts-ordered, ended-known, kept-may, met-in, next-between}
-use Rattle.structured_states.proofs.OnWay.{ordered-itself, untouched-form}
-use Rattle.expression_checker.proofs.Sound.{World, variables_in, IsPartOf, Stands, Good, IsForetold, Passes, Sound, Any_value, unbroken-left, unbroken-right}
-use Rattle.expression_checker.proofs.Sound.{part-left}
-use Rattle.expression_checker.proofs.Sound.{part-right, nothing-new, good-give, good-weaker, good-then, over-known, parts_in, stands-as}
-use Rattle.cert_checker.proofs.SoundLoops.{Foretold, RoundEnds, inner, kept-rule, loop-good, loop_begun, rounds-outer, rounds-own, turn-then, ways-good}
-use Rattle.cert_checker.proofs.SoundLoops.{with_head}
+use Rattle.expression_checker.proofs.Sound.{Any_value, Good, Goes, Here, IsForetold, IsPartOf, Passes, Sound, Stands, World, good-give, good-then, good-weaker}
+use Rattle.expression_checker.proofs.Sound.{here-behind, is_seen, nothing-new, over-known, part-left, part-right, parts_in, proper-grown, sites_in, stands-as}
+use Rattle.expression_checker.proofs.Sound.{unbroken-left, unbroken-right, variables_in}
+use Rattle.expression_checker.proofs.SoundCalls.{by-world}
 use Rattle.expression_checker.proofs.SoundOperations.{within-sound}
-use Rattle.structured_states.proofs.Touched.{inside-uncontrolled, inside-untouched, own-controls, own-untouched}
+use Rattle.cert_checker.specs.Walk as walk
+use Rattle.cert_checker.specs.Walk.{are_hidden, steady_in}
+use Rattle.cert_checker.proofs.Changes.{assigned-knows, bound-knows, ended-knows, gone-knows, whole, whole-has, whole-typed, whole-written}
+use Rattle.cert_checker.proofs.Keeping.{gone-alone, gone-begun, gone-changes, gone-keeps, gone-none, gone-typed}
+use Rattle.cert_checker.proofs.Rounds.{goes-inside, hidden-in, inside-closed}
+use Rattle.cert_checker.proofs.SoundLoops.{AreFine, RoundEnds, here-as, inner, loop-good, loop_begun, rounds-outer, rounds-own}
+use Rattle.cert_checker.proofs.SoundLoops.{turn-then, ways-good, with_head}
+use Rattle.cert_checker.proofs.Written.{Foretold, kept-rule}
 
 -- a number between two of a range lies in the range
 between-in : (direction : Direction) (range : Interval) (x y n : ℤ) → HasMember range x → HasMember range y → Between direction x y n → HasMember range n
@@ -66,9 +73,6 @@ between-in DownTo range x y n one other (after, before) =
 
 int_eq-same : (m n : ℤ) → int_eq m n ≡ true → m ≡ n
 int_eq-same m n is = grind (arith, ints)
-
-own-among : (root : ℕ) → is_among root (root ∷ []) ≡ true
-own-among root = ap (λ b. b || false) (eq-eqb root root refl)
 
 -- inside a loop no more is changed than at its head
 inside-kept : (env : Environment) (control : ℕ) (loop : Round) (before after : Store)
@@ -86,9 +90,29 @@ last-kept env rounds one before after outer own round inside =
     ⊎_elim (λ old. outer round old) (λ is. subst (λ (r : Round). IsKept env (touched r) r.controls before after) is own)
     (Contains-push_cases rounds one round inside)
 
--- the values of a variable's type, which are integers
+-- where a variable alone changed, which controls a for statement in each loop
+control-keeps : (env : Environment) (root : ℕ) (rounds : List Round) (before after : Store) → IsKept env (root ∷ []) [] before after
+    → all_control root rounds ≡ true → Keeps env rounds before after
+control-keeps env root rounds before after kept controls round inside = record {
+  values = λ other apart steps. kept.values other (alone other apart) steps;
+  defined = λ other among steps has. kept.defined other refl steps has;
+}
+  where
+    is_touched : is_among root (touched round) ≡ true
+    is_touched =
+        list_any-append (λ (other : ℕ). nat_eq other root) round.controls (round.changes ++ round.aliases)
+        ∙ ap (λ (b : Bool). b || is_among root (round.changes ++ round.aliases))
+        (all-pass (λ (one : Round). is_among root one.controls) rounds round inside controls)
+
+    alone : (other : ℕ) → is_among other (touched round) ≡ false → is_among other (root ∷ []) ≡ false
+    alone other apart =
+        ap (λ (b : Bool). b || false)
+        (false_from_ne_true (nat_eq root other) (λ same.
+        both_ways (is_among other (touched round)) apart (subst (λ (r : ℕ). is_among r (touched round) ≡ true) (eqb-true root other same) is_touched)))
+
+-- the values of a variable's type
 abbrev typed_values : World → ℕ → Interval
-typed_values world root = common integer (limits_at world.limits root)
+typed_values world root = limits_at (all_limits world.tree) root
 
 all-controls : (root : ℕ) (rounds : List Round) (one : Round) → all_control root rounds ≡ true → is_among root one.controls ≡ true
     → all_control root (rounds ++ one ∷ []) ≡ true
@@ -96,25 +120,86 @@ all-controls root rounds one outer own =
     list_all-append (λ (round : Round). is_among root round.controls) rounds (one ∷ [])
     ∙ and_from (all_control root rounds) (is_among root one.controls && true) outer (and_from (is_among root one.controls) true own refl)
 
--- what a turn adds
-next-bound : (direction : Direction) (n : ℤ) → (n +ℤ step direction) ≡ next_value direction n
-next-bound To n = refl
-next-bound DownTo n = omega (arith, ints)
-
 -- the control variable of a loop and those inside it
 abbrev all_in : World → ℕ → ℕ → List ℕ
 all_in world number control = control ∷ controls_inside world.tree number
 
-module _ (world : World) (env : Environment) (shows : Shows (variables_in world) env) (inner_are : AreComponents (parts_in world)) (number : ℕ)
-    (execution : meaning.Execution) (body : Walking (Unit {0}))
-    (one : Sound {A = Unit {0}} {B = Unit {0}} world env Any_value (execution env) body) where
+-- a control variable that is visible in a block, where none of its aliases is
+pub record IsOwn (world : World) (block : ℕ) (env : Environment) (few : ℕ) (control : ℕ) : Type 0 where
+  pub proper : Proper world.tree world.pairs block few env
+  pub seen : is_seen world block control ≡ true
+  pub ordinal : is_some (variable_values world.tree control) ≡ true
+  pub hidden : (alias : ℕ) → is_among alias (aliases_of world.pairs control) ≡ true → is_seen world block alias ≡ false
+
+module _ (world : World) (block : ℕ) (env : Environment) (few : ℕ) (control : ℕ) (own : IsOwn world block env few control) where
+  abbrev home : StorePlace
+  home = (own.proper.visible control own.seen).0
+
+  at_home : env.variables control ≡ Some home
+  at_home = (own.proper.visible control own.seen).1
+
+  is-variable : control < variables_in world
+  is-variable =
+      let variable = declared world.tree world.pairs block few env own.proper control own.seen in
+      slice_get_within world.tree.variables.items control variable.0 variable.1
+
+  apart : IsApart env control home []
+  apart =
+      hidden-apart env world.pairs own.proper.separate control home at_home
+      (λ alias among. own.proper.only alias (own.hidden alias among))
+
+  -- it has a number
+  abbrev numbered : ℤ → Store → Store
+  numbered n store = written store home (Number n)
+
+  one-number : (n : ℤ) (store : Store) → AreWritten env [] control (whole n) store (numbered n store)
+  one-number n store = whole-written env [] control home at_home apart store n
+
+  has-number : (n : ℤ) (store : Store) → HasNumber (moment env (numbered n store)) control n
+  has-number n store = whole-has env [] control n store (numbered n store) (one-number n store)
+
+  number-kept : (n : ℤ) (store : Store) → IsKept env (control ∷ []) [] store (numbered n store)
+  number-kept n store = one-kept env [] control (whole n) store (numbered n store) (one-number n store)
+
+  number-fine : (n : ℤ) (t : effect.State) → few ≤ t.activations → Fine world.tree t → HasMember (typed_values world control) n
+      → Fine world.tree (record t { store = numbered n t.store })
+  number-fine n t grown fine inside =
+      let typed = whole-typed world.tree world.pairs block few env own.proper control home at_home n own.ordinal inside in
+      let are = one-number n t.store in
+      let young = own.proper.begun control home at_home in
+      record {
+        typed = written-typed world.tree env [] control (whole n) t.store (numbered n t.store) are typed fine.typed;
+        begun = written-begun world.tree env [] control (whole n) t.store (numbered n t.store) are t.activations home at_home (omega (arith, young, grown))
+            fine.begun;
+      }
+
+  -- a number is stored to it
+  number-stored : (n : ℤ) (t : effect.State) → few ≤ t.activations → Fine world.tree t → HasMember (typed_values world control) n
+      → Good {A = Unit {0}} world (λ done store. store ≡ numbered n t.store) t (effect.store (env.variables control) (Number n) t)
+  number-stored n t grown fine inside =
+      let later = number-fine n t grown fine inside in
+      subst (λ (place : Option StorePlace).
+      Good {A = Unit {0}} world (λ done store. store ≡ numbered n t.store) t (effect.store place (Number n) t)) (sym at_home)
+      (record {
+        errs = tt;
+        new = nothing-new world t.visited;
+        gives = record { so = refl; fine = record { typed = later.typed; begun = later.begun }; grown = omega arith };
+      })
+
+module _ (world : World) (ranges : world.limits ≡ all_limits world.tree) (block : ℕ) (env : Surroundings)
+    (number : ℕ) (execution : meaning.Execution) (body : Walking (Unit {0}))
+    (one : Sound {A = Unit {0}} {B = Unit {0}} world block env.visible Any_value (execution env) body) where
+  abbrev visible : Environment
+  visible = env.visible
+
   -- ---- the rounds
 
-  module _ (context : Context) (way : Way) (x y : ℤ) (is_variable : way.control < (variables_in world)) (in_first : HasMember way.first.values x)
+  module _ (context : Context) (way : Way) (x y : ℤ) (few : ℕ) (is_own : IsOwn world block visible few way.control) (block_is : context.block ≡ block)
+      (in_first : HasMember way.first.values x)
       (in_last : HasMember way.last.values y) (first_typed : HasMember (typed_values world way.control) x)
       (last_typed : HasMember (typed_values world way.control) y) (controls : all_control way.control context.rounds ≡ true) where
     abbrev loop : Round
-    loop = round_of context.tree context.claims number
+    loop = round_of context.tree context.pairs context.claims number
 
     abbrev own : Round
     own = with_own (Some way.control) loop
@@ -130,38 +215,48 @@ module _ (world : World) (env : Environment) (shows : Shows (variables_in world)
 
     -- a turn begins where the control variable got a value
     abbrev at : ℤ → Store → Store
-    at n store = written store (place_of env way.control) (Number n)
+    at n store = numbered world block visible few way.control is_own n store
 
     -- which lies on the way, whose bounds are what they were
     abbrev Fits : ℤ → Store → Type 0
-    Fits n store = Between way.direction x y n × MayBe env store steady.first.form x × MayBe env store steady.last.form y
+    Fits n store = Between way.direction x y n × MayBe visible store steady.first.form x × MayBe visible store steady.last.form y
 
-    at-number : (n : ℤ) (store : Store) → HasNumber (moment env (at n store)) way.control n
-    at-number n store = own-value (variables_in world) env shows store way.control (Number n) is_variable
+    at-number : (n : ℤ) (store : Store) → HasNumber (moment visible (at n store)) way.control n
+    at-number n store = has-number world block visible few way.control is_own n store
 
-    at-kept : (n : ℤ) (store : Store) → Keeps env rounds store (at n store)
-    at-kept n store = control-kept (variables_in world) env shows store way.control (Number n) is_variable rounds
+    at-kept : (n : ℤ) (store : Store) → Keeps visible rounds store (at n store)
+    at-kept n store =
+        control-keeps visible way.control rounds store (at n store) (number-kept world block visible few way.control is_own n store)
         (all-controls way.control context.rounds own controls (own-controls way.control loop))
 
+    on-way : (n : ℤ) → Between way.direction x y n → HasMember (typed_values world way.control) n
+    on-way n between = between-in way.direction (typed_values world way.control) x y n first_typed last_typed between
+
+    at-fine : AreFine world few at Fits
+    at-fine n t grown fine fits = number-fine world block visible few way.control is_own n t grown fine (on-way n fits.0)
+
     -- so they are at a later store
-    later-forms : (before after : Store) → Keeps env rounds before after → MayBe env before steady.first.form x × MayBe env before steady.last.form y
-        → MayBe env after steady.first.form x × MayBe env after steady.last.form y
+    later-forms : (before after : Store) → Keeps visible rounds before after
+        → MayBe visible before steady.first.form x × MayBe visible before steady.last.form y
+        → MayBe visible after steady.first.form x × MayBe visible after steady.last.form y
     later-forms before after kept (first, last) =
-        let own_kept = rounds-own env context.rounds own before after kept in (
-          kept-may env (touched own) own.controls before after way.first.form x own_kept first,
-          kept-may env (touched own) own.controls before after way.last.form y own_kept last,
+        let own_kept = rounds-own visible context.rounds own before after kept in (
+          kept-may visible (touched own) own.controls before after way.first.form x own_kept first,
+          kept-may visible (touched own) own.controls before after way.last.form y own_kept last,
         )
 
-    module _ (n : ℤ) (start later : Store) (ended : State) (fits : Fits n start) (stands : Stands world env within ended later)
-        (kept : Keeps env within.rounds start later) (number_is : HasNumber (moment env start) way.control n) where
+    module _ (n : ℤ) (start later : Store) (ended : State) (fits : Fits n start) (stands : Stands world visible within ended later)
+        (kept : Keeps visible within.rounds start later) (number_is : HasNumber (moment visible start) way.control n) where
       -- the body leaves the control variable as it is
-      still : HasNumber (moment env later) way.control n
-      still = (rounds-own env context.rounds (without_own (Some way.control) loop) start later kept).values way.control (own-untouched way.control loop) []
+      still : HasNumber (moment visible later) way.control n
+      still =
+          (rounds-own visible context.rounds (without_own (Some way.control) loop) start later kept).values way.control (own-untouched way.control loop) []
           ∙ number_is
 
-      body-kept : Keeps env rounds start later
-      body-kept = last-kept env context.rounds own start later (rounds-outer env context.rounds (without_own (Some way.control) loop) start later kept)
-          (inside-kept env way.control loop start later (rounds-own env context.rounds (without_own (Some way.control) loop) start later kept))
+      body-kept : Keeps visible rounds start later
+      body-kept =
+          last-kept visible context.rounds own start later (rounds-outer visible context.rounds (without_own (Some way.control) loop) start later kept)
+          (inside-kept visible way.control loop start later (rounds-own visible context.rounds (without_own (Some way.control) loop) start later kept))
 
       abbrev again_state : State
       again_state = over_change way.control (ways.next steady) (turn_ended steady) ended
@@ -170,15 +265,15 @@ module _ (world : World) (env : Environment) (shows : Shows (variables_in world)
       out_state = over_bound way.control steady.last.form (way_out steady) ended
 
       abbrev Ends : Option ℤ → Type 0
-      Ends more = RoundEnds world env within rounds at Fits again_state out_state start more later
+      Ends more = RoundEnds world visible within rounds at Fits again_state out_state start more later
 
       -- the last turn ends
       round-out : n ≡ y → Ends None
       round-out same =
           let forms = later-forms start later body-kept (fits.1, fits.2) in (
-            stands-as world env within ended out_state later stands
-                (bound-knows (parts_in world) (variables_in world) env ended later way.control steady.last.form y
-                (subst (λ (m : ℤ). HasNumber (moment env later) way.control m) same still) forms.1 stands.known),
+            stands-as world visible within ended out_state later stands
+                (bound-knows (parts_in world) (variables_in world) visible ended later way.control steady.last.form y
+                (subst (λ (m : ℤ). HasNumber (moment visible later) way.control m) same still) forms.1 stands.known),
             body-kept,
           )
 
@@ -190,20 +285,12 @@ module _ (world : World) (env : Environment) (shows : Shows (variables_in world)
           let forms = later-forms later (at m later) next_kept (later-forms start later body-kept (fits.1, fits.2)) in
           let between = next-between way.direction x y n fits.0 apart in (
             record {
-              tree_is = stands.tree_is;
-              limits_are = stands.limits_are;
-              types_are = stands.types_are;
-              known = changed-known (parts_in world) inner_are (variables_in world) env shows way.control is_variable (ways.next steady) (turn_ended steady)
-                  (Number m) ended later (m, refl, (n, still, next-bound way.direction n)) stands.known
-                  (ended-known (variables_in world) env shows steady ended.variables later x y n is_variable still in_last fits.0 apart (at-number m later)
-                  forms.1 stands.known.variables);
-              typed =
-                  let inside = between-in way.direction (typed_values world way.control) x y m first_typed last_typed between in
-                  written-typed (variables_in world) env shows later way.control (Number m) is_variable world.tree world.limits inner_are stands.typed
-                  (meet_has_right-law integer (limits_at world.limits way.control) m inside)
-                  (meet_has_left-law integer (limits_at world.limits way.control) m inside);
+              goes = stands.goes;
+              known = ended-knows world.tree visible steady ended later (at m later) x y n
+                  (is-variable world block visible few way.control is_own) (one-number world block visible few way.control is_own m later) still in_last fits.0
+                  apart forms.1 stands.known;
             },
-            keeps-then env rounds start later (at m later) body-kept next_kept,
+            keeps-then visible rounds start later (at m later) body-kept next_kept,
             (between, forms.0, forms.1),
           )
 
@@ -212,42 +299,49 @@ module _ (world : World) (env : Environment) (shows : Shows (variables_in world)
       round-ends false is = round-again is
 
     -- a round of a for
-    round-good : (state : State) (n : ℤ) (s : effect.State) → (walk.for_round steady body within state).broken ≡ []
-        → IsPartOf world (walk.for_round steady body within state) → Stands world env within state (at n s.store) → Fits n (at n s.store)
-        → Good world (RoundEnds world env within rounds at Fits (walk.for_round steady body within state).after
-        (walk.for_round steady body within state).value (at n s.store)) s.visited (meaning.for_round way.control way.direction y execution env n s)
-    round-good state n s unbroken part stands fits =
+    round-good : (state : State) (n : ℤ) (s : effect.State) → few ≤ s.activations → Fine world.tree s
+        → (walk.for_round steady body within state).broken ≡ []
+        → IsPartOf world (walk.for_round steady body within state) → Stands world visible within state (at n s.store) → Fits n (at n s.store)
+        → Good world (RoundEnds world visible within rounds at Fits (walk.for_round steady body within state).after
+        (walk.for_round steady body within state).value (at n s.store)) s (meaning.for_round way.control way.direction y execution env n s)
+    round-good state n s grown fine unbroken part stands fits =
         let start = at n s.store in
         let begun = over_variables (turn_begun steady) state in
         let first : Walked (Unit {0}) = body within begun in
         let ended = first.after in
         let again = over_change way.control (ways.next steady) (turn_ended steady) ended in
         let out = over_bound way.control steady.last.form (way_out steady) ended in
-        let rest : Walked State = followed (walk.with_state again within ended) (flow.give out within again) in
-        let P = RoundEnds world env within rounds at Fits again out start in
+        let rest : Walked State = followed (flow.with_state again within ended) (flow.give out within again) in
+        let P = RoundEnds world visible within rounds at Fits again out start in
         let more = value_behind way.direction y n in
         let next = λ (used : Unit {0}). effect.◌>>=◌ (execution env) (λ done. effect.give more) in
-        let stored = record s { store = start } in
-        let begun_stands = stands-as world env within state begun start stands
-        (over-known (parts_in world) (variables_in world) env state (turn_begun steady) start stands.known
-        (begun-known (variables_in world) env start steady state.variables x y n (at-number n s.store) in_first in_last fits.0 fits.1 fits.2
+        let begun_stands = stands-as world visible within state begun start stands
+        (over-known (parts_in world) (variables_in world) visible state (turn_begun steady) start stands.known
+        (begun-known (variables_in world) visible start steady state.variables x y n (at-number n s.store) in_first in_last fits.0 fits.1 fits.2
         stands.known.variables)) in
-        subst (λ (place : Option StorePlace).
-        Good world P s.visited (effect.◌>>=◌ (effect.store place (Number n)) (λ written. effect.◌>>=◌ effect.use_turn next) s))
-        (sym (at-place (variables_in world) env shows way.control is_variable))
-        (turn-then world P next stored
-        (λ u same visited.
-        good-then world (Foretold world env within first u.store) P u.visited (execution env u) (λ done. effect.give more)
-        (one within begun u (unbroken-left first.broken [] unbroken) (part-left world first rest part)
-        (subst (Stands world env within begun) (sym same) begun_stands))
+        good-then world (λ (done : Unit {0}) store. store ≡ start) P s (effect.store (visible.variables way.control) (Number n) s)
+        (λ written. effect.◌>>=◌ effect.use_turn next)
+        (number-stored world block visible few way.control is_own n s grown fine (on-way n fits.0))
+        (λ written u is stored.
+        turn-then world P next u stored.fine
+        (λ used v same now later.
+        let store_is : v.store ≡ start = same ∙ stored.so in
+        let here : Here world block visible within begun v = record {
+          block_is = block_is;
+          fine = now;
+          proper = proper-grown world block few v.activations visible (let behind = stored.grown in omega (arith, grown, behind, later)) is_own.proper;
+          stands = subst (Stands world visible within begun) (sym store_is) begun_stands;
+        } in
+        good-then world (Foretold world visible within first v.store) P v (execution env v) (λ done. effect.give more)
+        (one within begun v (unbroken-left first.broken [] unbroken) (part-left world first rest part) here)
         (λ done w is told.
-        good-give world P more w
-        (round-ends n start w.store ended fits told.stands (subst (λ (store : Store). Keeps env within.rounds store w.store) same told.kept)
-        (at-number n s.store) (int_eq n y) refl))) s.turns)
+        good-give world P more w told.fine
+        (round-ends n start w.store ended fits told.so.stands (subst (λ (store : Store). Keeps visible within.rounds store w.store) store_is told.so.kept)
+        (at-number n s.store) (int_eq n y) refl))))
 
   -- ---- from the tests of the bounds on
 
-  may-of_form : (store : Store) (form : Option Bound) (n : ℤ) → MayBe env store form n → IsOfForm (moment env store) form (Number n)
+  may-of_form : (store : Store) (form : Option Bound) (n : ℤ) → MayBe visible store form n → IsOfForm (moment visible store) form (Number n)
   may-of_form store None n may = tt
   may-of_form store (Some bound) n may = (n, refl, may bound refl)
 
@@ -267,9 +361,53 @@ module _ (world : World) (env : Environment) (shows : Shows (variables_in world)
       (unbroken-left asked.broken [] (unbroken-right last.broken from_asked.broken
       (unbroken-right first.broken (last.broken ++ from_asked.broken) tests_unbroken)))
 
-  module _ (place : SourcePlace) (context : Context) (state : State) (way : Way) (x y : ℤ) (is_variable : way.control < (variables_in world))
+  -- what it has to be for that
+  module _ (context : Context) (way : Way)
+      (may : walk.may_control context way.control way.first.fits.range way.last.fits.range ≡ true) where
+    abbrev limits : Interval
+    limits = limits_at context.limits way.control
+
+    abbrev both_included : Bool
+    both_included = is_included (limits_of way.first.fits.range) limits && is_included (limits_of way.last.fits.range) limits
+
+    abbrev none_seen : Bool
+    none_seen = are_hidden context (aliases_of context.pairs way.control)
+
+    may-control : all_control way.control context.rounds ≡ true
+    may-control = (and_parts (all_control way.control context.rounds) (none_seen && both_included) may).0
+
+    may-hide : none_seen ≡ true
+    may-hide = (and_parts none_seen both_included (and_parts (all_control way.control context.rounds) (none_seen && both_included) may).1).0
+
+    may-fit : (is_included (limits_of way.first.fits.range) limits ≡ true) × (is_included (limits_of way.last.fits.range) limits ≡ true)
+    may-fit =
+        and_parts (is_included (limits_of way.first.fits.range) limits) (is_included (limits_of way.last.fits.range) limits)
+        (and_parts none_seen both_included (and_parts (all_control way.control context.rounds) (none_seen && both_included) may).1).1
+
+    own-of : (state : State) (s : effect.State) → Here world block visible context state s → is_seen world block way.control ≡ true
+        → is_some (variable_values world.tree way.control) ≡ true → IsOwn world block visible s.activations way.control
+    own-of state s here seen ordinal = record {
+      proper = here.proper;
+      seen = seen;
+      ordinal = ordinal;
+      hidden = λ alias among.
+          subst (λ (b : ℕ). is_seen world b alias ≡ false) here.block_is
+          (hidden-in world context (aliases_of context.pairs way.control) here.stands.goes.tree_is may-hide alias
+          (subst (λ (pairs : List (ℕ × ℕ)). is_among alias (aliases_of pairs way.control) ≡ true) (sym here.stands.goes.pairs_are) among));
+    }
+
+    goes-in : (state : State) (s : effect.State) → Here world block visible context state s → IsOwn world block visible s.activations way.control
+        → Goes world (inner context number (Some way.control))
+    goes-in state s here is_own =
+        goes-inside world context (without_own (Some way.control) (round_of context.tree context.pairs context.claims number))
+        (inside-closed world context.block context number here.stands.goes.pairs_are way.control
+        (subst (λ (b : ℕ). is_seen world b way.control ≡ true) (sym here.block_is) is_own.seen)
+        (λ alias among. subst (λ (b : ℕ). is_seen world b alias ≡ false) (sym here.block_is) (is_own.hidden alias among))) here.stands.goes
+
+  module _ (place : SourcePlace) (context : Context) (state : State) (way : Way) (x y : ℤ) (seen : is_seen world block way.control ≡ true)
+      (ordinal : is_some (variable_values world.tree way.control) ≡ true)
       (controls_are : AreEntire (parts_in world) (all_in world number way.control))
-      (first_site : way.first.fits.site < world.sites) (last_site : way.last.fits.site < world.sites)
+      (first_site : way.first.fits.site < sites_in world) (last_site : way.last.fits.site < sites_in world)
       (counts : has_values way.direction x y ≡ true) where
     abbrev first : Walked Interval
     first = walk.tested_end state way.first context state
@@ -301,11 +439,11 @@ module _ (world : World) (env : Environment) (shows : Shows (variables_in world)
     abbrev tests : Walked Way
     tests = walk.tested_way place way context state
 
-    abbrev whole : Walked (Unit {0})
-    whole = walk.for_turns number place body way context state
+    abbrev whole_walked : Walked (Unit {0})
+    whole_walked = walk.for_turns number place body way context state
 
     abbrev Forms : Store → Type 0
-    Forms store = MayBe env store way.first.form x × MayBe env store way.last.form y
+    Forms store = MayBe visible store way.first.form x × MayBe visible store way.last.form y
 
     abbrev rounds_action : Action (Unit {0})
     rounds_action = effect.looped (meaning.for_round way.control way.direction y execution env) x
@@ -313,68 +451,75 @@ module _ (world : World) (env : Environment) (shows : Shows (variables_in world)
     -- the control variable gets its first value, and the rounds follow
     module _ (unbroken : turns.broken ≡ []) (part : IsPartOf world turns)
         (may : walk.may_control context way.control way.first.fits.range way.last.fits.range ≡ true) (v : effect.State)
-        (stands : Stands world env context last.after v.store) (forms : Forms v.store) (in_first : IsIn first.value (Number x))
+        (here : Here world block visible context last.after v) (forms : Forms v.store) (in_first : IsIn first.value (Number x))
         (in_last : IsIn last.value (Number y)) (x_fits : is_in way.first.fits.range (Number x) ≡ true)
         (y_fits : is_in way.last.fits.range (Number y) ≡ true) where
-      abbrev limits : Interval
-      limits = limits_at context.limits way.control
-
-      parts : (all_control way.control context.rounds ≡ true)
-          × ((is_included (limits_of way.first.fits.range) limits && is_included (limits_of way.last.fits.range) limits) ≡ true)
-      parts = and_parts (all_control way.control context.rounds)
-          (is_included (limits_of way.first.fits.range) limits && is_included (limits_of way.last.fits.range) limits) may
-
-      included : (is_included (limits_of way.first.fits.range) limits ≡ true) × (is_included (limits_of way.last.fits.range) limits ≡ true)
-      included = and_parts (is_included (limits_of way.first.fits.range) limits) (is_included (limits_of way.last.fits.range) limits) parts.1
-
-      in-type : (own : Interval) (n : ℤ) → is_included own limits ≡ true → IsIn own (Number n) → HasMember (limits_at world.limits way.control) n
+      in-type : (own : Interval) (n : ℤ) → is_included own (limits_at context.limits way.control) ≡ true → IsIn own (Number n)
+          → HasMember (typed_values world way.control) n
       in-type own n is inside =
-          subst (λ (all : List Interval). IsIn (limits_at all way.control) (Number n)) stands.limits_are (included-in own limits (Number n) is inside)
+          subst (λ (all : List Interval). IsIn (limits_at all way.control) (Number n)) (here.stands.goes.limits_are ∙ ranges)
+          (included-in own (limits_at context.limits way.control) (Number n) is inside)
 
       x_typed : HasMember (typed_values world way.control) x
-      x_typed =
-          meet_has_common-law integer (limits_at world.limits way.control) x (is_in-integer way.first.fits.range (Number x) x_fits)
-          (in-type (limits_of way.first.fits.range) x included.0 (is_in-limits way.first.fits.range (Number x) x_fits))
+      x_typed = in-type (limits_of way.first.fits.range) x (may-fit context way may).0 (is_in-limits way.first.fits.range (Number x) x_fits)
 
       y_typed : HasMember (typed_values world way.control) y
-      y_typed =
-          meet_has_common-law integer (limits_at world.limits way.control) y (is_in-integer way.last.fits.range (Number y) y_fits)
-          (in-type (limits_of way.last.fits.range) y included.1 (is_in-limits way.last.fits.range (Number y) y_fits))
+      y_typed = in-type (limits_of way.last.fits.range) y (may-fit context way may).1 (is_in-limits way.last.fits.range (Number y) y_fits)
 
-      rounds-good : Good world (Foretold world env context turns v.store) v.visited (rounds_action v)
+      is_own : IsOwn world block visible v.activations way.control
+      is_own = own-of context way may last.after v here seen ordinal
+
+      abbrev start : Store
+      start = numbered world block visible v.activations way.control is_own x v.store
+
+      -- what is known where it has its first value
+      start-known : Knows (parts_in world) (variables_in world) visible begun.after start
+      start-known =
+          let tree = world.tree in
+          let pairs = world.pairs in
+          let few = v.activations in
+          let aliases = aliases_of pairs way.control in
+          let place = home world block visible few way.control is_own in
+          let at_place = at_home world block visible few way.control is_own in
+          let are = whole-written visible aliases way.control place at_place
+          (aliases-apart visible pairs here.proper.separate way.control place at_place) v.store x in
+          let typed = whole-typed tree pairs block few visible here.proper way.control place at_place x ordinal x_typed in
+          by-world world context
+          (λ (other : Context).
+          Knows (parts_in world) (variables_in world) visible (walk.assign way.control way.first.form (Ordinal first.value) other last.after).after start)
+          here.stands.goes
+          (assigned-knows tree pairs block few visible here.proper way.control place at_place x v.store start are typed first.value way.first.form last.after
+          in_first (may-of_form v.store way.first.form x forms.0) here.stands.known)
+
+      rounds-good : Good world (Foretold world visible context turns v.store) v (rounds_action v)
       rounds-good =
-          let start = at context tested x y is_variable in_first in_last x_typed y_typed parts.0 x v.store in
-          let own = touched (with_own (Some way.control) (round_of context.tree context.claims number)) in
-          let begun_kept = at-kept context tested x y is_variable in_first in_last x_typed y_typed parts.0 x v.store in
-          let later = later-forms context tested x y is_variable in_first in_last x_typed y_typed parts.0 v.store start begun_kept
-          (untouched-form env v.store own way.first.form x forms.0, untouched-form env v.store own way.last.form y forms.1) in
-          let start_stands : Stands world env context begun.after start = record {
-            tree_is = stands.tree_is;
-            limits_are = stands.limits_are;
-            types_are = stands.types_are;
-            known = assigned-knows (parts_in world) inner_are (variables_in world) env shows way.control is_variable first.value way.first.form (Number x)
-                last.after v.store in_first (may-of_form v.store way.first.form x forms.0) stands.known;
-            typed = written-typed (variables_in world) env shows v.store way.control (Number x) is_variable world.tree world.limits inner_are stands.typed
-                (meet_has_right-law integer (limits_at world.limits way.control) x x_typed)
-                (meet_has_left-law integer (limits_at world.limits way.control) x x_typed);
-          } in
-          good-weaker world (Foretold world env context turns start) (Foretold world env context turns v.store) v.visited (rounds_action v)
+          let few = v.activations in
+          let controls = may-control context way may in
+          let own = touched (with_own (Some way.control) (round_of context.tree context.pairs context.claims number)) in
+          let begun_kept = at-kept context tested x y few is_own here.block_is in_first in_last x_typed y_typed controls x v.store in
+          let later = later-forms context tested x y few is_own here.block_is in_first in_last x_typed y_typed controls v.store start begun_kept
+          (untouched-form visible v.store own way.first.form x forms.0, untouched-form visible v.store own way.last.form y forms.1) in
+          let start_stands : Stands world visible context begun.after start = record { goes = here.stands.goes; known = start-known } in
+          good-weaker world (Foretold world visible context turns start) (Foretold world visible context turns v.store) v (rounds_action v)
           (λ done w is told. record {
             tie = tt;
-            stands = told.stands;
-            kept = keeps-then env context.rounds v.store start w.store
-                (rounds-outer env context.rounds (with_own (Some way.control) (round_of context.tree context.claims number)) v.store start begun_kept)
-                told.kept;
+            stands = told.so.stands;
+            kept = keeps-then visible context.rounds v.store start w.store
+                (rounds-outer visible context.rounds (with_own (Some way.control) (round_of context.tree context.pairs context.claims number)) v.store start
+                begun_kept)
+                told.so.kept;
           })
-          (loop-good world env shows number place (Some way.control) (meaning.for_round way.control way.direction y execution env)
+          (loop-good world ranges block visible number place (Some way.control) (meaning.for_round way.control way.direction y execution env)
           (walk.for_round (steady_in context number tested) body)
-          (at context tested x y is_variable in_first in_last x_typed y_typed parts.0)
-          (Fits context tested x y is_variable in_first in_last x_typed y_typed parts.0) context begun.after x v inner_are
-          (subst (λ (tree : Tree). AreEntire (parts_in world) (way.control ∷ controls_inside tree number)) (sym stands.tree_is) controls_are)
-          (λ n t unbroken part stands fits.
-          round-good context tested x y is_variable in_first in_last x_typed y_typed parts.0 (loop_begun context number (Some way.control) begun.after) n t
-          unbroken part stands fits)
-          unbroken part start_stands ((ordered-itself way.direction x, counts-ordered way.direction x y counts), later.0, later.1))
+          (at context tested x y few is_own here.block_is in_first in_last x_typed y_typed controls)
+          (Fits context tested x y few is_own here.block_is in_first in_last x_typed y_typed controls) context begun.after x v
+          (at-fine context tested x y few is_own here.block_is in_first in_last x_typed y_typed controls)
+          (goes-in context way may last.after v here is_own)
+          (subst (λ (tree : Tree). AreEntire (parts_in world) (way.control ∷ controls_inside tree number)) (sym here.stands.goes.tree_is) controls_are)
+          (λ n t grown fine unbroken part stands fits.
+          round-good context tested x y few is_own here.block_is in_first in_last x_typed y_typed controls
+          (loop_begun context number (Some way.control) begun.after) n t grown fine unbroken part stands fits)
+          unbroken part here.fine here.proper start_stands ((ordered-itself way.direction x, counts-ordered way.direction x y counts), later.0, later.1))
 
     required-same : (test : Bool) (site : ℕ) (s t : effect.State) (done : Unit {0}) → effect.require test site s ≡ effect.Gives done t
         → (test ≡ true) × (s ≡ t)
@@ -387,7 +532,7 @@ module _ (world : World) (env : Environment) (shows : Shows (variables_in world)
     abbrev last_test : Bool
     last_test = is_in way.last.fits.range (Number y)
 
-    module _ (unbroken : whole.broken ≡ []) (part : IsPartOf world whole) where
+    module _ (unbroken : whole_walked.broken ≡ []) (part : IsPartOf world whole_walked) where
       tests_unbroken : tests.broken ≡ []
       tests_unbroken = unbroken-left tests.broken from_begun.broken unbroken
 
@@ -404,55 +549,60 @@ module _ (world : World) (env : Environment) (shows : Shows (variables_in world)
       turns_part = part-right world begun turns (part-right world tests from_begun part)
 
       -- the test of the last bound, and then the rounds
-      last-good : (start : Store) (u : effect.State) → Keeps env context.rounds start u.store → Stands world env context first.after u.store
-          → entire.Knows (variables_in world) env state.variables u.store
+      last-good : (start : Store) (u : effect.State) → Keeps visible context.rounds start u.store → Here world block visible context first.after u
+          → entire.Knows (variables_in world) visible state.variables u.store
           → Forms u.store → HasMember way.last.values y → IsIn first.value (Number x) → first_test ≡ true
-          → Good world (Foretold world env context whole start) u.visited
+          → Good world (Foretold world visible context whole_walked start) u
           (effect.◌>>=◌ (effect.require last_test way.last.fits.site) (λ done. rounds_action) u)
-      last-good start u kept stands known forms inside in_first x_fits =
-          good-then world (IsForetold world env (Passes last_test (Number y)) context last u.store) (Foretold world env context whole start) u.visited
+      last-good start u kept here known forms inside in_first x_fits =
+          good-then world (IsForetold world visible (Passes last_test (Number y)) context last u.store) (Foretold world visible context whole_walked start) u
           (effect.require last_test way.last.fits.site u) (λ done. rounds_action)
-          (within-sound world env (limits_of way.last.fits.range) way.last.fits.site (met way.last.form state.variables way.last.values)
+          (within-sound world block visible (limits_of way.last.fits.range) way.last.fits.site (met way.last.form state.variables way.last.values)
           (Number y) last_test last_site
           (is_in-limits way.last.fits.range (Number y)) (limits-is_in way.last.fits.range (Number y))
-          (met-in (variables_in world) env u.store way.last.form state.variables way.last.values y forms.1 known inside) context first.after u
+          (met-in (variables_in world) visible u.store way.last.form state.variables way.last.values y forms.1 known inside) context first.after u
           (unbroken-left last.broken from_asked.broken (unbroken-right first.broken from_last.broken tests_unbroken))
-          (part-left world last from_asked (part-right world first from_last from-first)) stands)
+          (part-left world last from_asked (part-right world first from_last from-first)) here)
           (λ done v is told.
           let same = required-same last_test way.last.fits.site u v done is in
-          let here : Forms v.store = subst (λ (s : effect.State). Forms s.store) same.1 forms in
-          good-weaker world (Foretold world env context turns v.store) (Foretold world env context whole start) v.visited (rounds_action v)
+          let forms_here : Forms v.store = subst (λ (s : effect.State). Forms s.store) same.1 forms in
+          let here_behind = here-behind world block visible (Passes last_test (Number y)) context first.after last u v done here told in
+          good-weaker world (Foretold world visible context turns v.store) (Foretold world visible context whole_walked start) v (rounds_action v)
           (λ done w is then. record {
             tie = tt;
-            stands = then.stands;
-            kept = keeps-then env context.rounds start u.store w.store kept (keeps-then env context.rounds u.store v.store w.store told.kept then.kept);
+            stands = then.so.stands;
+            kept = keeps-then visible context.rounds start u.store w.store kept
+                (keeps-then visible context.rounds u.store v.store w.store told.so.kept then.so.kept);
           })
-          (rounds-good (unbroken-right begun.broken turns.broken (unbroken-right tests.broken from_begun.broken unbroken)) turns_part may_here v told.stands
-          here in_first told.tie.0 x_fits same.0))
+          (rounds-good (unbroken-right begun.broken turns.broken (unbroken-right tests.broken from_begun.broken unbroken)) turns_part may_here v here_behind
+          forms_here in_first told.so.tie.0 x_fits same.0))
 
       -- the tests of both, and then the rounds
-      turns-good : (t : effect.State) → Stands world env context state t.store → Forms t.store → HasMember way.first.values x → HasMember way.last.values y
-          → Good world (Foretold world env context whole t.store) t.visited
+      turns-good : (t : effect.State) → Here world block visible context state t → Forms t.store → HasMember way.first.values x → HasMember way.last.values y
+          → Good world (Foretold world visible context whole_walked t.store) t
           (meaning.for_rounds way.control way.first.fits way.direction way.last.fits execution env x y t)
-      turns-good t stands forms in_first in_last =
-          good-then world (IsForetold world env (Passes first_test (Number x)) context first t.store) (Foretold world env context whole t.store) t.visited
-          (effect.require first_test way.first.fits.site t) (λ done. effect.◌>>=◌ (effect.require last_test way.last.fits.site) (λ done. rounds_action))
-          (within-sound world env (limits_of way.first.fits.range) way.first.fits.site (met way.first.form state.variables way.first.values)
+      turns-good t here forms in_first in_last =
+          good-then world (IsForetold world visible (Passes first_test (Number x)) context first t.store)
+          (Foretold world visible context whole_walked t.store) t (effect.require first_test way.first.fits.site t)
+          (λ done. effect.◌>>=◌ (effect.require last_test way.last.fits.site) (λ done. rounds_action))
+          (within-sound world block visible (limits_of way.first.fits.range) way.first.fits.site (met way.first.form state.variables way.first.values)
           (Number x) first_test first_site
           (is_in-limits way.first.fits.range (Number x)) (limits-is_in way.first.fits.range (Number x))
-          (met-in (variables_in world) env t.store way.first.form state.variables way.first.values x forms.0 stands.known.variables in_first) context state t
-          (unbroken-left first.broken from_last.broken tests_unbroken) (part-left world first from_last from-first) stands)
+          (met-in (variables_in world) visible t.store way.first.form state.variables way.first.values x forms.0 here.stands.known.variables in_first) context
+          state t
+          (unbroken-left first.broken from_last.broken tests_unbroken) (part-left world first from_last from-first) here)
           (λ done u is told.
           let same = required-same first_test way.first.fits.site t u done is in
-          last-good t.store u told.kept told.stands (subst (λ (s : effect.State). entire.Knows (variables_in world) env state.variables s.store) same.1
-          stands.known.variables)
-          (subst (λ (s : effect.State). Forms s.store) same.1 forms) in_last told.tie.0 same.0)
+          last-good t.store u told.so.kept (here-behind world block visible (Passes first_test (Number x)) context state first t u done here told)
+          (subst (λ (s : effect.State). entire.Knows (variables_in world) visible state.variables s.store) same.1 here.stands.known.variables)
+          (subst (λ (s : effect.State). Forms s.store) same.1 forms) in_last told.so.tie.0 same.0)
 
   -- ---- the whole statement, from the values of its bounds
 
-  module _ (place : SourcePlace) (context : Context) (state : State) (way : Way) (x y : ℤ) (is_variable : way.control < (variables_in world))
+  module _ (place : SourcePlace) (context : Context) (state : State) (way : Way) (x y : ℤ) (seen : is_seen world block way.control ≡ true)
+      (ordinal : is_some (variable_values world.tree way.control) ≡ true)
       (controls_are : AreEntire (parts_in world) (all_in world number way.control))
-      (first_site : way.first.fits.site < world.sites) (last_site : way.last.fits.site < world.sites) where
+      (first_site : way.first.fits.site < sites_in world) (last_site : way.last.fits.site < sites_in world) where
     abbrev where_so : Bool → State
     where_so b = over_variables (where_counts b way) state
 
@@ -466,65 +616,76 @@ module _ (world : World) (env : Environment) (shows : Shows (variables_in world)
     both = walk.either_of taken never
 
     abbrev behind : Walked (Unit {0})
-    behind = walk.changed_by (over_change way.control None (with_undefined way.control)) context both.after
+    behind = flow.changed_by (over_change way.control None (with_undefined way.control)) context both.after
 
     abbrev statement : Walked (Unit {0})
     statement = walk.for_walk number place body way context state
 
     -- the control variable becomes undefined
-    undefined-good : (start : Store) (u : effect.State) → all_control way.control context.rounds ≡ true → Keeps env context.rounds start u.store
-        → Stands world env context both.after u.store
-        → Good world (Foretold world env context statement start) u.visited (effect.undefine (env.variables way.control) u)
-    undefined-good start u controls kept stands =
-        let gone = undefined u.store (place_of env way.control) in
-        let own = way.control ∷ [] in
-        subst (λ (place : Option StorePlace). Good world (Foretold world env context statement start) u.visited (effect.undefine place u))
-        (sym (at-place (variables_in world) env shows way.control is_variable))
+    undefined-good : (start : Store) (u : effect.State) → walk.may_control context way.control way.first.fits.range way.last.fits.range ≡ true
+        → Keeps visible context.rounds start u.store → Here world block visible context both.after u
+        → Good world (Foretold world visible context statement start) u (effect.undefine (visible.variables way.control) u)
+    undefined-good start u may kept here =
+        let few = u.activations in
+        let is_own = own-of context way may both.after u here seen ordinal in
+        let own_home = home world block visible few way.control is_own in
+        let own_at = at_home world block visible few way.control is_own in
+        let own_apart = apart world block visible few way.control is_own in
+        let gone = undefined u.store own_home in
+        subst (λ (place : Option StorePlace). Good world (Foretold world visible context statement start) u (effect.undefine place u))
+        (sym own_at)
         (record {
           errs = tt;
           new = nothing-new world u.visited;
           gives = record {
-            tie = tt;
-            stands = record {
-              tree_is = stands.tree_is;
-              limits_are = stands.limits_are;
-              types_are = stands.types_are;
-              known = record {
-                variables = undefined-known (variables_in world) env shows both.after.variables way.control u.store gone
-                    (gone-kept (variables_in world) env shows u.store way.control is_variable own own (own-among way.control) (own-among way.control))
-                    (gone-none (variables_in world) env shows u.store way.control is_variable) stands.known.variables;
-                components = changes-hold (parts_in world) inner_are env way.control None both.after.components u.store gone
-                    (gone-changes (variables_in world) env shows u.store way.control is_variable) tt stands.known.components;
+            so = record {
+              tie = tt;
+              stands = record {
+                goes = here.stands.goes;
+                known = gone-knows world.tree visible (shows world.tree world.pairs block few visible here.proper) way.control both.after u.store gone
+                    (gone-alone visible u.store way.control own_home own_at own_apart) (gone-changes visible u.store way.control own_home own_at own_apart)
+                    (gone-none visible u.store way.control own_home own_at own_apart) here.stands.known;
               };
-              typed = gone-typed (variables_in world) env shows u.store way.control is_variable world.tree world.limits inner_are stands.typed;
+              kept = keeps-then visible context.rounds start u.store gone kept
+                  (gone-keeps visible u.store way.control own_home own_at own_apart context.rounds (may-control context way may));
             };
-            kept = keeps-then env context.rounds start u.store gone kept
-                (gone-keeps (variables_in world) env shows u.store way.control is_variable context.rounds controls);
+            fine = record {
+              typed = gone-typed world.tree u.store own_home here.fine.typed;
+              begun = gone-begun few u.store own_home here.fine.begun;
+            };
+            grown = omega arith;
           };
         })
 
-    pub for-good : (t : effect.State) → statement.broken ≡ [] → IsPartOf world statement → Stands world env context state t.store
-        → MayBe env t.store way.first.form x → MayBe env t.store way.last.form y → HasMember way.first.values x → HasMember way.last.values y
-        → Good world (Foretold world env context statement t.store) t.visited
+    pub for-good : (t : effect.State) → statement.broken ≡ [] → IsPartOf world statement → Here world block visible context state t
+        → MayBe visible t.store way.first.form x → MayBe visible t.store way.last.form y → HasMember way.first.values x → HasMember way.last.values y
+        → Good world (Foretold world visible context statement t.store) t
         (effect.◌>>=◌ (meaning.for_between way.control way.first.fits way.direction way.last.fits execution env (Number x) (Number y))
-        (λ done. effect.undefine (env.variables way.control)) t)
-    for-good t unbroken part stands one other in_first in_last =
+        (λ done. effect.undefine (visible.variables way.control)) t)
+    for-good t unbroken part here one other in_first in_last =
         let both_unbroken = unbroken-left both.broken behind.broken unbroken in
         let turns = meaning.for_rounds way.control way.first.fits way.direction way.last.fits execution env x y in
         let counts = has_values way.direction x y in
-        let stand : (b : Bool) → counts ≡ b → Stands world env context (where_so b) t.store =
-        λ b is. stands-as world env context state (where_so b) t.store stands
-        (over-known (parts_in world) (variables_in world) env state (where_counts b way) t.store stands.known
-        (counts-known (variables_in world) env t.store way b state.variables x y is one other stands.known.variables)) in
+        let here_so : (b : Bool) → counts ≡ b → Here world block visible context (where_so b) t =
+        λ b is. here-as world block visible context state (where_so b) t here
+        (over-known (parts_in world) (variables_in world) visible state (where_counts b way) t.store here.stands.known
+        (counts-known (variables_in world) visible t.store way b state.variables x y is one other here.stands.known.variables)) in
         let may = may-changed place context (where_so true) way (unbroken-left taken.broken never.broken both_unbroken) in
-        good-then world (Foretold world env context both t.store) (Foretold world env context statement t.store) t.visited
-        (cond counts turns (effect.give tt) t) (λ done. effect.undefine (env.variables way.control))
-        (ways-good world env turns (effect.give tt) taken never counts context t
+        good-then world (Foretold world visible context both t.store) (Foretold world visible context statement t.store) t
+        (cond counts turns (effect.give tt) t) (λ done. effect.undefine (visible.variables way.control))
+        (ways-good world visible turns (effect.give tt) taken never counts context t
         (λ is unbroken part.
-        turns-good place context (where_so true) way x y is_variable controls_are first_site last_site is unbroken part t (stand true is)
+        turns-good place context (where_so true) way x y seen ordinal controls_are first_site last_site is unbroken part t (here_so true is)
         (one, other) in_first in_last)
         (λ is unbroken part.
-        good-give world (Foretold world env context never t.store) tt t
-        (record { tie = tt; stands = stand false is; kept = keeps-itself env context.rounds t.store }))
+        good-give world (Foretold world visible context never t.store) tt t here.fine
+        (record { tie = tt; stands = (here_so false is).stands; kept = keeps-itself visible context.rounds t.store }))
         both_unbroken (part-left world both behind part))
-        (λ done u is told. undefined-good t.store u (and_parts (all_control way.control context.rounds) _ may).0 told.kept told.stands)
+        (λ done u is told.
+        undefined-good t.store u may told.so.kept
+        (record {
+          block_is = here.block_is;
+          fine = told.fine;
+          proper = proper-grown world block t.activations u.activations visible told.grown here.proper;
+          stands = told.so.stands;
+        }))

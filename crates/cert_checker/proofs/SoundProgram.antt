@@ -1,187 +1,122 @@
 -- The walk over a program is sound for each of its runs: closed sites never err, and states hold.
-use Rattle.std.proofs.Common.{arith, ◌≡◌, ◌≢◌, ⊎_elim, inl, ◌∙◌, sym, ap, refl, subst, ℕ, zero, suc, ◌<◌, get_or, ◌==◌, Bool, true, false, ◌&&◌, cond, nat_eq}
-use Rattle.std.proofs.Common.{zero-add, List, [], ◌∷◌, map, filter, Option, Some, None, length}
-use Rattle.std.specs.Prelude.{flat_map, slice_get, slice_index_or}
-use Rattle.std.specs.List.{Contains, list_any, list_all, range_with_len}
-use Rattle.std.proofs.lemmas.Bool.{and_parts, eqb-true, eq-eqb, false≢true}
-use Rattle.std.proofs.lemmas.List.{length-map, get_or-map, get_or_default}
-use Rattle.std.proofs.lemmas.Option.{slice_get_past}
+use Rattle.std.proofs.Common.{arith, ◌≡◌, ⊎_elim, inl, ◌∙◌, sym, ap, refl, subst, ℕ, zero, suc, ◌<◌, get_or, ◌==◌, Bool, true, false, ◌&&◌, cond, nat_eq}
+use Rattle.std.proofs.Common.{zero-add, List, [], ◌∷◌, ◌++◌, map, filter, Option, Some, None, length}
+use Rattle.std.specs.Prelude.{◌+◌, ◌≤◌, nat_lt, slice_get}
+use Rattle.std.specs.List.{Contains, flat_map, list_any, list_all, range_with_len, sum_by}
+use Rattle.std.proofs.lemmas.Bool.{and_parts, eq-eqb, eqb-true}
+use Rattle.std.proofs.lemmas.List.{length-map, get_or-map}
+use Rattle.std.proofs.lemmas.Option.{none-some}
 use Rattle.std.proofs.lemmas.List.Folds.{list_any_at}
+use Rattle.std.proofs.lemmas.List.Sorted.{sum_by-IsPermutation}
+use Rattle.std.proofs.lemmas.List.Sums.{sum_by-cons}
+use Rattle.std.proofs.lemmas.List.Concat.{flat_map-cons}
 use Rattle.std.proofs.lemmas.List.FromFn.{length-range_with_len, get_or-range_with_len}
 use Rattle.certificate.specs.declared.Certificate.{Certificate}
+use Rattle.certificate.specs.declared.Section.{Section as KeptSection}
+use Rattle.certificate.specs.Contents.{is_empty, said_fact, section_of}
 use Rattle.typed_tree.specs.declared.tree.Tree.{Tree}
 use Rattle.typed_tree.specs.declared.tree.Block.{Block}
-use Rattle.typed_tree.specs.declared.tree.Variable.{Variable}
 use Rattle.typed_tree.specs.declared.site.Site.{Site}
-use Rattle.typed_tree.specs.Entries.{entries_of}
+use Rattle.typed_tree.specs.Entries.{AreNumbered, entries_in_text, entries_of, entries_of_block, of_block}
 use Rattle.typed_tree.specs.Ids.{AreInOrder}
-use Rattle.typed_tree.specs.WellFormed.{IsWellFormed, is_well_formed_block}
+use Rattle.typed_tree.specs.WellFormed.{IsWellFormed}
+use Rattle.domain.specs.Facts.{Fact}
 use Rattle.meaning.specs.declared.outcome.Ending.TheVariants.{Error}
-use Rattle.types.specs.declared.form.Step.{Step}
-use Rattle.meaning.specs.Store.{Environment, Place, overlap}
 use Rattle.meaning.specs.Effect as effect
 use Rattle.meaning.specs.Effect.{Reply, Visit}
-use Rattle.meaning.specs.Meaning.{run, run_of, first_state, ended, home_of, program_environment}
-use Rattle.expression_checker.specs.Walk.{Context, Linked, Walked, numbers_of}
-use Rattle.cert_checker.specs.Walk.{block_walk, all_of, begin, first_context, statement_walk, program_walk}
-use Rattle.abstract_state.specs.Holds.{Separate, part_of}
-use Rattle.abstract_state.specs.Knows.{Shows, moment}
-use Rattle.meaning.specs.declared.store.Value.{Value}
-use Rattle.cert_checker.specs.Promise.{open_in, AreNumbered, ClosedNeverErr, HoldsAt, StatesHold}
+use Rattle.meaning.specs.Meaning.{calls_of, ended, environment_of, first_state, program_activation, run, run_of}
+use Rattle.call_states.specs.Environments.{Fine}
+use Rattle.call_states.specs.Sections.{BlockClaims, block_claims_at, block_claims_in}
+use Rattle.call_states.proofs.AliasedStores.{head-or_tail}
+use Rattle.call_states.proofs.Claimed.{AllHold}
+use Rattle.call_states.proofs.Started.{no-claims, program-proper, program-start}
+use Rattle.expression_checker.specs.Walk.{Linked, numbers_of}
 use Rattle.expression_checker.specs.Visits.{moment_of, visits_of}
-use Rattle.abstract_state.proofs.Knows.{known-start}
-use Rattle.leaf_rows.specs.Rows.{Row, all_parts, index_at, indexes_of, no_parts, parts_of, rows_of}
-use Rattle.leaf_rows.proofs.Accessed.{indexes-are}
-use Rattle.component_states.specs.Components.{RowState, no_values, row_at, undefined_row}
-use Rattle.component_states.specs.Holds.{ComponentsHold, Knows, StateHolds}
-use Rattle.component_states.specs.States.{dead, start}
-use Rattle.structured_states.specs.Loops.{all_limits}
-use Rattle.expression_checker.proofs.Sound.{World, declared_in, parts_in, types_in, variables_in, IsPartOf, Meets, New, ErrsWithin, Stands}
-use Rattle.expression_checker.proofs.Sound.{part-left, part-right, unbroken-left}
-use Rattle.typed_tree.specs.Loops.{AreLoops, loops_of_statement}
-use Rattle.cert_checker.proofs.Controls.{loops-parts}
-use Rattle.cert_checker.proofs.SoundForms.{statement-sound}
+use Rattle.component_states.specs.Holds.{StateHolds}
+use Rattle.expression_checker.proofs.Sound.{ErrsWithin, Meets, New, World, parts_in, sites_in}
+use Rattle.expression_checker.proofs.CallLaws.{call-laws}
+use Rattle.expression_checker.proofs.SoundCalls.{CallLaws}
+use Rattle.certificate_names.specs.Names.{block_is_known, claims_are_known, is_known, is_of_loops, section_is_known}
+use Rattle.cert_checker.specs.Promise.{open_in, ClosedNeverErr, HoldsAt, StatesHold}
+use Rattle.cert_checker.specs.Walk.{program_walk}
+use Rattle.cert_checker.proofs.ClaimsKnown.{are-claims}
+use Rattle.cert_checker.proofs.EffectsRoutines.{claims-are}
+use Rattle.cert_checker.proofs.SoundBlocks.{body-good, program_world, sound-calls}
 
--- ---- the environment of a program
+-- ---- what is claimed of the program's block
 
-abbrev home : ℕ → Place
-home root = record { activation = 0; variable = root; steps = [] }
+empty-list : {A : Type 0} (list : List A) → is_empty list ≡ true → list ≡ []
+empty-list [] is = refl
+empty-list (x ∷ list) is = absurd (cc)
 
--- each variable of the program's block has its home
-declared-home : (variables : List Variable) (root k : ℕ) → list_all (λ variable. nat_eq variable.block 0) variables ≡ true → k < length variables
-    → home_of root (slice_get variables k) ≡ Some (home root)
-declared-home [] root k declared within = absurd (omega arith)
-declared-home (variable ∷ variables) root zero declared within =
-    let parts = and_parts (nat_eq variable.block 0) (list_all (λ v. nat_eq v.block 0) variables) declared in
-    ap (λ (own : Bool). cond own (Some (home root)) None) parts.0
-declared-home (variable ∷ variables) root (suc k) declared within =
-    let parts = and_parts (nat_eq variable.block 0) (list_all (λ v. nat_eq v.block 0) variables) declared in
-    declared-home variables root k parts.1 (omega arith)
+-- nothing of its begin
+section-known : (tree : Tree) (section : KeptSection) → section_is_known tree section ≡ true → nat_eq section.block 0 ≡ true
+    → section.entry.items ≡ []
+section-known tree section known own =
+    let inner = cond (nat_eq section.block 0) (is_of_loops section) (block_is_known tree section) in
+    let loops = list_all (claims_are_known tree section.block) section.loops.items in
+    let one = and_parts (nat_lt section.block (length tree.blocks.items)) (inner && loops) known in
+    let two = and_parts inner loops one.1 in
+    let of_loops : is_of_loops section ≡ true =
+    subst (λ (b : Bool). cond b (is_of_loops section) (block_is_known tree section) ≡ true) own two.0 in
+    let rest = is_empty section.changes.items && (is_empty section.entry.items && is_empty section.exit.items) in
+    let three = and_parts (is_empty section.aliases.items) rest of_loops in
+    let four = and_parts (is_empty section.changes.items) (is_empty section.entry.items && is_empty section.exit.items) three.1 in
+    empty-list section.entry.items (and_parts (is_empty section.entry.items) (is_empty section.exit.items) four.1).0
 
-own-home : (own : Bool) (p q : Place) → cond own (Some p) None ≡ Some q → p ≡ q
-own-home true p q is = cc
-own-home false p q is = absurd (cc)
+none-entered : (tree : Tree) (sections : List KeptSection) → list_all (section_is_known tree) sections ≡ true
+    → (block_claims_in 0 (map section_of sections)).entry ≡ []
+none-entered tree [] known = refl
+none-entered tree (section ∷ sections) known =
+    let parts = and_parts (section_is_known tree section) (list_all (section_is_known tree) sections) known in
+    by (nat_eq section.block 0) refl (none-entered tree sections parts.1) parts.0
+  where
+    by : (own : Bool) → nat_eq section.block 0 ≡ own → (block_claims_in 0 (map section_of sections)).entry ≡ []
+        → section_is_known tree section ≡ true
+        → (cond {A = BlockClaims} own
+        (record { changes = section.changes.items; entry = map said_fact section.entry.items; exit = map said_fact section.exit.items })
+        (block_claims_in 0 (map section_of sections))).entry ≡ []
+    by false own rest is = rest
+    by true own rest is = ap (map said_fact) (section-known tree section is own)
 
-visible-home : (root : ℕ) (found : Option Variable) (p : Place) → home_of root found ≡ Some p → home root ≡ p
-visible-home root None p is = absurd (cc)
-visible-home root (Some variable) p is = own-home (nat_eq variable.block 0) (home root) p is
-
-same-home : (a b : ℕ) (same : Bool) → nat_eq a b ≡ same → a ≢ b → (same && true) ≡ true → ⊥
-same-home a b true is differ overlaps = differ (eqb-true a b is)
-same-home a b false is differ overlaps = cc
-
--- no two variables of the program share a place
-program-separate : (tree : Tree) → Separate (program_environment tree) []
-program-separate tree a b p q at_a at_b differ overlaps =
-    let home_a = visible-home a (slice_get tree.variables.items a) p at_a in
-    let home_b = visible-home b (slice_get tree.variables.items b) q at_b in
-    absurd (same-home a b (nat_eq a b) refl differ (ap (λ y. overlap (home a) y) home_b ∙ ap (λ x. overlap x q) home_a ∙ overlaps))
-
-program-shows : (tree : Tree) → IsWellFormed tree → Shows (length tree.variables.items) (program_environment tree)
-program-shows tree well = record {
-  visible = λ root within. (home root, declared-home tree.variables.items root root well.declared within);
-  only = λ root past. ap (home_of root) (slice_get_past tree.variables.items root past);
-  separate = program-separate tree;
-}
-
--- ---- a run and the walk over its block
-
-abbrev program_world : Tree → Certificate → World
-program_world tree certificate = record {
-  tree = tree;
-  limits = all_limits tree;
-  ids = (program_walk tree certificate).open_ids;
-  sites = length tree.sites.items;
-  linked = (program_walk tree certificate).linked;
-  aliases = λ block. [];
-}
+-- ---- a run and the walk over its blocks
 
 -- what the walk over a program foretells of a run
 pub record Foretold (world : World) (reply : Reply (Unit {0})) : Type 0 where
   pub errs : ErrsWithin world reply
   pub new : New world [] (visits_of reply)
 
--- nothing has a value where the store is empty
-none-at : (found : Option Place) (steps : List Step) (v : Value) → part_of [] found steps ≡ Some v → ⊥
-none-at None steps v is = cc
-none-at (Some p) steps v is = cc
+-- nothing is stored at first
+first-fine : (tree : Tree) (input : List ℕ) (turns : ℕ) → Fine tree (first_state input turns)
+first-fine tree input turns = record { typed = λ place v is. absurd (none-some v is); begun = λ place v is. absurd (none-some v is) }
 
--- no row is known at first: none of its components has a value
-undefined-at : (rows : List Row) (row : ℕ) → row_at (no_values (indexes_of rows)) row ≡ undefined_row (index_at rows row)
-undefined-at [] row = refl
-undefined-at (first ∷ rows) zero = refl
-undefined-at (first ∷ rows) (suc row) = undefined-at rows row
+module _ (tree : Tree) (certificate : Certificate) (unbroken : (program_walk tree certificate).broken ≡ []) (known : is_known tree certificate ≡ true)
+    (well : IsWellFormed tree) (input : List ℕ) (turns : ℕ) where
+  abbrev world : World
+  world = program_world tree certificate
 
-components-start : (tree : Tree) (env : Environment) → ComponentsHold (all_parts tree) (no_values (indexes_of (rows_of tree))) (moment env [])
-components-start tree env =
-    let rows = rows_of tree in
-    let at = undefined-at rows in
-    record {
-      count =
-          let parts = length-map rows (parts_of tree) in
-          let kept = length-map rows (λ (row : Row). row.leaf.index) in
-          let states = length-map (indexes_of rows) undefined_row in
-          omega (arith, parts, kept, states);
-      ranges = λ row steps v of_row is. absurd (none-at (env.variables (slice_index_or (all_parts tree) row no_parts).root) steps v is);
-      defined = λ row is. absurd (false≢true (sym (ap (λ (r : RowState). r.is_defined) (at row)) ∙ is));
-      indexes = λ row range is steps of_row. indexes-are tree row steps range of_row (sym (ap (λ (r : RowState). r.index) (at row)) ∙ is);
-      stretches = λ stretch inside. absurd (omega (arith, inside.1));
-    }
+  laws : CallLaws world
+  laws = call-laws world well refl (are-claims world certificate refl known)
 
-start-knows : (tree : Tree) (roots : ℕ) (env : Environment) → Knows (all_parts tree) roots env (start roots (indexes_of (rows_of tree))) []
-start-knows tree roots env = record { variables = known-start env roots; components = components-start tree env }
+  block-foretold : (block : Block) → slice_get tree.blocks.items 0 ≡ Some block
+      → Foretold world (run_of tree (suc turns) (Some block) (first_state input turns))
+  block-foretold block is =
+      let visible = environment_of tree (program_activation tree block.heading) in
+      let entry = (block_claims_at world.blocks 0).entry in
+      let none : entry ≡ [] = ap (λ (claims : BlockClaims). claims.entry) (claims-are tree well certificate unbroken 0 block is)
+      ∙ none-entered tree certificate.sections.items known in
+      let hold : AllHold tree entry visible [] = subst (λ (facts : List Fact). AllHold tree facts visible []) (sym none) (no-claims tree visible []) in
+      let good = body-good tree certificate unbroken well laws (calls_of tree (suc turns)) (sound-calls tree certificate unbroken well laws (suc turns)) 0 block
+      is visible (first_state input turns) (first-fine tree input turns) (program-proper tree world.pairs well block is)
+      (program-start tree world.pairs well block is entry hold) in
+      record { errs = good.errs; new = good.new }
 
--- a walk over blocks goes by the program of the world
-pub record GoesBy (world : World) (env : Environment) (context : Context) : Type 0 where
-  pub tree_is : context.tree ≡ world.tree
-  pub limits_are : context.limits ≡ world.limits
-  pub types_are : env.types ≡ types_in world
-
--- the start of a block
-begun-stands : (world : World) (env : Environment) (context : Context) → GoesBy world env context
-    → Stands world env context (start (length context.tree.variables.items) (indexes_of (rows_of context.tree))) []
-begun-stands world env context goes = record {
-  tree_is = goes.tree_is;
-  limits_are = goes.limits_are;
-  types_are = goes.types_are;
-  known = subst (λ (tree : Tree). Knows (parts_in world) (variables_in world) env (start (length tree.variables.items) (indexes_of (rows_of tree))) [])
-      (sym goes.tree_is)
-      (start-knows world.tree (variables_in world) env);
-  typed = record {
-    ranges = λ root v is. absurd (none-at (env.variables root) [] v is);
-    components = λ row steps v of_row is. absurd (none-at (env.variables (slice_index_or (parts_in world) row no_parts).root) steps v is);
-    integers = λ root steps v is. absurd (none-at (env.variables root) steps v is);
-  };
-}
-
-abbrev loops_in : List Block → List (ℕ × List ℕ)
-loops_in blocks = flat_map (λ block. loops_of_statement block.body) blocks
-
-blocks-foretold : (world : World) (env : Environment) → Shows (variables_in world) env → (blocks : List Block) (context : Context) (input : List ℕ) (turns : ℕ)
-    → GoesBy world env context → list_all (is_well_formed_block (declared_in world) (types_in world) world.sites) blocks ≡ true
-    → AreLoops world.tree.loops.items (loops_in blocks)
-    → (all_of (map block_walk blocks) context dead).broken ≡ [] → IsPartOf world (all_of (map block_walk blocks) context dead)
-    → Foretold world (run_of (slice_get blocks 0) env (first_state input turns))
-blocks-foretold world env shows [] context input turns goes well loops unbroken part = record { errs = tt; new = λ visit inside. inl inside }
-blocks-foretold world env shows (block ∷ blocks) context input turns goes well loops unbroken part =
-    let begun = start (length context.tree.variables.items) (indexes_of (rows_of context.tree)) in
-    let first : Walked (Unit {0}) = block_walk block context dead in
-    let body : Walked (Unit {0}) = statement_walk block.body context begun in
-    let rest : Walked (Unit {0}) = all_of (map block_walk blocks) context first.after in
-    let is_well = is_well_formed_block (declared_in world) (types_in world) world.sites in
-    let parts = and_parts (is_well block) (list_all is_well blocks) well in
-    let own = loops-parts world.tree.loops.items (loops_of_statement block.body) (loops_in blocks) loops in
-    let good = statement-sound world env shows block.body parts.0 own.0 context begun (first_state input turns)
-    (unbroken-left first.broken rest.broken unbroken) (part-right world (begin block context dead) body (part-left world first rest part))
-    (begun-stands world env context goes) in
-    record { errs = good.errs; new = good.new }
-
-pub program-foretold : (tree : Tree) (certificate : Certificate) (input : List ℕ) (turns : ℕ) → (program_walk tree certificate).broken ≡ [] → IsWellFormed tree
-    → Foretold (program_world tree certificate) (run tree input turns)
-program-foretold tree certificate input turns unbroken well =
-    blocks-foretold (program_world tree certificate) (program_environment tree) (program-shows tree well) tree.blocks.items
-    (first_context tree certificate) input turns (record { tree_is = refl; limits_are = refl; types_are = refl }) well.blocks well.loops unbroken
-    (record { ids = λ id inside. inside; linked = λ one inside. inside })
+  pub program-foretold : Foretold world (run tree input turns)
+  program-foretold = by (slice_get tree.blocks.items 0) refl
+    where
+      by : (found : Option Block) → slice_get tree.blocks.items 0 ≡ found → Foretold world (run_of tree (suc turns) found (first_state input turns))
+      by None is = record { errs = tt; new = λ visit inside. inl inside }
+      by (Some block) is = block-foretold block is
 
 -- ---- numbers that are places
 
@@ -196,7 +131,7 @@ number-at number xs n are k x within is =
 -- ---- closed sites never err
 
 errs-within : (world : World) (reply : Reply (Unit {0})) (id : ℕ) → ErrsWithin world reply → (ended reply).ending ≡ Error id
-    → Contains world.ids id × (id < world.sites)
+    → Contains world.ids id × (id < sites_in world)
 errs-within world (effect.Gives done s) id told is = absurd (cc)
 errs-within world (effect.Stops e s) id told is = told id is
 
@@ -228,12 +163,13 @@ element-at (x ∷ xs) (suc k) within = element-at xs k (omega arith)
 
 -- each error of a run is at a site that the walk leaves open
 pub closed-never_err : (tree : Tree) (certificate : Certificate) (open_sites : List Site) → (program_walk tree certificate).broken ≡ []
+    → is_known tree certificate ≡ true
     → open_sites ≡ open_in (program_walk tree certificate).open_ids tree.sites.items → IsWellFormed tree → AreInOrder tree.sites.items
     → ClosedNeverErr tree open_sites
-closed-never_err tree certificate open_sites unbroken open_are well in_order input turns id errs =
+closed-never_err tree certificate open_sites unbroken known open_are well in_order input turns id errs =
     let ids = (program_walk tree certificate).open_ids in
     let sites = tree.sites.items in
-    let told = program-foretold tree certificate input turns unbroken well in
+    let told = program-foretold tree certificate unbroken known well input turns in
     let at = errs-within (program_world tree certificate) (run tree input turns) id told.errs errs in
     let found = element-at sites id at.1 in
     let id_is : found.0.id ≡ id = number-at (λ site. site.id) sites (length sites) in_order id found.0 at.1 found.1 in
@@ -243,14 +179,114 @@ closed-never_err tree certificate open_sites unbroken open_are well in_order inp
 
 -- ---- states hold
 
+-- how often a number stands in a list
+abbrev times : ℕ → List ℕ → ℕ
+times n [] = 0
+times n (x ∷ xs) = cond (nat_eq x n) 1 0 + times n xs
+
+times-append : (n : ℕ) (xs ys : List ℕ) → times n (xs ++ ys) ≡ times n xs + times n ys
+times-append n [] ys = omega arith
+times-append n (x ∷ xs) ys = let more = times-append n xs ys in omega (arith, more)
+
+times-joined : (n : ℕ) {A : Type 0} (part : A → List ℕ) (xs : List A) → times n (flat_map part xs) ≡ sum_by (λ x. times n (part x)) xs
+times-joined n part [] = refl
+times-joined n part (x ∷ xs) =
+    let first = times-append n (part x) (flat_map part xs) in
+    let rest = times-joined n part xs in
+    let all = sum_by-cons (λ y. times n (part y)) x xs in
+    ap (times n) (flat_map-cons part x xs) ∙ omega (arith, first, rest, all)
+
+range-more : (a n : ℕ) → range_with_len a (suc n) ≡ a ∷ range_with_len (suc a) n
+range-more a n = let next : a + 1 ≡ suc a = omega arith in ap (λ (b : ℕ). a ∷ range_with_len b n) next
+
+shifted : (f : ℕ → ℕ) (a n : ℕ) → sum_by f (range_with_len (suc a) n) ≡ sum_by (λ k. f (suc k)) (range_with_len a n)
+shifted f a zero = refl
+shifted f a (suc n) =
+    let g = λ (k : ℕ). f (suc k) in
+    ap (sum_by f) (range-more (suc a) n) ∙ sum_by-cons f (suc a) (range_with_len (suc (suc a)) n) ∙ ap (λ (m : ℕ). f (suc a) + m) (shifted f (suc a) n)
+    ∙ sym (sum_by-cons g a (range_with_len (suc a) n)) ∙ sym (ap (sum_by g) (range-more a n))
+
+-- over all blocks by their numbers
+over-blocks : (of_number : ℕ → Option Block → ℕ) (own : Block → ℕ) → ((k : ℕ) (block : Block) → of_number k (Some block) ≡ own block) → (blocks : List Block)
+    → sum_by (λ k. of_number k (slice_get blocks k)) (range_with_len 0 (length blocks)) ≡ sum_by own blocks
+over-blocks of_number own same [] = refl
+over-blocks of_number own same (block ∷ blocks) =
+    let here = same 0 block in
+    let at = λ (k : ℕ). of_number k (slice_get (block ∷ blocks) k) in
+    let one = sum_by-cons at 0 (range_with_len 1 (length blocks)) in
+    let next = shifted at 0 (length blocks) in
+    let rest = over-blocks (λ k. of_number (suc k)) own (λ k. same (suc k)) blocks in
+    let all = sum_by-cons own block blocks in
+    ap (sum_by at) (range-more 0 (length blocks)) ∙ one ∙ ap (λ (m : ℕ). at 0 + m) (next ∙ rest) ∙ ap (λ (m : ℕ). m + sum_by own blocks) here ∙ sym all
+
+-- each entry stands as often in the order of the text
+times-in_text : (tree : Tree) → IsWellFormed tree → (n : ℕ) → times n (entries_of tree) ≡ times n (entries_in_text tree)
+times-in_text tree well n =
+    let blocks = tree.blocks.items in
+    let part = λ (number : ℕ). of_block (λ number. entries_of_block) number (slice_get blocks number) in
+    let of_number = λ (number : ℕ) (found : Option Block). times n (of_block (λ number. entries_of_block) number found) in
+    times-joined n entries_of_block blocks
+    ∙ sym (over-blocks of_number (λ block. times n (entries_of_block block)) (λ k block. refl) blocks)
+    ∙ sym (sum_by-IsPermutation (λ k. times n (part k)) (range_with_len 0 (length blocks)) tree.bodies.items well.bodies)
+    ∙ sym (times-joined n part tree.bodies.items)
+
+-- a number stands once among those from one on
+neither : (n a m : ℕ) (same : Bool) → nat_eq a n ≡ same → n < a → times n (range_with_len (suc a) m) ≡ 0
+    → cond same 1 0 + times n (range_with_len (suc a) m) ≡ 0
+neither n a m true is later none = absurd (let same = eqb-true a n is in omega (arith, same, later))
+neither n a m false is later none = omega (arith, none)
+
+none-later : (n a m : ℕ) → n < a → times n (range_with_len a m) ≡ 0
+none-later n a zero later = refl
+none-later n a (suc m) later =
+    ap (times n) (range-more a m) ∙ neither n a m (nat_eq a n) refl later (none-later n (suc a) m (omega (arith, later)))
+
+one-or : (n a m : ℕ) (same : Bool) → nat_eq a n ≡ same → times n (range_with_len (suc a) m) ≤ 1
+    → (cond same 1 0 + times n (range_with_len (suc a) m)) ≤ 1
+one-or n a m true is few =
+    let same = eqb-true a n is in
+    let none = none-later n (suc a) m (omega (arith, same)) in
+    omega (arith, none)
+one-or n a m false is few = omega (arith, few)
+
+once-from : (n a m : ℕ) → times n (range_with_len a m) ≤ 1
+once-from n a zero = omega arith
+once-from n a (suc m) =
+    subst (λ (list : List ℕ). times n list ≤ 1) (sym (range-more a m)) (one-or n a m (nat_eq a n) refl (once-from n (suc a) m))
+
+times-listed : (linked : List Linked) (one : Linked) → Contains linked one → 1 ≤ times one.number (numbers_of linked)
+times-listed [] one inside = absurd (omega (arith, inside.1))
+times-listed (first ∷ linked) one inside =
+    ⊎_elim
+    (λ (same : first ≡ one).
+    let here : nat_eq first.number one.number ≡ true = eq-eqb first.number one.number (ap (λ (l : Linked). l.number) same) in
+    subst (λ (b : Bool). 1 ≤ (cond b 1 0 + times one.number (numbers_of linked))) (sym here) (omega arith))
+    (λ later. let more = times-listed linked one later in omega (arith, more))
+    (head-or_tail first one linked inside)
+
 -- states that are linked to different numbers: a number tells the state
-linked-once : (linked : List Linked) (n : ℕ) → numbers_of linked ≡ range_with_len 0 n → (a b : Linked) → Contains linked a → Contains linked b
+linked-once : (linked : List Linked) → ((n : ℕ) → times n (numbers_of linked) ≤ 1) → (a b : Linked) → Contains linked a → Contains linked b
     → a.number ≡ b.number → a ≡ b
-linked-once linked n are a b in_a in_b same =
-    let at_a = number-at (λ one. one.number) linked n are in_a.0 a in_a.1 in_a.2 in
-    let at_b = number-at (λ one. one.number) linked n are in_b.0 b in_b.1 in_b.2 in
-    let places : in_a.0 ≡ in_b.0 = sym at_a ∙ same ∙ at_b in
-    sym in_a.2 ∙ ap (λ k. get_or linked k a) places ∙ get_or_default linked in_b.0 a b in_b.1 ∙ in_b.2
+linked-once [] once a b in_a in_b same = absurd (omega (arith, in_a.1))
+linked-once (first ∷ linked) once a b in_a in_b same =
+    ⊎_elim
+    (λ (here : first ≡ a).
+    ⊎_elim (λ (there : first ≡ b). sym here ∙ there)
+    (λ later. absurd (twice b later (ap (λ (l : Linked). l.number) here ∙ same)))
+    (head-or_tail first b linked in_b))
+    (λ more.
+    ⊎_elim (λ (there : first ≡ b). absurd (twice a more (ap (λ (l : Linked). l.number) there ∙ sym same)))
+    (λ later. linked-once linked (λ n. let all = once n in omega (arith, all)) a b more later same)
+    (head-or_tail first b linked in_b))
+    (head-or_tail first a linked in_a)
+  where
+    twice : (other : Linked) → Contains linked other → first.number ≡ other.number → ⊥
+    twice other inside is =
+        let one = times-listed linked other inside in
+        let here : nat_eq first.number other.number ≡ true = eq-eqb first.number other.number is in
+        let all : (cond true 1 0 + times other.number (numbers_of linked)) ≤ 1 =
+        subst (λ (b : Bool). (cond b 1 0 + times other.number (numbers_of linked)) ≤ 1) here (once other.number) in
+        omega (arith, one, all)
 
 -- a visit meets one state that is linked to it, and so each
 holds-at : (world : World) → ((a b : Linked) → Contains world.linked a → Contains world.linked b → a.number ≡ b.number → a ≡ b) → (visit : Visit)
@@ -264,10 +300,15 @@ holds-at world once visit meets = record {
 
 -- at each entry of a run the states that are linked to it hold
 pub states-hold : (tree : Tree) (certificate : Certificate) → (program_walk tree certificate).broken ≡ []
-    → numbers_of (program_walk tree certificate).linked ≡ entries_of tree
+    → is_known tree certificate ≡ true → numbers_of (program_walk tree certificate).linked ≡ entries_of tree
     → IsWellFormed tree → AreNumbered tree → StatesHold tree certificate
-states-hold tree certificate unbroken numbers_are well numbered input turns visit inside =
+states-hold tree certificate unbroken known numbers_are well numbered input turns visit inside =
     let world = program_world tree certificate in
-    let once = linked-once world.linked (length (entries_of tree)) (numbers_are ∙ numbered) in
+    let once = linked-once world.linked
+    (λ n.
+    let same : times n (numbers_of world.linked) ≡ times n (range_with_len 0 (length (entries_in_text tree))) =
+    ap (times n) numbers_are ∙ times-in_text tree well n ∙ ap (times n) numbered in
+    let few = once-from n 0 (length (entries_in_text tree)) in
+    omega (arith, same, few)) in
     ⊎_elim (λ none. absurd (omega (arith, none.1))) (λ new. (holds-at world once visit new.0, new.1))
-    ((program-foretold tree certificate input turns unbroken well).new visit inside)
+    ((program-foretold tree certificate unbroken known well input turns).new visit inside)

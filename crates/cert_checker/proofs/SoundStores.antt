@@ -1,33 +1,48 @@
 -- Stores to components of rows are sound: what is known behind them holds.
-use Rattle.std.proofs.Common.{◌≡◌, ◌≢◌, ⊎_elim, ◌⊎◌, inl, inr, ◌∙◌, sym, ap, refl, subst, ℕ, ℤ, ◌+ℤ◌, Bool, true, false, ◌||◌, nat_eq, List, [], ◌∷◌}
+use Rattle.std.proofs.Common.{◌≡◌, ⊎_elim, inl, inr, ◌∙◌, sym, ap, refl, subst, ℕ, ℤ, ◌+ℤ◌, Bool, true, false, cond, ◌+◌, length, arith, List, [], ◌∷◌}
 use Rattle.std.proofs.Common.{Option, Some, None}
-use Rattle.std.specs.Prelude.{slice_index_or}
-use Rattle.std.specs.List.{Contains}
-use Rattle.std.proofs.lemmas.Bool.{cases_eq, eq-eqb}
+use Rattle.std.specs.Option.{option_and_then}
+use Rattle.std.specs.Prelude.{map, slice_get, slice_index_or}
+use Rattle.std.specs.List.{Contains, list_all}
+use Rattle.std.proofs.lemmas.Option.{none-some, same_Some}
+use Rattle.types.specs.declared.form.OrdinalRange.{OrdinalRange}
 use Rattle.types.specs.declared.form.Step.{Step}
+use Rattle.typed_tree.specs.declared.tree.Selector.{Selector}
 use Rattle.typed_tree.specs.declared.tree.Tree.{Tree}
 use Rattle.domain.specs.Facts as fact
 use Rattle.domain.specs.Facts.{Bound, Plus}
-use Rattle.domain.specs.Interval.{HasMember, Interval, is_included}
+use Rattle.domain.specs.Interval.{HasMember, Interval}
 use Rattle.meaning.specs.declared.store.Value.{Value}
 use Rattle.meaning.specs.declared.store.Value.TheVariants.{Number}
-use Rattle.meaning.specs.Store.{Environment, Store}
+use Rattle.meaning.specs.Store.{Environment, Place, Store}
+use Rattle.meaning.specs.Store as store
 use Rattle.abstract_state.specs.State as variables
-use Rattle.abstract_state.specs.State.{integer}
+use Rattle.abstract_state.specs.State.{limits_of}
 use Rattle.abstract_state.specs.Holds.{IsBound, IsIn, value_at}
 use Rattle.abstract_state.specs.Knows as entire
-use Rattle.abstract_state.specs.Knows.{IsKept, moment}
-use Rattle.abstract_state.specs.Loops.{is_among}
+use Rattle.abstract_state.specs.Knows.{moment}
+use Rattle.abstract_state.specs.Loops.{is_among, with_touched}
+use Rattle.abstract_state.proofs.Apart.{part}
+use Rattle.abstract_state.proofs.Looped as looped
 use Rattle.abstract_state.proofs.Ranged.{included-in}
-use Rattle.leaf_rows.specs.Rows.{Parts, all_parts, no_parts, rows_of}
+use Rattle.leaf_rows.specs.Rows.{Parts, Row, all_parts, no_parts, rows_of, values_at}
+use Rattle.leaf_rows.proofs.Accessed.{components-inner, row-is, rows-apart}
 use Rattle.component_states.specs.Components.{At, Components, Entire, Index, Inside, Reach, all_stored}
-use Rattle.component_states.specs.Holds.{ComponentsHold, IsOfRow, component_at}
-use Rattle.component_states.specs.Laws.{AreApart, AreComponents, AreStored, IsReach, IsReached}
-use Rattle.component_states.proofs.Stored.{stores-hold}
-use Rattle.structured_states.specs.Loops.{row_limits}
-use Rattle.expression_checker.proofs.Keeping.{InTypes}
+use Rattle.component_states.specs.Holds.{ComponentsHold, IsOfRow, Knows, component_at}
+use Rattle.component_states.specs.Laws.{AreApart, AreComponents, AreLoose, AreStored, IsReach, IsReachApart, IsReached, bound_rests}
+use Rattle.component_states.specs.States.{State}
+use Rattle.component_states.proofs.Stored.{formless-hold, stores-hold}
+use Rattle.structured_states.specs.Loops.{all_limits, limits_at}
+use Rattle.structured_states.specs.Pairs.{aliases_of}
+use Rattle.call_states.specs.Actuals.{lies_among}
+use Rattle.call_states.specs.Aliases.{Stored, index_unless_alias, reach_unless_alias, unless_alias, with_aliases_stored}
+use Rattle.call_states.specs.Environments.{Proper, Typed, place_type}
+use Rattle.call_states.proofs.Aliased.{aliases-ready}
+use Rattle.call_states.proofs.AliasedStores.{AreWritten, Pairs, all-pass, at-head, head-or_tail, in-tail, one-kept, own-came, value-defined}
+use Rattle.call_states.proofs.AliasedTypes.{AreStoredAs, AreTyped, are-aliased, in-types, part-type, row-type, shows, written-typed}
+use Rattle.call_states.proofs.ComponentTypes.{component-typed}
+use Rattle.call_states.proofs.Passed.{IsIndexOn, IsReachedBy}
 use Rattle.cert_checker.specs.Walk.{Stores}
-use Rattle.cert_checker.proofs.Stored.{AreWritten, Pairs}
 
 abbrev pub root_at : List Parts → ℕ → ℕ
 root_at rows row = (slice_index_or rows row no_parts).root
@@ -45,8 +60,8 @@ AreReached rows env reach pairs stores before =
     (one : ℕ × Interval) (steps : List Step) → Contains stores one → IsOfRow rows one.0 steps → IsReached env before reach steps
     → (pair : List Step × ℤ) × Contains pairs pair × (pair.0 ≡ steps)
 
-module _ (rows : List Parts) (env : Environment) (root : ℕ) (pairs : Pairs) (stores : Stores) (before after : Store)
-    (targets : AreTargets rows root pairs stores) (written : AreWritten env root pairs before after) where
+module _ (rows : List Parts) (env : Environment) (aliases : List ℕ) (root : ℕ) (home : Place) (at : env.variables root ≡ Some home) (pairs : Pairs)
+    (stores : Stores) (before after : Store) (targets : AreTargets rows root pairs stores) (written : AreWritten env aliases root pairs before after) where
   at-root : (one : ℕ × Interval) → Contains stores one → (steps : List Step) (found : Option Value) (store : Store)
       → component_at rows (moment env store) one.0 steps ≡ found → value_at (moment env store) root steps ≡ found
   at-root one inside steps found store is =
@@ -60,96 +75,74 @@ module _ (rows : List Parts) (env : Environment) (root : ℕ) (pairs : Pairs) (s
   -- a number that was written lies in the range of each row that has its component
   own-in : (one : ℕ × Interval) (steps : List Step) (v : Value) → Contains stores one → IsOfRow rows one.0 steps
       → (pair : List Step × ℤ) × Contains pairs pair × (pair.0 ≡ steps) × (v ≡ Number pair.1) → IsIn one.1 v
-  own-in one steps v inside of_row (pair, listed, at, is) =
-      subst (IsIn one.1) (sym is) (targets.in_ranges pair one listed inside (subst (IsOfRow rows one.0) (sym at) of_row))
+  own-in one steps v inside of_row (pair, listed, here, is) =
+      subst (IsIn one.1) (sym is) (targets.in_ranges pair one listed inside (subst (IsOfRow rows one.0) (sym here) of_row))
 
-  pub are-stored : (reach : Reach) → AreReached rows env reach pairs stores before → AreStored rows env reach stores before after
+  pub are-stored : (reach : Reach) → AreReached rows env reach pairs stores before → AreStored rows env aliases reach stores before after
   are-stored reach reached = record {
-    others = λ other steps apart. written.others other steps (λ pair inside same at.
+    others = λ other steps free apart. written.others other steps free (λ pair inside same here.
         let own = targets.in_rows pair inside in
-        apart own.0 own.1 (subst (IsOfRow rows (own.0.0)) at own.2) (targets.roots own.0 own.1 ∙ sym same));
+        apart own.0 own.1 (subst (IsOfRow rows (own.0.0)) here own.2) (targets.roots own.0 own.1 ∙ sym same));
     values = λ one steps v inside of_row is. ⊎_elim
         (λ was. inl (from-root one inside steps (Some v) before was))
         (λ own. inr (own-in one steps v inside of_row own))
-        (written.values steps v (at-root one inside steps (Some v) after is));
-    defined = written.defined;
+        (own-came env aliases root pairs before after written home at steps v (at-root one inside steps (Some v) after is));
+    defined = λ other steps has. value-defined env aliases root pairs before after written other steps has;
     reached = λ one steps inside of_row is_reached.
         let own = reached one steps inside of_row is_reached in
         let has = written.has own.0 own.1 in
         (has.0, from-root one inside steps (Some has.0) after (subst (λ (s : List Step). value_at (moment env after) root s ≡ Some has.0) own.2 has.1));
     all = λ one steps v reach_is inside of_row is.
         let own = reached one steps inside of_row (subst (λ (r : Reach). IsReached env before r steps) (sym reach_is) tt) in
-        let at = subst (λ (s : List Step). value_at (moment env after) root s ≡ Some v) (sym own.2) (at-root one inside steps (Some v) after is) in
-        let last = written.sure own.0 v own.1 at in
+        let here = subst (λ (s : List Step). value_at (moment env after) root s ≡ Some v) (sym own.2) (at-root one inside steps (Some v) after is) in
+        let last = written.sure own.0 v own.1 here in
         own-in one steps v inside of_row (last.0, last.1, last.2 ∙ own.2, last.3);
   }
 
-  -- no other variable is changed, and what is defined stays so
-  pub parts-kept : IsKept env (root ∷ []) [] before after
-  parts-kept = record {
-    values = λ other among steps. written.others other steps (λ pair inside same at.
-        absurd (let own : is_among root (root ∷ []) ≡ false = subst (λ (r : ℕ). is_among r (root ∷ []) ≡ false) same among in own-touched own));
-    defined = λ other among steps has. written.defined other steps has;
-  }
-    where
-      own-touched : is_among root (root ∷ []) ≡ false → ⊥
-      own-touched is = let same : nat_eq root root ≡ true = eq-eqb root root refl in
-          let or : is_among root (root ∷ []) ≡ true = ap (λ (b : Bool). b || false) same in cc
+-- ---- reaches without the forms that rest on aliases
 
-  -- and each value lies in the range of its type
-  pub parts-typed : (tree : Tree) (limits : List Interval) → rows ≡ all_parts tree → AreComponents rows → AreApart rows
-      → ((one : ℕ × Interval) → Contains stores one → is_included one.1 (row_limits (rows_of tree) one.0) ≡ true)
-      → ((pair : List Step × ℤ) → Contains pairs pair → HasMember integer pair.1)
-      → InTypes tree limits env before → InTypes tree limits env after
-  parts-typed tree limits same components apart fit whole typed = record {
-    ranges = λ other v is. typed.ranges other v (sym (written.others other [] (λ pair inside own at.
-        let row = targets.in_rows pair inside in absurd (components (row.0.0) pair.0 row.2 at))) ∙ is);
-    components = λ row steps v of_row is. in-row row steps v of_row is (cases_eq root (root_at (all_parts tree) row));
-    integers = λ other steps v is. ⊎_elim
-        (λ own.
-        let at : value_at (moment env after) root steps ≡ Some v = subst (λ (r : ℕ). value_at (moment env after) r steps ≡ Some v) (sym own) is in
-        ⊎_elim (λ was. typed.integers root steps v was)
-        (λ last. subst (IsIn integer) (sym last.3) (whole last.0 last.1)) (written.values steps v at))
-        (λ differ. typed.integers other steps v (sym (written.others other steps (λ pair inside own at. absurd (differ (sym own)))) ∙ is))
-        (cases_eq root other);
-  }
-    where
-      Limits : ℕ → Interval
-      Limits row = row_limits (rows_of tree) row
+unless-some : (aliases : List ℕ) (form : Option Bound) (b : Bound) → unless_alias aliases form ≡ Some b
+    → (form ≡ Some b) × (bound_rests aliases b ≡ false)
+unless-some aliases None b is = absurd (none-some b is)
+unless-some aliases (Some (fact.Number n)) b is =
+    (is, subst (λ (c : Bound). bound_rests aliases c ≡ false) (same_Some (fact.Number n) b is) (none-rest aliases))
+  where
+    none-rest : (aliases : List ℕ) → bound_rests aliases (fact.Number n) ≡ false
+    none-rest [] = refl
+    none-rest (alias ∷ aliases) = none-rest aliases
+unless-some aliases (Some (Plus root n)) b is = by (is_among root aliases) refl is
+  where
+    by : (among : Bool) → is_among root aliases ≡ among → cond among None (Some (Plus root n)) ≡ Some b
+        → (Some (Plus root n) ≡ Some b) × (bound_rests aliases b ≡ false)
+    by true here is = absurd (none-some b is)
+    by false here is = (is, subst (λ (c : Bound). bound_rests aliases c ≡ false) (same_Some (Plus root n) b is) here)
 
-      own-limits : (row : ℕ) (steps : List Step) (v : Value) → IsOfRow (all_parts tree) row steps → root ≡ root_at (all_parts tree) row
-          → (pair : List Step × ℤ) × Contains pairs pair × (pair.0 ≡ steps) × (v ≡ Number pair.1) → IsIn (Limits row) v
-      own-limits row steps v of_row own (pair, inside, at, is) =
-          let target = targets.in_rows pair inside in
-          let one = target.0 in
-          let here : IsOfRow rows row steps = subst (λ (all : List Parts). IsOfRow all row steps) (sym same) of_row in
-          let there : IsOfRow rows one.0 steps = subst (IsOfRow rows one.0) at target.2 in
-          let roots : root_at rows one.0 ≡ root_at rows row = targets.roots one target.1 ∙ own ∙ ap (λ (all : List Parts). root_at all row) (sym same) in
-          let row_is : one.0 ≡ row = apart one.0 row steps there here roots in
-          let in_range : IsIn one.1 v = own-in one steps v target.1 there (pair, inside, at, is) in
-          subst (λ (r : ℕ). IsIn (Limits r) v) row_is (included-in one.1 (Limits one.0) v (fit one target.1) in_range)
+pub reach-apart : (aliases : List ℕ) (reach : Reach) → IsReachApart aliases (reach_unless_alias aliases reach)
+reach-apart aliases Entire = tt
+reach-apart aliases (At index) = λ b is. (unless-some aliases index.form b is).1
+reach-apart aliases (Inside index) = tt
 
-      in-row : (row : ℕ) (steps : List Step) (v : Value) → IsOfRow (all_parts tree) row steps
-          → component_at (all_parts tree) (moment env after) row steps ≡ Some v
-          → (root ≡ root_at (all_parts tree) row) ⊎ (root ≢ root_at (all_parts tree) row) → IsIn (Limits row) v
-      in-row row steps v of_row is (inl own) =
-          let at : value_at (moment env after) root steps ≡ Some v = ap (λ (r : ℕ). value_at (moment env after) r steps) own ∙ is in
-          ⊎_elim
-          (λ was. typed.components row steps v of_row (ap (λ (r : ℕ). value_at (moment env before) r steps) (sym own) ∙ was))
-          (λ last. own-limits row steps v of_row own last) (written.values steps v at)
-      in-row row steps v of_row is (inr differ) =
-          typed.components row steps v of_row
-          (sym (written.others (root_at (all_parts tree) row) steps (λ pair inside own at. absurd (differ (sym own)))) ∙ is)
+pub reached-unless : (env : Environment) (before : Store) (selectors : List Selector) (way : List Step) (aliases : List ℕ) (reach : Reach)
+    → IsReachedBy env before selectors way reach → IsReachedBy env before selectors way (reach_unless_alias aliases reach)
+reached-unless env before selectors way aliases Entire none = none
+reached-unless env before selectors way aliases (At index) (one, on) = (one, on-unless env before way aliases index on)
+  where
+    on-unless : (env : Environment) (before : Store) (way : List Step) (aliases : List ℕ) (index : Index) → IsIndexOn env before index way
+        → IsIndexOn env before (index_unless_alias aliases index) way
+    on-unless env before way aliases index on = record {
+      number = on.number;
+      is_first = on.is_first;
+      in_range = on.in_range;
+      of_form = λ b is. on.of_form b (unless-some aliases index.form b is).0;
+    }
+reached-unless env before selectors way aliases (Inside index) on = record {
+  number = on.number;
+  is_first = on.is_first;
+  in_range = on.in_range;
+  of_form = λ b is. on.of_form b (unless-some aliases index.form b is).0;
+}
 
 -- ---- what is known behind stores
-
--- an index of no form is one of those that aren't known
-unknown-index : (state : variables.State) (range : Interval) (stores : Stores) (known : Components)
-    → all_stored state (At (record { form = None; range = range })) stores known
-    ≡ all_stored state (Inside (record { form = None; range = range })) stores known
-unknown-index state range [] known = refl
-unknown-index state range (one ∷ stores) known =
-    unknown-index state range stores (all_stored state (Inside (record { form = None; range = range })) (one ∷ []) known)
 
 some-number : (m n : ℤ) → Some (Number m) ≡ Some (Number n) → m ≡ n
 some-number m n is = cc
@@ -166,28 +159,129 @@ IsFormed Entire = Unit {0}
 IsFormed (At index) = (b : Bound) × (index.form ≡ Some b)
 IsFormed (Inside index) = Unit {0}
 
-module _ (rows : List Parts) (components : AreComponents rows) (apart : AreApart rows) (roots : ℕ) (env : Environment) (root : ℕ)
-    (pairs : Pairs) (stores : Stores) (before after : Store) (targets : AreTargets rows root pairs stores)
-    (written : AreWritten env root pairs before after) (state : variables.State) (held : entire.Knows roots env state before) (known : Components)
+module _ (rows : List Parts) (inner : AreComponents rows) (apart : AreApart rows) (roots : ℕ) (env : Environment) (aliases : List ℕ) (root : ℕ)
+    (home : Place) (at : env.variables root ≡ Some home) (pairs : Pairs) (stores : Stores) (before after : Store)
+    (targets : AreTargets rows root pairs stores) (written : AreWritten env aliases root pairs before after) (state : variables.State)
+    (held : entire.Knows roots env state before) (known : Components) (loose : AreLoose rows env aliases known after)
     (holds : ComponentsHold rows known (moment env before)) where
-  by-law : (reach : Reach) → IsReach env before reach → AreReached rows env reach pairs stores before
+  by-law : (reach : Reach) → IsReach env before reach → IsReachApart aliases reach → AreReached rows env reach pairs stores before
       → ComponentsHold rows (all_stored state reach stores known) (moment env after)
-  by-law reach is reached =
-      stores-hold rows components apart roots env state known reach stores before after held is
-      (are-stored rows env root pairs stores before after targets written reach reached) holds
-
-  at-known : (form : Option Bound) (range : Interval) → IsReach env before (At (record { form = form; range = range }))
-      → (IsFormed (At (record { form = form; range = range })) → AreReached rows env (At (record { form = form; range = range })) pairs stores before)
-      → ComponentsHold rows (all_stored state (At (record { form = form; range = range })) stores known) (moment env after)
-  at-known None range is reached =
-      let index : Index = record { form = None; range = range } in
-      subst (λ (c : Components). ComponentsHold rows c (moment env after)) (sym (unknown-index state range stores known))
-      (by-law (Inside index) tt (λ one steps inside of_row none. absurd none))
-  at-known (Some b) range is reached = by-law (At (record { form = Some b; range = range })) is (reached (b, refl))
+  by-law reach is free reached =
+      stores-hold rows inner apart roots env aliases state known reach stores before after held is free
+      (are-stored rows env aliases root home at pairs stores before after targets written reach reached) loose holds
 
   -- behind stores to what is reached
-  pub stored-known : (reach : Reach) → IsReach env before reach → (IsFormed reach → AreReached rows env reach pairs stores before)
+  pub stored-known : (reach : Reach) → IsReach env before reach → IsReachApart aliases reach
+      → (IsFormed reach → AreReached rows env reach pairs stores before)
       → ComponentsHold rows (all_stored state reach stores known) (moment env after)
-  stored-known Entire is reached = by-law Entire is (reached tt)
-  stored-known (At index) is reached = at-known index.form index.range is reached
-  stored-known (Inside index) is reached = by-law (Inside index) is (reached tt)
+  stored-known Entire is free reached = by-law Entire is free (reached tt)
+  stored-known (Inside index) is free reached = by-law (Inside index) is free (reached tt)
+  stored-known (At index) is free reached = by index.form refl
+    where
+      by : (form : Option Bound) → index.form ≡ form → ComponentsHold rows (all_stored state (At index) stores known) (moment env after)
+      by None none =
+          formless-hold rows inner apart roots env aliases state known index none stores before after held
+          (are-stored rows env aliases root home at pairs stores before after targets written (Inside index) (λ one steps inside of_row none. absurd none))
+          loose holds
+      by (Some b) form_is = by-law (At index) is free (reached (b, form_is))
+
+-- ---- the types of what is stored
+
+module _ (tree : Tree) (pairs : List (ℕ × ℕ)) (block activations : ℕ) (env : Environment) (proper : Proper tree pairs block activations env)
+    (root : ℕ) (home : Place) (at : env.variables root ≡ Some home) (numbers : Pairs) (stores : Stores)
+    (targets : AreTargets (all_parts tree) root numbers stores) where
+  home-at : (one : ℕ × Interval) → Contains stores one → env.variables (root_at (all_parts tree) one.0) ≡ Some home
+  home-at one inside = ap (λ (r : ℕ). env.variables r) (targets.roots one inside) ∙ at
+
+  of-values : (values : Option OrdinalRange) (range : Interval) (n : ℤ) → lies_among values range ≡ true → HasMember range n
+      → (own : OrdinalRange) × (values ≡ Some own) × HasMember (limits_of own) n
+  of-values None range n lies inside = absurd (cc)
+  of-values (Some own) range n lies inside = (own, refl, included-in range (limits_of own) (Number n) lies inside)
+
+  place-is : (steps : List Step) (place : Place) → store.part (env.variables root) steps ≡ Some place → part home steps ≡ place
+  place-is steps place is = same_Some (part home steps) place (sym (ap (λ (found : Option Place). store.part found steps) at) ∙ is)
+
+  -- numbers of rows whose values have them are ones of the types of their places
+  pub targets-typed : list_all (λ (one : ℕ × Interval). lies_among (values_at (rows_of tree) one.0) one.1) stores ≡ true
+      → AreTyped tree env root numbers
+  targets-typed lie pair place listed place_is =
+      let row = targets.in_rows pair listed in
+      let one = row.0 in
+      let lies = all-pass (λ (o : ℕ × Interval). lies_among (values_at (rows_of tree) o.0) o.1) stores one row.1 lie in
+      let own = of-values (values_at (rows_of tree) one.0) one.1 pair.1 lies (targets.in_ranges pair one listed row.1 row.2) in
+      let is = row-is tree one.0 pair.0 row.2 in
+      let leaf_values : is.row.leaf.values ≡ Some own.0 =
+      sym (ap (option_and_then (λ (r : Row). r.leaf.values)) is.is) ∙ own.1 in
+      let typed = component-typed tree.types pair.0 is.leaf.variable.type_id is.row.leaf own.0 is.of_type (is.leaf.j, is.leaf.leaf_is) is.named leaf_values in
+      let e : 0 + is.leaf.root ≡ is.leaf.root = omega arith in
+      let root_is : root ≡ is.leaf.root = sym (targets.roots one row.1) ∙ ap (λ (p : Parts). p.root) is.parts_are ∙ is.leaf.root_is ∙ e in
+      let declared_is : slice_get tree.variables.items root ≡ Some is.leaf.variable = ap (slice_get tree.variables.items) root_is ∙ is.leaf.variable_is in
+      let here : place_type tree place ≡ Some typed.0 =
+      ap (place_type tree) (sym (place-is pair.0 place place_is))
+      ∙ part-type tree pairs block activations env proper root home is.leaf.variable pair.0 at declared_is ∙ typed.1 in
+      (typed.0, here, (own.0, typed.2, own.2))
+
+  -- what stores to rows tell of the aliases
+  abbrev pub told : List Stored
+  told = map (λ (one : ℕ × Interval). record { values = values_at (rows_of tree) one.0; range = one.1 }) stores
+
+  pub targets-told : AreStoredAs tree env root numbers told
+  targets-told pair place own listed place_is type_is =
+      let row = targets.in_rows pair listed in
+      let one = row.0 in
+      let values = row-type tree pairs block activations env proper one.0 pair.0 home own row.2 (home-at one row.1)
+      (ap (place_type tree) (place-is pair.0 place place_is) ∙ type_is) in (
+        record { values = values_at (rows_of tree) one.0; range = one.1 },
+        mapped (λ (o : ℕ × Interval). record { values = values_at (rows_of tree) o.0; range = o.1 }) stores one row.1,
+        values,
+        targets.in_ranges pair one listed row.1 row.2,
+      )
+    where
+      mapped : {A B : Type 0} (f : A → B) (xs : List A) (x : A) → Contains xs x → Contains (map f xs) (f x)
+      mapped f [] x (k, within, is) = absurd (omega (arith, within))
+      mapped f (first ∷ xs) x inside =
+          ⊎_elim (λ same. subst (λ (y : _). Contains (f first ∷ map f xs) (f y)) same (at-head (f first) (map f xs)))
+          (λ later. in-tail (f first) (f x) (map f xs) (mapped f xs x later)) (head-or_tail first x xs inside)
+
+-- ---- a state behind stores
+
+-- what is known where numbers were stored to what is reached of a variable
+pub made-knows : (tree : Tree) (pairs : List (ℕ × ℕ)) (block activations : ℕ) (env : Environment) (proper : Proper tree pairs block activations env)
+    (root : ℕ) (home : Place) → env.variables root ≡ Some home → (numbers : Pairs) (stores : Stores) → AreTargets (all_parts tree) root numbers stores
+    → (before after : Store) → AreWritten env (aliases_of pairs root) root numbers before after → AreTyped tree env root numbers → Typed tree before
+    → (reach : Reach) → IsReach env before (reach_unless_alias (aliases_of pairs root) reach)
+    → (IsFormed (reach_unless_alias (aliases_of pairs root) reach)
+    → AreReached (all_parts tree) env (reach_unless_alias (aliases_of pairs root) reach) numbers stores before)
+    → (state : State) → Knows (all_parts tree) (length tree.variables.items) env state before
+    → Knows (all_parts tree) (length tree.variables.items) env
+    (record {
+      variables = with_touched (limits_at (all_limits tree)) root
+          (with_aliases_stored tree (aliases_of pairs root)
+          (map (λ (one : ℕ × Interval). record { values = values_at (rows_of tree) one.0; range = one.1 }) stores) state).variables;
+      components = all_stored
+          (with_aliases_stored tree (aliases_of pairs root)
+          (map (λ (one : ℕ × Interval). record { values = values_at (rows_of tree) one.0; range = one.1 }) stores) state).variables
+          (reach_unless_alias (aliases_of pairs root) reach) stores
+          (with_aliases_stored tree (aliases_of pairs root)
+          (map (λ (one : ℕ × Interval). record { values = values_at (rows_of tree) one.0; range = one.1 }) stores) state).components;
+    }) after
+made-knows tree pairs block activations env proper root home at numbers stores targets before after written typed typed_store reach is_reach reached state
+    known =
+    let aliases = aliases_of pairs root in
+    let parts = all_parts tree in
+    let variables = length tree.variables.items in
+    let shown = shows tree pairs block activations env proper in
+    let told_of = told tree pairs block activations env proper root home at numbers stores targets in
+    let ready_state = with_aliases_stored tree aliases told_of state in
+    let ready = aliases-ready tree variables env shown aliases told_of state before after
+    (are-aliased tree pairs block activations env proper aliases root numbers before after written typed told_of
+    (targets-told tree pairs block activations env proper root home at numbers stores targets)) known in
+    let after_typed = written-typed tree env aliases root numbers before after written typed typed_store in
+    let in_limits = in-types tree pairs block activations env after proper after_typed in
+    record {
+      variables = looped.stored-known variables env shown (limits_at (all_limits tree)) root aliases ready_state.variables before after
+          (one-kept env aliases root numbers before after written) (λ v is. in_limits.ranges root v is) ready.knows.variables ready.variables_loose;
+      components = stored-known parts (components-inner tree) (rows-apart tree) variables env aliases root home at numbers stores before after targets written
+          ready_state.variables ready.knows.variables ready_state.components ready.components_loose ready.knows.components (reach_unless_alias aliases reach)
+          is_reach (reach-apart aliases reach) reached;
+    }

@@ -1,8 +1,8 @@
 -- What the checker did over a piece of a program, from what it did over the parts of the piece.
 use Rattle.std.proofs.Common.{rules, ◌≡◌, ◌≤◌, Bool, true, false, Option, Some, None, Result, Ok, Err, ℕ, ◌+◌, List, [], ◌∷◌, ◌++◌, length, map, refl}
-use Rattle.std.proofs.Common.{sym, ap, ◌∙◌, subst, append_assoc, append-nil, ◌<◌, get_or, drop}
+use Rattle.std.proofs.Common.{sym, ap, ap₂, ◌∙◌, subst, append_assoc, append-nil, ◌<◌, get_or, drop}
 use Rattle.std.specs.Result.{IsErr, IsErrAnd}
-use Rattle.std.specs.Prelude.{MatchResult}
+use Rattle.std.specs.Prelude.{MatchResult, if◌then◌else◌}
 use Rattle.place.specs.declared.Place.{Place as SourcePlace}
 use Rattle.typed_tree.specs.declared.tree.Expr.{Expr}
 use Rattle.typed_tree.specs.declared.tree.Stmt.{Stmt}
@@ -12,30 +12,37 @@ use Rattle.std.specs.declared.boxed.Box.{Box}
 use Rattle.std.specs.declared.vec.Vec.{Vec}
 use Rattle.std.specs.declared.alloc.Global.{Global}
 use Rattle.expression_checker.specs.declared.fault.CheckFault.{CheckFault}
+use Rattle.expression_checker.specs.declared.fault.CheckFault.TheVariants.{Broken}
 use Rattle.abstract_state.specs.declared.known.Known.{Known}
 use Rattle.expression_checker.specs.Visits.{Visits, all_counted}
 use Rattle.cert_checker.specs.declared.walk.Walk.{Walk}
 use Rattle.component_states.specs.declared.state.State.{State as Kept}
 use Rattle.component_states.specs.View.{viewed}
-use Rattle.component_states.specs.States.{State, joined_states}
+use Rattle.component_states.specs.States.{State, dead, joined_states}
 use Rattle.expression_checker.specs.Walk.{Context, Walked, Walking, ◌>>=◌, give}
-use Rattle.expression_checker.specs.Walk.{enter, value_walk, followed, numbers_of}
+use Rattle.expression_checker.specs.Walk.{asked, breach_unless, enter, value_walk, followed, numbers_of, with_state}
 use Rattle.expression_checker.specs.Walk.{IsBreachOf}
-use Rattle.cert_checker.specs.Walk.{asked, statement_walk, all_of, block_walk, branches, breach_unless, enter_head, facts_given}
-use Rattle.cert_checker.specs.Walk.{first_context}
-use Rattle.cert_checker.specs.Walk.{program_walk, here, inside, loop_walk, parted, repeat_round, while_round, with_state, where_so}
-use Rattle.cert_checker.specs.View.{at_state, claims_in, context_of, else_walk, AtHead, IsBegun, IsMoved, LeavesLoop, loop_in, Meets, Parts, Walks}
-use Rattle.cert_checker.specs.View.{Goes}
-use Rattle.structured_states.specs.Loops.{Claims, Round, claims_at, gives_claims, head_of, with_own, without_own}
+use Rattle.cert_checker.specs.Walk.{statement_walk, all_of, branches, enter_head, facts_given}
+use Rattle.cert_checker.specs.Walk.{blocks_walk, first_context}
+use Rattle.cert_checker.specs.Walk.{program_walk, here, inside, loop_walk, parted, repeat_round, while_round, where_so}
+use Rattle.cert_checker.specs.View.{at_state, claims_in, context_of, else_walk, AtHead, EntersLoop, IsBehind, IsMoved, LeavesLoop, loop_in, Meets}
+use Rattle.cert_checker.specs.View.{Parts, Walks}
+use Rattle.cert_checker.specs.View.{AreLoops, Goes, IsLoop}
+use Rattle.structured_states.specs.Loops.{Claims, Round, claims_at, gives_claims, head_of, round_of, with_own, without_own}
 use Rattle.typed_tree.specs.declared.tree.Tree.{Tree}
 use denote.Ref.{Bor}
+use Rattle.std.proofs.lemmas.List.{length-map}
+use Rattle.certificate.specs.declared.LoopClaims.{LoopClaims}
+use Rattle.structured_states.specs.declared.rounds.Round.{Round as KeptRound}
+use Rattle.structured_states.specs.View.{all_loop_aliases, loop_of_round, said_claims}
 use Rattle.certificate.specs.declared.Certificate.{Certificate}
 use Rattle.expression_checker.specs.declared.fault.Rule.{Rule}
 use Rattle.expression_checker.specs.declared.fault.Rule.TheVariants.{LoopEntry, LoopTurn}
 use Rattle.structured_states.proofs.Claims.{item-cut, drop-past}
 use Rattle.expression_checker.specs.declared.flow.Flow.{Flow}
-use Rattle.expression_checker.specs.View.{Flows, Goes as FlowGoes}
-use Rattle.expression_checker.proofs.Steps.{breach-first, breach-later, breach-same, breach-stays, counted-both, flows-give, flows-then}
+use Rattle.expression_checker.specs.declared.grounds.Grounds.{Grounds}
+use Rattle.expression_checker.specs.View as expressions
+use Rattle.expression_checker.proofs.Steps.{breach-first, breach-same, breach-stays, counted-both}
 
 -- ---- the walk, form by form
 
@@ -55,49 +62,105 @@ pub statement-Repeat : (number loop_number : ℕ) (place : SourcePlace) (stateme
     ≡ (enter number >>= λ _. loop_walk loop_number place None (repeat_round (all_of (map statement_walk statements.items)) condition))
 statement-Repeat number loop_number place statements condition = search (rules, stmt_lemmas)
 
+-- ---- what the checker did where it has the aliases of the loops
+
+-- it walked over a piece
+abbrev pub Does : {A : Type 0} → Walking A → Walk → Visits → Walk → Visits → A → Type 0
+Does walking old before new after value = AreLoops (context_of old) old.aliases.now → Walks walking old before new after value
+
+-- it gave up over a piece
+abbrev pub Stops : {A : Type 0} → Walking A → Walk → CheckFault → Type 0
+Stops walking old fault = AreLoops (context_of old) old.aliases.now → IsBreachOf (walking (context_of old) (viewed old.flow.state)) fault
+
+-- it has them where it goes by the same
+pub loops-same : (old new : Walk) (context : Context) → context_of new ≡ context → new.aliases.now ≡ old.aliases.now
+    → AreLoops context old.aliases.now → AreLoops (context_of new) new.aliases.now
+loops-same old new context same aliases ready =
+    subst (λ (context : Context). AreLoops context new.aliases.now) (sym same) (subst (AreLoops context) (sym aliases) ready)
+
 -- ---- one piece of a walk after another
 
--- what went on is walked in the same context
-goes-on : {B : Type 0} (walking : Walking B) (old mid new : Walk) (between after : Visits) (b : B) → context_of mid ≡ context_of old
-    → Walks walking mid between new after b → Flows (context_of old) walking mid.flow between new.flow after b
-goes-on walking old mid new between after b same two = subst (λ context. Flows context walking mid.flow between new.flow after b) same two.flows
+module _ {A B : Type 0} (first : Walking A) (next : A → Walking B) (old mid : Walk) (before between : Visits) (a : A)
+    (one : Walks first old before mid between a) where
+  abbrev begun : Walked A
+  begun = first (context_of old) (viewed old.flow.state)
 
-pub walks-then : {A B : Type 0} (first : Walking A) (next : A → Walking B) (old mid new : Walk) (before between after : Visits) (a : A) (b : B)
-    → Walks first old before mid between a → Walks (next a) mid between new after b → Walks (first >>= next) old before new after b
-walks-then first next old mid new before between after a b one two = record {
-  context_is = two.context_is ∙ one.context_is;
-  flows = flows-then (context_of old) first next old.flow mid.flow before between a one.flows new.flow after b
-      (goes-on (next a) old mid new between after b one.context_is two);
-}
+  abbrev later : Walked B
+  later = next a (context_of mid) (viewed mid.flow.state)
+
+  -- from where the first piece left the checker, the next is what it is behind the first
+  then-same : later ≡ next begun.value (context_of old) begun.after
+  then-same =
+      ap (λ (context : Context). next a context (viewed mid.flow.state)) one.context_is
+      ∙ ap (λ x. next x (context_of old) (viewed mid.flow.state)) one.value_is ∙ ap (next begun.value (context_of old)) one.state_is
+
+  both-broken : later.broken ≡ ((first >>= next) (context_of old) (viewed old.flow.state)).broken
+  both-broken = sym (ap (λ w. begun.broken ++ w.broken) (sym then-same) ∙ ap (λ b. b ++ later.broken) one.unbroken)
+
+  pub walks-then : (new : Walk) (after : Visits) (b : B) → Walks (next a) mid between new after b → Walks (first >>= next) old before new after b
+  walks-then new after b two = record {
+    context_is = two.context_is ∙ one.context_is;
+    aliases_are = two.aliases_are ∙ one.aliases_are;
+    value_is = two.value_is ∙ ap (λ w. w.value) then-same;
+    state_is = two.state_is ∙ ap (λ w. w.after) then-same;
+    open_is = two.open_is ∙ ap (λ ids. ids ++ later.open_ids) one.open_is
+        ∙ ap (λ w. (old.flow.open_ids.items ++ begun.open_ids) ++ w.open_ids) then-same
+        ∙ append_assoc old.flow.open_ids.items begun.open_ids (next begun.value (context_of old) begun.after).open_ids;
+    visits_are = two.visits_are ∙ ap (all_counted (numbers_of later.linked)) one.visits_are
+        ∙ ap (λ w. all_counted (numbers_of w.linked) (all_counted (numbers_of begun.linked) before)) then-same
+        ∙ sym (counted-both begun.linked (next begun.value (context_of old) begun.after).linked before);
+    unbroken = sym both-broken ∙ two.unbroken;
+  }
+
+  -- the first breach of the next is that of both
+  breach-later : (fault : CheckFault) → IsBreachOf later fault → IsBreachOf ((first >>= next) (context_of old) (viewed old.flow.state)) fault
+  breach-later fault is = breach-same later ((first >>= next) (context_of old) (viewed old.flow.state)) fault both-broken is
+
+  -- the checker has the aliases of the loops behind the first
+  loops-then : AreLoops (context_of old) old.aliases.now → AreLoops (context_of mid) mid.aliases.now
+  loops-then ready = loops-same old mid (context_of old) one.context_is one.aliases_are ready
 
 -- a piece that only gives its value
 pub walks-give : {A : Type 0} (value : A) (old : Walk) (visits : Visits) → Walks (give value) old visits old visits value
-walks-give value old visits = record { context_is = refl; flows = flows-give (context_of old) value old.flow visits }
+walks-give value old visits = record {
+  context_is = refl;
+  aliases_are = refl;
+  value_is = refl;
+  state_is = refl;
+  open_is = sym (append-nil old.flow.open_ids.items);
+  visits_are = refl;
+  unbroken = refl;
+}
 
--- what the checker did over an expression, whatever it goes by
+-- what the checker did over an expression, whatever is claimed of loops
 pub lifted : {A : Type 0} (walking : Walking A) (old : Walk) (flow : Flow) (before after : Visits) (result : Result A CheckFault)
-    → FlowGoes walking old.flow before result flow after → Goes walking old before result (record old { flow = flow }) after
-lifted walking old flow before after (Ok value) goes =
-    let one = goes (context_of old) refl in
+    → expressions.Goes walking old.flow before result flow after → Goes walking old before result (record old { flow = flow }) after
+lifted walking old flow before after (Ok value) goes = λ ready.
+    let one = goes (context_of old).claims in
     record {
-      context_is = ap (λ (rows : Bor Tree). record (context_of old) { tree = rows.now }) one.rows_are;
-      flows = one;
+      context_is = ap (λ (grounds : Grounds). expressions.context_of grounds (context_of old).claims) one.grounds_are;
+      aliases_are = refl;
+      value_is = one.value_is;
+      state_is = one.state_is;
+      open_is = one.open_is;
+      visits_are = one.visits_are;
+      unbroken = one.unbroken;
     }
-lifted walking old flow before after (Err fault) goes = goes (context_of old) refl
+lifted walking old flow before after (Err fault) goes = λ ready. goes (context_of old).claims
 
 -- the first piece was walked over: what the checker did over the next is what it did over both
 pub goes-then : {A B : Type 0} (first : Walking A) (next : A → Walking B)
     (old mid new : Walk) (before between after : Visits) (a : A) (result : Result B CheckFault)
-    → Walks first old before mid between a → Goes (next a) mid between result new after → Goes (first >>= next) old before result new after
-goes-then first next old mid new before between after a (Ok b) one two = walks-then first next old mid new before between after a b one two
-goes-then first next old mid new before between after a (Err fault) one two =
-    breach-later (context_of old) first next old.flow mid.flow before between a one.flows fault
-    (subst (λ context. IsBreachOf (next a context (viewed mid.flow.state)) fault) one.context_is two)
+    → Does first old before mid between a → Goes (next a) mid between result new after → Goes (first >>= next) old before result new after
+goes-then first next old mid new before between after a (Ok b) one two = λ ready.
+    walks-then first next old mid before between a (one ready) new after b (two (loops-then first next old mid before between a (one ready) ready))
+goes-then first next old mid new before between after a (Err fault) one two = λ ready.
+    breach-later first next old mid before between a (one ready) fault (two (loops-then first next old mid before between a (one ready) ready))
 
 -- the checker gave up over the first piece: so it does over both
 pub goes-stopped : {A B : Type 0} (first : Walking A) (next : A → Walking B) (old new : Walk) (before after : Visits) (fault : CheckFault)
-    → IsBreachOf (first (context_of old) (viewed old.flow.state)) fault → Goes (first >>= next) old before (Err fault) new after
-goes-stopped first next old new before after fault is = breach-first (context_of old) first next (viewed old.flow.state) fault is
+    → Stops first old fault → Goes (first >>= next) old before (Err fault) new after
+goes-stopped first next old new before after fault is = λ ready. breach-first (context_of old) first next (viewed old.flow.state) fault (is ready)
 
 -- by what a walk is
 pub goes-as : {A : Type 0} (walk form : Walking A) (old new : Walk) (before after : Visits) (result : Result A CheckFault) → walk ≡ form
@@ -108,28 +171,47 @@ goes-as walk form old new before after result is goes = subst (λ w. Goes w old 
 pub goes-here : {A : Type 0} (walk form : Walking A) (old new : Walk) (before after : Visits) (result : Result A CheckFault)
     → walk (context_of old) (viewed old.flow.state) ≡ form (context_of old) (viewed old.flow.state)
     → Goes form old before result new after → Goes walk old before result new after
-goes-here walk form old new before after (Ok value) is one = record {
-  context_is = one.context_is;
-  flows = record {
-    rows_are = one.flows.rows_are;
-    value_is = one.flows.value_is ∙ ap (λ w. w.value) (sym is);
-    state_is = one.flows.state_is ∙ ap (λ w. w.after) (sym is);
-    open_is = one.flows.open_is ∙ ap (λ w. old.flow.open_ids.items ++ w.open_ids) (sym is);
-    visits_are = one.flows.visits_are ∙ ap (λ w. all_counted (numbers_of w.linked) before) (sym is);
-    unbroken = ap (λ w. w.broken) is ∙ one.flows.unbroken;
-  };
+goes-here walk form old new before after (Ok value) is goes = λ ready.
+    let one = goes ready in
+    record {
+      context_is = one.context_is;
+      aliases_are = one.aliases_are;
+      value_is = one.value_is ∙ ap (λ w. w.value) (sym is);
+      state_is = one.state_is ∙ ap (λ w. w.after) (sym is);
+      open_is = one.open_is ∙ ap (λ w. old.flow.open_ids.items ++ w.open_ids) (sym is);
+      visits_are = one.visits_are ∙ ap (λ w. all_counted (numbers_of w.linked) before) (sym is);
+      unbroken = ap (λ w. w.broken) is ∙ one.unbroken;
+    }
+goes-here walk form old new before after (Err fault) is goes = λ ready.
+    breach-same (form (context_of old) (viewed old.flow.state)) (walk (context_of old) (viewed old.flow.state)) fault (ap (λ w. w.broken) (sym is))
+    (goes ready)
+
+-- what the checker answers where a rule asks for something
+abbrev pub answered : Bool → Rule → SourcePlace → Result (Unit {0}) CheckFault
+answered kept rule place = if kept then Ok tt else Err (Broken rule place)
+
+asked-told : (kept : Bool) (rule : Rule) (place : SourcePlace) (old : Walk) (visits : Visits)
+    → Goes (asked kept rule place) old visits (answered kept rule place) old visits
+asked-told true rule place old visits = λ ready. record {
+  context_is = refl;
+  aliases_are = refl;
+  value_is = refl;
+  state_is = refl;
+  open_is = sym (append-nil old.flow.open_ids.items);
+  visits_are = refl;
+  unbroken = refl;
 }
-goes-here walk form old new before after (Err fault) is one =
-    breach-same (form (context_of old) (viewed old.flow.state)) (walk (context_of old) (viewed old.flow.state)) fault (ap (λ w. w.broken) (sym is)) one
+asked-told false rule place old visits = λ ready. refl
 
 -- what a rule asks for where the checker is
 pub asked-goes : (walk : Walking (Unit {0})) (kept is_kept : Bool) (rule : Rule) (place : SourcePlace) (old : Walk) (visits : Visits)
     (result : Result (Unit {0}) CheckFault)
     → walk (context_of old) (viewed old.flow.state) ≡ asked kept rule place (context_of old) (viewed old.flow.state) → is_kept ≡ kept
-    → Goes (asked is_kept rule place) old visits result old visits → Goes walk old visits result old visits
-asked-goes walk kept is_kept rule place old visits result walk_is is goes =
-    goes-here walk (asked is_kept rule place) old old visits visits result
-    (walk_is ∙ ap (λ k. asked k rule place (context_of old) (viewed old.flow.state)) (sym is)) goes
+    → result ≡ answered is_kept rule place → Goes walk old visits result old visits
+asked-goes walk kept is_kept rule place old visits result walk_is is told =
+    subst (λ (r : Result (Unit {0}) CheckFault). Goes walk old visits r old visits) (sym told)
+    (goes-here walk (asked is_kept rule place) old old visits visits (answered is_kept rule place)
+    (walk_is ∙ ap (λ k. asked k rule place (context_of old) (viewed old.flow.state)) (sym is)) (asked-told is_kept rule place old visits))
 
 -- by the fault that is handed on
 pub given-up : {A : Type 0} (walk : Walking A) (old new : Walk) (before after : Visits) (fault : CheckFault) (result : Result A CheckFault)
@@ -137,7 +219,7 @@ pub given-up : {A : Type 0} (walk : Walking A) (old new : Walk) (before after : 
     → Goes walk old before (Err fault) new after → Goes walk old before result new after
 given-up walk old new before after fault (Ok a) is goes = absurd is.1
 given-up {A} walk old new before after fault (Err other) is goes =
-    subst (λ f. Goes walk old before (Err f) new after) (sym is.1) goes
+    subst (λ f. Goes {A = A} walk old before (Err f) new after) (sym is.1) goes
 
 -- ---- a list of pieces, from one of them on
 
@@ -147,7 +229,7 @@ all-cut walk items i x inside is = ap (λ xs. all_of (map walk xs)) (item-cut it
 
 pub all-step : {X : Type 0} (walk : X → Walking (Unit {0})) (items : List X) (i : ℕ) (item : X)
     (old mid new : Walk) (before between after : Visits) (value : Unit {0}) (result : Result (Unit {0}) CheckFault)
-    → i < length items → item ≡ get_or items i item → Walks (walk item) old before mid between value
+    → i < length items → item ≡ get_or items i item → Does (walk item) old before mid between value
     → Goes (all_of (map walk (drop (i + 1) items))) mid between result new after → Goes (all_of (map walk (drop i items))) old before result new after
 all-step walk items i item old mid new before between after value result inside is one two =
     goes-as (all_of (map walk (drop i items))) (walk item >>= λ _. all_of (map walk (drop (i + 1) items))) old new before after result
@@ -155,7 +237,7 @@ all-step walk items i item old mid new before between after value result inside 
     (goes-then (walk item) (λ _. all_of (map walk (drop (i + 1) items))) old mid new before between after value result one two)
 
 pub all-stopped : {X : Type 0} (walk : X → Walking (Unit {0})) (items : List X) (i : ℕ) (item : X) (old new : Walk) (before after : Visits) (fault : CheckFault)
-    → i < length items → item ≡ get_or items i item → IsBreachOf (walk item (context_of old) (viewed old.flow.state)) fault
+    → i < length items → item ≡ get_or items i item → Stops (walk item) old fault
     → Goes (all_of (map walk (drop i items))) old before (Err fault) new after
 all-stopped walk items i item old new before after fault inside is one =
     goes-as (all_of (map walk (drop i items))) (walk item >>= λ _. all_of (map walk (drop (i + 1) items))) old new before after (Err fault)
@@ -166,7 +248,7 @@ all-stopped walk items i item old new before after fault inside is one =
 pub all-end : {X : Type 0} (walk : X → Walking (Unit {0})) (items : List X) (i : ℕ) (old : Walk) (visits : Visits) → length items ≤ i
     → Goes (all_of (map walk (drop i items))) old visits (Ok tt) old visits
 all-end {X} walk items i old visits past =
-    subst (λ (ls : List X). Goes (all_of (map walk ls)) old visits (Ok tt) old visits) (sym (drop-past items i past)) (walks-give tt old visits)
+    subst (λ (ls : List X). Goes (all_of (map walk ls)) old visits (Ok tt) old visits) (sym (drop-past items i past)) (λ ready. walks-give tt old visits)
 
 -- ---- branches
 
@@ -176,50 +258,57 @@ pub moved-same : {A : Type 0} (walking : Walking A) (state : State) (old new : W
 moved-same walking state old new moved =
     ap (λ context. walking context (viewed new.flow.state)) (ap context_of moved.only_state) ∙ ap (walking (context_of old)) moved.says
 
+-- and the checker has the aliases of the loops there
+pub moved-loops : (state : State) (old new : Walk) → IsMoved state old new → AreLoops (context_of old) old.aliases.now
+    → AreLoops (context_of new) new.aliases.now
+moved-loops state old new moved ready = subst (λ (walk : Walk). AreLoops (context_of walk) walk.aliases.now) (sym moved.only_state) ready
+
 -- the ways of two branches, and where they meet
 pub branches-walk : (one_state other_state : State → State) (one_walk other_walk : Walking (Unit {0})) (old taken mid start done new : Walk)
     (before between after : Visits)
-    → IsMoved (one_state (viewed old.flow.state)) old taken → Walks one_walk taken before mid between tt
-    → IsMoved (other_state (viewed old.flow.state)) mid start → Walks other_walk start between done after tt
+    → IsMoved (one_state (viewed old.flow.state)) old taken → Does one_walk taken before mid between tt
+    → IsMoved (other_state (viewed old.flow.state)) mid start → Does other_walk start between done after tt
     → IsMoved (joined_states (viewed mid.flow.state) (viewed done.flow.state)) done new
-    → Walks (parted one_state other_state one_walk other_walk) old before new after tt
-branches-walk one_state other_state one_walk other_walk old taken mid start done new before between after to_yes one to_no two met =
+    → Does (parted one_state other_state one_walk other_walk) old before new after tt
+branches-walk one_state other_state one_walk other_walk old taken mid start done new before between after to_yes first_did to_no second_did met = λ ready.
     let first : Walked (Unit {0}) = one_walk (context_of old) (one_state (viewed old.flow.state)) in
     let second : Walked (Unit {0}) = other_walk (context_of old) (other_state (viewed old.flow.state)) in
     let first_same = moved-same one_walk (one_state (viewed old.flow.state)) old taken to_yes in
+    let taken_ready = moved-loops (one_state (viewed old.flow.state)) old taken to_yes ready in
+    let one = first_did taken_ready in
     let context : context_of mid ≡ context_of old = one.context_is ∙ ap context_of to_yes.only_state in
+    let mid_ready = loops-same taken mid (context_of taken) one.context_is one.aliases_are taken_ready in
+    let two = second_did (moved-loops (other_state (viewed old.flow.state)) mid start to_no mid_ready) in
     let second_same : other_walk (context_of start) (viewed start.flow.state) ≡ second =
     moved-same other_walk (other_state (viewed old.flow.state)) mid start to_no ∙ ap (λ x. other_walk x (other_state (viewed old.flow.state))) context in
-    let first_after = one.flows.state_is ∙ ap (λ w. w.after) first_same in
-    let second_after = two.flows.state_is ∙ ap (λ w. w.after) second_same in
-    let first_open = one.flows.open_is
+    let first_after = one.state_is ∙ ap (λ w. w.after) first_same in
+    let second_after = two.state_is ∙ ap (λ w. w.after) second_same in
+    let first_open = one.open_is
     ∙ ap (λ (w : Walk). w.flow.open_ids.items ++ (one_walk (context_of taken) (viewed taken.flow.state)).open_ids) to_yes.only_state
     ∙ ap (λ w. old.flow.open_ids.items ++ w.open_ids) first_same in
     record {
       context_is = ap context_of met.only_state ∙ two.context_is ∙ ap context_of to_no.only_state ∙ context;
-      flows = record {
-        rows_are = ap (λ (w : Walk). w.flow.rows) met.only_state ∙ two.flows.rows_are ∙ ap (λ (w : Walk). w.flow.rows) to_no.only_state
-            ∙ one.flows.rows_are ∙ ap (λ (w : Walk). w.flow.rows) to_yes.only_state;
-        value_is = refl;
-        state_is = met.says ∙ ap (λ s. joined_states s (viewed done.flow.state)) first_after ∙ ap (joined_states first.after) second_after;
-        open_is = ap (λ (w : Walk). w.flow.open_ids.items) met.only_state ∙ two.flows.open_is
-            ∙ ap (λ (w : Walk). w.flow.open_ids.items ++ (other_walk (context_of start) (viewed start.flow.state)).open_ids) to_no.only_state
-            ∙ ap (λ w. mid.flow.open_ids.items ++ w.open_ids) second_same ∙ ap (λ ids. ids ++ second.open_ids) first_open
-            ∙ append_assoc old.flow.open_ids.items first.open_ids second.open_ids;
-        visits_are = two.flows.visits_are ∙ ap (λ w. all_counted (numbers_of w.linked) between) second_same
-            ∙ ap (all_counted (numbers_of second.linked)) (one.flows.visits_are ∙ ap (λ w. all_counted (numbers_of w.linked) before) first_same)
-            ∙ sym (counted-both first.linked second.linked before);
-        unbroken = ap (λ b. b ++ second.broken) (ap (λ w. w.broken) (sym first_same) ∙ one.flows.unbroken)
-            ∙ ap (λ w. w.broken) (sym second_same) ∙ two.flows.unbroken;
-      };
+      aliases_are = ap (λ (w : Walk). w.aliases.now) met.only_state ∙ two.aliases_are ∙ ap (λ (w : Walk). w.aliases.now) to_no.only_state
+          ∙ one.aliases_are ∙ ap (λ (w : Walk). w.aliases.now) to_yes.only_state;
+      value_is = refl;
+      state_is = met.says ∙ ap (λ s. joined_states s (viewed done.flow.state)) first_after ∙ ap (joined_states first.after) second_after;
+      open_is = ap (λ (w : Walk). w.flow.open_ids.items) met.only_state ∙ two.open_is
+          ∙ ap (λ (w : Walk). w.flow.open_ids.items ++ (other_walk (context_of start) (viewed start.flow.state)).open_ids) to_no.only_state
+          ∙ ap (λ w. mid.flow.open_ids.items ++ w.open_ids) second_same ∙ ap (λ ids. ids ++ second.open_ids) first_open
+          ∙ append_assoc old.flow.open_ids.items first.open_ids second.open_ids;
+      visits_are = two.visits_are ∙ ap (λ w. all_counted (numbers_of w.linked) between) second_same
+          ∙ ap (all_counted (numbers_of second.linked)) (one.visits_are ∙ ap (λ w. all_counted (numbers_of w.linked) before) first_same)
+          ∙ sym (counted-both first.linked second.linked before);
+      unbroken = ap (λ b. b ++ second.broken) (ap (λ w. w.broken) (sym first_same) ∙ one.unbroken)
+          ∙ ap (λ w. w.broken) (sym second_same) ∙ two.unbroken;
     }
 
 -- where the ways meet, or no memory is found there
 pub branches-done : (one_state other_state : State → State) (one_walk other_walk : Walking (Unit {0})) (old taken mid start done new : Walk)
     (before between after : Visits)
     (behind otherwise : Kept) (result : Result (Unit {0}) CheckFault)
-    → Parts one_state other_state old (Ok otherwise) taken → Walks one_walk taken before mid between tt
-    → behind ≡ mid.flow.state → start.flow.state ≡ otherwise → start ≡ at_state start.flow.state mid → Walks other_walk start between done after tt
+    → Parts one_state other_state old (Ok otherwise) taken → Does one_walk taken before mid between tt
+    → behind ≡ mid.flow.state → start.flow.state ≡ otherwise → start ≡ at_state start.flow.state mid → Does other_walk start between done after tt
     → Meets behind done result new
     → Goes (parted one_state other_state one_walk other_walk) old before result new after
 branches-done one_state other_state one_walk other_walk old taken mid start done new before between after behind otherwise
@@ -230,27 +319,28 @@ branches-done one_state other_state one_walk other_walk old taken mid start done
     (subst (λ (s : Kept). IsMoved (joined_states (viewed s) (viewed done.flow.state)) done new) behind_is met)
 branches-done one_state other_state one_walk other_walk old taken mid start done new before between after behind otherwise
     (Err fault) parts one behind_is replaced only two
-    is =
+    is = λ ready.
     subst (IsBreachOf (parted one_state other_state one_walk other_walk (context_of old) (viewed old.flow.state))) (sym is) tt
 
 -- the checker gave up on the first way
 pub branches-stopped : (one_state other_state : State → State) (one_walk other_walk : Walking (Unit {0})) (old taken new : Walk) (before after : Visits)
     (otherwise : Kept)
     (fault : CheckFault)
-    → Parts one_state other_state old (Ok otherwise) taken → IsBreachOf (one_walk (context_of taken) (viewed taken.flow.state)) fault
+    → Parts one_state other_state old (Ok otherwise) taken → Stops one_walk taken fault
     → Goes (parted one_state other_state one_walk other_walk) old before (Err fault) new after
-branches-stopped one_state other_state one_walk other_walk old taken new before after otherwise fault parts is =
+branches-stopped one_state other_state one_walk other_walk old taken new before after otherwise fault parts is = λ ready.
     let first : Walked (Unit {0}) = one_walk (context_of old) (one_state (viewed old.flow.state)) in
     let second : Walked (Unit {0}) = other_walk (context_of old) (other_state (viewed old.flow.state)) in
     breach-stays first second fault (parted one_state other_state one_walk other_walk (context_of old) (viewed old.flow.state)) refl
     (breach-same (one_walk (context_of taken) (viewed taken.flow.state)) first fault
-    (ap (λ w. w.broken) (moved-same one_walk (one_state (viewed old.flow.state)) old taken parts.0)) is)
+    (ap (λ w. w.broken) (moved-same one_walk (one_state (viewed old.flow.state)) old taken parts.0))
+    (is (moved-loops (one_state (viewed old.flow.state)) old taken parts.0 ready)))
 
 -- a conditional statement from its entry on
 pub if-begun : (statement : Stmt) (number : ℕ) (condition : Expr) (consequence : Box Stmt Global) (alternative : Option (Box Stmt Global)) (inner : Stmt)
     (old entered valued new : Walk) (before between after end : Visits) (known : Known) (result : Result (Unit {0}) CheckFault)
     → statement ≡ stmt.If number condition consequence alternative → inner ≡ consequence.value
-    → Walks (enter number) old before entered between tt → Walks (value_walk condition) entered between valued after known
+    → Does (enter number) old before entered between tt → Does (value_walk condition) entered between valued after known
     → Goes (branches condition (statement_walk inner) (else_walk alternative) known) valued after result new end
     → Goes (statement_walk statement) old before result new end
 if-begun statement number condition consequence alternative inner old entered valued new before between after end known result is inner_is one two three =
@@ -265,8 +355,8 @@ if-begun statement number condition consequence alternative inner old entered va
 -- the checker gave up in the condition
 pub if-stopped : (statement : Stmt) (number : ℕ) (condition : Expr) (consequence : Box Stmt Global) (alternative : Option (Box Stmt Global))
     (old entered new : Walk) (before between after : Visits) (fault : CheckFault)
-    → statement ≡ stmt.If number condition consequence alternative → Walks (enter number) old before entered between tt
-    → IsBreachOf (value_walk condition (context_of entered) (viewed entered.flow.state)) fault
+    → statement ≡ stmt.If number condition consequence alternative → Does (enter number) old before entered between tt
+    → Stops (value_walk condition) entered fault
     → Goes (statement_walk statement) old before (Err fault) new after
 if-stopped statement number condition consequence alternative old entered new before between after fault is one stopped =
     let chosen = branches condition (statement_walk consequence.value) (else_walk alternative) in
@@ -280,109 +370,158 @@ if-stopped statement number condition consequence alternative old entered new be
 -- the facts of a loop weren't given where it is entered
 pub loop-not_entered : (number : ℕ) (place : SourcePlace) (control : Option ℕ) (walking : Walking State) (old new : Walk) (before after : Visits)
     (fault : CheckFault)
-    → IsBreachOf (facts_given LoopEntry place (claims_in number old).facts (context_of old) (viewed old.flow.state)) fault
+    → EntersLoop number place control old (Err fault) new
     → Goes (loop_walk number place control walking) old before (Err fault) new after
-loop-not_entered number place control walking old new before after fault is =
+loop-not_entered number place control walking old new before after fault is = λ ready.
     let facts = (claims_in number old).facts in
     let loop = loop_in number old in
     let rest = enter_head (with_own control loop) facts >>= λ _. (inside (without_own control loop) walking >>= λ behind.
     (facts_given LoopTurn place facts >>= λ _. with_state behind)) in
-    breach-first (context_of old) (facts_given LoopEntry place facts) (λ _. rest) (viewed old.flow.state) fault is
+    breach-first (context_of old) (facts_given LoopEntry place facts) (λ _. rest) (viewed old.flow.state) fault (is ready)
 
-module _ (number : ℕ) (place : SourcePlace) (control : Option ℕ) (walking : Walking State) (old headed : Walk)
-    (at_head : AtHead number control old headed) where
-  abbrev claims : Claims
-  claims = claims_in number old
+module _ (number : ℕ) (place : SourcePlace) (control : Option ℕ) (walking : Walking State) (old headed : Walk) where
+  module _ (at_head : AtHead number control old headed) where
+    abbrev claims : Claims
+    claims = claims_in number old
 
-  abbrev own : Round
-  own = with_own control (loop_in number old)
+    abbrev tree_of : Tree
+    tree_of = (context_of old).tree
 
-  abbrev inner_context : Context
-  inner_context = record (context_of old) { rounds = (context_of old).rounds ++ without_own control (loop_in number old) ∷ [] }
+    abbrev own : Round
+    own = with_own control (loop_in number old)
 
-  abbrev turn : Walked State
-  turn = walking inner_context (head_of old.flow.rows.now old.limits.items own claims.facts (viewed old.flow.state))
+    abbrev inner_context : Context
+    inner_context = record (context_of old) { rounds = (context_of old).rounds ++ without_own control (loop_in number old) ∷ [] }
 
-  abbrev whole : Walked (Unit {0})
-  whole = loop_walk number place control walking (context_of old) (viewed old.flow.state)
+    abbrev turn : Walked State
+    turn = walking inner_context (head_of tree_of (context_of old).limits own claims.facts (viewed old.flow.state))
 
-  turn-same : walking (context_of headed) (viewed headed.flow.state) ≡ turn
-  turn-same = ap (λ context. walking context (viewed headed.flow.state)) at_head.context_is ∙ ap (walking inner_context) at_head.state_is
+    abbrev whole : Walked (Unit {0})
+    whole = loop_walk number place control walking (context_of old) (viewed old.flow.state)
 
-  -- no rule is broken where the loop is entered
-  entered-unbroken : whole.broken ≡ turn.broken ++ ((facts_given LoopTurn place claims.facts (context_of old) turn.after).broken ++ [])
-  entered-unbroken =
-      ap (λ given. breach_unless given LoopEntry place
-      ++ (turn.broken ++ ((facts_given LoopTurn place claims.facts (context_of old) turn.after).broken ++ []))) at_head.given
+    turn-same : walking (context_of headed) (viewed headed.flow.state) ≡ turn
+    turn-same = ap (λ (context : Context). walking context (viewed headed.flow.state)) at_head.context_is ∙ ap (walking inner_context) at_head.state_is
 
-  -- the checker gave up in a round
-  pub loop-stopped : (new : Walk) (before after : Visits) (fault : CheckFault) → IsBreachOf (walking (context_of headed) (viewed headed.flow.state)) fault
-      → Goes (loop_walk number place control walking) old before (Err fault) new after
-  loop-stopped new before after fault is =
-      let rest : Walked (Unit {0}) = followed (facts_given LoopTurn place claims.facts (context_of old) turn.after)
-      (with_state turn.value (context_of old) turn.after) in
-      breach-stays turn rest fault whole entered-unbroken
-      (breach-same (walking (context_of headed) (viewed headed.flow.state)) turn fault (ap (λ w. w.broken) turn-same) is)
+    -- the checker has the aliases of the loops inside it too
+    inner-ready : AreLoops (context_of old) old.aliases.now → AreLoops (context_of headed) headed.aliases.now
+    inner-ready ready = loops-same old headed inner_context at_head.context_is at_head.aliases_are ready
 
-  module _ (rounded : Walk) (before after : Visits) (behind : Kept) (one : Walks walking headed before rounded after (viewed behind)) where
-    context-within : context_of rounded ≡ inner_context
-    context-within = one.context_is ∙ at_head.context_is
+    -- no rule is broken where the loop is entered
+    entered-unbroken : whole.broken ≡ turn.broken ++ ((facts_given LoopTurn place claims.facts (context_of old) turn.after).broken ++ [])
+    entered-unbroken =
+        ap (λ given. breach_unless given LoopEntry place
+        ++ (turn.broken ++ ((facts_given LoopTurn place claims.facts (context_of old) turn.after).broken ++ []))) at_head.given
 
-    claims-same : claims_in number rounded ≡ claims
-    claims-same = ap (λ (context : Context). claims_at context.claims number) context-within
+    round-stopped : (fault : CheckFault) → IsBreachOf (walking (context_of headed) (viewed headed.flow.state)) fault → IsBreachOf whole fault
+    round-stopped fault is =
+        let rest : Walked (Unit {0}) = followed (facts_given LoopTurn place claims.facts (context_of old) turn.after)
+        (with_state turn.value (context_of old) turn.after) in
+        breach-stays turn rest fault whole entered-unbroken
+        (breach-same (walking (context_of headed) (viewed headed.flow.state)) turn fault (ap (λ w. w.broken) turn-same) is)
 
-    after-same : viewed rounded.flow.state ≡ turn.after
-    after-same = one.flows.state_is ∙ ap (λ w. w.after) turn-same
+    module _ (rounded : Walk) (before after : Visits) (behind : Kept) (one : Walks walking headed before rounded after (viewed behind)) where
+      context-within : context_of rounded ≡ inner_context
+      context-within = one.context_is ∙ at_head.context_is
 
-    value-same : viewed behind ≡ turn.value
-    value-same = one.flows.value_is ∙ ap (λ w. w.value) turn-same
+      rounded-ready : AreLoops (context_of old) old.aliases.now → AreLoops (context_of rounded) rounded.aliases.now
+      rounded-ready ready = loops-same headed rounded (context_of headed) one.context_is one.aliases_are (inner-ready ready)
 
-    tree-same : rounded.flow.rows.now ≡ old.flow.rows.now
-    tree-same = ap (λ (context : Context). context.tree) context-within
+      claims-same : claims_in number rounded ≡ claims
+      claims-same = ap (λ (context : Context). claims_at context.claims number) context-within
 
-    turn-unbroken : turn.broken ≡ []
-    turn-unbroken = ap (λ w. w.broken) (sym turn-same) ∙ one.flows.unbroken
+      after-same : viewed rounded.flow.state ≡ turn.after
+      after-same = one.state_is ∙ ap (λ w. w.after) turn-same
 
-    -- the whole breaks no rule but that which is asked behind a round
-    whole-broken : whole.broken ≡ breach_unless (gives_claims old.flow.rows.now turn.after claims.facts) LoopTurn place ++ []
-    whole-broken =
-        entered-unbroken
-        ∙ ap (λ b. b ++ (breach_unless (gives_claims old.flow.rows.now turn.after claims.facts) LoopTurn place ++ [])) turn-unbroken
+      value-same : viewed behind ≡ turn.value
+      value-same = one.value_is ∙ ap (λ w. w.value) turn-same
 
-    pub loop-done : (result : Result (Unit {0}) CheckFault) (new : Walk) → LeavesLoop number place behind rounded result new
-        → Goes (loop_walk number place control walking) old before result new after
-    loop-done (Ok value) new left =
-        let behind_loop = left (context_of old).rounds (without_own control (loop_in number old)) (ap (λ (context : Context). context.rounds) context-within) in
-        let given : gives_claims old.flow.rows.now turn.after claims.facts ≡ true =
-        ap (λ (s : State). gives_claims old.flow.rows.now s claims.facts) (sym after-same)
-        ∙ ap (λ (c : Claims). gives_claims old.flow.rows.now (viewed rounded.flow.state) c.facts) (sym claims-same)
-        ∙ ap (λ tree. gives_claims tree (viewed rounded.flow.state) (claims_in number rounded).facts) (sym tree-same) ∙ behind_loop.given in
-        record {
-          context_is = behind_loop.context_is ∙ ap (λ (context : Context). record context { rounds = (context_of old).rounds }) context-within;
-          flows = record {
-            rows_are = behind_loop.rows_are ∙ one.flows.rows_are ∙ at_head.rows_are;
+      tree-same : (context_of rounded).tree ≡ tree_of
+      tree-same = ap (λ (context : Context). context.tree) context-within
+
+      turn-unbroken : turn.broken ≡ []
+      turn-unbroken = ap (λ w. w.broken) (sym turn-same) ∙ one.unbroken
+
+      -- the whole breaks no rule but that which is asked behind a round
+      whole-broken : whole.broken ≡ breach_unless (gives_claims tree_of turn.after claims.facts) LoopTurn place ++ []
+      whole-broken =
+          entered-unbroken ∙ ap (λ b. b ++ (breach_unless (gives_claims tree_of turn.after claims.facts) LoopTurn place ++ [])) turn-unbroken
+
+      loop-behind : (new : Walk) → IsBehind number behind (context_of old).rounds rounded new
+          → Walks (loop_walk number place control walking) old before new after tt
+      loop-behind new behind_loop =
+          let given : gives_claims tree_of turn.after claims.facts ≡ true =
+          ap (λ (s : State). gives_claims tree_of s claims.facts) (sym after-same)
+          ∙ ap (λ (c : Claims). gives_claims tree_of (viewed rounded.flow.state) c.facts) (sym claims-same)
+          ∙ ap (λ (tree : Tree). gives_claims tree (viewed rounded.flow.state) (claims_in number rounded).facts) (sym tree-same) ∙ behind_loop.given in
+          record {
+            context_is = behind_loop.context_is ∙ ap (λ (context : Context). record context { rounds = (context_of old).rounds }) context-within;
+            aliases_are = behind_loop.aliases_are ∙ one.aliases_are ∙ at_head.aliases_are;
             value_is = refl;
             state_is = behind_loop.state_is ∙ value-same;
-            open_is = ap (λ (ids : Vec ℕ Global). ids.items) behind_loop.open_is ∙ one.flows.open_is
+            open_is = ap (λ (ids : Vec ℕ Global). ids.items) behind_loop.open_is ∙ one.open_is
                 ∙ ap (λ (ids : Vec ℕ Global). ids.items ++ (walking (context_of headed) (viewed headed.flow.state)).open_ids) at_head.open_is
                 ∙ ap (λ (w : Walked State). old.flow.open_ids.items ++ w.open_ids) turn-same
                 ∙ ap (λ ids. old.flow.open_ids.items ++ ids) (sym (append-nil turn.open_ids));
-            visits_are = one.flows.visits_are ∙ ap (λ (w : Walked State). all_counted (numbers_of w.linked) before) turn-same
+            visits_are = one.visits_are ∙ ap (λ (w : Walked State). all_counted (numbers_of w.linked) before) turn-same
                 ∙ ap (λ linked. all_counted (numbers_of linked) before) (sym (append-nil turn.linked));
             unbroken = whole-broken ∙ ap (λ given. breach_unless given LoopTurn place ++ []) given;
-          };
-        }
-    loop-done (Err fault) new is =
-        breach-same (facts_given LoopTurn place (claims_in number rounded).facts (context_of rounded) (viewed rounded.flow.state)) whole fault
-        (ap (λ (c : Claims). breach_unless (gives_claims rounded.flow.rows.now (viewed rounded.flow.state) c.facts) LoopTurn place) claims-same
-        ∙ ap (λ tree. breach_unless (gives_claims tree (viewed rounded.flow.state) claims.facts) LoopTurn place) tree-same
-        ∙ ap (λ (s : State). breach_unless (gives_claims old.flow.rows.now s claims.facts) LoopTurn place) after-same
-        ∙ sym (append-nil (breach_unless (gives_claims old.flow.rows.now turn.after claims.facts) LoopTurn place)) ∙ sym whole-broken) is
+          }
+
+      loop-not_left : (fault : CheckFault)
+          → IsBreachOf (facts_given LoopTurn place (claims_in number rounded).facts (context_of rounded) (viewed rounded.flow.state)) fault
+          → IsBreachOf whole fault
+      loop-not_left fault is =
+          breach-same (facts_given LoopTurn place (claims_in number rounded).facts (context_of rounded) (viewed rounded.flow.state)) whole fault
+          (ap (λ (c : Claims). breach_unless (gives_claims (context_of rounded).tree (viewed rounded.flow.state) c.facts) LoopTurn place) claims-same
+          ∙ ap (λ (tree : Tree). breach_unless (gives_claims tree (viewed rounded.flow.state) claims.facts) LoopTurn place) tree-same
+          ∙ ap (λ (s : State). breach_unless (gives_claims tree_of s claims.facts) LoopTurn place) after-same
+          ∙ sym (append-nil (breach_unless (gives_claims tree_of turn.after claims.facts) LoopTurn place)) ∙ sym whole-broken) is
+
+  module _ (entered : EntersLoop number place control old (Ok tt) headed) where
+    -- the checker gave up in a round
+    pub loop-stopped : (new : Walk) (before after : Visits) (fault : CheckFault) → Stops walking headed fault
+        → Goes (loop_walk number place control walking) old before (Err fault) new after
+    loop-stopped new before after fault is = λ ready. round-stopped (entered ready) fault (is (inner-ready (entered ready) ready))
+
+    pub loop-done : (rounded : Walk) (before after : Visits) (behind : Kept) → Does walking headed before rounded after (viewed behind)
+        → (result : Result (Unit {0}) CheckFault) (new : Walk) → LeavesLoop number place behind rounded result new
+        → Goes (loop_walk number place control walking) old before result new after
+    loop-done rounded before after behind does (Ok value) new left = λ ready.
+        let head = entered ready in
+        let one = does (inner-ready head ready) in
+        let within : context_of rounded ≡ inner_context head = context-within head rounded before after behind one in
+        loop-behind head rounded before after behind one new
+        (left (rounded-ready head rounded before after behind one ready) (context_of old).rounds (without_own control (loop_in number old))
+        (ap (λ (context : Context). context.rounds) within))
+    loop-done rounded before after behind does (Err fault) new left = λ ready.
+        let head = entered ready in
+        let one = does (inner-ready head ready) in
+        loop-not_left head rounded before after behind one fault (left (rounded-ready head rounded before after behind one ready))
+
+-- the loop of a number, as the checker finds it
+pub loop-found : (number : ℕ) (control : Option ℕ) (walk : Walk) (round : KeptRound) (tree : Tree) (claims : List (Option (Bor LoopClaims)))
+    → tree ≡ (context_of walk).tree → claims ≡ walk.claims.items → round.own ≡ control
+    → said_claims round.claims ≡ claims_at (map said_claims claims) number
+    → ((pairs : List (ℕ × ℕ)) → length claims ≡ length tree.loops.items
+    → map (λ row. row.items) walk.aliases.now ≡ all_loop_aliases tree pairs (map said_claims claims)
+    → loop_of_round round ≡ round_of tree pairs (map said_claims claims) number)
+    → AreLoops (context_of walk) walk.aliases.now → IsLoop number control walk round
+loop-found number control walk round tree claims tree_is claims_is own found loop ready =
+    let pairs = walk.flow.grounds.pairs in
+    let same : map said_claims claims ≡ (context_of walk).claims = ap (map said_claims) claims_is in
+    record {
+      own_is = own;
+      claims_are = found ∙ ap (λ (kept : List Claims). claims_at kept number) same;
+      loop_is = loop pairs
+          (sym (length-map claims said_claims) ∙ ap length same ∙ ready.0 ∙ ap (λ (t : Tree). length t.loops.items) (sym tree_is))
+          (ready.1 ∙ sym (ap₂ (λ (t : Tree) (kept : List Claims). all_loop_aliases t pairs kept) tree_is same))
+          ∙ ap₂ (λ (t : Tree) (kept : List Claims). round_of t pairs kept number) tree_is same;
+    }
 
 -- a loop from its entry on
 pub while-begun : (statement : Stmt) (number loop_number : ℕ) (place : SourcePlace) (condition : Expr) (body : Box Stmt Global) (inner : Stmt)
     (old entered new : Walk) (before between end : Visits) (result : Result (Unit {0}) CheckFault)
-    → statement ≡ stmt.While number loop_number place condition body → inner ≡ body.value → Walks (enter number) old before entered between tt
+    → statement ≡ stmt.While number loop_number place condition body → inner ≡ body.value → Does (enter number) old before entered between tt
     → Goes (loop_walk loop_number place None (while_round condition (statement_walk inner))) entered between result new end
     → Goes (statement_walk statement) old before result new end
 while-begun statement number loop_number place condition body inner old entered new before between end result is inner_is one two =
@@ -395,7 +534,7 @@ while-begun statement number loop_number place condition body inner old entered 
 
 pub repeat-begun : (statement : Stmt) (number loop_number : ℕ) (place : SourcePlace) (statements : Vec Stmt Global) (condition : Expr) (items : List Stmt)
     (old entered new : Walk) (before between end : Visits) (result : Result (Unit {0}) CheckFault)
-    → statement ≡ stmt.Repeat number loop_number place statements condition → items ≡ statements.items → Walks (enter number) old before entered between tt
+    → statement ≡ stmt.Repeat number loop_number place statements condition → items ≡ statements.items → Does (enter number) old before entered between tt
     → Goes (loop_walk loop_number place None (repeat_round (all_of (map statement_walk items)) condition)) entered between result new end
     → Goes (statement_walk statement) old before result new end
 repeat-begun statement number loop_number place statements condition items old entered new before between end result is items_are one two =
@@ -411,84 +550,83 @@ repeat-begun statement number loop_number place statements condition items old e
 -- a round of a while: the condition, and then the body where it is true
 pub while_round-done : (condition : Expr) (body : Walking (Unit {0})) (known : Known) (old valued taken new : Walk) (before between after : Visits)
     (behind : Kept)
-    → Walks (value_walk condition) old before valued between known
-    → Parts (where_so true condition known) (where_so false condition known) valued (Ok behind) taken → Walks body taken between new after tt
-    → Walks (while_round condition body) old before new after (viewed behind)
-while_round-done condition body known old valued taken new before between after behind one parts two =
+    → Does (value_walk condition) old before valued between known
+    → Parts (where_so true condition known) (where_so false condition known) valued (Ok behind) taken → Does body taken between new after tt
+    → Does (while_round condition body) old before new after (viewed behind)
+while_round-done condition body known old valued taken new before between after behind one parts bodied =
     let was : Walked (Unit {0}) = body (context_of valued) (where_so true condition known (viewed valued.flow.state)) in
     let same = moved-same body (where_so true condition known (viewed valued.flow.state)) valued taken parts.0 in
     let rest = λ (known : Known). here >>= λ tested. (with_state (where_so true condition known tested) >>= λ _.
     (body >>= λ _. give (where_so false condition known tested))) in
-    walks-then (value_walk condition) rest old valued new before between after known (viewed behind) one (record {
+    goes-then (value_walk condition) rest old valued new before between after known (Ok (viewed behind)) one (λ ready.
+    let two = bodied (moved-loops (where_so true condition known (viewed valued.flow.state)) valued taken parts.0 ready) in
+    record {
       context_is = two.context_is ∙ ap context_of parts.0.only_state;
-      flows = record {
-        rows_are = two.flows.rows_are ∙ ap (λ (w : Walk). w.flow.rows) parts.0.only_state;
-        value_is = parts.1;
-        state_is = two.flows.state_is ∙ ap (λ w. w.after) same;
-        open_is = two.flows.open_is
-            ∙ ap (λ (w : Walk). w.flow.open_ids.items ++ (body (context_of taken) (viewed taken.flow.state)).open_ids) parts.0.only_state
-            ∙ ap (λ w. valued.flow.open_ids.items ++ w.open_ids) same ∙ ap (λ ids. valued.flow.open_ids.items ++ ids) (sym (append-nil was.open_ids));
-        visits_are = two.flows.visits_are ∙ ap (λ w. all_counted (numbers_of w.linked) between) same
-            ∙ ap (λ linked. all_counted (numbers_of linked) between) (sym (append-nil was.linked));
-        unbroken = append-nil was.broken ∙ ap (λ w. w.broken) (sym same) ∙ two.flows.unbroken;
-      };
+      aliases_are = two.aliases_are ∙ ap (λ (w : Walk). w.aliases.now) parts.0.only_state;
+      value_is = parts.1;
+      state_is = two.state_is ∙ ap (λ w. w.after) same;
+      open_is = two.open_is
+          ∙ ap (λ (w : Walk). w.flow.open_ids.items ++ (body (context_of taken) (viewed taken.flow.state)).open_ids) parts.0.only_state
+          ∙ ap (λ w. valued.flow.open_ids.items ++ w.open_ids) same ∙ ap (λ ids. valued.flow.open_ids.items ++ ids) (sym (append-nil was.open_ids));
+      visits_are = two.visits_are ∙ ap (λ w. all_counted (numbers_of w.linked) between) same
+          ∙ ap (λ linked. all_counted (numbers_of linked) between) (sym (append-nil was.linked));
+      unbroken = append-nil was.broken ∙ ap (λ w. w.broken) (sym same) ∙ two.unbroken;
     })
 
 -- a round of a repeat: the body, and then the condition
 pub repeat_round-done : (body : Walking (Unit {0})) (condition : Expr) (known : Known) (old bodied valued taken new : Walk) (before between after : Visits)
     (again behind : Kept)
-    → Walks body old before bodied between tt → Walks (value_walk condition) bodied between valued after known
+    → Does body old before bodied between tt → Does (value_walk condition) bodied between valued after known
     → Parts (where_so true condition known) (where_so false condition known) valued (Ok again) taken → behind ≡ taken.flow.state → new.flow.state ≡ again
     → new ≡ at_state new.flow.state taken
-    → Walks (repeat_round body condition) old before new after (viewed behind)
+    → Does (repeat_round body condition) old before new after (viewed behind)
 repeat_round-done body condition known old bodied valued taken new before between after again behind one two parts behind_is again_is only =
     let rest = λ (known : Known). here >>= λ tested.
     (with_state (where_so false condition known tested) >>= λ _. give (where_so true condition known tested)) in
-    walks-then body (λ _. value_walk condition >>= rest) old bodied new before between after tt (viewed behind) one
-    (walks-then (value_walk condition) rest bodied valued new between after after known (viewed behind) two (record {
+    goes-then body (λ _. value_walk condition >>= rest) old bodied new before between after tt (Ok (viewed behind)) one
+    (goes-then (value_walk condition) rest bodied valued new between after after known (Ok (viewed behind)) two (λ ready. record {
       context_is = ap context_of only ∙ ap context_of parts.0.only_state;
-      flows = record {
-        rows_are = ap (λ (w : Walk). w.flow.rows) only ∙ ap (λ (w : Walk). w.flow.rows) parts.0.only_state;
-        value_is = ap viewed behind_is ∙ parts.0.says;
-        state_is = ap viewed again_is ∙ parts.1;
-        open_is = ap (λ (w : Walk). w.flow.open_ids.items) only ∙ ap (λ (w : Walk). w.flow.open_ids.items) parts.0.only_state
-            ∙ sym (append-nil valued.flow.open_ids.items);
-        visits_are = refl;
-        unbroken = refl;
-      };
+      aliases_are = ap (λ (w : Walk). w.aliases.now) only ∙ ap (λ (w : Walk). w.aliases.now) parts.0.only_state;
+      value_is = ap viewed behind_is ∙ parts.0.says;
+      state_is = ap viewed again_is ∙ parts.1;
+      open_is = ap (λ (w : Walk). w.flow.open_ids.items) only ∙ ap (λ (w : Walk). w.flow.open_ids.items) parts.0.only_state
+          ∙ sym (append-nil valued.flow.open_ids.items);
+      visits_are = refl;
+      unbroken = refl;
     }))
 
 -- ---- the whole program
 
-module _ (tree : Tree) (certificate : Certificate) (begun : Walk) (start : IsBegun tree certificate begun) where
-  pub program-same : all_of (map block_walk begun.flow.rows.now.blocks.items) (context_of begun) (viewed begun.flow.state) ≡ program_walk tree certificate
-  program-same =
-      ap (λ (context : Context). all_of (map block_walk context.tree.blocks.items) context (viewed begun.flow.state)) start.context_is
-      ∙ ap (all_of (map block_walk tree.blocks.items) (first_context tree certificate)) start.state_is
+module _ (tree : Tree) (certificate : Certificate) (begun : Walk) (context_is : context_of begun ≡ first_context tree certificate)
+    (loops : AreLoops (context_of begun) begun.aliases.now) (state_is : viewed begun.flow.state ≡ dead)
+    (open_is : begun.flow.open_ids.items ≡ []) where
+  abbrev over_blocks : Walking (Unit {0})
+  over_blocks = blocks_walk 0 (context_of begun).tree.blocks.items
 
-  module _ (new : Walk) (before after : Visits) (walked : Walks (all_of (map block_walk begun.flow.rows.now.blocks.items)) begun before new after tt) where
+  pub program-same : over_blocks (context_of begun) (viewed begun.flow.state) ≡ program_walk tree certificate
+  program-same =
+      ap (λ (context : Context). blocks_walk 0 context.tree.blocks.items context (viewed begun.flow.state)) context_is
+      ∙ ap (blocks_walk 0 tree.blocks.items (first_context tree certificate)) state_is
+
+  module _ (new : Walk) (before after : Visits) (walked : Does over_blocks begun before new after tt) where
     pub program-open : new.flow.open_ids.items ≡ (program_walk tree certificate).open_ids
     program-open =
-        walked.flows.open_is
-        ∙ ap (λ ids. ids ++ (all_of (map block_walk begun.flow.rows.now.blocks.items) (context_of begun) (viewed begun.flow.state)).open_ids) start.open_is
+        (walked loops).open_is ∙ ap (λ ids. ids ++ (over_blocks (context_of begun) (viewed begun.flow.state)).open_ids) open_is
         ∙ ap (λ w. w.open_ids) program-same
 
     pub program-visits : after ≡ all_counted (numbers_of (program_walk tree certificate).linked) before
-    program-visits = walked.flows.visits_are ∙ ap (λ w. all_counted (numbers_of w.linked) before) program-same
+    program-visits = (walked loops).visits_are ∙ ap (λ w. all_counted (numbers_of w.linked) before) program-same
 
     pub program-unbroken : (program_walk tree certificate).broken ≡ []
-    program-unbroken = ap (λ w. w.broken) (sym program-same) ∙ walked.flows.unbroken
+    program-unbroken = ap (λ w. w.broken) (sym program-same) ∙ (walked loops).unbroken
 
-  pub program-stopped : (fault : CheckFault)
-      → IsBreachOf (all_of (map block_walk begun.flow.rows.now.blocks.items) (context_of begun) (viewed begun.flow.state)) fault
-      → IsBreachOf (program_walk tree certificate) fault
+  pub program-stopped : (fault : CheckFault) → Stops over_blocks begun fault → IsBreachOf (program_walk tree certificate) fault
   program-stopped fault is =
-      breach-same (all_of (map block_walk begun.flow.rows.now.blocks.items) (context_of begun) (viewed begun.flow.state)) (program_walk tree certificate) fault
-      (ap (λ w. w.broken) program-same) is
+      breach-same (over_blocks (context_of begun) (viewed begun.flow.state)) (program_walk tree certificate) fault (ap (λ w. w.broken) program-same)
+      (is loops)
 
   pub program-given_up : {A : Type 0} (P : A → Type 0) (result : Result A CheckFault) (fault : CheckFault)
-      → IsErr result × IsErrAnd result (λ e. e ≡ fault)
-      → IsBreachOf (all_of (map block_walk begun.flow.rows.now.blocks.items) (context_of begun) (viewed begun.flow.state)) fault
+      → IsErr result × IsErrAnd result (λ e. e ≡ fault) → Stops over_blocks begun fault
       → MatchResult result P (IsBreachOf (program_walk tree certificate))
   program-given_up P (Ok a) fault left is = absurd left.1
   program-given_up P (Err other) fault left is =

@@ -24,11 +24,11 @@ use Rattle.abstract_state.specs.Conditions.{condition_of}
 use Rattle.abstract_state.specs.Forms.{root_of}
 use Rattle.structured_states.specs.Cases.{arm_start, constants_before}
 use Rattle.structured_states.proofs.Claims.{item-cut, drop-past}
-use Rattle.expression_checker.specs.Walk.{IsBreachOf, Walked, Walking, ◌>>=◌, enter, give, numbers_of, tested, value_walk}
-use Rattle.cert_checker.specs.Walk.{arm_walk, arms_walk, case_walk, here, index_test, statement_walk, with_state}
-use Rattle.cert_checker.specs.View.{Goes, IsMoved, Meets, Walks, at_state, context_of, said_state}
+use Rattle.expression_checker.specs.Walk.{IsBreachOf, Walked, Walking, ◌>>=◌, enter, give, numbers_of, tested, value_walk, with_state}
+use Rattle.cert_checker.specs.Walk.{arm_walk, arms_walk, case_walk, here, index_test, statement_walk}
+use Rattle.cert_checker.specs.View.{Goes, IsMoved, Meets, at_state, context_of, said_state}
 use Rattle.expression_checker.proofs.Steps.{breach-same}
-use Rattle.cert_checker.proofs.Steps.{goes-as, goes-stopped, goes-then, moved-same, walks-give, walks-then}
+use Rattle.cert_checker.proofs.Steps.{Does, Stops, goes-as, goes-stopped, goes-then, moved-loops, moved-same, walks-give}
 
 pub statement-Case : (number site : ℕ) (index : Expr) (constants : Vec (Vec ℤ Global) Global) (arms : Vec Stmt Global)
     → statement_walk (stmt.Case number site index constants arms)
@@ -40,7 +40,7 @@ pub case-begun : (statement : Stmt) (number site : ℕ) (index : Expr) (constant
     (rows : List (Vec ℤ Global)) (items : List Stmt) (known : Known) (range : Interval) (old entered valued new : Walk) (before between after end : Visits)
     (result : Result (Unit {0}) CheckFault)
     → statement ≡ stmt.Case number site index constants arms → rows ≡ constants.items → items ≡ arms.items → known ≡ Ordinal range
-    → Walks (enter number) old before entered between tt → Walks (value_walk index) entered between valued after known
+    → Does (enter number) old before entered between tt → Does (value_walk index) entered between valued after known
     → Goes (case_walk site index rows (map statement_walk items) (Ordinal range)) valued after result new end
     → Goes (statement_walk statement) old before result new end
 case-begun statement number site index constants arms rows items known range old entered valued new before between after end result is rows_are items_are
@@ -58,7 +58,7 @@ case-begun statement number site index constants arms rows items known range old
 pub case-tested : (site : ℕ) (index : Expr) (rows : List (Vec ℤ Global)) (arms : List Stmt) (range : Interval) (count : ℕ) (root : Option ℕ) (base : Kept)
     (old tested new : Walk) (before after : Visits) (result : Result (Unit {0}) CheckFault)
     → count ≡ length arms → root ≡ root_of (condition_of index).form
-    → Walks (index_test site (constants_before count rows) range) old before tested before (viewed base)
+    → Does (index_test site (constants_before count rows) range) old before tested before (viewed base)
     → Goes (arms_walk (viewed base) root rows (map statement_walk arms)) tested before result new after
     → Goes (case_walk site index rows (map statement_walk arms) (Ordinal range)) old before result new after
 case-tested site index rows arms range count root base old tested new before after result count_is root_is one two =
@@ -66,51 +66,49 @@ case-tested site index rows arms range count root base old tested new before aft
     let many : count ≡ length inner = count_is ∙ sym (length-map arms statement_walk) in
     let rest = λ (base : State). arms_walk base (root_of (condition_of index).form) rows inner in
     goes-then (index_test site (constants_before (length inner) rows) range) rest old tested new before before after (viewed base) result
-    (subst (λ n. Walks (index_test site (constants_before n rows) range) old before tested before (viewed base)) many one)
+    (subst (λ n. Does (index_test site (constants_before n rows) range) old before tested before (viewed base)) many one)
     (subst (λ r. Goes (arms_walk (viewed base) r rows inner) tested before result new after) root_is two)
 
 pub case-not_tested : (site : ℕ) (index : Expr) (rows : List (Vec ℤ Global)) (arms : List Stmt) (range : Interval) (count : ℕ) (old new : Walk)
     (before after : Visits) (fault : CheckFault)
-    → count ≡ length arms → IsBreachOf (index_test site (constants_before count rows) range (context_of old) (viewed old.flow.state)) fault
+    → count ≡ length arms → Stops (index_test site (constants_before count rows) range) old fault
     → Goes (case_walk site index rows (map statement_walk arms) (Ordinal range)) old before (Err fault) new after
 case-not_tested site index rows arms range count old new before after fault count_is is =
     let inner = map statement_walk arms in
     let many : count ≡ length inner = count_is ∙ sym (length-map arms statement_walk) in
     let rest = λ (base : State). arms_walk base (root_of (condition_of index).form) rows inner in
     goes-stopped (index_test site (constants_before (length inner) rows) range) rest old new before after fault
-    (subst (λ n. IsBreachOf (index_test site (constants_before n rows) range (context_of old) (viewed old.flow.state)) fault) many is)
+    (subst (λ n. Stops (index_test site (constants_before n rows) range) old fault) many is)
 
 -- ---- the test of an index
 
 pub index-done : (site : ℕ) (constants : List ℤ) (range : Interval) (closed : Bool) (passed value : Interval) (base : Kept) (old mid new : Walk)
     (visits : Visits)
     → closed ≡ is_covered range constants → passed ≡ common range (hull constants)
-    → Walks (tested closed site passed) old visits mid visits value
+    → Does (tested closed site passed) old visits mid visits value
     → base ≡ mid.flow.state → viewed new.flow.state ≡ dead → new ≡ at_state new.flow.state mid
-    → Walks (index_test site constants range) old visits new visits (viewed base)
+    → Does (index_test site constants range) old visits new visits (viewed base)
 index-done site constants range closed passed value base old mid new visits closed_is passed_is one base_is dead_is only =
     let first = tested (is_covered range constants) site (common range (hull constants)) in
     let rest = here >>= λ base. (with_state dead >>= λ _. give base) in
-    walks-then first (λ _. rest) old mid new visits visits visits value (viewed base)
-    (subst (λ c. Walks (tested c site (common range (hull constants))) old visits mid visits value) closed_is
-    (subst (λ p. Walks (tested closed site p) old visits mid visits value) passed_is one))
-    (record {
+    goes-then first (λ _. rest) old mid new visits visits visits value (Ok (viewed base))
+    (subst (λ c. Does (tested c site (common range (hull constants))) old visits mid visits value) closed_is
+    (subst (λ p. Does (tested closed site p) old visits mid visits value) passed_is one))
+    (λ ready. record {
       context_is = ap context_of only;
-      flows = record {
-        rows_are = ap (λ (w : Walk). w.flow.rows) only;
-        value_is = ap viewed base_is;
-        state_is = dead_is;
-        open_is = ap (λ (w : Walk). w.flow.open_ids.items) only ∙ sym (append-nil mid.flow.open_ids.items);
-        visits_are = refl;
-        unbroken = refl;
-      };
+      aliases_are = ap (λ (w : Walk). w.aliases.now) only;
+      value_is = ap viewed base_is;
+      state_is = dead_is;
+      open_is = ap (λ (w : Walk). w.flow.open_ids.items) only ∙ sym (append-nil mid.flow.open_ids.items);
+      visits_are = refl;
+      unbroken = refl;
     })
 
 -- the checker gave up there
 pub index-stopped : (site : ℕ) (constants : List ℤ) (range : Interval) (closed : Bool) (passed : Interval) (old new : Walk) (visits : Visits)
     (fault : CheckFault) (result : Result Kept CheckFault)
     → closed ≡ is_covered range constants → passed ≡ common range (hull constants) → IsErr result × IsErrAnd result (λ e. e ≡ fault)
-    → IsBreachOf (tested closed site passed (context_of old) (viewed old.flow.state)) fault
+    → Stops (tested closed site passed) old fault
     → Goes (index_test site constants range) old visits (said_state result) new visits
 index-stopped site constants range closed passed old new visits fault (Ok base) closed_is passed_is left stopped = absurd left.1
 index-stopped site constants range closed passed old new visits fault (Err other) closed_is passed_is left stopped =
@@ -118,8 +116,8 @@ index-stopped site constants range closed passed old new visits fault (Err other
     let rest = here >>= λ base. (with_state dead >>= λ _. give base) in
     subst (λ f. Goes {A = State} (index_test site constants range) old visits (Err f) new visits) (sym left.1)
     (goes-stopped first (λ _. rest) old new visits visits fault
-    (subst (λ c. IsBreachOf (tested c site (common range (hull constants)) (context_of old) (viewed old.flow.state)) fault) closed_is
-    (subst (λ p. IsBreachOf (tested closed site p (context_of old) (viewed old.flow.state)) fault) passed_is stopped)))
+    (subst (λ c. Stops (tested c site (common range (hull constants))) old fault) closed_is
+    (subst (λ p. Stops (tested closed site p) old fault) passed_is stopped)))
 
 -- ---- an arm
 
@@ -135,29 +133,29 @@ module _ (start : Kept) (arm : Walking (Unit {0})) (old begun : Walk) (begins : 
   same = moved-same arm (viewed start) old begun moved
 
   pub arm-done : (behind : Kept) (done new : Walk) (before after : Visits) (result : Result (Unit {0}) CheckFault) → behind ≡ old.flow.state
-      → Walks arm begun before done after tt → Meets behind done result new → Goes (arm_walk (viewed start) arm) old before result new after
-  arm-done behind done new before after (Ok value) behind_is one met = record {
-    context_is = ap context_of met.only_state ∙ one.context_is ∙ ap context_of only;
-    flows = record {
-      rows_are = ap (λ (w : Walk). w.flow.rows) met.only_state ∙ one.flows.rows_are ∙ ap (λ (w : Walk). w.flow.rows) only;
-      value_is = refl;
-      state_is = met.says ∙ ap (λ s. joined_states s (viewed done.flow.state)) (ap viewed behind_is)
-          ∙ ap (joined_states (viewed old.flow.state)) (one.flows.state_is ∙ ap (λ w. w.after) same);
-      open_is = ap (λ (w : Walk). w.flow.open_ids.items) met.only_state ∙ one.flows.open_is
-          ∙ ap (λ (w : Walk). w.flow.open_ids.items ++ (arm (context_of begun) (viewed begun.flow.state)).open_ids) only
-          ∙ ap (λ w. old.flow.open_ids.items ++ w.open_ids) same;
-      visits_are = one.flows.visits_are ∙ ap (λ w. all_counted (numbers_of w.linked) before) same;
-      unbroken = ap (λ w. w.broken) (sym same) ∙ one.flows.unbroken;
-    };
-  }
-  arm-done behind done new before after (Err fault) behind_is one is =
+      → Does arm begun before done after tt → Meets behind done result new → Goes (arm_walk (viewed start) arm) old before result new after
+  arm-done behind done new before after (Ok value) behind_is walked met = λ ready.
+      let one = walked (moved-loops (viewed start) old begun moved ready) in
+      record {
+        context_is = ap context_of met.only_state ∙ one.context_is ∙ ap context_of only;
+        aliases_are = ap (λ (w : Walk). w.aliases.now) met.only_state ∙ one.aliases_are ∙ ap (λ (w : Walk). w.aliases.now) only;
+        value_is = refl;
+        state_is = met.says ∙ ap (λ s. joined_states s (viewed done.flow.state)) (ap viewed behind_is)
+            ∙ ap (joined_states (viewed old.flow.state)) (one.state_is ∙ ap (λ w. w.after) same);
+        open_is = ap (λ (w : Walk). w.flow.open_ids.items) met.only_state ∙ one.open_is
+            ∙ ap (λ (w : Walk). w.flow.open_ids.items ++ (arm (context_of begun) (viewed begun.flow.state)).open_ids) only
+            ∙ ap (λ w. old.flow.open_ids.items ++ w.open_ids) same;
+        visits_are = one.visits_are ∙ ap (λ w. all_counted (numbers_of w.linked) before) same;
+        unbroken = ap (λ w. w.broken) (sym same) ∙ one.unbroken;
+      }
+  arm-done behind done new before after (Err fault) behind_is walked is = λ ready.
       subst (IsBreachOf (arm_walk (viewed start) arm (context_of old) (viewed old.flow.state))) (sym is) tt
 
-  pub arm-stopped : (new : Walk) (before after : Visits) (fault : CheckFault) → IsBreachOf (arm (context_of begun) (viewed begun.flow.state)) fault
+  pub arm-stopped : (new : Walk) (before after : Visits) (fault : CheckFault) → Stops arm begun fault
       → Goes (arm_walk (viewed start) arm) old before (Err fault) new after
-  arm-stopped new before after fault is =
+  arm-stopped new before after fault is = λ ready.
       breach-same (arm (context_of begun) (viewed begun.flow.state)) (arm_walk (viewed start) arm (context_of old) (viewed old.flow.state)) fault
-      (ap (λ w. w.broken) same) is
+      (ap (λ w. w.broken) same) (is (moved-loops (viewed start) old begun moved ready))
 
 -- ---- the arms, from one of them on
 
@@ -193,25 +191,25 @@ module _ (base : State) (index : Option ℕ) (rows : List (Vec ℤ Global)) (arm
   first = arm_walk (over_variables (arm_start index (slice_get rows i)) base) (statement_walk arm)
 
   pub arms-step : (old mid new : Walk) (before between after : Visits) (value : Unit {0}) (result : Result (Unit {0}) CheckFault)
-      → Walks (arm_walk start (statement_walk arm)) old before mid between value
+      → Does (arm_walk start (statement_walk arm)) old before mid between value
       → Goes (arms_from base index rows arms (i + 1)) mid between result new after → Goes (arms_from base index rows arms i) old before result new after
   arms-step old mid new before between after value result one two =
       goes-as (arms_from base index rows arms i) (first >>= λ _. arms_from base index rows arms (i + 1)) old new before after result
       (from-cut base index rows arms i arm inside is)
       (goes-then first (λ _. arms_from base index rows arms (i + 1)) old mid new before between after value result
-      (subst (λ s. Walks (arm_walk s (statement_walk arm)) old before mid between value) start_is one) two)
+      (subst (λ s. Does (arm_walk s (statement_walk arm)) old before mid between value) start_is one) two)
 
   pub arms-stopped : (old new : Walk) (before after : Visits) (fault : CheckFault)
-      → IsBreachOf (arm_walk start (statement_walk arm) (context_of old) (viewed old.flow.state)) fault
+      → Stops (arm_walk start (statement_walk arm)) old fault
       → Goes (arms_from base index rows arms i) old before (Err fault) new after
   arms-stopped old new before after fault stopped =
       goes-as (arms_from base index rows arms i) (first >>= λ _. arms_from base index rows arms (i + 1)) old new before after (Err fault)
       (from-cut base index rows arms i arm inside is)
       (goes-stopped first (λ _. arms_from base index rows arms (i + 1)) old new before after fault
-      (subst (λ s. IsBreachOf (arm_walk s (statement_walk arm) (context_of old) (viewed old.flow.state)) fault) start_is stopped))
+      (subst (λ s. Stops (arm_walk s (statement_walk arm)) old fault) start_is stopped))
 
 pub arms-end : (base : State) (index : Option ℕ) (rows : List (Vec ℤ Global)) (arms : List Stmt) (i : ℕ) (old : Walk) (visits : Visits) → length arms ≤ i
     → Goes (arms_from base index rows arms i) old visits (Ok tt) old visits
 arms-end base index rows arms i old visits past =
     subst (λ (l : List Stmt). Goes (arms_walk base index (drop i rows) (map statement_walk l)) old visits (Ok tt) old visits) (sym (drop-past arms i past))
-    (walks-give tt old visits)
+    (λ ready. walks-give tt old visits)

@@ -23,11 +23,12 @@ use Rattle.std.specs.Result.{IsErr, IsErrAnd}
 use Rattle.domain.specs.Interval.{Interval}
 use Rattle.abstract_state.specs.declared.known.Known.TheVariants.{Ordinal}
 use Rattle.structured_states.specs.declared.ways.Way.{Way as KeptWay}
-use Rattle.structured_states.specs.Ways.{End, Way, end_of, met, next, turn_begun, turn_ended, way_of, way_out, where_counts, with_values}
-use Rattle.cert_checker.specs.Walk.{assign, changed_by, control_change, for_round, for_turns, for_walk, loop_walk, parted, rounds_of, statement_walk, steady_in}
+use Rattle.structured_states.specs.Ways.{End, Way, end_of, form_before, met, next, turn_begun, turn_ended, way_of, way_out, where_counts, with_values}
+use Rattle.expression_checker.specs.Walk.{changed_by}
+use Rattle.cert_checker.specs.Walk.{assign, control_change, for_round, for_turns, for_walk, loop_walk, parted, rounds_of, statement_walk, steady_in}
 use Rattle.cert_checker.specs.Walk.{tested_end, tested_way}
-use Rattle.cert_checker.specs.View.{Goes, IsMoved, Moves, Parts, Walks, context_of, said_tested}
-use Rattle.cert_checker.proofs.Steps.{branches-stopped, goes-as, goes-here, goes-stopped, goes-then, moved-same, walks-give}
+use Rattle.cert_checker.specs.View.{AreLoops, Goes, IsMoved, Moves, Parts, context_of, said_tested}
+use Rattle.cert_checker.proofs.Steps.{Does, Stops, branches-stopped, goes-as, goes-here, goes-stopped, goes-then, moved-loops, moved-same, walks-give}
 
 pub statement-For : (number loop_number : ℕ) (place : SourcePlace) (control : ℕ) (first : Expr) (first_fits : RangeTest) (direction : Direction) (last : Expr)
     (last_fits : RangeTest) (body : Box Stmt Global)
@@ -42,8 +43,8 @@ pub for-begun : (statement : Stmt) (number loop_number : ℕ) (place : SourcePla
     (before between middle after end : Visits) (result : Result (Unit {0}) CheckFault)
     → statement ≡ stmt.For number loop_number place control first first_fits direction last last_fits body → inner ≡ body.value
     → way ≡ way_of control direction first first_fits last last_fits from to
-    → Walks (enter number) old before entered between tt → Walks (value_walk first) entered between begun middle from
-    → Walks (value_walk last) begun middle valued after to
+    → Does (enter number) old before entered between tt → Does (value_walk first) entered between begun middle from
+    → Does (value_walk last) begun middle valued after to
     → Goes (for_walk loop_number place (statement_walk inner) way) valued after result new end
     → Goes (statement_walk statement) old before result new end
 for-begun statement number loop_number place control first first_fits direction last last_fits body inner way from to old entered begun valued new before
@@ -65,7 +66,7 @@ pub for-first_stopped : (statement : Stmt) (number loop_number : ℕ) (place : S
     (direction : Direction) (last : Expr) (last_fits : RangeTest) (body : Box Stmt Global) (old entered new : Walk) (before between after : Visits)
     (fault : CheckFault)
     → statement ≡ stmt.For number loop_number place control first first_fits direction last last_fits body
-    → Walks (enter number) old before entered between tt → IsBreachOf (value_walk first (context_of entered) (viewed entered.flow.state)) fault
+    → Does (enter number) old before entered between tt → Stops (value_walk first) entered fault
     → Goes (statement_walk statement) old before (Err fault) new after
 for-first_stopped statement number loop_number place control first first_fits direction last last_fits body old entered new before between after fault is
     one stopped =
@@ -81,8 +82,8 @@ pub for-last_stopped : (statement : Stmt) (number loop_number : ℕ) (place : So
     (direction : Direction) (last : Expr) (last_fits : RangeTest) (body : Box Stmt Global) (from : Known) (old entered begun new : Walk)
     (before between middle after : Visits) (fault : CheckFault)
     → statement ≡ stmt.For number loop_number place control first first_fits direction last last_fits body
-    → Walks (enter number) old before entered between tt → Walks (value_walk first) entered between begun middle from
-    → IsBreachOf (value_walk last (context_of begun) (viewed begun.flow.state)) fault → Goes (statement_walk statement) old before (Err fault) new after
+    → Does (enter number) old before entered between tt → Does (value_walk first) entered between begun middle from
+    → Stops (value_walk last) begun fault → Goes (statement_walk statement) old before (Err fault) new after
 for-last_stopped statement number loop_number place control first first_fits direction last last_fits body from old entered begun new before between middle
     after fault is one two stopped =
     let walked = λ (from to : Known). for_walk loop_number place (statement_walk body.value)
@@ -105,37 +106,36 @@ left_undefined way = over_change way.control None (with_undefined way.control)
 -- where there are values and where there are none, and behind both
 pub for-done : (number : ℕ) (place : SourcePlace) (body : Walking (Unit {0})) (way : Way) (never : Kept) (old taken mid new : Walk) (before after : Visits)
     (result : Result (Unit {0}) CheckFault)
-    → Parts (counting true way) (counting false way) old (Ok never) taken → Walks (for_turns number place body way) taken before mid after tt
+    → Parts (counting true way) (counting false way) old (Ok never) taken → Does (for_turns number place body way) taken before mid after tt
     → Moves (λ state. left_undefined way (joined_states state (viewed never))) mid result new
     → Goes (for_walk number place body way) old before result new after
-for-done number place body way never old taken mid new before after (Ok value) parts one left =
+for-done number place body way never old taken mid new before after (Ok value) parts turned left = λ ready.
     let turns = for_turns number place body way in
     let first : Walked (Unit {0}) = turns (context_of old) (counting true way (viewed old.flow.state)) in
     let same = moved-same turns (counting true way (viewed old.flow.state)) old taken parts.0 in
+    let one = turned (moved-loops (counting true way (viewed old.flow.state)) old taken parts.0 ready) in
     let undefined = left_undefined way in
     record {
       context_is = ap context_of left.only_state ∙ one.context_is ∙ ap context_of parts.0.only_state;
-      flows = record {
-        rows_are = ap (λ (w : Walk). w.flow.rows) left.only_state ∙ one.flows.rows_are ∙ ap (λ (w : Walk). w.flow.rows) parts.0.only_state;
-        value_is = refl;
-        state_is = left.says ∙ ap (λ s. undefined (joined_states s (viewed never))) (one.flows.state_is ∙ ap (λ w. w.after) same)
-            ∙ ap (λ s. undefined (joined_states first.after s)) parts.1;
-        open_is = ap (λ (w : Walk). w.flow.open_ids.items) left.only_state ∙ one.flows.open_is
-            ∙ ap (λ (w : Walk). w.flow.open_ids.items ++ (turns (context_of taken) (viewed taken.flow.state)).open_ids) parts.0.only_state
-            ∙ ap (λ w. old.flow.open_ids.items ++ w.open_ids) same
-            ∙ ap (λ ids. old.flow.open_ids.items ++ ids) (sym (append-nil first.open_ids) ∙ sym (append-nil (first.open_ids ++ [])));
-        visits_are = one.flows.visits_are ∙ ap (λ w. all_counted (numbers_of w.linked) before) same
-            ∙ ap (λ linked. all_counted (numbers_of linked) before) (sym (append-nil first.linked) ∙ sym (append-nil (first.linked ++ [])));
-        unbroken = append-nil (first.broken ++ []) ∙ append-nil first.broken ∙ ap (λ w. w.broken) (sym same) ∙ one.flows.unbroken;
-      };
+      aliases_are = ap (λ (w : Walk). w.aliases.now) left.only_state ∙ one.aliases_are ∙ ap (λ (w : Walk). w.aliases.now) parts.0.only_state;
+      value_is = refl;
+      state_is = left.says ∙ ap (λ s. undefined (joined_states s (viewed never))) (one.state_is ∙ ap (λ w. w.after) same)
+          ∙ ap (λ s. undefined (joined_states first.after s)) parts.1;
+      open_is = ap (λ (w : Walk). w.flow.open_ids.items) left.only_state ∙ one.open_is
+          ∙ ap (λ (w : Walk). w.flow.open_ids.items ++ (turns (context_of taken) (viewed taken.flow.state)).open_ids) parts.0.only_state
+          ∙ ap (λ w. old.flow.open_ids.items ++ w.open_ids) same
+          ∙ ap (λ ids. old.flow.open_ids.items ++ ids) (sym (append-nil first.open_ids) ∙ sym (append-nil (first.open_ids ++ [])));
+      visits_are = one.visits_are ∙ ap (λ w. all_counted (numbers_of w.linked) before) same
+          ∙ ap (λ linked. all_counted (numbers_of linked) before) (sym (append-nil first.linked) ∙ sym (append-nil (first.linked ++ [])));
+      unbroken = append-nil (first.broken ++ []) ∙ append-nil first.broken ∙ ap (λ w. w.broken) (sym same) ∙ one.unbroken;
     }
-for-done number place body way never old taken mid new before after (Err fault) parts one left =
+for-done number place body way never old taken mid new before after (Err fault) parts turned left = λ ready.
     subst (IsBreachOf (for_walk number place body way (context_of old) (viewed old.flow.state))) (sym left) tt
 
 pub for-stopped : (number : ℕ) (place : SourcePlace) (body : Walking (Unit {0})) (way : Way) (never : Kept) (old taken new : Walk) (before after : Visits)
     (fault : CheckFault)
     → Parts (counting true way) (counting false way) old (Ok never) taken
-    → IsBreachOf (for_turns number place body way (context_of taken) (viewed taken.flow.state)) fault
+    → Stops (for_turns number place body way) taken fault
     → Goes (for_walk number place body way) old before (Err fault) new after
 for-stopped number place body way never old taken new before after fault parts is =
     let turns = for_turns number place body way in
@@ -151,24 +151,23 @@ module _ (way : Way) (body : Walking (Unit {0})) (old begun : Walk) (moved : IsM
   same : body (context_of begun) (viewed begun.flow.state) ≡ was
   same = moved-same body (over_variables (turn_begun way) (viewed old.flow.state)) old begun moved
 
-  pub for_round-done : (bodied new : Walk) (before after : Visits) (behind : Kept) → Walks body begun before bodied after tt
+  pub for_round-done : (bodied new : Walk) (before after : Visits) (behind : Kept) → Does body begun before bodied after tt
       → Parts (over_change way.control (next way) (turn_ended way)) (over_bound way.control way.last.form (way_out way)) bodied (Ok behind) new
-      → Walks (for_round way body) old before new after (viewed behind)
-  for_round-done bodied new before after behind one parts =
-      let after_is = one.flows.state_is ∙ ap (λ w. w.after) same in
+      → Does (for_round way body) old before new after (viewed behind)
+  for_round-done bodied new before after behind done parts = λ ready.
+      let one = done (moved-loops (over_variables (turn_begun way) (viewed old.flow.state)) old begun moved ready) in
+      let after_is = one.state_is ∙ ap (λ w. w.after) same in
       record {
         context_is = ap context_of parts.0.only_state ∙ one.context_is ∙ ap context_of moved.only_state;
-        flows = record {
-          rows_are = ap (λ (w : Walk). w.flow.rows) parts.0.only_state ∙ one.flows.rows_are ∙ ap (λ (w : Walk). w.flow.rows) moved.only_state;
-          value_is = parts.1 ∙ ap (over_bound way.control way.last.form (way_out way)) after_is;
-          state_is = parts.0.says ∙ ap (over_change way.control (next way) (turn_ended way)) after_is;
-          open_is = ap (λ (w : Walk). w.flow.open_ids.items) parts.0.only_state ∙ one.flows.open_is
-              ∙ ap (λ (w : Walk). w.flow.open_ids.items ++ (body (context_of begun) (viewed begun.flow.state)).open_ids) moved.only_state
-              ∙ ap (λ w. old.flow.open_ids.items ++ w.open_ids) same ∙ ap (λ ids. old.flow.open_ids.items ++ ids) (sym (append-nil was.open_ids));
-          visits_are = one.flows.visits_are ∙ ap (λ w. all_counted (numbers_of w.linked) before) same
-              ∙ ap (λ linked. all_counted (numbers_of linked) before) (sym (append-nil was.linked));
-          unbroken = append-nil was.broken ∙ ap (λ w. w.broken) (sym same) ∙ one.flows.unbroken;
-        };
+        aliases_are = ap (λ (w : Walk). w.aliases.now) parts.0.only_state ∙ one.aliases_are ∙ ap (λ (w : Walk). w.aliases.now) moved.only_state;
+        value_is = parts.1 ∙ ap (over_bound way.control way.last.form (way_out way)) after_is;
+        state_is = parts.0.says ∙ ap (over_change way.control (next way) (turn_ended way)) after_is;
+        open_is = ap (λ (w : Walk). w.flow.open_ids.items) parts.0.only_state ∙ one.open_is
+            ∙ ap (λ (w : Walk). w.flow.open_ids.items ++ (body (context_of begun) (viewed begun.flow.state)).open_ids) moved.only_state
+            ∙ ap (λ w. old.flow.open_ids.items ++ w.open_ids) same ∙ ap (λ ids. old.flow.open_ids.items ++ ids) (sym (append-nil was.open_ids));
+        visits_are = one.visits_are ∙ ap (λ w. all_counted (numbers_of w.linked) before) same
+            ∙ ap (λ linked. all_counted (numbers_of linked) before) (sym (append-nil was.linked));
+        unbroken = append-nil was.broken ∙ ap (λ w. w.broken) (sym same) ∙ one.unbroken;
       }
 
 -- the tests of both bounds
@@ -203,39 +202,39 @@ module _ (place : SourcePlace) (way : Way) (old : Walk) where
       goes-here (tested_way place way) (tested_end start way.first >>= from_first) old new visits visits result refl one
 
   pub tests-first : (new : Walk) (visits : Visits) (fault : CheckFault) (range : Interval) → range ≡ met way.first.form start.variables way.first.values
-      → IsBreachOf (first_test range (context_of old) start) fault → Goes {A = Way} (tested_way place way) old visits (Err fault) new visits
+      → Stops (first_test range) old fault → Goes {A = Way} (tested_way place way) old visits (Err fault) new visits
   tests-first new visits fault range is stopped =
       tests-go new visits (Err fault)
       (goes-stopped (tested_end start way.first) from_first old new visits visits fault
-      (subst (λ r. IsBreachOf (first_test r (context_of old) start) fault) is stopped))
+      (subst (λ r. Stops (first_test r) old fault) is stopped))
 
   module _ (one : Walk) (visits : Visits) (first_range last_range first : Interval)
       (first_is : first_range ≡ met way.first.form start.variables way.first.values)
-      (last_is : last_range ≡ met way.last.form start.variables way.last.values) (passed : Walks (first_test first_range) old visits one visits first) where
+      (last_is : last_range ≡ met way.last.form start.variables way.last.values) (passed : Does (first_test first_range) old visits one visits first) where
     first-goes : (new : Walk) (result : Result Way CheckFault) → Goes (from_first first) one visits result new visits
         → Goes (tested_way place way) old visits result new visits
     first-goes new result then =
         tests-go new visits result
         (goes-then (tested_end start way.first) from_first old one new visits visits visits first result
-        (subst (λ r. Walks (first_test r) old visits one visits first) first_is passed) then)
+        (subst (λ r. Does (first_test r) old visits one visits first) first_is passed) then)
 
-    pub last-stopped : (new : Walk) (fault : CheckFault) → IsBreachOf (last_test last_range (context_of one) (viewed one.flow.state)) fault
+    pub last-stopped : (new : Walk) (fault : CheckFault) → Stops (last_test last_range) one fault
         → Goes {A = Way} (tested_way place way) old visits (Err fault) new visits
     last-stopped new fault stopped =
         first-goes new (Err fault)
         (goes-stopped (tested_end start way.last) (from_last first) one new visits visits fault
-        (subst (λ r. IsBreachOf (last_test r (context_of one) (viewed one.flow.state)) fault) last_is stopped))
+        (subst (λ r. Stops (last_test r) one fault) last_is stopped))
 
-    module _ (two : Walk) (last : Interval) (passed_too : Walks (last_test last_range) one visits two visits last) where
+    module _ (two : Walk) (last : Interval) (passed_too : Does (last_test last_range) one visits two visits last) where
       last-goes : (new : Walk) (result : Result Way CheckFault) → Goes (from_last first last) two visits result new visits
           → Goes (tested_way place way) old visits result new visits
       last-goes new result then =
           first-goes new result
           (goes-then (tested_end start way.last) (from_last first) one two new visits visits visits last result
-          (subst (λ r. Walks (last_test r) one visits two visits last) last_is passed_too) then)
+          (subst (λ r. Does (last_test r) one visits two visits last) last_is passed_too) then)
 
       pub control-stopped : (new : Walk) (fault : CheckFault)
-          → IsBreachOf (control_change place way.control way.first.fits.range way.last.fits.range (context_of two) (viewed two.flow.state)) fault
+          → Stops (control_change place way.control way.first.fits.range way.last.fits.range) two fault
           → Goes {A = Way} (tested_way place way) old visits (Err fault) new visits
       control-stopped new fault stopped =
           last-goes new (Err fault)
@@ -243,13 +242,14 @@ module _ (place : SourcePlace) (way : Way) (old : Walk) where
           visits fault stopped)
 
       pub tests-done : (new : Walk) (tested : Way) → tested ≡ with_values first last way
-          → Walks (control_change place way.control way.first.fits.range way.last.fits.range) two visits new visits tt
-          → Walks (tested_way place way) old visits new visits tested
+          → Does (control_change place way.control way.first.fits.range way.last.fits.range) two visits new visits tt
+          → Does (tested_way place way) old visits new visits tested
       tests-done new tested is done =
           last-goes new (Ok tested)
           (goes-then (control_change place way.control way.first.fits.range way.last.fits.range) (λ _. give (with_values first last way)) two new new visits
           visits visits tt (Ok tested) done
-          (subst (λ t. Walks (give (with_values first last way)) new visits new visits t) (sym is) (walks-give (with_values first last way) new visits)))
+          (subst (λ t. Does (give (with_values first last way)) new visits new visits t) (sym is)
+          (λ ready. walks-give (with_values first last way) new visits)))
 
 -- from the tests on
 module _ (number : ℕ) (place : SourcePlace) (body : Walking (Unit {0})) (way : Way) (old : Walk) where
@@ -257,13 +257,13 @@ module _ (number : ℕ) (place : SourcePlace) (body : Walking (Unit {0})) (way :
   from_tests tested = assign tested.control tested.first.form (Ordinal tested.first.values) >>= λ _. rounds_of number place body tested
 
   pub turns-not_tested : (new : Walk) (before after : Visits) (fault : CheckFault)
-      → IsBreachOf (tested_way place way (context_of old) (viewed old.flow.state)) fault
+      → Stops (tested_way place way) old fault
       → Goes (for_turns number place body way) old before (Err fault) new after
   turns-not_tested new before after fault stopped = goes-stopped (tested_way place way) from_tests old new before after fault stopped
 
-  module _ (one : Walk) (before : Visits) (tested : Way) (done : Walks (tested_way place way) old before one before tested) where
+  module _ (one : Walk) (before : Visits) (tested : Way) (done : Does (tested_way place way) old before one before tested) where
     pub turns-not_begun : (new : Walk) (after : Visits) (fault : CheckFault)
-        → IsBreachOf (assign tested.control tested.first.form (Ordinal tested.first.values) (context_of one) (viewed one.flow.state)) fault
+        → Stops (assign tested.control tested.first.form (Ordinal tested.first.values)) one fault
         → Goes (for_turns number place body way) old before (Err fault) new after
     turns-not_begun new after fault stopped =
         goes-then (tested_way place way) from_tests old one new before before after tested (Err fault) done
@@ -271,7 +271,7 @@ module _ (number : ℕ) (place : SourcePlace) (body : Walking (Unit {0})) (way :
         fault stopped)
 
     pub turns-done : (two new : Walk) (after : Visits) (result : Result (Unit {0}) CheckFault)
-        → Walks (assign tested.control tested.first.form (Ordinal tested.first.values)) one before two before tt
+        → Does (assign tested.control tested.first.form (Ordinal tested.first.values)) one before two before tt
         → Goes (rounds_of number place body tested) two before result new after → Goes (for_turns number place body way) old before result new after
     turns-done two new after result begun rounds =
         goes-then (tested_way place way) from_tests old one new before before after tested result done
@@ -281,21 +281,23 @@ module _ (number : ℕ) (place : SourcePlace) (body : Walking (Unit {0})) (way :
 -- the rounds of a for are its loop
 pub rounds-go : (number : ℕ) (place : SourcePlace) (body : Walking (Unit {0})) (way steady : Way) (old new : Walk) (before after : Visits)
     (result : Result (Unit {0}) CheckFault)
-    → steady ≡ steady_in (context_of old) number way → Goes (loop_walk number place (Some way.control) (for_round steady body)) old before result new after
+    → (AreLoops (context_of old) old.aliases.now → steady ≡ steady_in (context_of old) number way)
+    → Goes (loop_walk number place (Some way.control) (for_round steady body)) old before result new after
     → Goes (rounds_of number place body way) old before result new after
-rounds-go number place body way steady old new before after result is goes =
+rounds-go number place body way steady old new before after result is goes = λ ready.
     goes-here (rounds_of number place body way)
     (loop_walk number place (Some way.control) (for_round (steady_in (context_of old) number way) body)) old new before
     after result refl
-    (subst (λ s. Goes (loop_walk number place (Some way.control) (for_round s body)) old before result new after) is goes)
+    (subst (λ s. Goes (loop_walk number place (Some way.control) (for_round s body)) old before result new after) (is ready) goes) ready
 
 abbrev made : ℕ → Direction → (first last : End) → Way
 made control direction first last = record { control = control; direction = direction; first = first; last = last }
 
 -- the way of two bounds
 pub way-same : (control : ℕ) (direction : Direction) (first last : Expr) (first_fits last_fits : RangeTest) (from to : Known) (one other : End)
-    → one ≡ end_of first first_fits from → other ≡ end_of last last_fits to
+    → one ≡ record (end_of first first_fits from) { form = form_before first last } → other ≡ end_of last last_fits to
     → ◌≡◌ {A = Way} (record { control = control; direction = direction; first = one; last = other })
     (way_of control direction first first_fits last last_fits from to)
 way-same control direction first last first_fits last_fits from to one other first_is last_is =
-    ap (λ (e : End). made control direction e other) first_is ∙ ap (made control direction (end_of first first_fits from)) last_is
+    ap (λ (e : End). made control direction e other) first_is
+    ∙ ap (made control direction (record (end_of first first_fits from) { form = form_before first last })) last_is

@@ -3,9 +3,8 @@ use Rattle.std.proofs.Common.{arith, ◌≡◌, refl, sym, subst, ap, ◌∙◌,
 use Rattle.std.proofs.Common.{append_assoc, Option, Some, None, Result, length, drop, get_or, nat_eq}
 use Rattle.std.specs.Prelude.{slice_get}
 use Rattle.std.specs.Bool.{◌==◌}
-use Rattle.std.specs.List.{list_all, range_with_len}
+use Rattle.std.specs.List.{range_with_len}
 use Rattle.std.proofs.lemmas.Bool.{eqb-true}
-use Rattle.std.proofs.lemmas.List.Folds.{list_all-map}
 use Rattle.std.proofs.lemmas.Option.{none-some, same_Some}
 use Rattle.place.specs.declared.Place.{Place as SourcePlace}
 use Rattle.types.specs.declared.form.TypeId.{TypeId}
@@ -20,50 +19,57 @@ use Rattle.abstract_state.specs.declared.known.Known.{Known}
 use Rattle.abstract_state.specs.declared.known.Known.TheVariants.{Ordinal}
 use Rattle.abstract_state.specs.State.{limits_of}
 use Rattle.abstract_state.specs.Conditions.{bound_form}
-use Rattle.abstract_state.specs.Loops.{is_among}
 use Rattle.leaf_rows.specs.Rows.{rows_accessed, rows_of}
 use Rattle.component_states.specs.Components.{Reach, all_stored, stored}
 use Rattle.component_states.specs.States.{State, over_components}
 use Rattle.component_states.specs.View.{viewed}
-use Rattle.structured_states.specs.Loops.{Round, all_list}
-use Rattle.structured_states.specs.View.{kept_round}
 use Rattle.structured_states.proofs.Claims.{item-cut}
 use Rattle.structured_states.proofs.Rowed.{rows_to, rows-next}
 use Rattle.expression_checker.specs.declared.fault.CheckFault.{CheckFault}
 use Rattle.expression_checker.specs.Visits.{Visits}
-use Rattle.expression_checker.specs.Walk.{◌>>=◌, access_walk, fitting, index_pieces, value_walk, whole_walk}
+use Rattle.typed_tree.specs.Calls.{holds_call, whole_holds_call}
+use Rattle.expression_checker.specs.Walk.{◌>>=◌, access_walk, fits_whole, fitting, index_pieces, value_walk, whole_walk}
 use Rattle.cert_checker.specs.declared.walk.Walk.{Walk}
-use Rattle.cert_checker.specs.View.{Goes, Walks, context_of}
-use Rattle.cert_checker.specs.Walk.{Stores, alike, assign, assign_component, assign_to, assignment, change, copy_to, copying, fits_whole, paired, store_to}
-use Rattle.cert_checker.proofs.Steps.{goes-here, goes-then}
+use Rattle.cert_checker.specs.View.{Goes, context_of}
+use Rattle.cert_checker.specs.Walk.{Stores, alike, assign, assign_component, assign_to, assignment, change, copy_to, copying, paired, reach_before, store_to}
+use Rattle.cert_checker.proofs.Steps.{Does, goes-here, goes-then}
 
 -- an assignment from the access of its target on
-pub assignment-done : (becomes : SourcePlace) (target : Access) (indexes : List Expr) (fits : RangeTest) (value : Expr) (values : Interval) (reach : Reach)
-    (old reached valued : Walk) (before entries after : Visits) (known : Known) (result : Result (Unit {0}) CheckFault) (new : Walk)
-    → values ≡ limits_of fits.range
-    → Walks (access_walk target (index_pieces indexes)) old before reached entries reach → Walks (value_walk value) reached entries valued after known
-    → Goes (fitting fits known >>= assign_to becomes target.root target.selectors.items reach values (bound_form value)) valued after result new after
+pub assignment-done : (becomes : SourcePlace) (target : Access) (indexes : List Expr) (fits : RangeTest) (value : Expr) (values : Interval)
+    (reach before_value : Reach) (old reached valued : Walk) (before entries after : Visits) (known : Known) (result : Result (Unit {0}) CheckFault)
+    (new : Walk)
+    → values ≡ limits_of fits.range → before_value ≡ reach_before (holds_call value) reach
+    → Does (access_walk target (index_pieces indexes)) old before reached entries reach → Does (value_walk value) reached entries valued after known
+    → Goes (fitting fits known >>= assign_to becomes target.root target.selectors.items before_value values (bound_form value)) valued after result new after
     → Goes (assignment becomes target (index_pieces indexes) fits value) old before result new after
-assignment-done becomes target indexes fits value values reach old reached valued before entries after known result new is one two three =
+assignment-done becomes target indexes fits value values reach before_value old reached valued before entries after known result new is before_is one two
+    three =
     let stored = λ (values : Interval) (reach : Reach) (known : Known).
     fitting fits known >>= assign_to becomes target.root target.selectors.items reach values (bound_form value) in
-    let rest = λ (reach : Reach). value_walk value >>= stored (limits_of fits.range) reach in
+    let rest = λ (reach : Reach). value_walk value >>= stored (limits_of fits.range) (reach_before (holds_call value) reach) in
     goes-then (access_walk target (index_pieces indexes)) rest old reached new before entries after reach result one
-    (goes-then (value_walk value) (stored (limits_of fits.range) reach) reached valued new entries after after known result two
-    (subst (λ (v : Interval). Goes (stored v reach known) valued after result new after) is three))
+    (goes-then (value_walk value) (stored (limits_of fits.range) (reach_before (holds_call value) reach)) reached valued new entries after after known result
+    two
+    (subst (λ (v : Interval). Goes (stored v (reach_before (holds_call value) reach) known) valued after result new after) is
+    (subst (λ (r : Reach). Goes (stored values r known) valued after result new after) before_is three)))
 
 -- an assignment of a whole value from the access of its target on
 pub copying-done : (becomes : SourcePlace) (target : Access) (indexes : List Expr) (type_id : TypeId) (value : Whole) (value_indexes : List Expr)
-    (reach : Reach) (old reached valued : Walk) (before entries after : Visits) (ranges : List Interval) (result : Result (Unit {0}) CheckFault) (new : Walk)
-    → Walks (access_walk target (index_pieces indexes)) old before reached entries reach
-    → Walks (whole_walk value (index_pieces value_indexes)) reached entries valued after ranges
-    → Goes (copy_to becomes target.root target.selectors.items reach type_id value ranges) valued after result new after
-    → Goes (copying becomes target (index_pieces indexes) type_id value (index_pieces value_indexes)) old before result new after
-copying-done becomes target indexes type_id value value_indexes reach old reached valued before entries after ranges result new one two three =
+    (reach before_value : Reach) (old reached valued : Walk) (before entries after : Visits) (ranges : List Interval)
+    (result : Result (Unit {0}) CheckFault) (new : Walk)
+    → before_value ≡ reach_before (whole_holds_call value value_indexes) reach
+    → Does (access_walk target (index_pieces indexes)) old before reached entries reach
+    → Does (whole_walk value (index_pieces value_indexes)) reached entries valued after ranges
+    → Goes (copy_to becomes target.root target.selectors.items before_value type_id value ranges) valued after result new after
+    → Goes (copying becomes target (index_pieces indexes) type_id value value_indexes) old before result new after
+copying-done becomes target indexes type_id value value_indexes reach before_value old reached valued before entries after ranges result new before_is one two
+    three =
     let stored = λ (reach : Reach) (ranges : List Interval). copy_to becomes target.root target.selectors.items reach type_id value ranges in
-    let rest = λ (reach : Reach). whole_walk value (index_pieces value_indexes) >>= stored reach in
+    let rest = λ (reach : Reach). whole_walk value (index_pieces value_indexes) >>= stored (reach_before (whole_holds_call value value_indexes) reach) in
     goes-then (access_walk target (index_pieces indexes)) rest old reached new before entries after reach result one
-    (goes-then (whole_walk value (index_pieces value_indexes)) (stored reach) reached valued new entries after after ranges result two three)
+    (goes-then (whole_walk value (index_pieces value_indexes)) (stored (reach_before (whole_holds_call value value_indexes) reach)) reached valued new entries
+    after after ranges result two
+    (subst (λ (r : Reach). Goes (stored r ranges) valued after result new after) before_is three))
 
 -- an access without selectors is to an entire variable
 pub assigned-entire : (place : SourcePlace) (root : ℕ) (selectors : List Selector) (reach : Reach) (values : Interval) (form : Option Bound) (passed : Known)
@@ -80,7 +86,8 @@ assigned-component place root [] reach values form passed is = cc
 assigned-component place root (selector ∷ selectors) reach values form passed is = refl
 
 module _ (place : SourcePlace) (root : ℕ) (selectors : List Selector) (reach : Reach) (rows : List ℕ) (stores : Stores) (old new : Walk) (visits : Visits)
-    (result : Result (Unit {0}) CheckFault) (rows_are : rows ≡ rows_accessed (rows_of old.flow.rows.now) root selectors) where
+    (result : Result (Unit {0}) CheckFault)
+    (rows_are : rows ≡ rows_accessed (rows_of (context_of old).tree) root selectors) where
   -- a value is stored to the rows that are accessed
   pub component-goes : (passed : Known) (range : Interval) → passed ≡ Ordinal range → stores ≡ alike range rows
       → Goes (store_to place root reach true stores) old visits result new visits
@@ -93,11 +100,11 @@ module _ (place : SourcePlace) (root : ℕ) (selectors : List Selector) (reach :
 
   -- so are the components of a whole value
   pub copy-goes : (type_id : TypeId) (value : Whole) (ranges : List Interval) (fits : Bool)
-      → fits ≡ (fits_whole old.flow.rows.now.types type_id value && nat_eq (length rows) (length ranges)) → stores ≡ paired rows ranges
+      → fits ≡ (fits_whole (context_of old).tree.types type_id value && nat_eq (length rows) (length ranges)) → stores ≡ paired rows ranges
       → Goes (store_to place root reach fits stores) old visits result new visits
       → Goes (copy_to place root selectors reach type_id value ranges) old visits result new visits
   copy-goes type_id value ranges fits fits_is stores_are goes =
-      let may = fits_whole old.flow.rows.now.types type_id value in
+      let may = fits_whole (context_of old).tree.types type_id value in
       goes-here (copy_to place root selectors reach type_id value ranges) (store_to place root reach fits stores) old new visits visits result
       (ap (λ r. store_to place root reach (may && nat_eq (length r) (length ranges)) (paired r ranges) (context_of old) (viewed old.flow.state)) (sym rows_are)
       ∙ ap (λ f. store_to place root reach f (paired rows ranges) (context_of old) (viewed old.flow.state)) (sym fits_is)
@@ -169,8 +176,3 @@ paired-past first row last ranges made more behind is more_is =
     ap (λ m. m ++ paired_to first (row + 1) last ranges) more_is
     ∙ ap (λ left. made ++ paired (rows_to (row + 1) last) left) past ∙ ap (λ l. made ++ l) (paired-none (rows_to (row + 1) last))
     ∙ ap (λ l. made ++ l) (sym (paired-none (rows_to row last))) ∙ ap (λ left. made ++ paired (rows_to row last) left) (sym none)
-
--- each loop round the walk lists a variable
-pub listed-same : (root : ℕ) (walk : Walk) (listed : Bool) → listed ≡ list_all (λ round. is_among root (kept_round round).changes) walk.rounds.items
-    → listed ≡ all_list root (context_of walk).rounds
-listed-same root walk listed is = is ∙ sym (list_all-map (λ (round : Round). is_among root round.changes) kept_round walk.rounds.items)

@@ -1,9 +1,9 @@
 -- What an access reaches of the rows under it, where numbers are stored to the components of a type there.
-use Rattle.std.proofs.Common.{arith, ◌≡◌, ⊎_elim, ◌∙◌, sym, ap, refl, subst, ℕ, zero, suc, ◌<◌, ℤ, true, List, [], ◌∷◌, ◌++◌, Some}
+use Rattle.std.proofs.Common.{arith, ◌≡◌, ⊎_elim, ◌∙◌, sym, ap, refl, subst, ℕ, suc, ℤ, true, List, [], ◌∷◌, ◌++◌, Some}
 use Rattle.std.proofs.Common.{length}
 use Rattle.std.specs.Prelude.{slice_get}
 use Rattle.std.specs.List.{Contains}
-use Rattle.std.proofs.lemmas.Option.{get_or_from_slice_get, slice_get-get_or, slice_get_within}
+use Rattle.std.proofs.lemmas.Option.{slice_get-get_or}
 use Rattle.types.specs.Components.{components_of}
 use Rattle.types.specs.declared.form.Step.{Step}
 use Rattle.types.specs.declared.form.Step.TheVariants as step
@@ -19,23 +19,16 @@ use Rattle.leaf_rows.specs.Rows.{all_parts, first_index, is_structured, rows_acc
 use Rattle.component_states.specs.Components.{At, Entire, Inside, Reach}
 use Rattle.component_states.specs.Holds.{IsOfRow}
 use Rattle.component_states.specs.Laws.{IsReach, IsReached}
+use Rattle.expression_checker.proofs.Fitting.{contains-at}
 use Rattle.expression_checker.proofs.SoundRows.{IsReachedBy, LieIn, Matches, RowsAre, first-then, one-way}
 use Rattle.cert_checker.specs.Walk.{Stores, alike, paired}
 use Rattle.cert_checker.proofs.SoundStores.{AreReached, AreTargets, IsFormed, bound-once}
-use Rattle.cert_checker.proofs.Stored.{Pairs, at-head, head-or_tail, in-tail}
+use Rattle.call_states.proofs.AliasedStores.{Pairs, at-head, head-or_tail, in-tail}
 
 -- ---- lists
 
-pub contains-at : {X : Type 0} (xs : List X) (k : ℕ) (x : X) → slice_get xs k ≡ Some x → Contains xs x
-contains-at xs k x is = (k, slice_get_within xs k x is, get_or_from_slice_get xs k x x is)
-
 pub at-contained : {X : Type 0} (xs : List X) (x : X) → Contains xs x → (k : ℕ) × (slice_get xs k ≡ Some x)
 at-contained xs x (k, within, is) = (k, slice_get-get_or xs k x within ∙ ap (λ (y : _). Some y) is)
-
-pub some-at : {X : Type 0} (xs : List X) (k : ℕ) → k < length xs → (x : X) × (slice_get xs k ≡ Some x)
-some-at [] k within = absurd (omega arith)
-some-at (x ∷ xs) zero within = (x, refl)
-some-at (x ∷ xs) (suc k) within = some-at xs k (omega (arith, within))
 
 -- ---- components with numbers
 

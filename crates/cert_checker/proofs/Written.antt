@@ -1,83 +1,212 @@
--- What a run leaves that stores the numbers of components, one after another; and that the walk over such stores foretells it.
-use Rattle.std.proofs.Common.{◌≡◌, ◌∙◌, sym, ap, refl, subst, ℕ, ◌<◌, ℤ, Bool, true, ◌&&◌, length, List, [], ◌∷◌, ◌++◌, Option, Some}
-use Rattle.std.specs.List.{Contains}
+-- What a run leaves that stores a value, or the numbers of components one after another; and that the walk over such stores foretells it.
+use Rattle.std.proofs.Common.{arith, ◌≡◌, ⊎_elim, ◌∙◌, sym, ap, refl, subst, ℕ, ◌≤◌, ℤ, Bool, true, false, ◌&&◌, ◌||◌, length, List, [], ◌∷◌}
+use Rattle.std.proofs.Common.{◌++◌, Option, Some}
+use Rattle.std.specs.List.{Contains, list_all}
+use Rattle.std.specs.Prelude.{is_some, map, slice_get}
 use Rattle.std.proofs.lemmas.Bool.{and_parts}
-use Rattle.std.proofs.lemmas.List.Elements.{All-contains}
 use Rattle.types.specs.Components.{components_of}
 use Rattle.types.specs.declared.form.Step.{Step}
 use Rattle.types.specs.declared.form.TypeId.{TypeId}
 use Rattle.place.specs.declared.Place.{Place}
 use Rattle.typed_tree.specs.declared.tree.Selector.{Selector}
 use Rattle.typed_tree.specs.declared.tree.Tree.{Tree}
-use Rattle.domain.specs.Interval.{HasMember, Interval, is_included}
+use Rattle.typed_tree.specs.WellFormed.{of_one}
+use Rattle.domain.specs.Facts.{Bound}
+use Rattle.domain.specs.Interval.{HasMember, Interval}
 use Rattle.meaning.specs.declared.store.Value.TheVariants.{Number}
-use Rattle.meaning.specs.Store.{Environment, Place as StorePlace, Store, part}
+use Rattle.meaning.specs.Store.{Environment, Place as StorePlace, Store, part, written}
 use Rattle.meaning.specs.Effect as effect
-use Rattle.abstract_state.specs.Knows.{Shows}
-use Rattle.abstract_state.specs.State.{integer}
+use Rattle.abstract_state.specs.declared.known.Known.TheVariants.{Ordinal}
+use Rattle.abstract_state.specs.Holds.{IsIn}
+use Rattle.abstract_state.specs.Loops.{with_touched}
+use Rattle.abstract_state.specs.Knows.{IsKept, IsOfForm, moment}
 use Rattle.abstract_state.proofs.Apart.{part as part_at}
-use Rattle.abstract_state.proofs.Knows.{at-place, place_of}
-use Rattle.abstract_state.proofs.Looped.{turned-known}
-use Rattle.leaf_rows.specs.Rows.{is_structured, rows_accessed, rows_of}
-use Rattle.component_states.specs.Components.{Reach}
+use Rattle.leaf_rows.specs.Rows.{is_structured, rows_accessed, rows_of, values_at}
+use Rattle.component_states.specs.Components.{Reach, all_stored}
+use Rattle.component_states.specs.Holds.{Knows}
 use Rattle.component_states.specs.States.{State}
-use Rattle.structured_states.specs.Loops.{all_list, limits_at, row_limits}
+use Rattle.structured_states.specs.Loops.{Round, all_control, all_limits, all_list, limits_at}
+use Rattle.structured_states.specs.Pairs.{aliases_of}
+use Rattle.call_states.specs.Actuals.{lies_among}
+use Rattle.call_states.specs.Aliases.{reach_unless_alias, unless_alias, variable_values, with_aliases_stored}
+use Rattle.call_states.specs.Starts.{is_own}
+use Rattle.call_states.specs.Environments.{Fine, Proper}
+use Rattle.call_states.proofs.AliasedStores.{AreWritten, Pairs, aliases-apart, at-head, head-or_tail, in-tail, none-written}
+use Rattle.call_states.proofs.AliasedStores.{one-kept, one-written, written-then}
+use Rattle.call_states.proofs.AliasedTypes.{AreTyped, IsClosedIn, control-keeps, listed-keeps, written-begun, written-typed}
+use Rattle.expression_checker.specs.declared.fault.Rule.{Rule}
 use Rattle.expression_checker.specs.declared.fault.Rule.TheVariants.{Changes}
-use Rattle.expression_checker.specs.Walk.{Context, followed}
-use Rattle.expression_checker.proofs.Sound.{Good, Stands, World, good-give, good-then, good-weaker, nothing-new, parts_in, types_in, unbroken-left}
-use Rattle.expression_checker.proofs.Sound.{variables_in}
+use Rattle.expression_checker.specs.Walk.{Context, Walked, breach_unless, followed}
+use Rattle.expression_checker.specs.Walk as flow
+use Rattle.expression_checker.proofs.Keeping.{Keeps}
+use Rattle.expression_checker.proofs.Sound.{Any_value, Good, Here, IsForetold, World, good-give, good-then, good-weaker, nothing-new, parts_in}
+use Rattle.expression_checker.proofs.Sound.{types_in, unbroken-left, variables_in}
 use Rattle.expression_checker.proofs.SoundAccesses.{part-then}
-use Rattle.expression_checker.proofs.SoundRows.{AreIntegers, IsReachedBy, Matches, RowsAre}
+use Rattle.expression_checker.proofs.SoundRows.{IsReachedBy, Matches, RowsAre}
 use Rattle.cert_checker.specs.Walk as walk
 use Rattle.cert_checker.specs.Walk.{Stores}
-use Rattle.leaf_rows.proofs.Accessed.{components-inner, rows-apart}
-use Rattle.cert_checker.proofs.Keeping.{all-pass, listed-keeps}
-use Rattle.cert_checker.proofs.SoundLoops.{Foretold, kept-rule, type-limits}
-use Rattle.cert_checker.proofs.SoundStores.{AreTargets, parts-kept, parts-typed, stored-known}
-use Rattle.cert_checker.proofs.Stored.{AreWritten, Pairs, none-written, one-written, written-then}
-use Rattle.cert_checker.proofs.Targets.{contains-at, is-reach, zipped, zipped-at, zipped-reached}
+use Rattle.cert_checker.proofs.Changes.{assigned-knows, whole, whole-typed, whole-written}
+use Rattle.cert_checker.proofs.SoundStores.{AreTargets, made-knows, reached-unless, targets-typed}
+use Rattle.cert_checker.proofs.Targets.{is-reach, zipped, zipped-reached}
 
-module _ (world : World) (env : Environment) (shows : Shows (variables_in world) env) (root : ℕ) (within : root < variables_in world) where
-  -- ---- what a run leaves
+-- what a walk over a statement foretells
+abbrev pub Foretold : World → Environment → Context → Walked (Unit {0}) → Store → Unit {0} → Store → Type 0
+Foretold world env context walked start = IsForetold {A = Unit {0}} {B = Unit {0}} world env Any_value context walked start
 
-  abbrev Leaves : Pairs → Store → Unit {0} → Store → Type 0
-  Leaves pairs before done after = AreWritten env root pairs before after
+-- a rule that no breach speaks of is kept
+pub kept-rule : (kept : Bool) (rule : Rule) (place : Place) → breach_unless kept rule place ≡ [] → kept ≡ true
+kept-rule true rule place is = refl
+kept-rule false rule place is = absurd (cc)
 
-  one-left : (way rest : List Step) (place : Option StorePlace) → place ≡ part (env.variables root) way → (n : ℤ) (t : effect.State)
-      → Good world (Leaves ((way ++ rest, n) ∷ []) t.store) t.visited (effect.store (part place rest) (Number n) t)
-  one-left way rest place place_is n t =
-      let at : part place rest ≡ Some (part_at (place_of env root) (way ++ rest)) =
-      ap (λ (p : Option StorePlace). part p rest) place_is ∙ part-then (env.variables root) way rest
-      ∙ ap (λ (p : Option StorePlace). part p (way ++ rest)) (at-place (variables_in world) env shows root within) in
-      subst (λ (p : Option StorePlace). Good world (Leaves ((way ++ rest, n) ∷ []) t.store) t.visited (effect.store p (Number n) t)) (sym at)
-      (record {
-        errs = tt;
-        new = nothing-new world t.visited;
-        gives = one-written (variables_in world) env shows t.store root within (way ++ rest) n;
-      })
+module _ (world : World) (limits_are : world.limits ≡ all_limits world.tree) (block : ℕ) (env : Environment) where
+  abbrev aliases : ℕ → List ℕ
+  aliases root = aliases_of world.pairs root
 
-  pub all-left : (way : List Step) (place : Option StorePlace) → place ≡ part (env.variables root) way → (components : List (List Step)) (numbers : List ℤ)
-      (t : effect.State)
-      → Good world (Leaves (zipped way components numbers) t.store) t.visited (effect.store_all place components numbers t)
-  all-left way place place_is [] numbers t =
-      good-give {A = Unit {0}} world (Leaves [] t.store) tt t (none-written env root t.store)
-  all-left way place place_is (rest ∷ components) [] t =
-      good-give {A = Unit {0}} world (Leaves [] t.store) tt t (none-written env root t.store)
-  all-left way place place_is (rest ∷ components) (n ∷ numbers) t =
-      let pair : List Step × ℤ = (way ++ rest, n) in
-      let pairs = zipped way components numbers in
-      good-then world (Leaves (pair ∷ []) t.store) (Leaves (pair ∷ pairs) t.store) t.visited (effect.store (part place rest) (Number n) t)
-      (λ done. effect.store_all place components numbers) (one-left way rest place place_is n t)
-      (λ done u is first.
-      good-weaker world (Leaves pairs u.store) (Leaves (pair ∷ pairs) t.store) u.visited (effect.store_all place components numbers u)
-      (λ again w gives rest_left. written-then env root pair pairs t.store u.store w.store first rest_left)
-      (all-left way place place_is components numbers u))
+  closed-here : (context : Context) (state : State) (s : effect.State) → Here world block env context state s → (round : Round)
+      → Contains context.rounds round → IsClosedIn world.tree world.pairs block round
+  closed-here context state s here round inside =
+      subst (λ (b : ℕ). IsClosedIn world.tree world.pairs b round) here.block_is (here.stands.goes.closed round inside)
+
+  -- ---- the store of a value
+
+  module _ (root : ℕ) (home : StorePlace) (at : env.variables root ≡ Some home) where
+    assign-known : (n : ℤ) (range : Interval) (form : Option Bound) (context : Context) (state : State) (s : effect.State) (after : Store)
+        → Here world block env context state s → AreWritten env (aliases root) root (whole n) s.store after
+        → AreTyped world.tree env root (whole n) → HasMember range n → IsOfForm (moment env s.store) form (Number n)
+        → Knows (parts_in world) (variables_in world) env (walk.assign root form (Ordinal range) context state).after after
+    assign-known n range form context state s after here are typed inside of_form =
+        let goes = here.stands.goes in
+        let assigned = λ (tree : Tree) (pairs : List (ℕ × ℕ)).
+        walk.assigned_to root range (unless_alias (aliases_of pairs root) form)
+        (with_aliases_stored tree (aliases_of pairs root) (record { values = variable_values tree root; range = range } ∷ []) state) in
+        let K = λ (after_state : State). Knows (parts_in world) (variables_in world) env after_state after in
+        subst (λ (tree : Tree). K (assigned tree context.pairs)) (sym goes.tree_is)
+        (subst (λ (pairs : List (ℕ × ℕ)). K (assigned world.tree pairs)) (sym goes.pairs_are)
+        (assigned-knows world.tree world.pairs block s.activations env here.proper root home at n s.store after are typed range form state inside of_form
+        here.stands.known))
+
+    -- a value is assigned, and of the loops round it nothing else changes
+    assign-good : (n : ℤ) (range : Interval) (form : Option Bound) (context : Context) (state : State) (s : effect.State)
+        → Here world block env context state s → is_some (variable_values world.tree root) ≡ true → IsIn (limits_at world.limits root) (Number n)
+        → HasMember range n → IsOfForm (moment env s.store) form (Number n)
+        → ((after : Store) → IsKept env (root ∷ aliases root) [] s.store after → Keeps env context.rounds s.store after)
+        → Good world (Foretold world env context (walk.assign root form (Ordinal range) context state) s.store) s
+        (effect.store (env.variables root) (Number n) s)
+    assign-good n range form context state s here ordinal own inside of_form keeps =
+        let before = s.store in
+        let after = written before home (Number n) in
+        let apart = aliases-apart env world.pairs here.proper.separate root home at in
+        let are = whole-written env (aliases root) root home at apart before n in
+        let typed = whole-typed world.tree world.pairs block s.activations env here.proper root home at n ordinal
+        (subst (λ (limits : List Interval). IsIn (limits_at limits root) (Number n)) limits_are own) in
+        let P = Foretold world env context (walk.assign root form (Ordinal range) context state) before in
+        subst (λ (place : Option StorePlace). Good world P s (effect.store place (Number n) s)) (sym at)
+        (record {
+          errs = tt;
+          new = nothing-new world s.visited;
+          gives = record {
+            so = record {
+              tie = tt;
+              stands = record { goes = here.stands.goes; known = assign-known n range form context state s after here are typed inside of_form };
+              kept = keeps after (one-kept env (aliases root) root (whole n) before after are);
+            };
+            fine = record {
+              typed = written-typed world.tree env (aliases root) root (whole n) before after are typed here.fine.typed;
+              begun = written-begun world.tree env (aliases root) root (whole n) before after are s.activations home at (here.proper.begun root home at)
+                  here.fine.begun;
+            };
+            grown = omega arith;
+          };
+        })
+
+    -- to a variable that each loop round it lists
+    pub listed-good : (n : ℤ) (range : Interval) (form : Option Bound) (context : Context) (state : State) (s : effect.State)
+        → Here world block env context state s → is_some (variable_values world.tree root) ≡ true → IsIn (limits_at world.limits root) (Number n)
+        → HasMember range n → IsOfForm (moment env s.store) form (Number n) → all_list root context.rounds ≡ true
+        → Good world (Foretold world env context (walk.assign root form (Ordinal range) context state) s.store) s
+        (effect.store (env.variables root) (Number n) s)
+    listed-good n range form context state s here ordinal own inside of_form listed =
+        assign-good n range form context state s here ordinal own inside of_form
+        (λ after kept.
+        listed-keeps world.tree world.pairs block s.activations env here.proper root home at context.rounds (closed-here context state s here) s.store after
+        kept listed)
+
+    -- to one that controls a for statement in each
+    pub control-good : (n : ℤ) (range : Interval) (form : Option Bound) (context : Context) (state : State) (s : effect.State)
+        → Here world block env context state s → is_some (variable_values world.tree root) ≡ true → IsIn (limits_at world.limits root) (Number n)
+        → HasMember range n → IsOfForm (moment env s.store) form (Number n) → all_control root context.rounds ≡ true
+        → Good world (Foretold world env context (walk.assign root form (Ordinal range) context state) s.store) s
+        (effect.store (env.variables root) (Number n) s)
+    control-good n range form context state s here ordinal own inside of_form controls =
+        assign-good n range form context state s here ordinal own inside of_form
+        (λ after kept.
+        control-keeps world.tree world.pairs block s.activations env here.proper root home at context.rounds (closed-here context state s here) s.store after
+        kept controls)
+
+  -- ---- stores of components, one after another
+
+  module _ (root : ℕ) (home : StorePlace) (at : env.variables root ≡ Some home) (activations : ℕ)
+      (proper : Proper world.tree world.pairs block activations env) where
+    -- what a run leaves
+    abbrev Leaves : Pairs → Store → Unit {0} → Store → Type 0
+    Leaves pairs before done after = AreWritten env (aliases root) root pairs before after
+
+    one-left : (way rest : List Step) (place : Option StorePlace) → place ≡ part (env.variables root) way → (n : ℤ) (t : effect.State)
+        → AreTyped world.tree env root ((way ++ rest, n) ∷ []) → activations ≤ t.activations → Fine world.tree t
+        → Good world (Leaves ((way ++ rest, n) ∷ []) t.store) t (effect.store (part place rest) (Number n) t)
+    one-left way rest place place_is n t typed grown fine =
+        let pairs : Pairs = (way ++ rest, n) ∷ [] in
+        let there : part place rest ≡ Some (part_at home (way ++ rest)) =
+        ap (λ (p : Option StorePlace). part p rest) place_is ∙ part-then (env.variables root) way rest
+        ∙ ap (λ (p : Option StorePlace). part p (way ++ rest)) at in
+        let apart = aliases-apart env world.pairs proper.separate root home at in
+        let are = one-written env (aliases root) root home at apart t.store (way ++ rest) n in
+        let after = written t.store (part_at home (way ++ rest)) (Number n) in
+        let young = proper.begun root home at in
+        subst (λ (p : Option StorePlace). Good world (Leaves pairs t.store) t (effect.store p (Number n) t)) (sym there)
+        (record {
+          errs = tt;
+          new = nothing-new world t.visited;
+          gives = record {
+            so = are;
+            fine = record {
+              typed = written-typed world.tree env (aliases root) root pairs t.store after are typed fine.typed;
+              begun = written-begun world.tree env (aliases root) root pairs t.store after are t.activations home at (omega (arith, young, grown)) fine.begun;
+            };
+            grown = omega arith;
+          };
+        })
+
+    first-typed : (pair : List Step × ℤ) (pairs : Pairs) → AreTyped world.tree env root (pair ∷ pairs) → AreTyped world.tree env root (pair ∷ [])
+    first-typed pair pairs typed one place inside place_is =
+        ⊎_elim (λ same. typed one place (subst (Contains (pair ∷ pairs)) same (at-head pair pairs)) place_is)
+        (λ none. absurd (omega (arith, none.1))) (head-or_tail pair one [] inside)
+
+    pub all-left : (way : List Step) (place : Option StorePlace) → place ≡ part (env.variables root) way → (components : List (List Step)) (numbers : List ℤ)
+        (t : effect.State) → AreTyped world.tree env root (zipped way components numbers) → activations ≤ t.activations → Fine world.tree t
+        → Good world (Leaves (zipped way components numbers) t.store) t (effect.store_all place components numbers t)
+    all-left way place place_is [] numbers t typed grown fine =
+        good-give {A = Unit {0}} world (Leaves [] t.store) tt t fine (none-written env (aliases root) root t.store)
+    all-left way place place_is (rest ∷ components) [] t typed grown fine =
+        good-give {A = Unit {0}} world (Leaves [] t.store) tt t fine (none-written env (aliases root) root t.store)
+    all-left way place place_is (rest ∷ components) (n ∷ numbers) t typed grown fine =
+        let pair : List Step × ℤ = (way ++ rest, n) in
+        let pairs = zipped way components numbers in
+        good-then world (Leaves (pair ∷ []) t.store) (Leaves (pair ∷ pairs) t.store) t (effect.store (part place rest) (Number n) t)
+        (λ done. effect.store_all place components numbers) (one-left way rest place place_is n t (first-typed pair pairs typed) grown fine)
+        (λ done u is first.
+        let more = first.grown in
+        good-weaker world (Leaves pairs u.store) (Leaves (pair ∷ pairs) t.store) u (effect.store_all place components numbers u)
+        (λ again w gives rest_left.
+        written-then env (aliases root) root pair pairs t.store u.store w.store first.so rest_left.so home at)
+        (all-left way place place_is components numbers u
+        (λ one place inside place_is. typed one place (in-tail pair one pairs inside) place_is) (omega (arith, grown, more)) first.fine))
 
   -- ---- what the walk foretells of that
 
-  module _ (selectors : List Selector) (id : TypeId) (rows : RowsAre world.tree root selectors id) (reach : Reach) (way : List Step)
-      (matches : Matches selectors way) (numbers : List ℤ) (many : length (components_of (types_in world) id) ≡ length numbers)
-      (whole : AreIntegers numbers) where
+  module _ (root : ℕ) (home : StorePlace) (at : env.variables root ≡ Some home) (selectors : List Selector) (id : TypeId)
+      (rows : RowsAre world.tree root selectors id) (reach : Reach) (way : List Step) (matches : Matches selectors way) (numbers : List ℤ)
+      (many : length (components_of (types_in world) id) ≡ length numbers) where
     abbrev touched : List ℕ
     touched = rows_accessed (rows_of world.tree) root selectors
 
@@ -90,64 +219,68 @@ module _ (world : World) (env : Environment) (shows : Shows (variables_in world)
       pub are : (one : ℕ × Interval) → Contains stores one → Contains touched one.0
       pub targets : AreTargets (parts_in world) root pairs stores
 
-    pairs-whole : (pair : List Step × ℤ) → Contains pairs pair → HasMember integer pair.1
-    pairs-whole pair inside =
-        let at = zipped-at way (components_of (types_in world) id) numbers pair inside in
-        All-contains (HasMember integer) numbers pair.1 whole (contains-at numbers at.k pair.1 at.number_is)
+    stores-typed : (stores : Stores) → Fit stores → (context : Context) (state : State) (s : effect.State) → Here world block env context state s
+        → walk.are_typed context stores ≡ true → AreTyped world.tree env root pairs
+    stores-typed stores fit context state s here typed =
+        let lies = λ (tree : Tree). list_all (λ (one : ℕ × Interval). lies_among (values_at (rows_of tree) one.0) one.1) stores in
+        targets-typed world.tree world.pairs block s.activations env here.proper root home at pairs stores fit.targets
+        (subst (λ (tree : Tree). lies tree ≡ true) here.stands.goes.tree_is typed)
 
-    left-told : (stores : Stores) → Fit stores → (context : Context) (state : State) (before after : Store)
-        → all_list root context.rounds ≡ true
-        → ((one : ℕ × Interval) → Contains stores one → is_included one.1 (row_limits (rows_of world.tree) one.0) ≡ true)
-        → IsReachedBy env before selectors way reach → Stands world env context state before → AreWritten env root pairs before after
-        → Foretold world env context (walk.stores_made root reach stores context state) before tt after
-    left-told stores fit context state before after listed typed reached stands written =
-        let parts = parts_in world in
-        let inner = components-inner world.tree in
-        let apart = rows-apart world.tree in
-        let kept = parts-kept parts env root pairs stores before after fit.targets written in
-        let in_types = parts-typed parts env root pairs stores before after fit.targets written world.tree world.limits refl inner apart typed pairs-whole
-        stands.typed in
-        record {
-          tie = tt;
-          stands = record {
-            tree_is = stands.tree_is;
-            limits_are = stands.limits_are;
-            types_are = stands.types_are;
-            known = record {
-              variables = turned-known (variables_in world) env shows (limits_at context.limits) (root ∷ []) [] state.variables before after kept
-                  (λ r v among is. type-limits context.limits world.limits r v stands.limits_are (in_types.ranges r v is)) stands.known.variables;
-              components = stored-known parts inner apart (variables_in world) env root pairs stores before after fit.targets written state.variables
-                  stands.known.variables state.components stands.known.components reach
-                  (is-reach world.tree root selectors id rows env before way matches reach reached)
-                  (λ formed. zipped-reached world.tree root selectors id rows env before way matches numbers many fit.structured stores fit.are reach reached
-                  formed);
-            };
-            typed = in_types;
-          };
-          kept = listed-keeps env before after root context.rounds kept listed;
-        }
+    left-known : (stores : Stores) → Fit stores → (context : Context) (state : State) (s : effect.State) (after : Store)
+        → Here world block env context state s → AreTyped world.tree env root pairs → IsReachedBy env s.store selectors way reach
+        → AreWritten env (aliases root) root pairs s.store after
+        → Knows (parts_in world) (variables_in world) env (walk.stores_made root reach stores context state).after after
+    left-known stores fit context state s after here typed reached are =
+        let goes = here.stands.goes in
+        let own = aliases root in
+        let reached_own = reached-unless env s.store selectors way own reach reached in
+        let told = λ (tree : Tree). map (λ (one : ℕ × Interval). record { values = values_at (rows_of tree) one.0; range = one.1 }) stores in
+        let ready = λ (tree : Tree) (pairs : List (ℕ × ℕ)). with_aliases_stored tree (aliases_of pairs root) (told tree) state in
+        let made : Tree → List (ℕ × ℕ) → List Interval → State =
+        λ tree pairs limits. record {
+          variables = with_touched (limits_at limits) root (ready tree pairs).variables;
+          components = all_stored (ready tree pairs).variables (reach_unless_alias (aliases_of pairs root) reach) stores (ready tree pairs).components;
+        } in
+        let K = λ (after_state : State). Knows (parts_in world) (variables_in world) env after_state after in
+        subst (λ (tree : Tree). K (made tree context.pairs context.limits)) (sym goes.tree_is)
+        (subst (λ (pairs : List (ℕ × ℕ)). K (made world.tree pairs context.limits)) (sym goes.pairs_are)
+        (subst (λ (limits : List Interval). K (made world.tree world.pairs limits)) (sym (goes.limits_are ∙ limits_are))
+        (made-knows world.tree world.pairs block s.activations env here.proper root home at pairs stores fit.targets s.store after are typed here.fine.typed
+        reach (is-reach world.tree root selectors id rows env s.store way matches (reach_unless_alias own reach) reached_own)
+        (λ formed.
+        zipped-reached world.tree root selectors id rows env s.store way matches numbers many fit.structured stores fit.are (reach_unless_alias own reach)
+        reached_own formed)
+        state here.stands.known)))
 
     -- the stores of a walk, where they break no rule
     pub stores-good : (becomes : Place) (fits : Bool) (stores : Stores) → (fits ≡ true → Fit stores) → (context : Context) (state : State)
-        (t : effect.State) → IsReachedBy env t.store selectors way reach → (walk.store_to becomes root reach fits stores context state).broken ≡ []
-        → Stands world env context state t.store → (place : Option StorePlace) → place ≡ part (env.variables root) way
-        → Good world (Foretold world env context (walk.store_to becomes root reach fits stores context state) t.store) t.visited
-        (effect.store_all place (components_of (types_in world) id) numbers t)
-    stores-good becomes fits stores fit context state t reached unbroken stands place place_is =
-        let all = all_list root context.rounds in
+        (s : effect.State) → IsReachedBy env s.store selectors way reach → (walk.store_to becomes root reach fits stores context state).broken ≡ []
+        → Here world block env context state s → (place : Option StorePlace) → place ≡ part (env.variables root) way
+        → Good world (Foretold world env context (walk.store_to becomes root reach fits stores context state) s.store) s
+        (effect.store_all place (components_of (types_in world) id) numbers s)
+    stores-good becomes fits stores fit context state s reached unbroken here place place_is =
         let of_types = walk.are_typed context stores in
+        let may = flow.may_change context root in
         let asked = walk.component_change becomes root fits stores context state in
         let made = walk.stores_made root reach stores context state in
-        let kept = and_parts all (fits && of_types) (kept-rule (all && (fits && of_types)) Changes becomes (unbroken-left asked.broken made.broken unbroken)) in
+        let kept = and_parts may (fits && of_types) (kept-rule (may && (fits && of_types)) Changes becomes (unbroken-left asked.broken made.broken unbroken)) in
         let both = and_parts fits of_types kept.1 in
-        let included = λ (tree : Tree) (one : ℕ × Interval). is_included one.1 (row_limits (rows_of tree) one.0) in
-        let typed = λ (one : ℕ × Interval) (inside : Contains stores one).
-        subst (λ (tree : Tree). included tree one ≡ true) stands.tree_is
-        (all-pass (included context.tree) stores one (included context.tree one) refl inside both.1) in
-        good-weaker world (Leaves pairs t.store)
-        (Foretold world env context (followed asked made) t.store) t.visited
-        (effect.store_all place (components_of (types_in world) id) numbers t)
-        (λ done u is written.
-        let told = left-told stores (fit both.0) context state t.store u.store kept.0 typed reached stands written in
-        record { tie = tt; stands = told.stands; kept = told.kept })
-        (all-left way place place_is (components_of (types_in world) id) numbers t)
+        let fitting = fit both.0 in
+        let typed = stores-typed stores fitting context state s here both.1 in
+        let listed = changes-listed context kept.0 in
+        good-weaker world (Leaves root home at s.activations here.proper pairs s.store)
+        (Foretold world env context (followed asked made) s.store) s
+        (effect.store_all place (components_of (types_in world) id) numbers s)
+        (λ done u is left. record {
+          tie = tt;
+          stands = record { goes = here.stands.goes; known = left-known stores fitting context state s u.store here typed reached left.so };
+          kept =
+              listed-keeps world.tree world.pairs block s.activations env here.proper root home at context.rounds (closed-here context state s here) s.store
+              u.store (one-kept env (aliases root) root pairs s.store u.store left.so) listed;
+        })
+        (all-left root home at s.activations here.proper way place place_is (components_of (types_in world) id) numbers s typed (omega arith) here.fine)
+      where
+        changes-listed : (context : Context) → flow.may_change context root ≡ true → all_list root context.rounds ≡ true
+        changes-listed context may =
+            (and_parts (all_list root context.rounds)
+            (of_one (is_own context.block) (slice_get context.tree.variables.items root) || flow.block_lists context root) may).0

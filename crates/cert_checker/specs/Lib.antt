@@ -1,4 +1,3 @@
-pub mod Names
 pub mod View
 pub mod Walk
 pub mod Promise

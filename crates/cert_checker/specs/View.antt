@@ -1,51 +1,75 @@
 -- The checker's own values as the definitions see them, and that the checker has walked over a piece of a program.
 -- It does not say what a walk is.
-use Rattle.std.specs.Prelude.{◌≡◌, ℕ, true, List, [], ◌∷◌, ◌++◌, Option, Some, None, Result, Ok, Err, map}
+use Rattle.std.specs.Prelude.{◌≡◌, ℕ, true, List, [], ◌∷◌, ◌++◌, Option, Some, None, Result, Ok, Err, length, map}
+use Rattle.std.specs.Global.{Vec}
+use denote.Ref.{Bor}
 use Rattle.std.specs.declared.alloc.Global.{Global}
 use Rattle.std.specs.declared.boxed.Box.{Box}
-use Rattle.certificate.specs.declared.Certificate.{Certificate}
+use Rattle.std.specs.declared.vec.Vec.{Vec as VecIn}
+use Rattle.certificate.specs.declared.LoopClaims.{LoopClaims}
 use Rattle.typed_tree.specs.declared.tree.Tree.{Tree}
 use Rattle.typed_tree.specs.declared.tree.Stmt.{Stmt}
+use Rattle.domain.specs.Interval.{Interval}
 use Rattle.expression_checker.specs.declared.fault.CheckFault.{CheckFault}
 use Rattle.expression_checker.specs.declared.fault.CheckFault.TheVariants.{Memory}
+use Rattle.expression_checker.specs.declared.grounds.Grounds.{Grounds}
 use Rattle.component_states.specs.declared.state.State.{State as Kept}
 use Rattle.component_states.specs.View.{viewed}
-use Rattle.structured_states.specs.View.{kept_round, said_claims, said_way}
-use Rattle.expression_checker.specs.Visits.{Visits}
+use Rattle.leaf_rows.specs.Rows.{rows_of, values_at}
+use Rattle.structured_states.specs.View.{all_loop_aliases, loop_of_round, said_claims, said_way}
+use Rattle.expression_checker.specs.Visits.{Visits, all_counted}
 use Rattle.cert_checker.specs.declared.walk.Walk.{Walk}
 use Rattle.structured_states.specs.declared.rounds.Round.{Round as KeptRound}
 use Rattle.structured_states.specs.declared.ways.Way.{Way as KeptWay}
-use Rattle.structured_states.specs.Loops.{Claims, Round, claims_at, controls_inside, gives_claims, head_of, round_of}
+use Rattle.structured_states.specs.Loops.{Claims, Round, claims_at, gives_claims, head_of, round_of}
 use Rattle.structured_states.specs.Loops.{with_own, without_own}
 use Rattle.structured_states.specs.Ways.{Way}
 use Rattle.place.specs.declared.Place.{Place}
 use Rattle.component_states.specs.States.{State, dead, joined_states}
-use Rattle.expression_checker.specs.View.{Flows}
-use Rattle.expression_checker.specs.Walk.{Context, IsBreachOf, Walking, give}
-use Rattle.cert_checker.specs.Walk.{facts_given, first_context, statement_walk}
+use Rattle.call_states.specs.Aliases.{Stored}
+use Rattle.call_states.specs.Starts.{all_declared}
+use Rattle.expression_checker.specs.View as expressions
+use Rattle.expression_checker.specs.Walk.{Context, IsBreachOf, Walking, give, numbers_of}
+use Rattle.cert_checker.specs.Walk.{facts_given, statement_walk}
 use Rattle.expression_checker.specs.declared.fault.Rule.TheVariants.{LoopEntry, LoopTurn}
 
 -- what a walk of the checker goes by
 abbrev pub context_of : Walk → Context
-context_of walk = record {
-  tree = walk.flow.rows.now;
-  limits = walk.limits.items;
-  claims = map said_claims walk.claims.items;
-  rounds = map kept_round walk.rounds.items;
-}
+context_of walk = expressions.context_of walk.flow.grounds (map said_claims walk.claims.items)
+
+-- the loops of a program have claims, and these are the aliases of what each changes
+abbrev pub AreLoops : Context → List (Vec ℕ) → Type 0
+AreLoops context aliases =
+    (length context.claims ≡ length context.tree.loops.items)
+    × (map (λ row. row.items) aliases ≡ all_loop_aliases context.tree context.pairs context.claims)
+
+-- these are the variables that each block of the checker's program declares
+abbrev pub AreDeclared : List (Vec ℕ) → Walk → Type 0
+AreDeclared declared walk = map (λ row. row.items) declared ≡ all_declared (context_of walk).tree
 
 -- the checker came from an old to a new point as the walk of a piece does, and has its value; it counted the entries of
 -- the piece; the piece breaks no rule; and it goes by what it went by before
 pub record Walks {A : Type 0} (walking : Walking A) (old : Walk) (before : Visits) (new : Walk) (after : Visits)
     (value : A) : Type 0 where
   pub context_is : context_of new ≡ context_of old
-  pub flows : Flows (context_of old) walking old.flow before new.flow after value
+  pub aliases_are : new.aliases.now ≡ old.aliases.now
+  pub value_is : value ≡ (walking (context_of old) (viewed old.flow.state)).value
+  pub state_is : viewed new.flow.state ≡ (walking (context_of old) (viewed old.flow.state)).after
+  pub open_is :
+      new.flow.open_ids.items ≡ old.flow.open_ids.items ++ (walking (context_of old) (viewed old.flow.state)).open_ids
+  pub visits_are : after ≡ all_counted (numbers_of (walking (context_of old) (viewed old.flow.state)).linked) before
+  pub unbroken : (walking (context_of old) (viewed old.flow.state)).broken ≡ []
 
 -- the checker went over a piece of a program: it walked over it, or it tells the first rule that the piece breaks, or
 -- it found no memory
+abbrev pub Went : {A : Type 0} → Walking A → Walk → Visits → Result A CheckFault → Walk → Visits → Type 0
+Went walking old before (Ok value) new after = Walks walking old before new after value
+Went walking old before (Err fault) new after = IsBreachOf (walking (context_of old) (viewed old.flow.state)) fault
+
+-- it did so, if it has the aliases of the loops
 abbrev pub Goes : {A : Type 0} → Walking A → Walk → Visits → Result A CheckFault → Walk → Visits → Type 0
-Goes walking old before (Ok value) new after = Walks walking old before new after value
-Goes walking old before (Err fault) new after = IsBreachOf (walking (context_of old) (viewed old.flow.state)) fault
+Goes walking old before result new after =
+    AreLoops (context_of old) old.aliases.now → Went walking old before result new after
 
 -- the checker with another state
 abbrev pub at_state : Kept → Walk → Walk
@@ -89,55 +113,66 @@ said_tested (Err fault) = Err fault
 
 -- what is claimed of the loop of a number in the program of the checker
 abbrev pub claims_in : ℕ → Walk → Claims
-claims_in number walk = claims_at (map said_claims walk.claims.items) number
+claims_in number walk = claims_at (context_of walk).claims number
+
+-- the loop of a number in the program of the checker
+abbrev pub loop_in : ℕ → Walk → Round
+loop_in number walk = round_of (context_of walk).tree (context_of walk).pairs (context_of walk).claims number
 
 -- a loop of the checker is that of a number, perhaps of a for statement with a control variable
 pub record IsLoop (number : ℕ) (control : Option ℕ) (walk : Walk) (round : KeptRound) : Type 0 where
   pub own_is : round.own ≡ control
   pub claims_are : said_claims round.claims ≡ claims_in number walk
-  pub controls_are : round.controls.now ≡ controls_inside walk.flow.rows.now number
-
--- the loop of a number in the program of the checker
-abbrev pub loop_in : ℕ → Walk → Round
-loop_in number walk = round_of walk.flow.rows.now (map said_claims walk.claims.items) number
+  pub loop_is : loop_of_round round ≡ loop_in number walk
 
 -- the checker came to the head of a loop, whose facts were given
 pub record AtHead (number : ℕ) (control : Option ℕ) (old new : Walk) : Type 0 where
-  pub given : gives_claims old.flow.rows.now (viewed old.flow.state) (claims_in number old).facts ≡ true
+  pub given :
+      gives_claims (context_of old).tree (viewed old.flow.state) (claims_in number old).facts ≡ true
   pub context_is : context_of new
       ≡ record (context_of old) {
         rounds = (context_of old).rounds ++ without_own control (loop_in number old) ∷ [];
       }
-  pub rows_are : new.flow.rows ≡ old.flow.rows
+  pub aliases_are : new.aliases.now ≡ old.aliases.now
   pub state_is : viewed new.flow.state
-      ≡ head_of old.flow.rows.now old.limits.items (with_own control (loop_in number old)) (claims_in number old).facts
-      (viewed old.flow.state)
+      ≡ head_of (context_of old).tree (context_of old).limits (with_own control (loop_in number old))
+      (claims_in number old).facts (viewed old.flow.state)
   pub open_is : new.flow.open_ids ≡ old.flow.open_ids
 
 -- the checker came to the head of a loop of a number and a place, or its facts weren't given, or it found no memory
 abbrev pub EntersLoop : ℕ → Place → Option ℕ → Walk → Result (Unit {0}) CheckFault → Walk → Type 0
-EntersLoop number place control old (Ok done) new = AtHead number control old new
-EntersLoop number place control old (Err fault) new =
-    IsBreachOf (facts_given LoopEntry place (claims_in number old).facts (context_of old) (viewed old.flow.state)) fault
+EntersLoop number place control old (Ok done) new =
+    AreLoops (context_of old) old.aliases.now → AtHead number control old new
+EntersLoop number place control old (Err fault) new = AreLoops (context_of old) old.aliases.now
+    → IsBreachOf (facts_given LoopEntry place (claims_in number old).facts (context_of old) (viewed old.flow.state))
+    fault
 
 -- the checker came behind a loop, whose facts were given
 pub record IsBehind (number : ℕ) (behind : Kept) (rounds : List Round) (old new : Walk) : Type 0 where
-  pub given : gives_claims old.flow.rows.now (viewed old.flow.state) (claims_in number old).facts ≡ true
+  pub given :
+      gives_claims (context_of old).tree (viewed old.flow.state) (claims_in number old).facts ≡ true
   pub context_is : context_of new ≡ record (context_of old) { rounds = rounds }
-  pub rows_are : new.flow.rows ≡ old.flow.rows
+  pub aliases_are : new.aliases.now ≡ old.aliases.now
   pub state_is : viewed new.flow.state ≡ viewed behind
   pub open_is : new.flow.open_ids ≡ old.flow.open_ids
 
 -- the checker came behind a loop of a number and a place that is round it, or its facts weren't given
 abbrev pub LeavesLoop : ℕ → Place → Kept → Walk → Result (Unit {0}) CheckFault → Walk → Type 0
-LeavesLoop number place behind old (Ok done) new =
-    (rounds : List Round) (own : Round) → (context_of old).rounds ≡ rounds ++ own ∷ []
+LeavesLoop number place behind old (Ok done) new = AreLoops (context_of old) old.aliases.now
+    → (rounds : List Round) (own : Round) → (context_of old).rounds ≡ rounds ++ own ∷ []
     → IsBehind number behind rounds old new
-LeavesLoop number place behind old (Err fault) new =
-    IsBreachOf (facts_given LoopTurn place (claims_in number old).facts (context_of old) (viewed old.flow.state)) fault
+LeavesLoop number place behind old (Err fault) new = AreLoops (context_of old) old.aliases.now
+    → IsBreachOf (facts_given LoopTurn place (claims_in number old).facts (context_of old) (viewed old.flow.state))
+    fault
 
--- the checker before the first block
-pub record IsBegun (tree : Tree) (certificate : Certificate) (walk : Walk) : Type 0 where
-  pub context_is : context_of walk ≡ first_context tree certificate
+-- an ordinal of the type of a row
+abbrev pub row_stored : Tree → ℕ × Interval → Stored
+row_stored tree one = record { values = values_at (rows_of tree) one.0; range = one.1 }
+
+-- the checker before the first block, by these grounds and claims, and with these aliases of the loops
+pub record IsBegun (grounds : Grounds) (claims : VecIn (Option (Bor LoopClaims)) Global) (aliases : List (Vec ℕ))
+    (walk : Walk) : Type 0 where
+  pub context_is : context_of walk ≡ expressions.context_of grounds (map said_claims claims.items)
+  pub aliases_are : walk.aliases.now ≡ aliases
   pub state_is : viewed walk.flow.state ≡ dead
   pub open_is : walk.flow.open_ids.items ≡ []

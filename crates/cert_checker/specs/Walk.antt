@@ -1,15 +1,13 @@
 -- The walk of the checker over a program, one equation a form: the state after it, the sites that it leaves open, the
 -- rules that are broken, and the state at each entry into a statement or expression (ISO 7185:1990, 6.7, 6.8).
 -- It does not say that a program does what the walk says of it.
-use Rattle.std.specs.Prelude.{ℕ, ℤ, drop, slice_get, Bool, true, false, ◌&&◌, List, [], ◌∷◌, ◌++◌, Option, Some, None}
-use Rattle.std.specs.Prelude.{◌||◌, if◌then◌else◌, map, length, nat_eq}
+use Rattle.std.specs.Prelude.{ℕ, suc, ℤ, drop, slice_get, Bool, true, false, ◌&&◌, List, [], ◌∷◌, ◌++◌, Option, Some}
+use Rattle.std.specs.Prelude.{None, if◌then◌else◌, map, length, nat_eq, not}
 use Rattle.std.specs.List.{list_all}
 use Rattle.std.specs.declared.alloc.Global.{Global}
 use Rattle.std.specs.declared.boxed.Box.{Box}
 use Rattle.std.specs.declared.vec.Vec.{Vec}
 use Rattle.place.specs.declared.Place.{Place}
-use Rattle.types.specs.Forms.{Form}
-use Rattle.types.specs.Types.{have_one_length, is_same, string_length}
 use Rattle.types.specs.declared.form.OrdinalRange.{OrdinalRange}
 use Rattle.types.specs.declared.form.TypeId.{TypeId}
 use Rattle.certificate.specs.declared.Certificate.{Certificate}
@@ -19,59 +17,71 @@ use Rattle.typed_tree.specs.declared.tree.Access.{Access}
 use Rattle.typed_tree.specs.declared.tree.RangeTest.{RangeTest}
 use Rattle.typed_tree.specs.declared.tree.Selector.{Selector}
 use Rattle.typed_tree.specs.declared.tree.Whole.{Whole}
-use Rattle.typed_tree.specs.declared.tree.Whole.TheVariants.{Text, Variable as VariableOf}
+use Rattle.typed_tree.specs.declared.tree.FunctionResult.{FunctionResult}
 use Rattle.typed_tree.specs.declared.tree.Expr.{Expr}
 use Rattle.typed_tree.specs.declared.tree.Stmt.{Stmt}
 use Rattle.typed_tree.specs.declared.tree.Stmt.TheOpen.{Stmt-F}
 use Rattle.typed_tree.specs.declared.tree.Stmt.TheOpen.Stmt-F.{Empty, Assign, Write, Compound, If, While, Repeat, For}
-use Rattle.typed_tree.specs.declared.tree.Stmt.TheOpen.Stmt-F.{Case, Copy}
+use Rattle.typed_tree.specs.declared.tree.Stmt.TheOpen.Stmt-F.{Case, Copy, Call}
 use Rattle.typed_tree.specs.declared.tree.Stmt.TheFolds.{fold-Stmt}
+use Rattle.typed_tree.specs.Calls.{holds_call, whole_holds_call}
+use Rattle.typed_tree.specs.WellFormed.{is_visible, outline_of}
 use Rattle.domain.specs.Interval.{Interval, is_included, common}
 use Rattle.domain.specs.Numbers.{hull, is_covered}
 use Rattle.domain.specs.Facts.{Bound, Fact}
 use Rattle.abstract_state.specs.declared.known.Known.{Known}
 use Rattle.abstract_state.specs.declared.known.Known.TheVariants.{Ordinal}
-use Rattle.abstract_state.specs.State.{limits_of}
+use Rattle.abstract_state.specs.State.{is_defined, limits_of, range_of, unless_empty}
 use Rattle.abstract_state.specs.Changes.{assigned}
 use Rattle.abstract_state.specs.Conditions.{bound_form, branched, condition_of}
 use Rattle.abstract_state.specs.Forms.{root_of}
 use Rattle.abstract_state.specs.Loops.{with_touched, with_undefined}
-use Rattle.leaf_rows.specs.Rows.{indexes_of, is_structured, rows_accessed, rows_of}
+use Rattle.leaf_rows.specs.Rows.{rows_accessed, rows_of, values_at}
 use Rattle.component_states.specs.Components.{Reach, all_stored}
-use Rattle.component_states.specs.States.{State, dead, joined_states, over_bound, over_change, over_variables, start}
+use Rattle.component_states.specs.States.{State, dead, joined_states, over_bound, over_change, over_variables}
 use Rattle.structured_states.specs.Cases.{arm_start, constants_before}
-use Rattle.structured_states.specs.Loops.{Round, all_claims, all_control, all_limits, all_list, claims_at, gives_claims}
-use Rattle.structured_states.specs.Loops.{head_of, limits_at, round_of, row_limits, touched, with_own, without_own}
+use Rattle.structured_states.specs.Loops.{Round, all_claims, all_control, all_limits, claims_at, gives_claims}
+use Rattle.structured_states.specs.Loops.{head_of, limits_at, round_of, touched, with_own, without_own}
 use Rattle.structured_states.specs.Ways.{End, Way, met, next, steady, turn_begun, turn_ended, way_of, way_out}
 use Rattle.structured_states.specs.Ways.{where_counts, with_values}
+use Rattle.structured_states.specs.Pairs.{aliases_of}
+use Rattle.call_states.specs.Sections.{BlockClaims, all_block_claims, all_pairs, block_claims_at}
+use Rattle.call_states.specs.Starts.{block_start}
+use Rattle.call_states.specs.Aliases.{Stored, reach_unless_alias, unless_alias, variable_values, with_aliases_stored}
+use Rattle.call_states.specs.Actuals.{lies_among, unknown_reach}
 use Rattle.expression_checker.specs.declared.fault.Rule.{Rule}
-use Rattle.expression_checker.specs.declared.fault.Rule.TheVariants.{LoopEntry, LoopTurn, Changes}
-use Rattle.expression_checker.specs.Walk.{Breach, Context, Piece, Walked, Walking, ◌>>=◌, access_walk, enter, fitting}
-use Rattle.expression_checker.specs.Walk.{followed, give, index_pieces, parameter_walk, tested, value_walk, whole_walk}
-use Rattle.expression_checker.specs.Walk.{within}
+use Rattle.expression_checker.specs.declared.fault.Rule.TheVariants.{LoopEntry, LoopTurn, Exit, Changes}
+use Rattle.expression_checker.specs.Walk.{Context, Piece, Walked, Walking, ◌>>=◌, access_walk, asked, call_walk}
+use Rattle.expression_checker.specs.Walk.{changed_by, enter, fits_whole, fitting, followed, give, index_pieces}
+use Rattle.expression_checker.specs.Walk.{left_open}
+use Rattle.expression_checker.specs.Walk.{may_change, parameter_walk, passed_piece_of, tested, value_walk, whole_walk}
+use Rattle.expression_checker.specs.Walk.{with_state, within}
 
--- another state from here on
-abbrev pub with_state : State → Walking (Unit {0})
-with_state after context state = record { value = tt; after = after; open_ids = []; broken = []; linked = [] }
-
--- a rule that is kept, or broken at a place
-abbrev pub breach_unless : Bool → Rule → Place → List Breach
-breach_unless kept rule place = if kept then [] else record { rule = rule; place = place } ∷ []
-
--- what a rule asks for at a place
-abbrev pub asked : Bool → Rule → Place → Walking (Unit {0})
-asked kept rule place context state =
-    record { value = tt; after = state; open_ids = []; broken = breach_unless kept rule place; linked = [] }
-
--- a variable is changed at a place by values of a range, which are ones of its type. Each loop round the place lists it
+-- a variable is changed at a place by values of a range, which are ones of its type. Each loop round the place lists
+-- it, and so does the block, if need be
 abbrev pub change : Place → ℕ → Interval → Walking (Unit {0})
 change place root values context =
-    asked (all_list root context.rounds && is_included values (limits_at context.limits root)) Changes place context
+    asked (may_change context root && is_included values (limits_at context.limits root)) Changes place context
+
+-- what is known before a store to a variable of the aliases that may have what is stored
+abbrev pub with_aliases : Context → ℕ → List Stored → State → State
+with_aliases context root stored state =
+    with_aliases_stored context.tree (aliases_of context.pairs root) stored state
+
+-- an ordinal of a variable's type
+abbrev pub stored_in : Context → ℕ → Interval → Stored
+stored_in context root range = record { values = variable_values context.tree root; range = range }
+
+-- what is known behind the assignment of a value of a range to a variable, perhaps of a bound form
+abbrev pub assigned_to : ℕ → Interval → Option Bound → State → State
+assigned_to root range form state = over_change root form (assigned root range form) state
 
 -- the assignment of a value to a variable, perhaps of a bound form
 abbrev pub assign : ℕ → Option Bound → Known → Walking (Unit {0})
-assign root form (Ordinal range) context state =
-    with_state (over_change root form (assigned root range form) state) context state
+assign root form (Ordinal range) context =
+    changed_by
+    (λ state. assigned_to root range (unless_alias (aliases_of context.pairs root) form)
+    (with_aliases context root (stored_in context root range ∷ []) state)) context
 
 -- the rows of a variable that get values, each with their range
 abbrev pub Stores : Type 0
@@ -80,12 +90,18 @@ Stores = List (ℕ × Interval)
 -- the values of stores are ones of the types of their rows
 abbrev pub are_typed : Context → Stores → Bool
 are_typed context stores =
-    list_all (λ one. is_included one.1 (row_limits (rows_of context.tree) one.0)) stores
+    list_all (λ one. lies_among (values_at (rows_of context.tree) one.0) one.1) stores
 
--- components of a variable are changed at a place. Each loop round the place lists it
+-- components of a variable are changed at a place. Each loop round the place lists it, and so does the block, if need
+-- be
 abbrev pub component_change : Place → ℕ → Bool → Stores → Walking (Unit {0})
 component_change place root fits stores context =
-    asked (all_list root context.rounds && (fits && are_typed context stores)) Changes place context
+    asked (may_change context root && (fits && are_typed context stores)) Changes place context
+
+-- ordinals of the types of rows
+abbrev pub stored_in_rows : Context → Stores → List Stored
+stored_in_rows context stores =
+    map (λ one. record { values = values_at (rows_of context.tree) one.0; range = one.1 }) stores
 
 -- values were stored to what is reached of a variable
 abbrev pub stored_to : ℕ → Reach → Stores → Context → State → State
@@ -95,7 +111,10 @@ stored_to root reach stores context state = record {
 }
 
 abbrev pub stores_made : ℕ → Reach → Stores → Walking (Unit {0})
-stores_made root reach stores context state = with_state (stored_to root reach stores context state) context state
+stores_made root reach stores context =
+    changed_by
+    (λ state. stored_to root (reach_unless_alias (aliases_of context.pairs root) reach) stores context
+    (with_aliases context root (stored_in_rows context stores) state)) context
 
 -- values are stored at a place, if they fit
 abbrev pub store_to : Place → ℕ → Reach → Bool → Stores → Walking (Unit {0})
@@ -124,14 +143,6 @@ assign_to place root [] reach values form passed = do
 assign_to place root (selector ∷ selectors) reach values form passed =
     assign_component place root (selector ∷ selectors) reach passed
 
--- a whole value may be copied to a target of a structured type: it is of the same type, or a string as long
-abbrev pub fits_whole : List Form → TypeId → Whole → Bool
-fits_whole types target (Text number text) =
-    is_structured types target && have_one_length (string_length types target) (Some (length text.items))
-fits_whole types target (VariableOf access type_id cells defined) =
-    is_structured types target
-    && (is_same target type_id || have_one_length (string_length types target) (string_length types type_id))
-
 -- rows with their ranges
 abbrev pub paired : List ℕ → List Interval → Stores
 paired [] ranges = []
@@ -149,10 +160,9 @@ copy_to place root selectors reach type_id value ranges context =
     copy_rows place root reach (fits_whole context.tree.types type_id value) (target_rows context root selectors)
     ranges context
 
--- the start of a block: each variable of the program is one of its own
-abbrev pub begin : Block → Walking (Unit {0})
-begin block context =
-    with_state (start (length context.tree.variables.items) (indexes_of (rows_of context.tree))) context
+-- the start of a block of a number, of which these facts are claimed
+abbrev pub begin : ℕ → List Fact → Walking (Unit {0})
+begin number facts context = with_state (block_start context.tree number facts) context
 
 -- statements, or values that are written, one after another
 abbrev pub all_of : List (Walking (Unit {0})) → Walking (Unit {0})
@@ -161,20 +171,26 @@ all_of (statement ∷ statements) = do
   _ ← statement
   all_of statements
 
+-- what was reached before a call, perhaps
+abbrev pub reach_before : Bool → Reach → Reach
+reach_before holds_call reach = if holds_call then unknown_reach reach else reach
+
 -- an assignment: the target is accessed, and then comes the value
 abbrev pub assignment : Place → Access → List Piece → RangeTest → Expr → Walking (Unit {0})
 assignment becomes target indexes fits value = do
   reach ← access_walk target indexes
   known ← value_walk value
   passed ← fitting fits known
-  assign_to becomes target.root target.selectors.items reach (limits_of fits.range) (bound_form value) passed
+  assign_to becomes target.root target.selectors.items (reach_before (holds_call value) reach) (limits_of fits.range)
+      (bound_form value) passed
 
 -- an assignment of a whole value: the target is accessed, and then come the components, one after another
-abbrev pub copying : Place → Access → List Piece → TypeId → Whole → List Piece → Walking (Unit {0})
+abbrev pub copying : Place → Access → List Piece → TypeId → Whole → List Expr → Walking (Unit {0})
 copying becomes target indexes type_id value value_indexes = do
   reach ← access_walk target indexes
-  ranges ← whole_walk value value_indexes
-  copy_to becomes target.root target.selectors.items reach type_id value ranges
+  ranges ← whole_walk value (index_pieces value_indexes)
+  copy_to becomes target.root target.selectors.items (reach_before (whole_holds_call value value_indexes) reach)
+      type_id value ranges
 
 -- two pieces of which a run takes one, each walked from its own state; behind them the states are joined
 abbrev pub either_of : Walked (Unit {0}) → Walked (Unit {0}) → Walked (Unit {0})
@@ -249,22 +265,25 @@ loop_by place at_head round_body facts walking = do
 -- the loop of a number, and of a control variable, if it is a for statement
 abbrev pub loop_walk : ℕ → Place → Option ℕ → Walking State → Walking (Unit {0})
 loop_walk number place control walking context =
-    let loop = round_of context.tree context.claims number in
+    let loop = round_of context.tree context.pairs context.claims number in
     loop_by place (with_own control loop) (without_own control loop) (claims_at context.claims number).facts walking
     context
 
 -- ---- for statements
 
--- what is known is changed
-abbrev pub changed_by : (State → State) → Walking (Unit {0})
-changed_by change context state = with_state (change state) context state
+-- none of some variables is visible in the block
+abbrev pub are_hidden : Context → List ℕ → Bool
+are_hidden context roots =
+    list_all (λ root. not (is_visible (outline_of context.tree) context.block root)) roots
 
--- a variable may control a for statement whose bounds are tested for two ranges: these are those of its type, and in
--- each loop round it is a for statement that this variable controls
+-- a variable may control a for statement whose bounds are tested for two ranges: these are those of its type, in each
+-- loop round it is a for statement that this variable controls, and none of its aliases is visible here
 abbrev pub may_control : Context → ℕ → (first last : OrdinalRange) → Bool
 may_control context root first last =
     let limits = limits_at context.limits root in
-    all_control root context.rounds && (is_included (limits_of first) limits && is_included (limits_of last) limits)
+    all_control root context.rounds
+    && (are_hidden context (aliases_of context.pairs root)
+    && (is_included (limits_of first) limits && is_included (limits_of last) limits))
 
 -- a for statement at a place changes its control variable
 abbrev pub control_change : Place → ℕ → (first last : OrdinalRange) → Walking (Unit {0})
@@ -295,7 +314,7 @@ for_round way body = do
 -- the way through the loop of a number, whose turns leave the forms of untouched bounds as they are
 abbrev pub steady_in : Context → ℕ → Way → Way
 steady_in context number way =
-    steady (touched (with_own (Some way.control) (round_of context.tree context.claims number))) way
+    steady (touched (with_own (Some way.control) (round_of context.tree context.pairs context.claims number))) way
 
 -- the rounds of a for, from its control variable's first value
 abbrev pub rounds_of : ℕ → Place → Walking (Unit {0}) → Way → Walking (Unit {0})
@@ -353,10 +372,11 @@ statement_step (Assign number becomes target indexes fits value) = do
   assignment becomes target (index_pieces indexes.items) fits value
 statement_step (Copy number becomes target indexes type_id value value_indexes) = do
   _ ← enter number
-  copying becomes target (index_pieces indexes.items) type_id value (index_pieces value_indexes.items)
+  copying becomes target (index_pieces indexes.items) type_id value value_indexes.items
 statement_step (Write number name parameters ends_line) = do
   _ ← enter number
   all_of (map parameter_walk parameters.items)
+statement_step (Call call actuals) = call_walk call (map passed_piece_of actuals.items)
 statement_step (Compound number statements) = do
   _ ← enter number
   all_of statements.items
@@ -384,17 +404,49 @@ statement_step (Case number site index constants arms) = do
 abbrev pub statement_walk : Stmt → Walking (Unit {0})
 statement_walk = fold-Stmt (Walking (Unit {0})) statement_step
 
--- the walk over a block
-abbrev pub block_walk : Block → Walking (Unit {0})
-block_walk block = do
-  _ ← begin block
-  statement_walk block.body
+-- where a function ends: it has a result, if that is defined; no run goes on from an empty range of it
+abbrev pub result_use : Option FunctionResult → Walking (Unit {0})
+result_use None context state = give tt context state
+result_use (Some result) context state = record {
+  value = tt;
+  after = over_variables (unless_empty (range_of state.variables result.root)) state;
+  open_ids = left_open (is_defined state.variables result.root) result.defined;
+  broken = [];
+  linked = [];
+}
+
+-- the walk over a block of a number, by the claims on it: from its start to its end, where its exit facts are given
+abbrev pub block_walk_by : ℕ → Block → BlockClaims → Walking (Unit {0})
+block_walk_by number block claims = do
+  _ ← begin number claims.entry
+  _ ← statement_walk block.body
+  _ ← result_use block.heading.result
+  facts_given Exit block.end claims.exit
+
+-- the same by the claims on all blocks
+abbrev pub block_walk : ℕ → Block → Walking (Unit {0})
+block_walk number block context =
+    block_walk_by number block (block_claims_at context.blocks number) (record context { block = number })
+
+-- the walk over these blocks, of which the first has this number
+abbrev pub blocks_walk : ℕ → List Block → Walking (Unit {0})
+blocks_walk number [] = give tt
+blocks_walk number (block ∷ blocks) = do
+  _ ← block_walk number block
+  blocks_walk (suc number) blocks
 
 -- what the walk over a program by a certificate goes by
 abbrev pub first_context : Tree → Certificate → Context
-first_context tree certificate =
-    record { tree = tree; limits = all_limits tree; claims = all_claims tree certificate; rounds = [] }
+first_context tree certificate = record {
+  tree = tree;
+  limits = all_limits tree;
+  claims = all_claims tree certificate;
+  blocks = all_block_claims tree certificate;
+  pairs = all_pairs certificate;
+  block = 0;
+  rounds = [];
+}
 
 -- the walk over a program by a certificate, block by block
 abbrev pub program_walk : Tree → Certificate → Walked (Unit {0})
-program_walk tree certificate = all_of (map block_walk tree.blocks.items) (first_context tree certificate) dead
+program_walk tree certificate = blocks_walk 0 tree.blocks.items (first_context tree certificate) dead

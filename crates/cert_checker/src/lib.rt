@@ -2,20 +2,21 @@
 #![tactic(auto)]
 
 ghost use Rattle.std.specs.Prelude.{◌≡◌, IfErr, IfOk, length};
-ghost use Rattle.typed_tree.specs.Entries.{entries_of};
+ghost use Rattle.typed_tree.specs.Entries.{AreNumbered, entries_of};
 ghost use Rattle.typed_tree.specs.Ids.{AreInOrder};
 ghost use Rattle.typed_tree.specs.WellFormed.{IsWellFormed};
-ghost use Rattle.cert_checker.specs.Promise.{AreNumbered, ClosedNeverErr, IsRefusedFor, LinksEntries, StatesHold};
-ghost use Rattle.cert_checker.specs.Promise.{Valid};
+ghost use Rattle.cert_checker.specs.Promise.{CallsChangeWhatTheyList, ClosedNeverErr, IsRefusedFor, LinksEntries};
+ghost use Rattle.cert_checker.specs.Promise.{StatesHold, Valid};
 ghost use Rattle.cert_checker.specs.Walk.{program_walk};
 
+mod blocks;
 mod loops;
-mod names;
 mod open_sites;
 mod stores;
 mod walk;
 
 use certificate::Certificate;
+use certificate_names::names::is_known;
 use expression_checker::fault::CheckFault;
 use expression_checker::visits::Visits;
 use leaf_rows::Rows;
@@ -36,12 +37,12 @@ pub struct Verdict {
 /// Checks a program by a certificate.
 ///
 /// Each error of a run of the program is at an open site (ISO 7185:1990, 3.1), for every input and every number of
-/// turns. Whenever a run enters a statement or an expression, what the walk knows there holds, and no two variables
-/// share a place.
+/// turns. Whenever a run enters a statement or an expression, what the walk knows there holds, and two variables share
+/// a place only if they are a listed pair. A call changes what the certificate lists for its block alone.
 ///
 /// # Errors
-/// That the certificate names what the program doesn't have or claims something of a block itself, or else the first
-/// rule that it breaks, with its place; a certificate without claims names nothing. Or `Memory`.
+/// That the certificate names what the program doesn't have, or else the first rule that it breaks, with its place; a
+/// certificate without claims names nothing. Or `Memory`.
 pub fn check(alloc: Global, tree: &Tree, certificate: &Certificate) -> Result<Verdict, CheckFault>
     ensures valid { IfOk result (λ verdict. Valid tree.now certificate.now verdict.open_sites.items) }
     ensures refused { IfErr result (IsRefusedFor tree.now certificate.now) }
@@ -55,9 +56,11 @@ pub fn check(alloc: Global, tree: &Tree, certificate: &Certificate) -> Result<Ve
         → ClosedNeverErr tree.now verdict.open_sites.items) }
     ensures states_hold { IfOk result (λ _. IsWellFormed tree.now → AreNumbered tree.now
         → StatesHold tree.now certificate.now) }
+    ensures calls_change { IfOk result (λ _. IsWellFormed tree.now
+        → CallsChangeWhatTheyList tree.now certificate.now) }
 {
     let rows = Rows::of(alloc, tree)?;
-    if !names::is_known(&rows, certificate) {
+    if !is_known(&rows, certificate) {
         return Err(CheckFault::Foreign);
     }
     let mut visits = Visits::new();

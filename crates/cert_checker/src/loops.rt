@@ -1,31 +1,35 @@
-ghost use Rattle.std.specs.Prelude.{◌≡◌, ◌&&◌, None, true, false};
+ghost use Rattle.std.specs.Prelude.{◌≡◌, ◌&&◌, None, not, true, false};
+ghost use Rattle.std.specs.List.{list_all};
 ghost use Rattle.domain.specs.Interval.{is_included};
+ghost use Rattle.typed_tree.specs.WellFormed.{is_visible, outline_of};
 ghost use Rattle.abstract_state.specs.declared.known.Known.TheVariants.{Ordinal};
 ghost use Rattle.abstract_state.specs.Loops.{with_undefined};
 ghost use Rattle.abstract_state.specs.State.{limits_of};
 ghost use Rattle.abstract_state.specs.View.{said_form};
 ghost use Rattle.component_states.specs.States.{joined_states, over_bound, over_change, over_variables};
 ghost use Rattle.component_states.specs.View.{viewed};
-ghost use Rattle.structured_states.specs.Loops.{limits_at};
+ghost use Rattle.structured_states.specs.Loops.{all_control, limits_at};
+ghost use Rattle.structured_states.specs.Pairs.{aliases_of};
 ghost use Rattle.structured_states.specs.View.{said_way};
 ghost use Rattle.structured_states.specs.Ways.{next, turn_begun, turn_ended, way_out, where_counts};
 ghost use Rattle.expression_checker.specs.Visits.{Visits};
 ghost use Rattle.expression_checker.specs.Walk.{within};
-ghost use Rattle.cert_checker.specs.View.{EntersLoop, Goes, IsLoop, LeavesLoop, Moves, Parts};
+ghost use Rattle.cert_checker.specs.View.{AreLoops, EntersLoop, Goes, IsLoop, LeavesLoop, Moves, Parts};
 ghost use Rattle.cert_checker.specs.View.{context_of, said_tested};
-ghost use Rattle.cert_checker.specs.Walk.{assign, control_change, may_control, steady_in, tested_way};
+ghost use Rattle.cert_checker.specs.Walk.{are_hidden, assign, control_change, may_control, steady_in, tested_way};
 
-use crate::stores::asked;
 use crate::walk::Walk;
 use abstract_state::limits;
+use certificate_names::visible::is_visible;
 use component_states::State;
 use domain::Domain;
 use domain::interval::Interval;
 use expression_checker::fault::{CheckFault, Rule};
+use expression_checker::flow::asked;
 use place::Place;
-use structured_states::rounds::{Round, all_control, claims_at, controls_inside, limits_at};
+use structured_states::rounds::{Round, all_control, limits_at};
 use structured_states::ways::Way;
-use typed_tree::tree::RangeTest;
+use typed_tree::tree::{RangeTest, Tree};
 
 // Where a loop begins and ends.
 impl<'a> Walk<'a> {
@@ -39,15 +43,12 @@ impl<'a> Walk<'a> {
         ensures { EntersLoop number place control self.old result self.new }
     {
         let round = self.round(number, control);
-        if !round.is_given(&self.flow.state, self.flow.rows) {
-            return Err(CheckFault::Broken {
-                rule: Rule::LoopEntry,
-                place,
-            });
-        }
-        let rows = self.flow.rows;
-        round.head(self.alloc, &mut self.flow.state, rows, &self.limits)?;
-        self.rounds.push(round)?;
+        let flow = &mut self.flow;
+        let rows = flow.grounds.rows;
+        let given = round.is_given(&flow.state, rows);
+        asked(given, Rule::LoopEntry, place)?;
+        round.head(self.alloc, &mut flow.state, rows, &flow.grounds.limits)?;
+        flow.grounds.rounds.push(round)?;
         Ok(())
     }
 
@@ -60,29 +61,25 @@ impl<'a> Walk<'a> {
     ) -> Result<(), CheckFault>
         ensures { LeavesLoop number place behind self.old result self.new }
     {
-        let is_given = self
-            .round(number, None)
-            .is_given(&self.flow.state, self.flow.rows);
-        if !is_given {
-            return Err(CheckFault::Broken {
-                rule: Rule::LoopTurn,
-                place,
-            });
-        }
-        self.rounds.pop();
+        let round = self.round(number, None);
+        let given = round.is_given(&self.flow.state, self.flow.grounds.rows);
+        asked(given, Rule::LoopTurn, place)?;
+        self.flow.grounds.rounds.pop();
         self.flow.state = behind;
         Ok(())
     }
 
     /// The loop of a number, perhaps of a for statement with a control variable.
     fn round(&self, number: u32, control: Option<u32>) -> Round<'a>
-        ensures { IsLoop number control self.now result }
+        ensures { AreLoops (context_of self.now) self.now.aliases.now → IsLoop number control self.now result }
     {
-        Round {
-            claims: claims_at(&self.claims, number),
-            controls: controls_inside(self.flow.rows.tree(), number),
-            own: control,
-        }
+        Round::of(
+            self.flow.grounds.rows.tree(),
+            &self.claims,
+            self.aliases,
+            number,
+            control,
+        )
     }
 }
 
@@ -105,7 +102,7 @@ impl<'a> Walk<'a> {
             (joined_states state (viewed never))) self.old result self.new }
     {
         self.flow.state.join(self.alloc, never)?;
-        self.flow.state.undefine(control);
+        self.flow.state.undefine(control)?;
         Ok(())
     }
 
@@ -130,7 +127,8 @@ impl<'a> Walk<'a> {
         self.flow.within(limits(fits.range), fits.site, range)
     }
 
-    /// In each loop round the walk is a for statement that the variable controls, and its values are of its type.
+    /// In each loop round the walk is a for statement that the variable controls, its values are of its type, and none
+    /// of its aliases is visible.
     fn control_change(&self, place: Place, way: &Way) -> Result<(), CheckFault>
         ensures { (visits : Visits) → Goes (control_change place way.now.control way.now.first.fits.range
             way.now.last.fits.range) self.now visits result self.now visits }
@@ -143,16 +141,36 @@ impl<'a> Walk<'a> {
         ensures { result ≡ may_control (context_of self.now) way.now.control way.now.first.fits.range
             way.now.last.fits.range }
     {
-        all_control(&self.rounds, way.control) && self.fits(way)
+        self.is_in_control(way.control) && self.has_hidden_aliases(way.control) && self.fits(way)
+    }
+
+    /// Whether in each loop round the walk is a for statement that a variable controls.
+    fn is_in_control(&self, root: u32) -> bool
+        ensures { result ≡ all_control root (context_of self.now).rounds }
+    {
+        all_control(&self.flow.grounds.rounds, root)
+    }
+
+    /// Whether none of a variable's aliases is visible in the block.
+    fn has_hidden_aliases(&self, root: u32) -> bool
+        ensures { result ≡ are_hidden (context_of self.now) (aliases_of (context_of self.now).pairs root) }
+    {
+        let grounds = &self.flow.grounds;
+        are_hidden(
+            grounds.rows.tree(),
+            grounds.block,
+            grounds.pairs.aliases(root),
+        )
     }
 
     /// Whether both bounds are tested for the control variable's type.
     fn fits(&self, way: &Way) -> bool
         ensures { result ≡ (is_included (limits_of way.now.first.fits.range)
-            (limits_at self.now.limits.items way.now.control)
-            && is_included (limits_of way.now.last.fits.range) (limits_at self.now.limits.items way.now.control)) }
+            (limits_at self.now.flow.grounds.limits.items way.now.control)
+            && is_included (limits_of way.now.last.fits.range)
+            (limits_at self.now.flow.grounds.limits.items way.now.control)) }
     {
-        let own = limits_at(&self.limits, way.control);
+        let own = limits_at(&self.flow.grounds.limits, way.control);
         limits(way.first.fits.range).leq(&own) && limits(way.last.fits.range).leq(&own)
     }
 
@@ -167,7 +185,8 @@ impl<'a> Walk<'a> {
 
     /// The way with the forms of its bounds that the turns of its loop leave as they are.
     pub(crate) fn steady_in(&self, number: u32, way: Way) -> Way
-        ensures { said_way result ≡ steady_in (context_of self.now) number (said_way way) }
+        ensures { AreLoops (context_of self.now) self.now.aliases.now
+            → said_way result ≡ steady_in (context_of self.now) number (said_way way) }
     {
         way.steady(&self.round(number, Some(way.control)))
     }
@@ -192,4 +211,11 @@ impl<'a> Walk<'a> {
         self.flow.state.change(way.control, way.next());
         Ok(out)
     }
+}
+
+/// Whether none of some variables is visible in a block.
+fn are_hidden(tree: &Tree, block: u32, roots: &[u32]) -> bool
+    ensures { result ≡ list_all (λ root. not (is_visible (outline_of tree.now) block root)) roots.now }
+{
+    roots.iter().all(|root| !is_visible(tree, block, *root))
 }

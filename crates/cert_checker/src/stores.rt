@@ -1,38 +1,45 @@
-ghost use Rattle.std.specs.Prelude.{◌≡◌, ◌&&◌, ◌||◌, Some, true, IfOk, length, nat_eq, slice_get};
+ghost use Rattle.std.specs.Prelude.{◌≡◌, ◌∷◌, [], ◌&&◌, IfOk, map, nat_eq, length, slice_get};
 ghost use Rattle.std.specs.List.{list_all};
 ghost use Rattle.domain.specs.Interval.{is_included};
-ghost use Rattle.types.specs.Types.{have_one_length, is_same, string_length};
+ghost use Rattle.typed_tree.specs.Calls.{holds_call};
 ghost use Rattle.abstract_state.specs.declared.known.Known.TheVariants.{Ordinal};
 ghost use Rattle.abstract_state.specs.Conditions.{bound_form};
 ghost use Rattle.abstract_state.specs.View.{said_form};
-ghost use Rattle.leaf_rows.specs.Rows.{is_structured, rows_of};
+ghost use Rattle.leaf_rows.specs.Rows.{rows_of, values_at};
 ghost use Rattle.leaf_rows.specs.View.{numbers};
 ghost use Rattle.component_states.specs.Components.{all_stored};
 ghost use Rattle.component_states.specs.States.{over_components};
 ghost use Rattle.component_states.specs.View.{said_reach, viewed};
-ghost use Rattle.structured_states.specs.Loops.{all_list, limits_at, row_limits};
+ghost use Rattle.structured_states.specs.Loops.{limits_at};
+ghost use Rattle.call_states.specs.Actuals.{lies_among};
+ghost use Rattle.call_states.specs.View.{said_stored};
 ghost use Rattle.expression_checker.specs.Visits.{Visits};
-ghost use Rattle.expression_checker.specs.Walk.{index_pieces};
-ghost use Rattle.cert_checker.specs.declared.walk.Walk.{Walk};
-ghost use Rattle.cert_checker.specs.View.{Goes, context_of};
-ghost use Rattle.cert_checker.specs.Walk.{alike, are_typed, asked, assign, assign_component, assign_to, assignment};
-ghost use Rattle.cert_checker.specs.Walk.{change, component_change, copy_to, copying, fits_whole, paired, store_to};
+ghost use Rattle.expression_checker.specs.Walk.{fits_whole, index_pieces, may_change};
+ghost use Rattle.cert_checker.specs.View.{Goes, context_of, row_stored};
+ghost use Rattle.cert_checker.specs.Walk.{alike, are_typed, assign, assign_component, assign_to, assignment, change};
+ghost use Rattle.cert_checker.specs.Walk.{component_change, copy_to, copying, paired, reach_before, store_to};
 ghost use Rattle.cert_checker.specs.Walk.{stores_made};
 
 use crate::walk::Walk;
 use abstract_state::{Known, bound_form, limits};
+use call_states::actuals::{lies_among, unknown_reach};
+use call_states::aliases;
+use call_states::aliases::{Stored, form_unless_alias, reach_unless_alias, variable_values};
 use component_states::{Reach, State};
 use domain::Domain;
 use domain::facts::Bound;
 use domain::interval::Interval;
 use expression_checker::fault::{CheckFault, Rule};
+use expression_checker::flow::asked;
+use expression_checker::grounds::Grounds;
 use expression_checker::visits::Visits;
 use leaf_rows::{Rows, Span};
 use place::Place;
 use std::alloc::{AllocError, Global};
-use structured_states::rounds::{all_list, limits_at, row_limits};
+use structured_states::rounds::limits_at;
+use typed_tree::calls::{holds_call, whole_holds_call};
 use typed_tree::tree::{Access, Expr, RangeTest, Whole};
-use types::{TypeId, TypeTable};
+use types::TypeId;
 
 // What statements store to variables and to components.
 impl<'a> Walk<'a> {
@@ -52,6 +59,7 @@ impl<'a> Walk<'a> {
         let reach = self.access(target, indexes, visits)?;
         let known = self.expression(value, visits)?;
         let passed = self.flow.fitting(fits, known)?;
+        let reach = reach_before(holds_call(value), reach);
         self.assign_to(becomes, target, reach, limits(fits.range), value, passed)
     }
 
@@ -87,7 +95,11 @@ impl<'a> Walk<'a> {
         ensures { (visits : Visits) → Goes (assign_component becomes target.now.root target.now.selectors.items
             (said_reach reach) passed) self.old visits result self.new visits }
     {
-        let rows = self.flow.rows.accessed(target.root, &target.selectors);
+        let rows = self
+            .flow
+            .grounds
+            .rows
+            .accessed(target.root, &target.selectors);
         let stores = alike(self.alloc, passed.range(), rows)?;
         self.store_to(becomes, target.root, reach, true, &stores)
     }
@@ -104,10 +116,11 @@ impl<'a> Walk<'a> {
         visits: &mut Visits,
     ) -> Result<(), CheckFault>
         ensures { Goes (copying becomes target.now (index_pieces indexes.now) type_id value.now
-            (index_pieces value_indexes.now)) self.old visits.old result self.new visits.new }
+            value_indexes.now) self.old visits.old result self.new visits.new }
     {
         let reach = self.access(target, indexes, visits)?;
         let ranges = self.whole_value(value, value_indexes, visits)?;
+        let reach = reach_before(whole_holds_call(value, value_indexes), reach);
         self.copy_to(becomes, target, reach, type_id, value, &ranges)
     }
 
@@ -124,9 +137,13 @@ impl<'a> Walk<'a> {
         ensures { (visits : Visits) → Goes (copy_to becomes target.now.root target.now.selectors.items
             (said_reach reach) type_id value.now ranges.now) self.old visits result self.new visits }
     {
-        let rows = self.flow.rows.accessed(target.root, &target.selectors);
+        let rows = self
+            .flow
+            .grounds
+            .rows
+            .accessed(target.root, &target.selectors);
         let stores = paired(self.alloc, rows, ranges)?;
-        let fits = fits_rows(self.flow.rows, type_id, value, rows, ranges);
+        let fits = fits_rows(&self.flow.grounds, type_id, value, rows, ranges);
         self.store_to(becomes, target.root, reach, fits, &stores)
     }
 
@@ -146,7 +163,8 @@ impl<'a> Walk<'a> {
         self.store(root, reach, stores)
     }
 
-    /// Values are stored to rows. What is known of the variables where it is done counts for each of them.
+    /// Values are stored to rows, and aliases may have them. What is known of the variables where it is done counts for
+    /// each row.
     fn store(
         &mut self,
         root: u32,
@@ -156,9 +174,15 @@ impl<'a> Walk<'a> {
         ensures { (visits : Visits)
             → Goes (stores_made root (said_reach reach) stores.now) self.old visits result self.new visits }
     {
-        store_all(self.alloc, &mut self.flow.state, &reach, stores)?;
-        let values = limits_at(&self.limits, root);
-        self.flow.state.variables.touch(root, values);
+        let flow = &mut self.flow;
+        let rows = flow.grounds.rows;
+        let aliases = flow.grounds.pairs.aliases(root);
+        let stored = stored_in_rows(self.alloc, rows, stores)?;
+        aliases::store(&mut flow.state, rows, aliases, &stored)?;
+        let reach = reach_unless_alias(aliases, reach);
+        store_all(self.alloc, &mut flow.state, &reach, stores)?;
+        let values = limits_at(&flow.grounds.limits, root);
+        flow.state.variables.touch(root, values)?;
         Ok(())
     }
 
@@ -170,7 +194,7 @@ impl<'a> Walk<'a> {
         self.assigned(root, passed.range(), bound_form(value))
     }
 
-    /// A variable gets a value of a range, perhaps of a bound form.
+    /// A variable gets a value of a range, perhaps of a bound form; its aliases may have it.
     pub(crate) fn assigned(
         &mut self,
         root: u32,
@@ -180,29 +204,39 @@ impl<'a> Walk<'a> {
         ensures { (visits : Visits)
             → Goes (assign root (said_form form) (Ordinal range)) self.old visits result self.new visits }
     {
-        self.flow.state.assign(root, range, form)?;
+        let flow = &mut self.flow;
+        let rows = flow.grounds.rows;
+        let aliases = flow.grounds.pairs.aliases(root);
+        let stored = Stored {
+            values: variable_values(rows.tree(), root),
+            range,
+        };
+        aliases::store(&mut flow.state, rows, aliases, &[stored])?;
+        let form = form_unless_alias(aliases, form);
+        flow.state.assign(root, range, form)?;
         Ok(())
     }
 }
 
 // What each store asks for.
 impl<'a> Walk<'a> {
-    /// Each loop round the walk lists the variable that is changed, by values of its type.
+    /// A variable that may be changed is changed by values of its type.
     fn change(&self, place: Place, root: u32, values: Interval) -> Result<(), CheckFault>
         ensures { (visits : Visits) → Goes (change place root values) self.now visits result self.now visits }
     {
-        asked(self.may_change(root, values), Rule::Changes, place)
+        asked(self.may_assign(root, values), Rule::Changes, place)
     }
 
     /// Whether it is so.
-    fn may_change(&self, root: u32, values: Interval) -> bool
-        ensures { result ≡ (all_list root (context_of self.now).rounds
-            && is_included values (limits_at self.now.limits.items root)) }
+    fn may_assign(&self, root: u32, values: Interval) -> bool
+        ensures { result ≡ (may_change (context_of self.now) root
+            && is_included values (limits_at self.now.flow.grounds.limits.items root)) }
     {
-        self.is_listed(root) && values.leq(&limits_at(&self.limits, root))
+        let grounds = &self.flow.grounds;
+        grounds.may_change(root) && values.leq(&limits_at(&grounds.limits, root))
     }
 
-    /// Each loop round the walk lists the variable whose components are changed, by values of their types.
+    /// Components of a variable that may be changed are changed by values of their types.
     fn component_change(
         &self,
         place: Place,
@@ -219,17 +253,41 @@ impl<'a> Walk<'a> {
     /// Whether it is so.
     fn may_store(&self, root: u32, fits: bool, stores: &[(u32, Interval)]) -> bool
         ensures { result
-            ≡ (all_list root (context_of self.now).rounds && (fits && are_typed (context_of self.now) stores.now)) }
+            ≡ (may_change (context_of self.now) root && (fits && are_typed (context_of self.now) stores.now)) }
     {
-        self.is_listed(root) && fits && are_typed(self.flow.rows, stores)
+        let grounds = &self.flow.grounds;
+        grounds.may_change(root) && fits && are_typed(grounds.rows, stores)
     }
+}
 
-    /// Whether each loop round the walk lists a variable.
-    fn is_listed(&self, root: u32) -> bool
-        ensures { result ≡ all_list root (context_of self.now).rounds }
-    {
-        all_list(&self.rounds, root)
+/// What was reached before a value was evaluated: an index counts no more, where that holds a call.
+fn reach_before(holds_call: bool, reach: Reach) -> Reach
+    ensures { said_reach result ≡ reach_before holds_call (said_reach reach) }
+{
+    if holds_call {
+        unknown_reach(reach)
+    } else {
+        reach
     }
+}
+
+/// Ordinals of the types of rows.
+fn stored_in_rows(
+    alloc: Global,
+    rows: &Rows,
+    stores: &[(u32, Interval)],
+) -> Result<Vec<Stored>, AllocError>
+    ensures { IfOk result (λ stored. map said_stored stored.items ≡ map (row_stored rows.now) stores.now) }
+{
+    let mut stored = Vec::new(alloc);
+    for store in stores {
+        let (row, range) = *store;
+        stored.push(Stored {
+            values: rows.values(row),
+            range,
+        })?;
+    }
+    Ok(stored)
 }
 
 /// Values are stored to rows of components.
@@ -249,29 +307,18 @@ fn store_all(
     Ok(())
 }
 
-/// A rule that is kept, or broken at a place.
-pub(crate) fn asked(is_kept: bool, rule: Rule, place: Place) -> Result<(), CheckFault>
-    ensures { (walk : Walk) (visits : Visits) → Goes (asked is_kept rule place) walk visits result walk visits }
-{
-    if is_kept {
-        Ok(())
-    } else {
-        Err(CheckFault::Broken { rule, place })
-    }
-}
-
 /// Whether the values of stores are ones of the types of their rows.
 fn are_typed(rows: &Rows, stores: &[(u32, Interval)]) -> bool
-    ensures { result ≡ list_all (λ one. is_included one.1 (row_limits (rows_of rows.now) one.0)) stores.now }
+    ensures { result ≡ list_all (λ one. lies_among (values_at (rows_of rows.now) one.0) one.1) stores.now }
 {
     stores.iter().all(|store| is_typed(rows, store))
 }
 
 fn is_typed(rows: &Rows, store: &(u32, Interval)) -> bool
-    ensures { result ≡ is_included store.now.1 (row_limits (rows_of rows.now) store.now.0) }
+    ensures { result ≡ lies_among (values_at (rows_of rows.now) store.now.0) store.now.1 }
 {
     let (row, range) = *store;
-    range.leq(&row_limits(rows, row))
+    lies_among(rows.values(row), range)
 }
 
 /// The same range for each of some rows.
@@ -309,54 +356,15 @@ fn range_at(ranges: &[Interval], place: u32) -> Option<Interval>
 }
 
 /// Whether a whole value, with the ranges of its components, may be copied to rows of a type.
-fn fits_rows(rows: &Rows, target: TypeId, value: &Whole, span: Span, ranges: &[Interval]) -> bool
-    ensures { result ≡ (fits_whole rows.now.types target value.now
+fn fits_rows(
+    grounds: &Grounds,
+    target: TypeId,
+    value: &Whole,
+    span: Span,
+    ranges: &[Interval],
+) -> bool
+    ensures { result ≡ (fits_whole grounds.now.rows.now.types target value.now
         && nat_eq (length (numbers span)) (length ranges.now)) }
 {
-    fits_whole(rows, target, value) && span.count as usize == ranges.len()
-}
-
-/// Whether a whole value may be copied to a target of a type: it is of the same type, or a string as long.
-fn fits_whole(rows: &Rows, target: TypeId, value: &Whole) -> bool
-    ensures { result ≡ fits_whole rows.now.types target value.now }
-{
-    rows.is_structured(target) && is_alike(&rows.tree().types, target, value)
-}
-
-/// Whether it may, if the type is structured.
-fn is_alike(types: &TypeTable, target: TypeId, value: &Whole) -> bool
-    ensures { (is_structured types.now target && result) ≡ fits_whole types.now target value.now }
-{
-    match value {
-        Whole::Text { characters, .. } => has_length(types.string_length(target), characters),
-        Whole::Variable { type_id, .. } => is_as_long(types, target, *type_id),
-    }
-}
-
-/// Whether two types are the same, or of strings of equal length.
-fn is_as_long(types: &TypeTable, target: TypeId, other: TypeId) -> bool
-    ensures { result ≡ (is_same target other
-        || have_one_length (string_length types.now target) (string_length types.now other)) }
-{
-    target.same(other) || have_one_length(types.string_length(target), types.string_length(other))
-}
-
-/// Whether a string, if it is one, is as long as a text.
-fn has_length(count: Option<u32>, text: &[u8]) -> bool
-    ensures { result ≡ have_one_length count (Some (length text.now)) }
-{
-    match count {
-        None => false,
-        Some(count) => count as usize == text.len(),
-    }
-}
-
-/// Whether two strings, if they are such, are of equal length.
-fn have_one_length(first: Option<u32>, second: Option<u32>) -> bool
-    ensures { result ≡ have_one_length first second }
-{
-    match (first, second) {
-        (Some(length), Some(other)) => length == other,
-        _ => false,
-    }
+    grounds.may_copy(target, value) && span.count as usize == ranges.len()
 }

@@ -7,50 +7,52 @@ ghost use Rattle.structured_states.specs.Cases.{arm_start, constants_before};
 ghost use Rattle.structured_states.specs.View.{said_way};
 ghost use Rattle.expression_checker.specs.Visits.{Visits, all_counted};
 ghost use Rattle.expression_checker.specs.View.{said_ranges, seen};
-ghost use Rattle.expression_checker.specs.Walk.{IsBreachOf, access_walk, enter, index_pieces, parameter_walk};
-ghost use Rattle.expression_checker.specs.Walk.{value_walk, whole_walk};
+ghost use Rattle.expression_checker.specs.Walk.{IsBreachOf, access_walk, call_walk, enter, index_pieces};
+ghost use Rattle.expression_checker.specs.Walk.{parameter_walk, passed_piece_of, value_walk, whole_walk};
 ghost use Rattle.cert_checker.specs.View.{Goes, IsBegun, Meets, Parts};
 ghost use Rattle.cert_checker.specs.View.{else_walk, said_state};
-ghost use Rattle.cert_checker.specs.Walk.{all_of, arm_walk, arms_walk, block_walk, case_walk, for_round, for_turns};
-ghost use Rattle.cert_checker.specs.Walk.{for_walk, index_test, program_walk, repeat_round, rounds_of, statement_walk};
-ghost use Rattle.cert_checker.specs.Walk.{where_so, while_round};
+ghost use Rattle.cert_checker.specs.Walk.{all_of, arm_walk, arms_walk, case_walk, for_round, for_turns, for_walk};
+ghost use Rattle.cert_checker.specs.Walk.{index_test, program_walk, repeat_round, rounds_of, statement_walk, where_so};
+ghost use Rattle.cert_checker.specs.Walk.{while_round};
 
 use abstract_state::{Known, entire};
+use call_states::sections::{all_block_claims, all_pairs};
+use call_states::starts::all_declared;
 use certificate::{Certificate, LoopClaims};
 use component_states::{Reach, State};
 use domain::Domain;
 use domain::interval::Interval;
 use expression_checker::fault::CheckFault;
 use expression_checker::flow::Flow;
+use expression_checker::grounds::Grounds;
 use expression_checker::visits::Visits;
 use leaf_rows::Rows;
 use place::Place;
 use std::alloc::{AllocError, Global};
 use std::mem;
 use structured_states::cases::{arm_start, constants_before, covers};
-use structured_states::rounds::{Round, all_claims, all_limits};
+use structured_states::pairs::Pairs;
+use structured_states::rounds::{all_claims, all_limits, all_loop_aliases};
 use structured_states::ways::{End, Way};
-use typed_tree::tree::{Access, Block, Expr, Stmt, Whole, WriteParameter};
+use typed_tree::tree::{Access, Call, Expr, Passed, Stmt, Whole, WriteParameter};
 
-/// A walk over the statements of a program, in the order in which they are run. The counter of entries is lent to it.
+/// A walk over the statements of a program, in the order in which they stand. The counter of entries is lent to it.
 #[derive(Drop)]
 pub(crate) struct Walk<'a> {
     pub(crate) alloc: Global,
-    /// The values of the variables' types, by root number.
-    pub(crate) limits: Vec<Interval>,
     /// What the certificate claims of the loops, by their numbers.
     pub(crate) claims: Vec<Option<&'a LoopClaims>>,
-    /// The loops round the walk, the outermost first.
-    pub(crate) rounds: Vec<Round<'a>>,
-    /// The program's rows, what is known where the walk is, and which sites it left open.
+    /// The aliases of what each loop changes, by the numbers of the loops.
+    pub(crate) aliases: &'a [Vec<u32>],
+    /// What it goes by, what is known where the walk is, and which sites it left open.
     pub(crate) flow: Flow<'a>,
 }
 
 /// Walks over a program, block by block; the ids of the sites that it leaves open.
-pub(crate) fn program<'a>(
+pub(crate) fn program(
     alloc: Global,
-    rows: &'a Rows<'a>,
-    certificate: &'a Certificate,
+    rows: &Rows,
+    certificate: &Certificate,
     visits: &mut Visits,
 ) -> Result<Vec<u32>, CheckFault>
     ensures sites { IfOk result (λ ids. ids.items ≡ (program_walk rows.now certificate.now).open_ids) }
@@ -58,58 +60,53 @@ pub(crate) fn program<'a>(
     ensures rules { MatchResult result (λ _. (program_walk rows.now certificate.now).broken ≡ [])
         (IsBreachOf (program_walk rows.now certificate.now)) }
 {
-    let mut walk = Walk::new(alloc, rows, certificate)?;
-    walk.blocks(visits)?;
+    let tree = rows.tree();
+    let pairs = Pairs::of(alloc, all_pairs(alloc, certificate)?)?;
+    let claims = all_claims(alloc, tree, certificate)?;
+    let aliases = all_loop_aliases(alloc, tree, &pairs, &claims)?;
+    let declared = all_declared(alloc, tree)?;
+    let grounds = Grounds {
+        rows,
+        limits: all_limits(alloc, tree)?,
+        sections: all_block_claims(alloc, tree, certificate)?,
+        pairs,
+        block: 0,
+        rounds: Vec::new(alloc),
+    };
+    let mut walk = Walk::new(alloc, grounds, claims, &aliases);
+    walk.blocks(&declared, visits)?;
     let flow = walk.flow;
     Ok(flow.open_ids)
 }
 
 impl<'a> Walk<'a> {
-    /// Before the first block.
+    /// Before the first block, by these grounds.
     fn new(
         alloc: Global,
-        rows: &'a Rows<'a>,
-        certificate: &'a Certificate,
-    ) -> Result<Walk<'a>, AllocError>
-        ensures { IfOk result (IsBegun rows.now certificate.now) }
+        grounds: Grounds<'a>,
+        claims: Vec<Option<&'a LoopClaims>>,
+        aliases: &'a [Vec<u32>],
+    ) -> Walk<'a>
+        ensures { IsBegun grounds.entry claims.entry aliases.now result }
     {
-        let tree = rows.tree();
-        Ok(Walk {
+        Walk {
             alloc,
-            limits: all_limits(alloc, tree)?,
-            claims: all_claims(alloc, tree, certificate)?,
-            rounds: Vec::new(alloc),
+            claims,
+            aliases,
             flow: Flow {
-                rows,
+                grounds,
                 state: State::dead(alloc),
                 open_ids: Vec::new(alloc),
             },
-        })
-    }
-
-    fn blocks(&mut self, visits: &mut Visits) -> Result<(), CheckFault>
-        ensures { Goes (all_of (map block_walk self.old.flow.rows.now.blocks.items))
-            self.old visits.old result self.new visits.new }
-    {
-        let tree = self.flow.rows.tree();
-        for block in &tree.blocks {
-            self.block(block, visits)?;
         }
-        Ok(())
-    }
-
-    fn block(&mut self, block: &Block, visits: &mut Visits) -> Result<(), CheckFault>
-        ensures { Goes (block_walk block.now) self.old visits.old result self.new visits.new }
-    {
-        let rows = self.flow.rows;
-        let roots = rows.tree().variables.len();
-        let indexes = rows.indexes(self.alloc)?;
-        self.flow.state = State::undefined(self.alloc, roots, &indexes)?;
-        self.statement(&block.body, visits)
     }
 
     #[cycle(statement)]
-    fn statement(&mut self, statement: &Stmt, visits: &mut Visits) -> Result<(), CheckFault>
+    pub(crate) fn statement(
+        &mut self,
+        statement: &Stmt,
+        visits: &mut Visits,
+    ) -> Result<(), CheckFault>
         ensures { Goes (statement_walk statement.now) self.old visits.old result self.new visits.new }
     {
         match statement {
@@ -153,6 +150,7 @@ impl<'a> Walk<'a> {
                 self.enter(*number, visits)?;
                 self.parameters(parameters, visits)
             }
+            Stmt::Call { call, actuals } => self.call(*call, actuals, visits),
             Stmt::Compound { number, statements } => {
                 self.enter(*number, visits)?;
                 self.statements(statements, visits)
@@ -213,7 +211,7 @@ impl<'a> Walk<'a> {
                 let way = Way {
                     control: *control,
                     direction: *direction,
-                    first: End::new(first, *first_fits, from),
+                    first: End::before(first, last, *first_fits, from),
                     last: End::new(last, *last_fits, to),
                 };
                 self.for_statement(*loop_number, *place, body, way, visits)
@@ -407,6 +405,19 @@ impl<'a> Walk<'a> {
             None => Ok(()),
             Some(statement) => self.statement(statement, visits),
         }
+    }
+
+    /// A call of a procedure.
+    fn call(
+        &mut self,
+        call: Call,
+        actuals: &[Passed],
+        visits: &mut Visits,
+    ) -> Result<(), CheckFault>
+        ensures { Goes (call_walk call (map passed_piece_of actuals.now)) self.old visits.old result
+            self.new visits.new }
+    {
+        self.flow.call(call, actuals, visits)
     }
 
     fn parameters(

@@ -1,14 +1,15 @@
 ghost use Rattle.std.specs.Prelude.{◌≡◌, [], ◌∷◌, ◌++◌, OnOk};
 ghost use Rattle.code_scheme.specs.Code.{assign_code, copy_code, expr_code, range_check};
 
+use crate::access::{Cell, cell_in_frame};
 use crate::expression::{emit_address, emit_expr, emit_whole, row_length};
-use crate::instrs::{check_of, put, store};
-use code_scheme::scope::{Scope, behind_fields};
+use crate::instrs::{check_of, put};
+use code_scheme::scope::Scope;
 use pcode_assembler::instr::Instr;
 use std::alloc::AllocError;
 use typed_tree::tree::{Access, Expr, RangeTest, Whole};
 
-/// An assignment to an ordinal: behind an index its address comes first; the value, its check, and the store.
+/// An assignment to an ordinal: its address comes first, if it is no cell of a frame; the value, its check, its store.
 pub fn emit_assign(
     code: &mut Vec<Instr>,
     scope: &Scope,
@@ -20,14 +21,17 @@ pub fn emit_assign(
     ensures { OnOk result (
         code.new.items ≡ code.old.items ++ assign_code scope.now target.now indexes.now fits value.now) }
 {
-    if behind_fields(target.selectors.as_slice()).is_empty() {
-        let offset = scope.access_offset(target);
-        emit_checked(code, scope, fits, value)?;
-        return put(code, store(offset));
+    match cell_in_frame(scope, target) {
+        Some(Cell { level, offset }) => {
+            emit_checked(code, scope, fits, value)?;
+            put(code, Instr::Store { level, offset })
+        }
+        None => {
+            emit_address(code, scope, target, indexes)?;
+            emit_checked(code, scope, fits, value)?;
+            put(code, Instr::StoreIndirect)
+        }
     }
-    emit_address(code, scope, target, indexes)?;
-    emit_checked(code, scope, fits, value)?;
-    put(code, Instr::StoreIndirect)
 }
 
 /// An assignment of a whole value: the target's address, the value, and the store of its components.

@@ -7,7 +7,7 @@ ghost use Rattle.code_scheme.specs.Sizes.{arms_table, capped, measured, table_of
 ghost use Rattle.code_emitter.specs.Emitted.{Emits, statements_table};
 
 use crate::assign::{emit_assign, emit_copy};
-use crate::expression::emit_expr;
+use crate::expression::{emit_call, emit_expr};
 use crate::instrs::{check_of, load, place_behind, place_of, put, store};
 use crate::sizes::Sizes;
 use crate::write::emit_write;
@@ -61,6 +61,7 @@ pub fn emit_stmt(
             ends_line,
             ..
         } => emit_write(code, scope, parameters.as_slice(), *ends_line),
+        Stmt::Call { call, actuals } => emit_call(code, scope, *call, actuals.as_slice()),
         Stmt::Compound { statements, .. } => emit_statements(code, scope, sizes, statements),
         Stmt::If {
             condition,
@@ -247,7 +248,7 @@ fn emit_begin(code: &mut Vec<Instr>, scope: &Scope, control: u32) -> Result<(), 
     ensures { OnOk result (code.new.items ≡ code.old.items ++ for_begin scope.now control) }
 {
     let value = scope.held_offset(0);
-    let variable = scope.variable_offset(control);
+    let variable = scope.home(control).start;
     code.extend_from_slice(&[load(value), store(variable)])
 }
 
@@ -280,11 +281,15 @@ fn emit_next(
 fn emit_end(code: &mut Vec<Instr>, scope: &Scope, control: u32) -> Result<(), AllocError>
     ensures { OnOk result (code.new.items ≡ code.old.items ++ for_end scope.now control) }
 {
-    let variable = scope.variable_offset(control);
+    let variable = scope.home(control).start;
+    let level = scope.links_to(0);
     code.extend_from_slice(&[
         store(variable),
         store(variable),
-        load(UNDEFINED),
+        Instr::Load {
+            level,
+            offset: UNDEFINED,
+        },
         store(variable),
     ])
 }

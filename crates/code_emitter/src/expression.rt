@@ -1,20 +1,24 @@
 ghost use Rattle.std.specs.Prelude.{◌≡◌, pos, [], ◌∷◌, ◌++◌, OnOk, map};
-ghost use Rattle.pcode_assembler.specs.declared.instr.Instr.TheVariants.{CheckDefined, Compare, IndexAddress};
-ghost use Rattle.pcode_assembler.specs.declared.instr.Instr.TheVariants.{LoadConstant, LoadMany};
-ghost use Rattle.code_scheme.specs.Code.{address_code, dyadic_code, expr_code, fetch_at, field_code, index_codes};
-ghost use Rattle.code_scheme.specs.Code.{link_code, monadic_code, range_check, relation_instr, selectors_code};
-ghost use Rattle.code_scheme.specs.Code.{variable_code, whole_code};
-ghost use Rattle.code_scheme.specs.Scopes.{access_offset, behind_fields as behind, row_length as length_of_row};
+ghost use Rattle.pcode_assembler.specs.declared.instr.Instr.TheVariants.{CallProcedure, CheckDefined, Compare};
+ghost use Rattle.pcode_assembler.specs.declared.instr.Instr.TheVariants.{IndexAddress, LoadConstant, LoadMany};
+ghost use Rattle.code_scheme.specs.Code.{address_code, call_code, dyadic_code, expr_code, fetch_code, field_code};
+ghost use Rattle.code_scheme.specs.Code.{index_codes, link_code, monadic_code, passed_code, range_check, reached};
+ghost use Rattle.code_scheme.specs.Code.{relation_instr, selectors_code, variable_code, whole_code};
+ghost use Rattle.code_scheme.specs.Scopes.{row_length as length_of_row};
 ghost use Rattle.typed_tree.specs.WellFormed.{length_of};
 
+use crate::access::{Cell, address_in, cell_in_frame};
 use crate::instrs::{
-    MAXINT, check_of, check_range, comparison_of, load, positive_at, put, put_checked, put_step,
+    MAXINT, check_of, check_range, comparison_of, positive_at, put, put_checked, put_step,
 };
 use code_scheme::depth::cells_of_whole;
-use code_scheme::scope::{GREATEST_OFFSET, Scope, behind_fields};
+use code_scheme::routine::Routine;
+use code_scheme::scope::{GREATEST_OFFSET, Scope, selectors_from};
 use pcode_assembler::instr::Instr;
 use std::alloc::AllocError;
-use typed_tree::tree::{Access, Dyadic, Expr, Link, Monadic, RangeTest, Relation, Selector, Whole};
+use typed_tree::tree::{
+    Access, Call, Dyadic, Expr, Link, Monadic, Passed, RangeTest, Relation, Selector, Whole,
+};
 
 /// The greatest value of the type char (ISO 7185:1990, 6.4.2.2).
 const LAST_CHAR: i32 = 127;
@@ -61,6 +65,46 @@ pub fn emit_expr(code: &mut Vec<Instr>, scope: &Scope, expr: &Expr) -> Result<()
             emit_whole(code, scope, right, right_indexes.as_slice())?;
             emit_order(code, *relation, row_length(left))
         }
+        Expr::Call { call, actuals } => emit_call(code, scope, *call, actuals.as_slice()),
+    }
+}
+
+/// A call: the links of a new frame, behind them the actual parameters, and the jump to the routine.
+#[cycle(emit_expr)]
+pub fn emit_call(
+    code: &mut Vec<Instr>,
+    scope: &Scope,
+    call: Call,
+    actuals: &[Passed],
+) -> Result<(), AllocError>
+    ensures { OnOk result (code.new.items
+        ≡ code.old.items ++ call_code scope.now call (map (passed_code scope.now) actuals.now)) }
+{
+    let routine = scope.routine(call.block);
+    let level = scope.links_to(routine.level);
+    put(code, Instr::MarkStack { level })?;
+    for actual in actuals {
+        emit_passed(code, scope, actual)?;
+    }
+    put(code, call_of(routine))
+}
+
+/// An actual parameter: a value and its test, the components of a copy, or the address of a variable.
+#[cycle(emit_expr)]
+fn emit_passed(code: &mut Vec<Instr>, scope: &Scope, actual: &Passed) -> Result<(), AllocError>
+    ensures { OnOk result (code.new.items ≡ code.old.items ++ passed_code scope.now actual.now) }
+{
+    match actual {
+        Passed::Value { value, fits } => {
+            emit_expr(code, scope, value)?;
+            put(code, check_of(*fits))
+        }
+        Passed::Whole { value, indexes, .. } => emit_whole(code, scope, value, indexes.as_slice()),
+        Passed::Reference {
+            access,
+            indexes,
+            ..
+        } => emit_address(code, scope, access, indexes.as_slice()),
     }
 }
 
@@ -89,7 +133,7 @@ fn emit_variable(
     put(code, Instr::CheckDefined { site, length: 1 })
 }
 
-/// The value of what is accessed: where it lies, or behind an index what stands at its address.
+/// The value of what is accessed: that of a cell of a frame, or what stands at its address.
 #[cycle(emit_expr)]
 fn emit_fetch(
     code: &mut Vec<Instr>,
@@ -97,14 +141,16 @@ fn emit_fetch(
     access: &Access,
     indexes: &[Expr],
 ) -> Result<(), AllocError>
-    ensures { OnOk result (code.new.items ≡ code.old.items ++ fetch_at (access_offset scope.now access.now)
-        (behind access.now.selectors.items) (index_codes scope.now indexes.now)) }
+    ensures { OnOk result (code.new.items
+        ≡ code.old.items ++ fetch_code (reached scope.now access.now (index_codes scope.now indexes.now))) }
 {
-    if behind_fields(access.selectors.as_slice()).is_empty() {
-        return put(code, load(scope.access_offset(access)));
+    match cell_in_frame(scope, access) {
+        Some(Cell { level, offset }) => put(code, Instr::Load { level, offset }),
+        None => {
+            emit_address(code, scope, access, indexes)?;
+            put(code, Instr::LoadIndirect { offset: 0 })
+        }
     }
-    emit_address(code, scope, access, indexes)?;
-    put(code, Instr::LoadIndirect { offset: 0 })
 }
 
 /// A value of several components: each of them, the first one first; those of a variable checked.
@@ -143,9 +189,9 @@ pub fn emit_address(
     ensures { OnOk result (
         code.new.items ≡ code.old.items ++ address_code scope.now access.now (index_codes scope.now indexes.now)) }
 {
-    let offset = scope.access_offset(access);
-    put(code, Instr::LoadAddress { level: 0, offset })?;
-    let selectors = behind_fields(access.selectors.as_slice());
+    put(code, address_in(scope, access))?;
+    let refers = scope.home(access.root).refers;
+    let selectors = selectors_from(refers, access.selectors.as_slice());
     emit_selectors(code, scope, selectors, indexes)
 }
 
@@ -229,6 +275,16 @@ fn emit_order(code: &mut Vec<Instr>, relation: Relation, length: u32) -> Result<
     let order = Instr::Compare { length };
     let zero = Instr::LoadConstant { value: 0 };
     code.extend_from_slice(&[order, zero, comparison_of(relation)])
+}
+
+/// The jump to a routine.
+fn call_of(routine: Routine) -> Instr
+    ensures { result ≡ CallProcedure (length_of_row routine.cells) routine.place }
+{
+    Instr::CallProcedure {
+        length: routine.cells.min(GREATEST_LENGTH),
+        target: routine.place,
+    }
 }
 
 /// How many components a value has, or the greatest length.

@@ -10,7 +10,7 @@ use typed_tree::tree::{RangeTest, Relation};
 /// The greatest value of the type integer (ISO 7185:1990, 6.4.2.2).
 pub const MAXINT: i32 = 2147483647;
 
-/// The push of the value of a cell of the frame.
+/// The push of the value of a cell of the block's own frame.
 pub fn load(offset: u32) -> Instr
     ensures { result ≡ Load 0 offset }
 {

@@ -1,7 +1,9 @@
 //! The instructions of a program: exactly those that the scheme gives it over its typed tree.
 #![tactic(auto)]
 
+mod access;
 mod assign;
+mod block;
 mod emit;
 mod expression;
 mod instrs;

@@ -1,19 +1,19 @@
 -- The code of an access: it leaves the address of the part that selectors lead to on top, or stops as an index does.
 use Rattle.std.proofs.Common.{◌≡◌, ℕ, zero, suc, ◌+◌, ◌-◌, ◌*◌, ◌<◌, ◌≤◌, max, List, [], ◌∷◌, ◌++◌, length, map, Option, Some, None, Ok, refl, sym, ap, ◌∙◌}
 use Rattle.std.proofs.Common.{subst}
-use Rattle.std.proofs.Common.{arith, length-append, Bool, true, false}
+use Rattle.std.proofs.Common.{arith, length-append, Bool, true, false, ◌⊎◌, inl, inr, if◌then◌else◌}
 use Rattle.std.specs.Prelude.{ℤ, pos, negsuc, ◌-ℤ◌, ◌≤ℤ◌, int_le, ◌&&◌, fold, nat_lt, slice_get}
 use Rattle.std.specs.List.{list_all}
 use Rattle.std.specs.Option.{option_and_then}
 use Rattle.std.proofs.lemmas.Bool.{and_parts, eqb-true, ltb-true, false≢true}
 use Rattle.std.proofs.lemmas.Int.{ints}
-use Rattle.std.proofs.lemmas.Option.{same_Some}
+use Rattle.std.proofs.lemmas.Option.{same_Some, slice_get_within}
 use Rattle.std.proofs.lemmas.List.{length-map}
 use Rattle.pcode_assembler.specs.declared.instr.Instr.{Instr}
 use Rattle.pcode_assembler.specs.declared.instr.Instr.TheVariants as instr
 use Rattle.types.specs.declared.form.Step.TheVariants as step
 use Rattle.types.specs.declared.form.TypeId.{TypeId}
-use Rattle.types.specs.Types.{is_ordinal}
+use Rattle.types.specs.Types.{cells_of, is_ordinal}
 use Rattle.types.proofs.Elements.{element_cells}
 use Rattle.typed_tree.specs.declared.tree.Access.{Access}
 use Rattle.typed_tree.specs.declared.tree.Expr.{Expr}
@@ -23,32 +23,39 @@ use Rattle.typed_tree.specs.declared.tree.Selector.TheVariants.{Element, Field}
 use Rattle.typed_tree.specs.declared.tree.Variable.{Variable}
 use Rattle.typed_tree.specs.Accesses.{index_count, led, is_type}
 use Rattle.typed_tree.specs.Accesses.{selected as chosen}
-use Rattle.typed_tree.specs.WellFormed.{all_hold, is_well_formed_expr, is_well_formed_selector, is_well_formed_test, is_whole, leads_to}
+use Rattle.typed_tree.specs.WellFormed.{is_visible, all_hold, is_well_formed_expr, is_well_formed_selector, is_well_formed_test, is_whole, leads_to}
 use Rattle.meaning.specs.declared.store.Value.{Value}
 use Rattle.meaning.specs.declared.store.Value.TheVariants as value
 use Rattle.meaning.specs.Store.{Place, stored}
 use Rattle.meaning.specs.Effect as effect
 use Rattle.meaning.specs.Effect.{Reply, Gives, Action, ◌>>=◌, fetch, require}
 use Rattle.meaning.specs.Meaning.{Evaluation, selected, value_of}
+use Rattle.meaning.specs.Laws.{UsesTurnsExactly}
 use Rattle.meaning.specs.Meaning as meaning
+use Rattle.meaning.proofs.Used.{exact_value}
 use Rattle.stack_machine.specs.declared.cell.Cell.{Cell}
 use Rattle.stack_machine.specs.declared.cell.Cell.TheVariants.{Number}
 use Rattle.stack_machine.specs.Addresses.{element}
-use Rattle.stack_machine.specs.Frames.{on_two}
+use Rattle.stack_machine.specs.Frames.{on_two, base as base_of}
 use Rattle.stack_machine.specs.Machine.{State}
-use Rattle.code_scheme.specs.Code.{address_at, expr_code, fetch_at, field_code, range_check, selectors_code}
+use Rattle.code_scheme.specs.Code.{Reached, At, By, address_code, address_of, expr_code, fetch_code, field_code, range_check, reached, reached_from}
+use Rattle.code_scheme.specs.Code.{selectors_code, variable_code}
+use Rattle.code_scheme.specs.declared.home.Home.{Home}
 use Rattle.code_scheme.specs.Depth.{access_depth, expr_depth}
-use Rattle.code_scheme.specs.Scopes.{offset, row_length, access_offset, behind_fields, fields_offset, variable_offset}
+use Rattle.code_scheme.specs.Scopes.{offset, row_length, access_offset, behind_fields, fields_offset, links_to, variable_home}
+use Rattle.check_remover.specs.Strip.{stays}
 use Rattle.code_scheme.proofs.Pieces.{start_within}
 use Rattle.code_generator.proofs.Acts.{length_one, is_in_range, loads}
 use Rattle.code_generator.proofs.Addressing.{loads_address, increases, indexes as element_indexed, loads_indirect}
-use Rattle.code_generator.proofs.Alike.{LiesIn, cell_of, cell_within, alike_above}
+use Rattle.code_generator.proofs.Alike.{LiesIn, Leads, cell_of, cell_within, alike_above, base_is, keeps_above, slice_get-front}
 use Rattle.code_generator.proofs.Evaluating.{ExprRuns, fetched_runs, frames_of, one_held, sites}
 use Rattle.code_generator.proofs.Numbers.{Fits, same_range}
-use Rattle.code_generator.proofs.Parts.{inner, IsPart, element_part, field_part, is_element, is_field_of, led_on, ordinal_part, variable_part}
+use Rattle.code_generator.proofs.Parts.{inner, IsPart, element_part, field_part, is_element, is_field_of, led_on, ordinal_part, part_later, part_up_to}
 use Rattle.code_generator.proofs.Reach.{Stands, StandsAt, stands_front, stands_back, Comes, comes_less, comes_on, stays_here}
-use Rattle.code_generator.proofs.Setting.{Setting, on, Based, linked, acts, passes, fails, Ends, ends_on, Evaluates, evaluates_on, evaluates_from}
-use Rattle.code_generator.proofs.Setting.{Executes, executes_on}
+use Rattle.code_generator.proofs.Exact.{exact_selected}
+use Rattle.code_generator.proofs.Setting.{Setting, Shown, Way, Direct, ByAddress, Reaches, outline, around, exact_around, on, Based, linked, limit_far, acts}
+use Rattle.code_generator.proofs.Setting.{passes, fails, Ends, ends_on, Starves, starves_on, starves_first, starves_behind, Valued, Evaluates}
+use Rattle.code_generator.proofs.Setting.{evaluates_from, evaluates_behind, Executed, Executes, executes_behind}
 
 -- how far a number lies above another
 counted : (z : ℤ) → pos 0 ≤ℤ z → (n : ℕ) × (pos n ≡ z)
@@ -68,34 +75,38 @@ module _ (g : Setting) where
   expressions indexes = map (λ e. e.0) indexes
 
   abbrev pub wells : Indexes → List Bool
-  wells indexes = map (is_well_formed_expr g.tree.variables.items g.tree.types (sites g)) (expressions indexes)
+  wells indexes = map (is_well_formed_expr (outline g) g.number) (expressions indexes)
 
   abbrev pub are_well_formed_indexes : Indexes → Bool
   are_well_formed_indexes indexes = all_hold (wells indexes)
 
   pub as_many_wells : (indexes : Indexes) → length (wells indexes) ≡ length (expressions indexes)
-  as_many_wells indexes = length-map (expressions indexes) (is_well_formed_expr g.tree.variables.items g.tree.types (sites g))
+  as_many_wells indexes = length-map (expressions indexes) (is_well_formed_expr (outline g) g.number)
 
   -- what the code of an address does, with so many turns left here: the address of a part of a place comes on top of what
   -- is held, over cells alike to the store; or an index ends the run
-  abbrev pub Addresses : ℕ → State → List Cell → ℕ → TypeId → Reply (Option Place) → Type 0
-  Addresses turns m held place t (Gives None s) = ⊥
-  Addresses turns m held place t (Gives (Some p) s) =
-      (base : List Cell) × Based g s.store base × (d : ℕ) × PartAt p t d
+  abbrev pub Addressed : ℕ → State → List Cell → ℕ → TypeId → Reply (Option Place) → Type 0
+  Addressed turns m held place t (Gives None s) = ⊥
+  Addressed turns m held place t (Gives (Some p) s) =
+      (base : List Cell) × Based g s base × (d : ℕ) × PartAt p t d
       × Comes g.target (turns - s.turns) m (on g ((base ++ held) ++ Number (pos d) ∷ []) place s.output) × (g.below + length held < g.limit) × (s.turns ≤ turns)
-  Addresses turns m held place t (effect.Stops end s) = Ends g turns m end s.output
+  Addressed turns m held place t (effect.Stops end s) = Ends g turns m end s.output
+
+  -- or the store is full
+  abbrev pub Addresses : State → List Cell → ℕ → TypeId → Action (Option Place) → effect.State → Type 0
+  Addresses m held place t action s = Starves g m action s ⊎ Addressed s.turns m held place t (action s)
 
   -- an address that is there after some instructions
-  pub addresses : (least : ℕ) (m : State) (base held : List Cell) (place d : ℕ) (p : Place) (t : TypeId) (s : effect.State) → Based g s.store base
+  pub addresses : (least : ℕ) (m : State) (base held : List Cell) (place d : ℕ) (p : Place) (t : TypeId) (s : effect.State) → Based g s base
       → PartAt p t d → Comes g.target least m (on g ((base ++ held) ++ Number (pos d) ∷ []) place s.output) → g.below + length held < g.limit
-      → Addresses s.turns m held place t (Gives (Some p) s)
+      → Addressed s.turns m held place t (Gives (Some p) s)
   addresses least m base held place d p t s based part l room =
       (base, based, d, part, comes_less g.target (s.turns - s.turns) least m _ (omega arith) l, room, omega arith)
 
-  pub addresses_on : (turns left : ℕ) (a b : State) (held : List Cell) (place : ℕ) (t : TypeId) (r : Reply (Option Place)) → left ≤ turns
-      → Comes g.target (turns - left) a b → Addresses left b held place t r → Addresses turns a held place t r
-  addresses_on turns left a b held place t (Gives None s) le l e = e
-  addresses_on turns left a b held place t (Gives (Some p) s) le l e = (
+  addressed_on : (turns left : ℕ) (a b : State) (held : List Cell) (place : ℕ) (t : TypeId) (r : Reply (Option Place)) → left ≤ turns
+      → Comes g.target (turns - left) a b → Addressed left b held place t r → Addressed turns a held place t r
+  addressed_on turns left a b held place t (Gives None s) le l e = e
+  addressed_on turns left a b held place t (Gives (Some p) s) le l e = (
     e.0,
     e.1,
     e.2,
@@ -105,49 +116,69 @@ module _ (g : Setting) where
     e.5,
     omega (arith, e.6),
   )
-  addresses_on turns left a b held place t (effect.Stops end s) le l e = ends_on g turns left a b end s.output l e
+  addressed_on turns left a b held place t (effect.Stops end s) le l e = ends_on g turns left a b end s.output l e
 
   -- where no turn is used
-  pub addresses_from : (least turns : ℕ) (a b : State) (held : List Cell) (place : ℕ) (t : TypeId) (r : Reply (Option Place)) → Comes g.target least a b
-      → Addresses turns b held place t r → Addresses turns a held place t r
-  addresses_from least turns a b held place t r l e =
-      addresses_on turns turns a b held place t r (omega arith) (comes_less g.target (turns - turns) least a b (omega arith) l) e
+  pub addresses_from : (least : ℕ) (a b : State) (held : List Cell) (place : ℕ) (t : TypeId) (action : Action (Option Place)) (s : effect.State)
+      → Comes g.target least a b → Addresses b held place t action s → Addresses a held place t action s
+  addresses_from least a b held place t action s l (inl x) = inl (starves_on g least a b action s l x)
+  addresses_from least a b held place t action s l (inr e) =
+      inr (addressed_on s.turns s.turns a b held place t (action s) (omega arith) (comes_less g.target (s.turns - s.turns) least a b (omega arith) l) e)
 
   -- an address behind an index
-  index_addresses : (turns : ℕ) (m : State) (held held' : List Cell) (place place' : ℕ) (t : TypeId) (r : Reply Value) (next : Value → Action (Option Place))
-      → Evaluates g turns m held place r → ((base : List Cell) (n : ℤ) (s : effect.State) → Based g s.store base → Fits n → g.below + length held < g.limit
-      → Addresses s.turns (on g ((base ++ held) ++ Number n ∷ []) place s.output) held' place' t (next (value.Number n) s))
-      → Addresses turns m held' place' t (effect.and_then r next)
-  index_addresses turns m held held' place place' t (Gives (value.Number n) s) next e h =
-      addresses_on turns s.turns m _ held' place' t (next (value.Number n) s) e.5 e.2 (h e.0 n s e.1 e.3 e.4)
-  index_addresses turns m held held' place place' t (effect.Stops end s) next e h = e
+  index_addresses : (m : State) (held held' : List Cell) (place place' : ℕ) (t : TypeId) (first : Action Value) (next : Value → Action (Option Place))
+      (s : effect.State) → UsesTurnsExactly first → Evaluates g m held place first s
+      → ((base : List Cell) (n : ℤ) (u : effect.State) → Based g u base → Fits n → g.below + length held < g.limit
+      → Addresses (on g ((base ++ held) ++ Number n ∷ []) place u.output) held' place' t (next (value.Number n)) u)
+      → Addresses m held' place' t (first >>= next) s
+  index_addresses m held held' place place' t first next s exact (inl x) h = inl (starves_first g m first next s x)
+  index_addresses m held held' place place' t first next s exact (inr e) h = by (first s) refl e
+    where
+      behind : (u : effect.State) (n : ℤ) (there : State) → first s ≡ Gives (value.Number n) u → u.turns ≤ s.turns → Comes g.target (s.turns - u.turns) m there
+          → Addresses there held' place' t (next (value.Number n)) u
+          → Starves g m (first >>= next) s ⊎ Addressed s.turns m held' place' t (next (value.Number n) u)
+      behind u n there is le l (inl x) = inl (starves_behind g (s.turns - u.turns) m there first next s u (value.Number n) exact is l x)
+      behind u n there is le l (inr d) = inr (addressed_on s.turns u.turns m there held' place' t (next (value.Number n) u) le l d)
+
+      by : (r : Reply Value) → first s ≡ r → Valued g s.turns m held place r
+          → Starves g m (first >>= next) s ⊎ Addressed s.turns m held' place' t (effect.and_then r next)
+      by (Gives (value.Number n) u) is e = behind u n _ is e.5 e.2 (h e.0 n u e.1 e.3 e.4)
+      by (effect.Stops end u) is e = inr e
 
   -- a value behind an address
-  pub address_evaluates : (turns : ℕ) (m : State) (held held' : List Cell) (place place' : ℕ) (t : TypeId) (r : Reply (Option Place))
-      (next : Option Place → Action Value) → Addresses turns m held place t r
-      → ((base : List Cell) (d : ℕ) (p : Place) (s : effect.State) → Based g s.store base → PartAt p t d → g.below + length held < g.limit
-      → Evaluates g s.turns (on g ((base ++ held) ++ Number (pos d) ∷ []) place s.output) held' place' (next (Some p) s))
-      → Evaluates g turns m held' place' (effect.and_then r next)
-  address_evaluates turns m held held' place place' t (Gives None s) next e h = absurd e
-  address_evaluates turns m held held' place place' t (Gives (Some p) s) next e h =
-      evaluates_on g turns s.turns m _ held' place' (next (Some p) s) e.6 e.4 (h e.0 e.2 p s e.1 e.3 e.5)
-  address_evaluates turns m held held' place place' t (effect.Stops end s) next e h = e
+  pub address_evaluates : (m : State) (held held' : List Cell) (place place' : ℕ) (t : TypeId) (first : Action (Option Place))
+      (next : Option Place → Action Value) (s : effect.State) → UsesTurnsExactly first → Addresses m held place t first s
+      → ((base : List Cell) (d : ℕ) (p : Place) (u : effect.State) → Based g u base → PartAt p t d → g.below + length held < g.limit
+      → Evaluates g (on g ((base ++ held) ++ Number (pos d) ∷ []) place u.output) held' place' (next (Some p)) u)
+      → Evaluates g m held' place' (first >>= next) s
+  address_evaluates m held held' place place' t first next s exact (inl x) h = inl (starves_first g m first next s x)
+  address_evaluates m held held' place place' t first next s exact (inr e) h = by (first s) refl e
+    where
+      by : (r : Reply (Option Place)) → first s ≡ r → Addressed s.turns m held place t r
+          → Starves g m (first >>= next) s ⊎ Valued g s.turns m held' place' (effect.and_then r next)
+      by (Gives None u) is e = absurd e
+      by (Gives (Some p) u) is e = evaluates_behind g m _ held' place' first next s u (Some p) exact is e.6 e.4 (h e.0 e.2 p u e.1 e.3 e.5)
+      by (effect.Stops end u) is e = inr e
 
   -- a statement behind an address
-  pub address_executes : (turns : ℕ) (m : State) (held held' : List Cell) (place place' : ℕ) (t : TypeId) (r : Reply (Option Place))
-      (next : Option Place → Action (Unit {0})) → Addresses turns m held place t r
-      → ((base : List Cell) (d : ℕ) (p : Place) (s : effect.State) → Based g s.store base → PartAt p t d → g.below + length held < g.limit
-      → Executes g s.turns (on g ((base ++ held) ++ Number (pos d) ∷ []) place s.output) held' place' (next (Some p) s))
-      → Executes g turns m held' place' (effect.and_then r next)
-  address_executes turns m held held' place place' t (Gives None s) next e h = absurd e
-  address_executes turns m held held' place place' t (Gives (Some p) s) next e h =
-      executes_on g turns s.turns m _ held' place' (next (Some p) s) e.6 e.4 (h e.0 e.2 p s e.1 e.3 e.5)
-  address_executes turns m held held' place place' t (effect.Stops end s) next e h = e
+  pub address_executes : (m : State) (held held' : List Cell) (place place' : ℕ) (t : TypeId) (first : Action (Option Place))
+      (next : Option Place → Action (Unit {0})) (s : effect.State) → UsesTurnsExactly first → Addresses m held place t first s
+      → ((base : List Cell) (d : ℕ) (p : Place) (u : effect.State) → Based g u base → PartAt p t d → g.below + length held < g.limit
+      → Executes g (on g ((base ++ held) ++ Number (pos d) ∷ []) place u.output) held' place' (next (Some p)) u)
+      → Executes g m held' place' (first >>= next) s
+  address_executes m held held' place place' t first next s exact (inl x) h = inl (starves_first g m first next s x)
+  address_executes m held held' place place' t first next s exact (inr e) h = by (first s) refl e
+    where
+      by : (r : Reply (Option Place)) → first s ≡ r → Addressed s.turns m held place t r
+          → Starves g m (first >>= next) s ⊎ Executed g s.turns m held' place' (effect.and_then r next)
+      by (Gives None u) is e = absurd e
+      by (Gives (Some p) u) is e = executes_behind g m _ held' place' first next s u (Some p) exact is e.6 e.4 (h e.0 e.2 p u e.1 e.3 e.5)
+      by (effect.Stops end u) is e = inr e
 
   -- ---- selectors
 
   -- the step to a field, whose place is so many cells further
-  field_steps : (before place d : ℕ) (base held : List Cell) (s : effect.State) → Stands g.target place (field_code before) → Based g s.store base
+  field_steps : (before place d : ℕ) (base held : List Cell) (s : effect.State) → Stands g.target place (field_code before) → Based g s base
       → g.below + length held < g.limit → d + before ≤ g.below
       → Comes g.target 0 (on g ((base ++ held) ++ Number (pos d) ∷ []) place s.output)
       (on g ((base ++ held) ++ Number (pos (d + before)) ∷ []) (place + length (field_code before)) s.output)
@@ -162,25 +193,25 @@ module _ (g : Setting) where
       (stays_here g.target _))
   field_steps (suc n) place d base held s stands based room within =
       let full = based.full in
-      let far = g.far in
+      let far = limit_far g in
       let same : offset (suc n) ≡ suc n = omega arith in
       let cells = base ++ held in
       let long = length-append base held in
       let added = acts g (instr.Increase (offset (suc n))) (cells ++ Number (pos d) ∷ []) (cells ++ Number (pos (d + offset (suc n))) ∷ []) place s.output _
       stands.0 refl
-      (increases g.running.frame g.limit g.size cells (linked g s.store base held based) (offset (suc n)) d (omega arith) (omega arith)) in
+      (increases g.frame g.limit g.size cells (linked g s base held based) (offset (suc n)) d (omega arith) (omega arith)) in
       subst (λ k. Comes g.target 0 (on g (cells ++ Number (pos d) ∷ []) place s.output) (on g (cells ++ Number (pos (d + k)) ∷ []) (place + 1) s.output)) same
       (comes_less g.target 0 1 _ _ (omega arith) added)
 
   -- the part that a field is
-  field_at_part : (position before d : ℕ) (p : Place) (t part : TypeId)
-      → chosen g.tree.types (Field position before) t ≡ Some part → PartAt p t d
-      → PartAt (inner p (step.Field position ∷ [])) part (d + before)
-  field_at_part position before d p t part is whole =
+  field_at_part : (end position before d : ℕ) (p : Place) (t part : TypeId)
+      → chosen g.tree.types (Field position before) t ≡ Some part → IsPart g.tree.types g.world end p t d
+      → IsPart g.tree.types g.world end (inner p (step.Field position ∷ [])) part (d + before)
+  field_at_part end position before d p t part is whole =
       let f = is_field_of g.tree.types t part position before is in
-      subst (λ k. PartAt (inner p (step.Field position ∷ [])) part (d + k)) (sym f.offset_is)
-      (subst (λ u. PartAt (inner p (step.Field position ∷ [])) u (d + f.field.offset)) f.type_is
-      (field_part g.tree.types g.world g.below p t d position f.field f.found whole))
+      subst (λ k. IsPart g.tree.types g.world end (inner p (step.Field position ∷ [])) part (d + k)) (sym f.offset_is)
+      (subst (λ u. IsPart g.tree.types g.world end (inner p (step.Field position ∷ [])) u (d + f.field.offset)) f.type_is
+      (field_part g.tree.types g.world end p t d position f.field f.found whole))
 
   -- the part that an element is, at an index in the range of the test
   element_at_part : (fits : RangeTest) (cells d n : ℕ) (index : ℤ) (p : Place) (t part : TypeId)
@@ -206,7 +237,7 @@ module _ (g : Setting) where
   depths indexes = map expr_depth (expressions indexes)
 
   abbrev pub are_selectors : List Selector → Bool
-  are_selectors selectors = list_all (is_well_formed_selector g.tree.variables.items g.tree.types (sites g)) selectors
+  are_selectors selectors = list_all (is_well_formed_selector (outline g) g.number) selectors
 
   -- what is shown of the code of selectors over an address, from some depth on
   abbrev SelectorsRun : List Selector → Indexes → Type 0
@@ -214,24 +245,24 @@ module _ (g : Setting) where
       (depth place d : ℕ) (base held : List Cell) (p : Place) (t last : TypeId) (s : effect.State) → Stands g.target place (selectors_code selectors
       (codes indexes))
       → are_well_formed_indexes indexes ≡ true → are_selectors selectors ≡ true → length (expressions indexes) ≡ index_count selectors
-      → led g.tree.types selectors t ≡ Some last → PartAt p t d → Based g s.store base
+      → led g.tree.types selectors t ≡ Some last → PartAt p t d → Based g s base
       → g.below + length held + fold max depth (map (λ i. i + 1) (depths indexes)) ≤ g.limit → g.below + length held < g.limit
-      → Addresses s.turns (on g ((base ++ held) ++ Number (pos d) ∷ []) place s.output) held (place + length (selectors_code selectors (codes indexes))) last
-      (selected selectors (map value_of (expressions indexes)) g.environment (Some p) s)
+      → Addresses (on g ((base ++ held) ++ Number (pos d) ∷ []) place s.output) held (place + length (selectors_code selectors (codes indexes))) last
+      (selected selectors (map value_of (expressions indexes)) (around g) (Some p)) s
 
   -- an index that was evaluated: its test, the address of the element, and what is selected from there
   indexed_by : (good : Bool) (fits : RangeTest) (cells : ℕ) (selectors : List Selector) (indexes : Indexes) (depth place d : ℕ) (base held : List Cell) (n : ℤ)
       (p : Place) (t part last : TypeId) (s : effect.State) → (int_le fits.range.first n && int_le n fits.range.last) ≡ good → SelectorsRun selectors indexes
       → Stands g.target place (range_check fits ∷ instr.IndexAddress fits.range.first (row_length cells) ∷ selectors_code selectors (codes indexes))
-      → are_well_formed_indexes indexes ≡ true → is_well_formed_test g.tree.variables.items g.tree.types (sites g) fits ≡ true → are_selectors selectors ≡ true
+      → are_well_formed_indexes indexes ≡ true → is_well_formed_test (outline g) g.number fits ≡ true → are_selectors selectors ≡ true
       → length (expressions indexes) ≡ index_count selectors → chosen g.tree.types (Element fits cells) t ≡ Some part
       → led g.tree.types selectors part ≡ Some last
-      → PartAt p t d → Based g s.store base → g.below + length held + fold max depth (map (λ i. i + 1) (depths indexes)) ≤ g.limit
+      → PartAt p t d → Based g s base → g.below + length held + fold max depth (map (λ i. i + 1) (depths indexes)) ≤ g.limit
       → g.below + length held < g.limit → Fits n
-      → Addresses s.turns (on g (((base ++ held) ++ Number (pos d) ∷ []) ++ Number n ∷ []) place s.output) held
+      → Addresses (on g (((base ++ held) ++ Number (pos d) ∷ []) ++ Number n ∷ []) place s.output) held
       (place + 1 + 1 + length (selectors_code selectors (codes indexes))) last
-      (effect.and_then (require good fits.site s) (λ _. selected selectors (map value_of (expressions indexes)) g.environment
-      (Some (inner p (step.Element n ∷ [])))))
+      (require good fits.site >>= (λ _. selected selectors (map value_of (expressions indexes)) (around g)
+      (Some (inner p (step.Element n ∷ []))))) s
   indexed_by true fits cells selectors indexes depth place d base held n p t part last s holds runs stands wells test well counts is ends whole based deep
       room fit =
       let below = base ++ held in
@@ -247,42 +278,42 @@ module _ (g : Setting) where
       let same : row_length cells ≡ cells = omega arith in
       let inside = lies.0.within in
       let full = based.full in
-      let limit = g.far in
+      let limit = limit_far g in
       let long = length-append base held in
-      let in_frame = linked g s.store base held based in
+      let in_frame = linked g s base held based in
       let passed = passes g (range_check fits) (one ++ Number n ∷ []) place fits.site s.output _ refl refl stands.0
-      (is_in_range g.running.frame g.limit g.size one (omega (arith, length_one below (Number (pos d)))) fits.range.first fits.range.last n ∙ ap Ok holds) in
+      (is_in_range g.frame g.limit g.size one (omega (arith, length_one below (Number (pos d)))) fits.range.first fits.range.last n ∙ ap Ok holds) in
       let there = below ++ Number (pos (d + far.0 * cells)) ∷ [] in
       let reached = acts g (instr.IndexAddress fits.range.first (row_length cells)) (one ++ Number n ∷ []) there (place + 1) s.output _ stands.1.0 refl
       (ap (λ size. on_two (element fits.range.first size) (frames_of g (one ++ Number n ∷ []))) same
-      ∙ element_indexed g.running.frame g.limit g.size below in_frame fits.range.first n cells d far.0 (omega arith) (record { is = bounds.0 }) fit far.1 small
+      ∙ element_indexed g.frame g.limit g.size below in_frame fits.range.first n cells d far.0 (omega arith) (record { is = bounds.0 }) fit far.1 small
       (omega arith)) in
       let rest = runs depth (place + 1 + 1) (d + far.0 * cells) base held (inner p (step.Element n ∷ [])) part last s stands.1.1 wells well counts ends
       lies.0 based
       deep room in
-      addresses_from 1 s.turns _ _ held (place + 1 + 1 + length (selectors_code selectors (codes indexes))) last
-      (selected selectors (map value_of (expressions indexes)) g.environment (Some (inner p (step.Element n ∷ []))) s)
+      addresses_from 1 _ _ held (place + 1 + 1 + length (selectors_code selectors (codes indexes))) last
+      (selected selectors (map value_of (expressions indexes)) (around g) (Some (inner p (step.Element n ∷ [])))) s
       (comes_on g.target 0 1 _ _ _ passed reached) rest
   indexed_by false fits cells selectors indexes depth place d base held n p t part last s holds runs stands wells test well counts is ends whole based deep
       room fit =
       let one = (base ++ held) ++ Number (pos d) ∷ [] in
-      let in_frame = linked g s.store base held based in
-      fails g (range_check fits) (one ++ Number n ∷ []) place fits.site s.output _ refl refl s.turns stands.0 (ltb-true fits.site (sites g) (and_parts
+      let in_frame = linked g s base held based in
+      inr (fails g (range_check fits) (one ++ Number n ∷ []) place fits.site s.output _ refl refl s.turns stands.0 (ltb-true fits.site (sites g) (and_parts
       (nat_lt fits.site (sites g)) (is_whole fits.range.first && is_whole fits.range.last) test).0)
-      (is_in_range g.running.frame g.limit g.size one (omega (arith, length_one (base ++ held) (Number (pos d)))) fits.range.first fits.range.last n
-      ∙ ap Ok holds)
+      (is_in_range g.frame g.limit g.size one (omega (arith, length_one (base ++ held) (Number (pos d)))) fits.range.first fits.range.last n
+      ∙ ap Ok holds))
 
   pub selectors_run : (selectors : List Selector) (indexes : Indexes) → SelectorsRun selectors indexes
   selectors_run [] indexes depth place d base held p t last s stands wells well counts ends whole based deep room =
       let here : place ≡ place + 0 = omega arith in
       let same = same_Some t last ends in
-      addresses 0 _ base held (place + 0) d p last s based (subst (λ u. PartAt p u d) same whole)
+      inr (addresses 0 _ base held (place + 0) d p last s based (subst (λ u. PartAt p u d) same whole)
       (subst (λ q. Comes g.target 0 (on g ((base ++ held) ++ Number (pos d) ∷ []) place s.output) (on g ((base ++ held) ++ Number
       (pos d) ∷ []) q s.output)) here
-      (stays_here g.target _)) room
+      (stays_here g.target _)) room)
   selectors_run (Field position before ∷ selectors) indexes depth place d base held p t last s stands wells well counts ends whole based deep room =
       let on_led = led_on g.tree.types (Field position before) selectors t last ends in
-      let inside = field_at_part position before d p t on_led.0 on_led.1 whole in
+      let inside = field_at_part g.below position before d p t on_led.0 on_led.1 whole in
       let within = inside.within in
       let c = field_code before in
       let rest = selectors_code selectors (codes indexes) in
@@ -292,10 +323,10 @@ module _ (g : Setting) where
       let runs = selectors_run selectors indexes depth (place + length c) (d + before) base held q on_led.0 last s
       (stands_back g.target place c rest stands) wells
       well counts on_led.2 inside based deep room in
-      subst (λ there. Addresses s.turns (on g ((base ++ held) ++ Number (pos d) ∷ []) place s.output) held there last
-      (selected selectors (map value_of (expressions indexes)) g.environment (Some q) s)) e
-      (addresses_from 0 s.turns _ _ held (place + length c + length rest) last
-      (selected selectors (map value_of (expressions indexes)) g.environment (Some q) s) stepped runs)
+      subst (λ there. Addresses (on g ((base ++ held) ++ Number (pos d) ∷ []) place s.output) held there last
+      (selected selectors (map value_of (expressions indexes)) (around g) (Some q)) s) e
+      (addresses_from 0 _ _ held (place + length c + length rest) last (selected selectors (map value_of (expressions indexes)) (around g) (Some q)) s stepped
+      runs)
   selectors_run (Element fits cells ∷ selectors) [] depth place d base held p t last s stands wells well counts ends whole based deep room =
       absurd (omega arith)
   selectors_run (Element fits cells ∷ selectors) (index ∷ indexes) depth place d base held p t last s stands wells well counts ends whole based deep room =
@@ -303,28 +334,27 @@ module _ (g : Setting) where
       let c = expr_code g.scope index.0 in
       let rest = range_check fits ∷ instr.IndexAddress fits.range.first (row_length cells) ∷ selectors_code selectors (codes indexes) in
       let more = start_within (max depth (expr_depth index.0 + 1)) (map (λ i. i + 1) (depths indexes)) in
-      let parts : (is_well_formed_expr g.tree.variables.items g.tree.types (sites g) index.0 ≡ true) × (are_well_formed_indexes indexes ≡ true) =
+      let parts : (is_well_formed_expr (outline g) g.number index.0 ≡ true) × (are_well_formed_indexes indexes ≡ true) =
       and_parts _ _ wells in
-      let selector_parts : (is_well_formed_test g.tree.variables.items g.tree.types (sites g) fits ≡ true) × (are_selectors selectors ≡ true) =
+      let selector_parts : (is_well_formed_test (outline g) g.number fits ≡ true) × (are_selectors selectors ≡ true) =
       and_parts _ _ well in
       let above = held ++ Number (pos d) ∷ [] in
       let high = length_one held (Number (pos d)) in
       let end = place + length c + 1 + 1 + length (selectors_code selectors (codes indexes)) in
       let e : end ≡ place + length (c ++ rest) = omega (arith, length-append c rest) in
       let next : Value → Action (Option Place) = λ v. require (effect.is_in fits.range v) fits.site >>= λ _.
-      selected selectors (map value_of (expressions indexes)) g.environment (Some (inner p (step.Element (effect.number_of v) ∷ []))) in
+      selected selectors (map value_of (expressions indexes)) (around g) (Some (inner p (step.Element (effect.number_of v) ∷ []))) in
       let evaluated = index.1 place base above s (stands_front g.target place c rest stands) parts.0 based (omega arith) in
-      subst (λ there. Addresses s.turns (on g ((base ++ held) ++ Number (pos d) ∷ []) place s.output) held there last
-      (effect.and_then (value_of index.0 g.environment s) next)) e
-      (subst (λ cells. Addresses s.turns (on g cells place s.output) held end last (effect.and_then (value_of index.0 g.environment s) next))
+      subst (λ there. Addresses (on g ((base ++ held) ++ Number (pos d) ∷ []) place s.output) held there last (value_of index.0 (around g) >>= next) s) e
+      (subst (λ cells. Addresses (on g cells place s.output) held end last (value_of index.0 (around g) >>= next) s)
       (one_held g base held (pos d))
-      (index_addresses s.turns _ above held (place + length c) end last (value_of index.0 g.environment s) next evaluated
+      (index_addresses _ above held (place + length c) end last (value_of index.0 (around g)) next s (exact_value (around g) (exact_around g) index.0) evaluated
       (λ base2 n s2 based2 fit2 room2.
-      subst (λ cs. Addresses s2.turns (on g (cs ++ Number n ∷ []) (place + length c) s2.output) held end last (next (value.Number n) s2))
+      subst (λ cs. Addresses (on g (cs ++ Number n ∷ []) (place + length c) s2.output) held end last (next (value.Number n)) s2)
       (sym (one_held g base2 held (pos d)))
-      (subst (λ test. Addresses s2.turns (on g (((base2 ++ held) ++ Number (pos d) ∷ []) ++ Number n ∷ []) (place + length c) s2.output) held end last
-      (effect.and_then (require test fits.site s2) (λ _. selected selectors (map value_of (expressions indexes)) g.environment
-      (Some (inner p (step.Element n ∷ [])))))) (sym (same_range fits.range n fit2))
+      (subst (λ test. Addresses (on g (((base2 ++ held) ++ Number (pos d) ∷ []) ++ Number n ∷ []) (place + length c) s2.output) held end last
+      (require test fits.site >>= (λ _. selected selectors (map value_of (expressions indexes)) (around g)
+      (Some (inner p (step.Element n ∷ []))))) s2) (sym (same_range fits.range n fit2))
       (indexed_by _ fits cells selectors indexes (max depth (expr_depth index.0 + 1)) (place + length c) d base2 held n p t on_led.0 last s2 refl
       (selectors_run selectors indexes) (stands_back g.target place c rest stands) parts.1 selector_parts.0 selector_parts.1
       (omega arith) on_led.1 on_led.2 whole
@@ -333,7 +363,8 @@ module _ (g : Setting) where
   -- ---- an access
 
   -- what is known of selectors that lead from a variable to a type that is wanted, with so many index expressions
-  pub record Leads (wanted : TypeId → Bool) (root : ℕ) (selectors : List Selector) (indexes : ℕ) : Type 0 where
+  pub record LeadsTo (wanted : TypeId → Bool) (root : ℕ) (selectors : List Selector) (indexes : ℕ) : Type 0 where
+    pub visible : is_visible (outline g) g.number root ≡ true
     pub counts : indexes ≡ index_count selectors
     pub well : are_selectors selectors ≡ true
     pub variable : Variable
@@ -343,54 +374,72 @@ module _ (g : Setting) where
     pub is_wanted : wanted last ≡ true
 
   module _ (wanted : TypeId → Bool) (root : ℕ) (selectors : List Selector) (indexes : ℕ) where
-    pub leads : leads_to g.tree.variables.items g.tree.types (sites g) wanted root selectors indexes ≡ true → Leads wanted root selectors indexes
+    pub leads : leads_to (outline g) g.number wanted root selectors indexes ≡ true → LeadsTo wanted root selectors indexes
     leads e =
-        let parts = and_parts _ _ e in
+        let seen = and_parts _ _ e in
+        let parts = and_parts _ _ seen.1 in
         let parts' = and_parts _ _ parts.1 in
-        to_variable (eqb-true indexes (index_count selectors) parts.0) parts'.0 (slice_get g.tree.variables.items root) refl parts'.1
+        to_variable seen.0 (eqb-true indexes (index_count selectors) parts.0) parts'.0 (slice_get g.tree.variables.items root) refl parts'.1
       where
-        to_type : indexes ≡ index_count selectors → are_selectors selectors ≡ true → (variable : Variable)
+        to_type : is_visible (outline g) g.number root ≡ true → indexes ≡ index_count selectors → are_selectors selectors ≡ true → (variable : Variable)
             → slice_get g.tree.variables.items root ≡ Some variable → (o : Option TypeId) → led g.tree.types selectors variable.type_id ≡ o
             → is_type wanted o ≡ true
-            → Leads wanted root selectors indexes
-        to_type counts well variable declared None ends e = absurd (false≢true e)
-        to_type counts well variable declared (Some last) ends e =
-            record { counts = counts; well = well; variable = variable; declared = declared; last = last; ends = ends; is_wanted = e }
+            → LeadsTo wanted root selectors indexes
+        to_type visible counts well variable declared None ends e = absurd (false≢true e)
+        to_type visible counts well variable declared (Some last) ends e =
+            record { visible = visible; counts = counts; well = well; variable = variable; declared = declared; last = last; ends = ends; is_wanted = e }
 
-        to_variable : indexes ≡ index_count selectors → are_selectors selectors ≡ true → (o : Option Variable) → slice_get g.tree.variables.items root ≡ o
-            → is_type wanted (option_and_then (λ (v : Variable). led g.tree.types selectors v.type_id) o) ≡ true → Leads wanted root selectors indexes
-        to_variable counts well None declared e = absurd (false≢true e)
-        to_variable counts well (Some variable) declared e =
-            to_type counts well variable declared (led g.tree.types selectors variable.type_id) refl e
+        to_variable : is_visible (outline g) g.number root ≡ true → indexes ≡ index_count selectors → are_selectors selectors ≡ true → (o : Option Variable)
+            → slice_get g.tree.variables.items root ≡ o
+            → is_type wanted (option_and_then (λ (v : Variable). led g.tree.types selectors v.type_id) o) ≡ true → LeadsTo wanted root selectors indexes
+        to_variable visible counts well None declared e = absurd (false≢true e)
+        to_variable visible counts well (Some variable) declared e =
+            to_type visible counts well variable declared (led g.tree.types selectors variable.type_id) refl e
 
   -- where the fields before the first index lead to
-  pub record Ahead (selectors : List Selector) (p : Place) (d : ℕ) (last : TypeId) : Type 0 where
+  pub record Ahead (end : ℕ) (selectors : List Selector) (p : Place) (d : ℕ) (last : TypeId) : Type 0 where
     pub there : Place
     pub its : TypeId
-    pub part : PartAt there its (d + fields_offset selectors)
+    pub part : IsPart g.tree.types g.world end there its (d + fields_offset selectors)
     pub ends : led g.tree.types (behind_fields selectors) its ≡ Some last
     pub counts : index_count (behind_fields selectors) ≡ index_count selectors
     pub well : are_selectors (behind_fields selectors) ≡ true
-    pub meant : (evaluations : List Evaluation) (s : effect.State)
-        → selected selectors evaluations g.environment (Some p) s ≡ selected (behind_fields selectors) evaluations g.environment (Some there) s
+    pub meant : (evaluations : List Evaluation)
+        → selected selectors evaluations (around g) (Some p) ≡ selected (behind_fields selectors) evaluations (around g) (Some there)
 
-  ahead : (selectors : List Selector) (p : Place) (t : TypeId) (d : ℕ) (last : TypeId) → are_selectors selectors ≡ true
-      → led g.tree.types selectors t ≡ Some last → PartAt p t d → Ahead selectors p d last
-  ahead [] p t d last well ends whole =
+  ahead : (end : ℕ) (selectors : List Selector) (p : Place) (t : TypeId) (d : ℕ) (last : TypeId) → are_selectors selectors ≡ true
+      → led g.tree.types selectors t ≡ Some last → IsPart g.tree.types g.world end p t d → Ahead end selectors p d last
+  ahead end [] p t d last well ends whole =
       let same : d ≡ d + 0 = omega arith in
-      record { there = p; its = t; part = subst (PartAt p t) same whole; ends = ends; counts = refl; well = well; meant = λ evaluations s. refl }
-  ahead (Element fits cells ∷ selectors) p t d last well ends whole =
+      record {
+        there = p;
+        its = t;
+        part = subst (IsPart g.tree.types g.world end p t) same whole;
+        ends = ends;
+        counts = refl;
+        well = well;
+        meant = λ evaluations. refl;
+      }
+  ahead end (Element fits cells ∷ selectors) p t d last well ends whole =
       let same : d ≡ d + 0 = omega arith in
-      record { there = p; its = t; part = subst (PartAt p t) same whole; ends = ends; counts = refl; well = well; meant = λ evaluations s. refl }
-  ahead (Field position before ∷ selectors) p t d last well ends whole =
+      record {
+        there = p;
+        its = t;
+        part = subst (IsPart g.tree.types g.world end p t) same whole;
+        ends = ends;
+        counts = refl;
+        well = well;
+        meant = λ evaluations. refl;
+      }
+  ahead end (Field position before ∷ selectors) p t d last well ends whole =
       let on_led = led_on g.tree.types (Field position before) selectors t last ends in
-      let rest = ahead selectors (inner p (step.Field position ∷ [])) on_led.0 (d + before) last well on_led.2
-      (field_at_part position before d p t on_led.0 on_led.1 whole) in
+      let rest = ahead end selectors (inner p (step.Field position ∷ [])) on_led.0 (d + before) last well on_led.2
+      (field_at_part end position before d p t on_led.0 on_led.1 whole) in
       let at : d + before + fields_offset selectors ≡ d + (before + fields_offset selectors) = omega arith in
       record {
         there = rest.there;
         its = rest.its;
-        part = subst (PartAt rest.there rest.its) at rest.part;
+        part = subst (IsPart g.tree.types g.world end rest.there rest.its) at rest.part;
         ends = rest.ends;
         counts = rest.counts;
         well = rest.well;
@@ -401,123 +450,261 @@ module _ (g : Setting) where
   abbrev pub entered : ℕ → effect.State → effect.State
   entered number s = record s { visited = s.visited ++ record { number = number; environment = g.environment; store = s.store } ∷ [] }
 
-  -- the part from which the code of an access begins, behind its fields before the first index
-  pub record Begins (access : Access) (last : TypeId) : Type 0 where
+  -- an instruction pushes the address of a cell
+  abbrev pub PushesAddress : Instr → ℕ → Type 0
+  PushesAddress i d =
+      (place : ℕ) (base held : List Cell) (s : effect.State) → StandsAt g.target place i (stays g.target.is_open i) → Based g s base
+      → g.below + length held < g.limit
+      → Comes g.target 1 (on g (base ++ held) place s.output) (on g ((base ++ held) ++ Number (pos d) ∷ []) (place + 1) s.output)
+
+  -- how code reaches what selectors lead to from a cell: the cell lies at an offset in a frame; or the code of its address
+  -- is that instruction and what follows from the selectors
+  abbrev pub IsReached : Reached → ℕ → Instr → List Selector → List (List Instr) → Type 0
+  IsReached (At level start) cell first rest indexes =
+      (owner : ℕ) × Leads g.fixed level g.frame owner × (cell ≡ owner + start) × (rest ≡ []) × (first ≡ instr.LoadAddress level start)
+  IsReached (By code) cell first rest indexes = code ≡ first ∷ selectors_code rest indexes
+
+  -- the part from which the code of an access begins
+  pub record Begins (access : Access) (last : TypeId) (indexes : List (List Instr)) : Type 0 where
+    pub rest : List Selector
     pub there : Place
     pub its : TypeId
-    pub part : PartAt there its (g.running.frame + access_offset g.scope access)
-    pub ends : led g.tree.types (behind_fields access.selectors.items) its ≡ Some last
-    pub counts : index_count (behind_fields access.selectors.items) ≡ index_count access.selectors.items
-    pub well : are_selectors (behind_fields access.selectors.items) ≡ true
-    pub meant : (evaluations : List Evaluation) (s : effect.State) → meaning.accessed access evaluations g.environment s
-        ≡ selected (behind_fields access.selectors.items) evaluations g.environment (Some there) (entered access.number s)
+    pub cell : ℕ
+    pub part : PartAt there its cell
+    pub ends : led g.tree.types rest its ≡ Some last
+    pub counts : index_count rest ≡ index_count access.selectors.items
+    pub well : are_selectors rest ≡ true
+    pub meant : (evaluations : List Evaluation) → meaning.accessed access evaluations (around g)
+        ≡ (λ s. selected rest evaluations (around g) (Some there) (entered access.number s))
+    pub first : Instr
+    pub pushes : PushesAddress first cell
+    pub way : Reached
+    pub way_is : reached g.scope access indexes ≡ way
+    pub reaches : IsReached way cell first rest indexes
 
-  pub begins : (access : Access) (wanted : TypeId → Bool) (indexes : ℕ)
-      → (l : Leads wanted access.root access.selectors.items indexes) → Begins access l.last
-  begins access wanted indexes l =
-      let small = g.near in
-      let selectors = access.selectors.items in
-      let ends = g.ends access.root l.variable l.declared in
-      let above = g.above_is in
-      let start = variable_part g.tree.types g.world g.below g.environment g.running access.root (variable_offset g.scope access.root) l.variable.type_id
-      (g.shows access.root l.variable l.declared) (omega (arith, ends.0)) ends.1 in
-      let all = ahead selectors start.0 l.variable.type_id (g.running.frame + variable_offset g.scope access.root) l.last l.well l.ends start.2 in
-      let within = all.part.within in
-      let at : g.running.frame + variable_offset g.scope access.root + fields_offset selectors ≡ g.running.frame + access_offset g.scope access = omega arith in
-      record {
-        there = all.there;
-        its = all.its;
-        part = subst (PartAt all.there all.its) at all.part;
-        ends = all.ends;
-        counts = all.counts;
-        well = all.well;
-        meant = λ evaluations s.
-            ap (λ o. selected selectors evaluations g.environment o (entered access.number s)) start.1 ∙ all.meant evaluations (entered access.number s);
-      }
+  -- the frame that so many links lead to
+  pub frame_found : (level owner : ℕ) (base held : List Cell) (s : effect.State) → Based g s base → Leads g.fixed level g.frame owner
+      → base_of level g.frame (base ++ held) ≡ Ok owner
+  frame_found level owner base held s based l =
+      let full = based.full in
+      let same = g.fixed_is in
+      base_is g.fixed (base ++ held) level g.frame owner (keeps_above g.fixed base held based.keeps) (omega (arith, length-append base held)) l
 
-  module _ (rest : List Selector) (indexes : Indexes) (start : ℕ) (there : Place) (its last : TypeId) (part : PartAt there its (g.running.frame + start))
-      (ends : led g.tree.types rest its ≡ Some last) (well : are_selectors rest ≡ true) (good : are_well_formed_indexes indexes ≡ true)
-      (counts : length (expressions indexes) ≡ index_count rest) where
-    -- the code of an address
-    pub address_runs : (place : ℕ) (base held : List Cell) (s : effect.State) → Stands g.target place (address_at start rest (codes indexes))
-        → Based g s.store base → g.below + length held + access_depth (depths indexes) ≤ g.limit
-        → Addresses s.turns (on g (base ++ held) place s.output) held (place + length (address_at start rest (codes indexes))) last
-        (selected rest (map value_of (expressions indexes)) g.environment (Some there) s)
-    address_runs place base held s stands based deep =
-        let cells = base ++ held in
-        let more = start_within 1 (map (λ i. i + 1) (depths indexes)) in
-        let full = based.full in
-        let far = g.far in
-        let long = length-append base held in
-        let within = part.within in
-        let d = g.running.frame + start in
-        let e : place + 1 + length (selectors_code rest (codes indexes)) ≡ place + length (address_at start rest (codes indexes)) = omega arith in
-        let loaded = acts g (instr.LoadAddress 0 start) cells (cells ++ Number (pos d) ∷ []) place s.output _ stands.0 refl
-        (loads_address g.running.frame g.limit g.size cells 0 start g.running.frame (omega arith) refl (omega arith)) in
-        let runs = selectors_run rest indexes 1 (place + 1) d base held there its last s stands.1 good well counts ends part based deep (omega arith) in
-        subst (λ q. Addresses s.turns (on g cells place s.output) held q last (selected rest (map value_of (expressions indexes)) g.environment
-        (Some there) s)) e
-        (addresses_from 1 s.turns _ _ held (place + 1 + length (selectors_code rest (codes indexes))) last
-        (selected rest (map value_of (expressions indexes)) g.environment (Some there) s) loaded runs)
+  -- the address of a cell in a frame
+  pub address_pushed : (level start owner : ℕ) → Leads g.fixed level g.frame owner → owner + start ≤ g.below
+      → PushesAddress (instr.LoadAddress level start) (owner + start)
+  address_pushed level start owner l inside place base held s stands based room =
+      let full = based.full in
+      let far = limit_far g in
+      let long = length-append base held in
+      acts g (instr.LoadAddress level start) (base ++ held) ((base ++ held) ++ Number (pos (owner + start)) ∷ []) place s.output _ stands refl
+      (loads_address g.frame g.limit g.size (base ++ held) level start owner (omega arith) (frame_found level owner base held s based l) (omega arith))
 
-  -- the value of a scalar that is loaded, checked
-  loaded_runs : (defined place : ℕ) (cells base held : List Cell) (p : Place) (d : ℕ) (s : effect.State) → defined < sites g → LiesIn g.world p d
-      → StandsAt g.target (place + 1) (instr.CheckDefined defined 1) (g.target.is_open defined) → Based g s.store base → g.below + length held < g.limit
-      → ((cell : Cell) → d < length (base ++ held) → slice_get (base ++ held) d ≡ Some cell
-      → Comes g.target 1 (on g cells place s.output) (on g ((base ++ held) ++ cell ∷ []) (place + 1) s.output))
-      → Evaluates g s.turns (on g cells place s.output) held (place + 1 + 1) (fetch (Some p) defined s)
-  loaded_runs defined place cells base held p d s within lies stands based room does =
-      let above = alike_above g.world s.store base held based.alike in
-      let loaded = does (cell_of (stored s.store p)) (cell_within g.world s.store (base ++ held) p d above lies) (above.scalars p d lies) in
-      evaluates_from g 1 s.turns _ _ held (place + 1 + 1) (fetch (Some p) defined s) loaded
-      (fetched_runs g (place + 1) defined base held s (stored s.store p) stands within based room (above.fits p d lies))
-
-  -- the code of the value of an ordinal that is selected from a part, checked
-  pub fetch_runs : (rest : List Selector) (indexes : Indexes) (start : ℕ) (there : Place) (its last : TypeId) (defined place : ℕ) (base held : List Cell)
-      (s : effect.State) → PartAt there its (g.running.frame + start) → led g.tree.types rest its ≡ Some last → is_ordinal g.tree.types last ≡ true
-      → are_selectors rest ≡ true → are_well_formed_indexes indexes ≡ true → length (expressions indexes) ≡ index_count rest → defined < sites g
-      → Stands g.target place (fetch_at start rest (codes indexes) ++ (instr.CheckDefined defined 1 ∷ [])) → Based g s.store base
-      → g.below + length held + access_depth (depths indexes) ≤ g.limit
-      → Evaluates g s.turns (on g (base ++ held) place s.output) held
-      (place + length (fetch_at start rest (codes indexes) ++ (instr.CheckDefined defined 1 ∷ [])))
-      (effect.and_then (selected rest (map value_of (expressions indexes)) g.environment (Some there) s) (λ q. fetch q defined))
-  fetch_runs [] indexes start there its last defined place base held s part ends ordinal well wells counts within stands based deep =
-      let cells = base ++ held in
-      let more = start_within 1 (map (λ i. i + 1) (depths indexes)) in
-      let same = same_Some its last ends in
-      let lies = ordinal_part g.tree.types g.world g.below there last (g.running.frame + start) ordinal (subst (λ u. PartAt there u
-      (g.running.frame + start)) same part) in
+  -- the address that a cell in a frame holds
+  reference_pushed : (level start owner address : ℕ) → Leads g.fixed level g.frame owner → slice_get g.fixed (owner + start)
+      ≡ Some (Some (Number (pos address)))
+      → PushesAddress (instr.Load level start) address
+  reference_pushed level start owner address l at place base held s stands based room =
       let full = based.full in
       let long = length-append base held in
-      let e : place + 1 + 1 ≡ place + 2 = omega arith in
-      subst (λ q. Evaluates g s.turns (on g cells place s.output) held q (fetch (Some there) defined s)) e
-      (loaded_runs defined place cells base held there (g.running.frame + start) s within lies stands.1.0 based (omega arith)
-      (λ cell inside at.
-      acts g (instr.Load 0 start) cells (cells ++ cell ∷ []) place s.output _ stands.0 refl
-      (loads g.running.frame g.limit g.size cells 0 start g.running.frame cell (omega arith) refl inside at)))
-  fetch_runs (x ∷ rest) indexes start there its last defined place base held s part ends ordinal well wells counts within stands based deep =
-      let check = instr.CheckDefined defined 1 ∷ [] in
-      let load = instr.LoadIndirect 0 ∷ [] in
-      let c = address_at start (x ∷ rest) (codes indexes) in
-      let loading = stands_front g.target place (c ++ load) check stands in
-      let checking = stands_back g.target place (c ++ load) check stands in
-      let at : place + length (c ++ load) ≡ place + length c + 1 = omega (arith, length-append c load) in
-      let e : place + length c + 1 + 1 ≡ place + length ((c ++ load) ++ check) = omega (arith, length-append c load, length-append (c ++ load) check) in
-      let here = stands_back g.target place c load loading in
-      let tested = subst (λ q. Stands g.target q check) at checking in
-      let next : Option Place → Action Value = λ q. fetch q defined in
-      let far = g.far in
-      subst (λ q. Evaluates g s.turns (on g (base ++ held) place s.output) held q
-      (effect.and_then (selected (x ∷ rest) (map value_of (expressions indexes)) g.environment (Some there) s) next)) e
-      (address_evaluates s.turns _ held held (place + length c) (place + length c + 1 + 1) last
-      (selected (x ∷ rest) (map value_of (expressions indexes)) g.environment (Some there) s) next
-      (address_runs (x ∷ rest) indexes start there its last part ends well wells counts place base held s
-      (stands_front g.target place c load loading) based deep)
-      (λ base2 d p s2 based2 part2 room2.
-      let full = based2.full in
-      let long = length-append base2 held in
-      loaded_runs defined (place + length c) ((base2 ++ held) ++ Number (pos d) ∷ []) base2 held p d s2 within
-      (ordinal_part g.tree.types g.world g.below p last d ordinal part2) tested.0 based2 room2
-      (λ cell inside at.
-      acts g (instr.LoadIndirect 0) ((base2 ++ held) ++ Number (pos d) ∷ []) ((base2 ++ held) ++ cell ∷ []) (place + length c) s2.output _ here.0 refl
-      (loads_indirect g.running.frame g.limit g.size (base2 ++ held) (linked g s2.store base2 held based2) d cell (omega arith) (omega arith) inside at))))
+      let there = slice_get-front base held (owner + start) (Number (pos address)) (based.keeps.each (owner + start) (Number (pos address)) at) in
+      acts g (instr.Load level start) (base ++ held) ((base ++ held) ++ Number (pos address) ∷ []) place s.output _ stands refl
+      (loads g.frame g.limit g.size (base ++ held) level start owner (Number (pos address)) (omega arith) (frame_found level owner base held s based l)
+      (slice_get_within (base ++ held) (owner + start) (Number (pos address)) there) there)
+
+  -- what selectors lead to in a frame
+  reached_there : (level start owner : ℕ) (rest : List Selector) (indexes : List (List Instr)) → Leads g.fixed level g.frame owner
+      → IsReached (reached_from level start rest indexes) (owner + start) (instr.LoadAddress level start) rest indexes
+  reached_there level start owner [] indexes l = (owner, l, refl, refl, refl)
+  reached_there level start owner (x ∷ rest) indexes l = refl
+
+  module _ (access : Access) (wanted : TypeId → Bool) (count : ℕ) (indexes : List (List Instr)) (l : LeadsTo wanted access.root access.selectors.items count)
+    where
+      abbrev home : Home
+      home = variable_home g.scope access.root
+
+      abbrev level : ℕ
+      level = links_to g.scope home.level
+
+      abbrev selectors : List Selector
+      selectors = access.selectors.items
+
+      abbrev shown : Shown g.tree g.world g.fixed g.below g.frame g.scope g.environment access.root l.variable
+      shown = g.shows access.root l.variable l.declared l.visible
+
+      entry_meant : (evaluations : List Evaluation) → meaning.accessed access evaluations (around g)
+          ≡ (λ s. selected selectors evaluations (around g) (Some shown.place) (entered access.number s))
+      entry_meant evaluations = ap {B = Action (Option Place)} (λ (o : Option Place) (s : effect.State). selected selectors evaluations (around g) o
+          (entered access.number s)) shown.place_is
+
+      begins_by : (way : Way) → Reaches g.tree g.world g.fixed g.below shown.place l.variable (shown.owner + home.start) home.refers way
+          → Begins access l.last indexes
+      begins_by Direct r =
+          let whole = r.1 in
+          let near = g.near access.root l.variable l.declared r.0 in
+          let start = shown.owner + home.start in
+          let close = part_up_to g.tree.types g.world g.below shown.place l.variable.type_id start whole in
+          let all = ahead (start + cells_of g.tree.types l.variable.type_id) selectors shown.place l.variable.type_id start l.last l.well l.ends close in
+          let within = all.part.within in
+          let inside = whole.within in
+          let at : start + fields_offset selectors ≡ shown.owner + access_offset g.scope access = omega arith in
+          let part = part_later g.tree.types g.world (start + cells_of g.tree.types l.variable.type_id) g.below all.there all.its
+          (start + fields_offset selectors)
+          (omega arith) all.part in
+          record {
+            rest = behind_fields selectors;
+            there = all.there;
+            its = all.its;
+            cell = shown.owner + access_offset g.scope access;
+            part = subst (PartAt all.there all.its) at part;
+            ends = all.ends;
+            counts = all.counts;
+            well = all.well;
+            meant = λ evaluations. entry_meant evaluations
+                ∙ ap {B = Action (Option Place)} (λ (action : Action (Option Place)) (s : effect.State). action (entered access.number s))
+                (all.meant evaluations);
+            first = instr.LoadAddress level (access_offset g.scope access);
+            pushes = address_pushed level (access_offset g.scope access) shown.owner shown.leads (omega arith);
+            way = reached_from level (access_offset g.scope access) (behind_fields selectors) indexes;
+            way_is = ap (λ b. if b then By (instr.Load level home.start ∷ selectors_code selectors indexes)
+                else reached_from level (access_offset g.scope access) (behind_fields selectors) indexes) r.0;
+            reaches = reached_there level (access_offset g.scope access) shown.owner (behind_fields selectors) indexes shown.leads;
+          }
+      begins_by (ByAddress address) r = record {
+        rest = selectors;
+        there = shown.place;
+        its = l.variable.type_id;
+        cell = address;
+        part = r.2;
+        ends = l.ends;
+        counts = refl;
+        well = l.well;
+        meant = entry_meant;
+        first = instr.Load level home.start;
+        pushes = reference_pushed level home.start shown.owner address shown.leads r.1;
+        way = By (instr.Load level home.start ∷ selectors_code selectors indexes);
+        way_is = ap (λ b. if b then By (instr.Load level home.start ∷ selectors_code selectors indexes)
+            else reached_from level (access_offset g.scope access) (behind_fields selectors) indexes) r.0;
+        reaches = refl;
+      }
+
+      pub begins : Begins access l.last indexes
+      begins = begins_by shown.way shown.reaches
+
+  module _ (access : Access) (indexes : Indexes) (last : TypeId) (start : Begins access last (codes indexes))
+      (good : are_well_formed_indexes indexes ≡ true) (counts : length (expressions indexes) ≡ index_count access.selectors.items) where
+    abbrev rest_code : List Instr
+    rest_code = selectors_code start.rest (codes indexes)
+
+    -- what the access means behind its entry
+    abbrev pub found : Action (Option Place)
+    found = selected start.rest (map value_of (expressions indexes)) (around g) (Some start.there)
+
+    pub exact_found : UsesTurnsExactly found
+    exact_found = exact_selected (around g) (exact_around g) start.rest (expressions indexes) (Some start.there)
+
+    pub pushed_runs : (place : ℕ) (base held : List Cell) (s : effect.State) → Stands g.target place (start.first ∷ rest_code) → Based g s base
+        → g.below + length held + access_depth (depths indexes) ≤ g.limit
+        → Addresses (on g (base ++ held) place s.output) held (place + length (start.first ∷ rest_code)) last found s
+    pushed_runs place base held s stands based deep =
+        let cells = base ++ held in
+        let more = start_within 1 (map (λ i. i + 1) (depths indexes)) in
+        let e : place + 1 + length rest_code ≡ place + length (start.first ∷ rest_code) = omega arith in
+        let loaded = start.pushes place base held s stands.0 based (omega arith) in
+        let runs = selectors_run start.rest indexes 1 (place + 1) start.cell base held start.there start.its last s stands.1 good start.well
+        (counts ∙ sym start.counts) start.ends start.part based deep (omega arith) in
+        subst (λ q. Addresses (on g cells place s.output) held q last found s) e
+        (addresses_from 1 _ _ held (place + 1 + length rest_code) last found s loaded runs)
+
+    -- the code of the address of what is reached
+    address_by : (way : Reached) → IsReached way start.cell start.first start.rest (codes indexes) → address_of way ≡ start.first ∷ rest_code
+    address_by (At links first) r = ap (λ i. i ∷ []) (sym r.4) ∙ ap (λ rest. start.first ∷ selectors_code rest (codes indexes)) (sym r.3)
+    address_by (By code) r = r
+
+    pub address_is : address_code g.scope access (codes indexes) ≡ start.first ∷ rest_code
+    address_is = ap address_of start.way_is ∙ address_by start.way start.reaches
+
+    -- the code of an address
+    pub address_runs : (place : ℕ) (base held : List Cell) (s : effect.State) → Stands g.target place (address_code g.scope access (codes indexes))
+        → Based g s base → g.below + length held + access_depth (depths indexes) ≤ g.limit
+        → Addresses (on g (base ++ held) place s.output) held (place + length (address_code g.scope access (codes indexes))) last found s
+    address_runs place base held s stands based deep =
+        subst (λ c. Addresses (on g (base ++ held) place s.output) held (place + length c) last found s) (sym address_is)
+        (pushed_runs place base held s (subst (Stands g.target place) address_is stands) based deep)
+
+    -- the value of a scalar that is loaded, checked
+    loaded_runs : (defined place : ℕ) (cells base held : List Cell) (p : Place) (d : ℕ) (s : effect.State) → defined < sites g → LiesIn g.world p d
+        → StandsAt g.target (place + 1) (instr.CheckDefined defined 1) (g.target.is_open defined) → Based g s base → g.below + length held < g.limit
+        → ((cell : Cell) → d < length (base ++ held) → slice_get (base ++ held) d ≡ Some cell
+        → Comes g.target 1 (on g cells place s.output) (on g ((base ++ held) ++ cell ∷ []) (place + 1) s.output))
+        → Evaluates g (on g cells place s.output) held (place + 1 + 1) (fetch (Some p) defined) s
+    loaded_runs defined place cells base held p d s within lies stands based room does =
+        let above = alike_above g.world s.store base held based.alike in
+        let loaded = does (cell_of (stored s.store p)) (cell_within g.world s.store (base ++ held) p d above lies) (above.scalars p d lies) in
+        evaluates_from g 1 _ _ held (place + 1 + 1) (fetch (Some p) defined) s loaded
+        (fetched_runs g (place + 1) defined base held s (stored s.store p) stands within based room (above.fits p d lies))
+
+    module _ (ordinal : is_ordinal g.tree.types last ≡ true) where
+      -- what is reached without a selector is the scalar
+      pub scalar_there : start.rest ≡ [] → LiesIn g.world start.there start.cell
+      scalar_there none =
+          let same : start.its ≡ last = same_Some start.its last (ap (λ rest. led g.tree.types rest start.its) (sym none) ∙ start.ends) in
+          ordinal_part g.tree.types g.world g.below start.there last start.cell ordinal (subst (λ u. PartAt start.there u start.cell) same start.part)
+
+      fetch_by : (way : Reached) → reached g.scope access (codes indexes) ≡ way → IsReached way start.cell start.first start.rest (codes indexes)
+          → (defined place : ℕ) (base held : List Cell) (s : effect.State) → defined < sites g
+          → Stands g.target place (fetch_code way ++ (instr.CheckDefined defined 1 ∷ [])) → Based g s base
+          → g.below + length held + access_depth (depths indexes) ≤ g.limit
+          → Evaluates g (on g (base ++ held) place s.output) held (place + length (fetch_code way ++ (instr.CheckDefined defined 1 ∷ [])))
+          (found >>= λ q. fetch q defined) s
+      fetch_by (At level first) is r defined place base held s within stands based deep =
+          let cells = base ++ held in
+          let more = start_within 1 (map (λ i. i + 1) (depths indexes)) in
+          let full = based.full in
+          let long = length-append base held in
+          let e : place + 1 + 1 ≡ place + 2 = omega arith in
+          let selects = λ (rest : List Selector). (λ (t : effect.State). selected rest (map value_of (expressions indexes)) (around g) (Some start.there) t) in
+          subst (λ rest. Evaluates g (on g cells place s.output) held (place + 2)
+          (selected rest (map value_of (expressions indexes)) (around g) (Some start.there) >>= λ q. fetch q defined) s) (sym r.3)
+          (subst (λ q. Evaluates g (on g cells place s.output) held q (fetch (Some start.there) defined) s) e
+          (loaded_runs defined place cells base held start.there start.cell s within (scalar_there r.3) stands.1.0 based (omega arith)
+          (λ cell inside at.
+          acts g (instr.Load level first) cells (cells ++ cell ∷ []) place s.output _ stands.0 refl
+          (loads g.frame g.limit g.size cells level first r.0 cell (omega arith) (frame_found level r.0 base held s based r.1)
+          (subst (λ d. d < length cells) r.2 inside) (ap (slice_get cells) (sym r.2) ∙ at)))))
+      fetch_by (By code) is r defined place base held s within stands based deep =
+          let check = instr.CheckDefined defined 1 ∷ [] in
+          let load = instr.LoadIndirect 0 ∷ [] in
+          let loading = stands_front g.target place (code ++ load) check stands in
+          let checking = stands_back g.target place (code ++ load) check stands in
+          let at : place + length (code ++ load) ≡ place + length code + 1 = omega (arith, length-append code load) in
+          let e : place + length code + 1 + 1 ≡ place + length ((code ++ load) ++ check) =
+          omega (arith, length-append code load, length-append (code ++ load) check) in
+          let here = stands_back g.target place code load loading in
+          let tested = subst (λ q. Stands g.target q check) at checking in
+          let next : Option Place → Action Value = λ q. fetch q defined in
+          let far = limit_far g in
+          let addressed = subst (λ c. Addresses (on g (base ++ held) place s.output) held (place + length c) last found s) (sym r)
+          (pushed_runs place base held s (subst (Stands g.target place) r (stands_front g.target place code load loading)) based deep) in
+          subst (λ q. Evaluates g (on g (base ++ held) place s.output) held q (found >>= next) s) e
+          (address_evaluates _ held held (place + length code) (place + length code + 1 + 1) last found next s exact_found addressed
+          (λ base2 d p s2 based2 part2 room2.
+          let full = based2.full in
+          let long = length-append base2 held in
+          loaded_runs defined (place + length code) ((base2 ++ held) ++ Number (pos d) ∷ []) base2 held p d s2 within
+          (ordinal_part g.tree.types g.world g.below p last d ordinal part2) tested.0 based2 room2
+          (λ cell inside at'.
+          acts g (instr.LoadIndirect 0) ((base2 ++ held) ++ Number (pos d) ∷ []) ((base2 ++ held) ++ cell ∷ []) (place + length code) s2.output _ here.0 refl
+          (loads_indirect g.frame g.limit g.size (base2 ++ held) (linked g s2 base2 held based2) d cell (omega arith) (omega arith) inside at'))))
+
+      -- the code of the value of an ordinal that is accessed, checked
+      pub fetch_runs : (defined place : ℕ) (base held : List Cell) (s : effect.State) → defined < sites g
+          → Stands g.target place (variable_code g.scope access (codes indexes) defined) → Based g s base
+          → g.below + length held + access_depth (depths indexes) ≤ g.limit
+          → Evaluates g (on g (base ++ held) place s.output) held (place + length (variable_code g.scope access (codes indexes) defined))
+          (found >>= λ q. fetch q defined) s
+      fetch_runs defined place base held s within stands based deep =
+          subst (λ way. Evaluates g (on g (base ++ held) place s.output) held (place + length (fetch_code way ++ (instr.CheckDefined defined 1 ∷ [])))
+          (found >>= λ q. fetch q defined) s) (sym start.way_is)
+          (fetch_by start.way start.way_is start.reaches defined place base held s within
+          (subst (λ way. Stands g.target place (fetch_code way ++ (instr.CheckDefined defined 1 ∷ []))) start.way_is stands) based deep)

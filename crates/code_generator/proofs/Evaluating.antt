@@ -1,6 +1,6 @@
 -- What is shown of the code of an expression: it leaves the expression's value on top, or stops as the expression does; and
 -- of a statement: it keeps store and cells alike, or stops as the statement does.
-use Rattle.std.proofs.Common.{◌≡◌, ℕ, ◌+◌, ◌<◌, ◌≤◌, List, [], ◌∷◌, ◌++◌, length, Option, Some, None, refl, sym, append_assoc, Bool, true}
+use Rattle.std.proofs.Common.{◌≡◌, ℕ, ◌+◌, ◌<◌, ◌≤◌, List, [], ◌∷◌, ◌++◌, length, Option, Some, None, refl, sym, append_assoc, Bool, true, inr}
 use Rattle.std.specs.Prelude.{ℤ}
 use Rattle.pcode_assembler.specs.declared.instr.Instr.{Instr}
 use Rattle.pcode_assembler.specs.declared.instr.Instr.TheVariants as instr
@@ -11,6 +11,7 @@ use Rattle.meaning.specs.declared.store.Value.{Value}
 use Rattle.meaning.specs.declared.store.Value.TheVariants as value
 use Rattle.meaning.specs.Effect as effect
 use Rattle.meaning.specs.Effect.{fetched}
+use Rattle.meaning.specs.Laws.{UsesTurnsExactly}
 use Rattle.meaning.specs.Meaning.{Evaluation, Combination, Execution, value_of, link_of}
 use Rattle.stack_machine.specs.declared.cell.Cell.{Cell}
 use Rattle.stack_machine.specs.declared.cell.Cell.TheVariants.{Undefined, Number}
@@ -22,7 +23,7 @@ use Rattle.code_generator.proofs.Acts.{framed, defines}
 use Rattle.code_generator.proofs.Alike.{cell_of, HasFit}
 use Rattle.code_generator.proofs.Numbers.{Fits}
 use Rattle.code_generator.proofs.Reach.{StandsAt, Stands}
-use Rattle.code_generator.proofs.Setting.{Setting, on, Based, linked, passes, fails, Evaluates, gives, Executes}
+use Rattle.code_generator.proofs.Setting.{Setting, outline, around, on, Based, linked, passes, fails, Evaluates, gives, Executes}
 
 module _ (g : Setting) where
   abbrev pub sites : ℕ
@@ -30,7 +31,7 @@ module _ (g : Setting) where
 
   -- the store in the running frame
   abbrev pub frames_of : List Cell → frames.Frames
-  frames_of = framed g.running.frame g.limit g.size
+  frames_of = framed g.frame g.limit g.size
 
   -- the machine behind the fetch of an instruction
   abbrev pub fetched_at : List Cell → ℕ → List ℕ → State
@@ -39,30 +40,32 @@ module _ (g : Setting) where
   -- the code c of an evaluation
   abbrev pub RunsAs : List Instr → ℕ → Bool → Evaluation → Type 0
   RunsAs c depth well evaluation =
-      (place : ℕ) (base held : List Cell) (s : effect.State) → Stands g.target place c → well ≡ true → Based g s.store base
+      (place : ℕ) (base held : List Cell) (s : effect.State) → Stands g.target place c → well ≡ true → Based g s base
       → g.below + length held + depth ≤ g.limit
-      → Evaluates g s.turns (on g (base ++ held) place s.output) held (place + length c) (evaluation g.environment s)
+      → Evaluates g (on g (base ++ held) place s.output) held (place + length c) (evaluation (around g)) s
 
   -- the code c of an operator and its right operand
   abbrev pub CombinesAs : List Instr → ℕ → Bool → Combination → Type 0
   CombinesAs c depth well combination =
-      (place : ℕ) (base held : List Cell) (a : ℤ) (s : effect.State) → Stands g.target place c → well ≡ true → Based g s.store base
+      (place : ℕ) (base held : List Cell) (a : ℤ) (s : effect.State) → Stands g.target place c → well ≡ true → Based g s base
       → g.below + length held + depth ≤ g.limit → Fits a
-      → Evaluates g s.turns (on g ((base ++ held) ++ Number a ∷ []) place s.output) held (place + length c) (combination g.environment (value.Number a) s)
+      → Evaluates g (on g ((base ++ held) ++ Number a ∷ []) place s.output) held (place + length c) (combination (around g) (value.Number a)) s
 
   -- the code c of an execution
   abbrev pub ExecutesAs : Placed → ℕ → Bool → Execution → Type 0
   ExecutesAs c depth well execution =
-      (place : ℕ) (base held : List Cell) (s : effect.State) → Stands g.target place (c g.scope place) → well ≡ true → Based g s.store base
+      (place : ℕ) (base held : List Cell) (s : effect.State) → Stands g.target place (c g.scope place) → well ≡ true → Based g s base
       → length held ≡ g.scope.height → g.below + length held + depth ≤ g.limit
-      → Executes g s.turns (on g (base ++ held) place s.output) held (place + length (c g.scope place)) (execution g.environment s)
+      → Executes g (on g (base ++ held) place s.output) held (place + length (c g.scope place)) (execution (around g)) s
 
   -- what is shown of an expression, and of an operator and its right operand
   abbrev pub ExprRuns : Expr → Type 0
-  ExprRuns e = RunsAs (expr_code g.scope e) (expr_depth e) (is_well_formed_expr g.tree.variables.items g.tree.types sites e) (value_of e)
+  ExprRuns e = RunsAs (expr_code g.scope e) (expr_depth e) (is_well_formed_expr (outline g) g.number e) (value_of e)
 
   abbrev pub LinkRuns : Link → Type 0
-  LinkRuns l = CombinesAs (link_code g.scope l) (link_depth l) (is_well_formed_link g.tree.variables.items g.tree.types sites l) (link_of l)
+  LinkRuns l =
+      CombinesAs (link_code g.scope l) (link_depth l) (is_well_formed_link (outline g) g.number l) (link_of l)
+      × ((v : Value) → UsesTurnsExactly (link_of l (around g) v))
 
   -- what is held with one number more on top, over the same cells
   pub one_held : (base held : List Cell) (a : ℤ) → base ++ (held ++ Number a ∷ []) ≡ (base ++ held) ++ Number a ∷ []
@@ -70,14 +73,14 @@ module _ (g : Setting) where
 
   -- what a variable holds, on top, and its check
   pub fetched_runs : (place defined : ℕ) (base held : List Cell) (s : effect.State) (found : Option Value)
-      → StandsAt g.target place (instr.CheckDefined defined 1) (g.target.is_open defined) → defined < sites → Based g s.store base
+      → StandsAt g.target place (instr.CheckDefined defined 1) (g.target.is_open defined) → defined < sites → Based g s base
       → g.below + length held < g.limit → HasFit found
-      → Evaluates g s.turns (on g ((base ++ held) ++ cell_of found ∷ []) place s.output) held (place + 1) (fetched found defined s)
+      → Evaluates g (on g ((base ++ held) ++ cell_of found ∷ []) place s.output) held (place + 1) (fetched found defined) s
   fetched_runs place defined base held s None stands within based room fit =
-      fails g (instr.CheckDefined defined 1) ((base ++ held) ++ Undefined ∷ []) place defined s.output _ refl refl s.turns stands within
-      (defines g.running.frame g.limit g.size (base ++ held) (linked g s.store base held based) Undefined)
+      inr (fails g (instr.CheckDefined defined 1) ((base ++ held) ++ Undefined ∷ []) place defined s.output _ refl refl s.turns stands within
+      (defines g.frame g.limit g.size (base ++ held) (linked g s base held based) Undefined))
   fetched_runs place defined base held s (Some (value.Number n)) stands within based room fit =
-      gives g 0 _ base held (place + 1) n s based
+      inr (gives g 0 _ base held (place + 1) n s based
       (passes g (instr.CheckDefined defined 1) ((base ++ held) ++ Number n ∷ []) place defined s.output _ refl refl stands
-      (defines g.running.frame g.limit g.size (base ++ held) (linked g s.store base held based) (Number n)))
-      fit room
+      (defines g.frame g.limit g.size (base ++ held) (linked g s base held based) (Number n)))
+      fit room)

@@ -1,13 +1,16 @@
 -- The code of an expression leaves its value on top, or stops as the expression does.
-use Rattle.std.proofs.Common.{◌≡◌, ℕ, ◌+◌, ◌<◌, ◌≤◌, max, List, [], ◌∷◌, ◌++◌, length, map, Option, Some, None, Ok, refl, sym, ap, ◌∙◌, subst, arith}
-use Rattle.std.proofs.Common.{length-append, append_assoc, Bool, true, false}
-use Rattle.std.specs.Prelude.{ℤ, pos, neg_ℤ, ◌+ℤ◌, ◌-ℤ◌, ◌*ℤ◌, int_le, int_lt, int_div, unsigned_abs, nat_eq, nat_lt, not, ◌&&◌, ◌||◌, fold}
+use Rattle.std.proofs.Common.{◌≡◌, ℕ, ◌+◌, ◌<◌, ◌≤◌, max, List, [], ◌∷◌, ◌++◌, length, map, Option, Some, None, Ok, inr, refl, sym, ap, ◌∙◌, subst, arith}
+use Rattle.std.proofs.Common.{length-append, append_assoc, append-nil, ◌-◌, suc, zero, Bool, true, false}
+use Rattle.std.specs.Prelude.{ℤ, pos, neg_ℤ, ◌+ℤ◌, ◌-ℤ◌, ◌*ℤ◌, int_le, int_lt, int_div, slice_get, unsigned_abs, nat_eq, nat_lt, not, ◌&&◌, ◌||◌, fold}
 use Rattle.std.specs.Int.{w32, cast_signed, int_rem_euclid, int_wrapping_add, int_wrapping_sub, int_wrapping_mul, int_wrapping_div, int_wrapping_neg}
 use Rattle.std.specs.Ordering.{int_eq}
-use Rattle.std.proofs.lemmas.Bool.{eqb-true, ltb-true, and_parts}
+use Rattle.std.proofs.lemmas.Bool.{eqb-true, false≢true, ltb-true, and_parts}
+use Rattle.std.proofs.lemmas.List.{length-map}
+use Rattle.std.proofs.lemmas.Option.{none-some, same_Some}
 use Rattle.pcode_assembler.specs.declared.instr.Instr.{Instr}
 use Rattle.pcode_assembler.specs.declared.instr.Instr.TheVariants as instr
-use Rattle.types.specs.Types.{is_ordinal}
+use Rattle.types.specs.declared.form.TypeId.{TypeId}
+use Rattle.types.specs.Types.{is_ordinal, is_same, cells_of as type_cells}
 use Rattle.types.specs.Forms.{Form}
 use Rattle.typed_tree.specs.declared.tree.Access.{Access}
 use Rattle.typed_tree.specs.declared.tree.Variable.{Variable as DeclaredVariable}
@@ -22,45 +25,79 @@ use Rattle.typed_tree.specs.declared.tree.Written.{Written}
 use Rattle.typed_tree.specs.declared.tree.Whole.{Whole}
 use Rattle.typed_tree.specs.declared.tree.Expr.{Expr}
 use Rattle.typed_tree.specs.declared.tree.Link.{Link}
-use Rattle.typed_tree.specs.declared.tree.Expr.TheOpen.{Expr-F, Link-F}
-use Rattle.typed_tree.specs.declared.tree.Expr.TheOpen.Expr-F.{Constant, Variable, Monadic as MonadicOf, Chain, Compare}
-use Rattle.typed_tree.specs.declared.tree.Expr.TheViews.{roll-Expr, roll-Link}
-use Rattle.typed_tree.specs.declared.tree.Expr.TheFolds.{fold-Expr, fold-Link, map-Expr, map-Link, fold-roll-Expr, fold-roll-Link, ind-Expr}
+use Rattle.typed_tree.specs.declared.tree.Block.{Block}
+use Rattle.typed_tree.specs.declared.tree.Call.{Call}
+use Rattle.typed_tree.specs.declared.tree.Heading.{Heading}
+use Rattle.typed_tree.specs.declared.tree.Passed.{Passed}
+use Rattle.typed_tree.specs.declared.tree.RangeTest.{RangeTest}
+use Rattle.typed_tree.specs.declared.tree.Expr.TheOpen.{Expr-F, Passed-F, Link-F}
+use Rattle.typed_tree.specs.declared.tree.Expr.TheOpen.Passed-F.{Value as PassedValue, Whole as PassedWhole, Reference}
+use Rattle.typed_tree.specs.declared.tree.Expr.TheOpen.Expr-F.{Constant, Variable, Monadic as MonadicOf, Chain, Compare, Call as CallOf}
+use Rattle.typed_tree.specs.declared.tree.Expr.TheViews.{roll-Expr, roll-Passed, roll-Link}
+use Rattle.typed_tree.specs.declared.tree.Expr.TheFolds.{map-Expr, map-Passed, map-Link, fold-roll-Expr, fold-roll-Passed, fold-roll-Link}
+use Rattle.typed_tree.specs.declared.tree.Expr.TheFolds.{ind-Expr, ind-Passed}
 use Rattle.meaning.specs.declared.store.Value.{Value}
 use Rattle.meaning.specs.declared.store.Value.TheVariants as value
-use Rattle.meaning.specs.Store.{held}
+use Rattle.meaning.specs.Store.{Place}
 use Rattle.meaning.specs.Effect as effect
-use Rattle.meaning.specs.Effect.{Reply, Action, ◌>>=◌, fetch, require, give}
+use Rattle.meaning.specs.Laws.{UsesTurnsExactly}
+use Rattle.meaning.specs.Effect.{Action, ◌>>=◌, fetch, require, give}
 use Rattle.meaning.specs.Meaning.{Evaluation, Combination, value_of, link_of, value_step, operated, combined, relates, in_turn, width_of, order_of}
+use Rattle.meaning.specs.Meaning.{Argument, OfValue, OfRow, OfPlace, Passing, all_passed, calls_of, passing_of}
 use Rattle.meaning.specs.Meaning as meaning
+use Rattle.meaning.proofs.Used.{exact_value}
 use Rattle.meaning.specs.Integers.{is_within, magnitude, truth}
 use Rattle.stack_machine.specs.declared.cell.Cell.{Cell}
 use Rattle.stack_machine.specs.declared.cell.Cell.TheVariants.{Number}
+use Rattle.stack_machine.specs.Calls as calls
 use Rattle.stack_machine.specs.Frames as frames
 use Rattle.stack_machine.specs.Frames.{Attempt}
 use Rattle.stack_machine.specs.Rows as rows
 use Rattle.machine_arithmetic.specs.Arithmetic.{is_odd}
 use Rattle.stack_machine.specs.Machine.{State, and_then, checked, with_frames}
 use Rattle.code_scheme.specs.Code.{joined, monadic_code, dyadic_code, relation_instr, variable_code, width_code, check_positive, expr_code, link_code}
-use Rattle.code_scheme.specs.Code.{expr_step}
+use Rattle.code_scheme.specs.Code.{address_code, call_code, expr_step, passed_code, passed_step as passed_code_step, range_check}
 use Rattle.code_scheme.specs.Code.{link_step, compare_code, default_width, whole_code}
 use Rattle.code_scheme.specs.Depth.{access_depth, expr_depth, link_depth, expr_depth_step, link_depth_step, width_depth, monadic_depth, whole_depth}
-use Rattle.code_scheme.specs.Scopes.{access_offset, behind_fields, row_length}
+use Rattle.code_scheme.specs.Depth.{PassedDepth, actuals_depth, call_depth, passed_depth, passed_depth_step}
+use Rattle.code_scheme.specs.Scopes.{called_routine, links_to, row_length}
 use Rattle.typed_tree.specs.WellFormed.{all_hold, monadic_is_well_formed, dyadic_is_well_formed, expr_is_well_formed, link_is_well_formed, is_well_formed_expr}
 use Rattle.typed_tree.specs.WellFormed.{is_well_formed_link, is_well_formed_width, is_well_formed_whole, is_whole, leads_to_ordinal, length_of, whole_indexes}
+use Rattle.typed_tree.specs.WellFormed.{formal_of, heading_of, is_callable, is_passed_to, is_well_formed_call, is_well_formed_passed, is_well_formed_test}
+use Rattle.typed_tree.specs.WellFormed.{leads_to_type, may_call, of_one, passed_is_well_formed, passes_value, passes_variable, passes_whole}
+use Rattle.typed_tree.specs.WellFormed.{placed as placed_for, takes_value, takes_variable, takes_whole}
 use Rattle.check_remover.specs.Strip.{moved}
 use Rattle.code_scheme.proofs.Pieces.{start_within}
-use Rattle.code_generator.proofs.Reach.{StandsAt, Stands, obeys, stands_front, stands_back, Comes, comes_on, stays_here}
+use Rattle.code_generator.proofs.Alike.{Leads, leads_split}
+use Rattle.code_generator.proofs.Calling.{marks}
+use Rattle.code_generator.proofs.Exact.{exact_link, exact_passed, exact_passing, exact_whole}
+use Rattle.code_generator.proofs.Passing.{AllPass, CallsAt, PassedRuns, Passes, PassesAs, Returns, address_passes, function_evaluates, links_of, passed_then}
+use Rattle.code_generator.proofs.Passing.{returns_from, row_passes, then_pass, then_returns, value_passes}
+use Rattle.code_generator.proofs.Reach.{StandsAt, Stands, obeys, stands_front, stands_back, Comes, comes_less, comes_on, stays_here}
 use Rattle.code_generator.proofs.Rows.{cells_of, length-cells_of, compares, same_order, order_fits}
-use Rattle.code_generator.proofs.Setting.{Setting, on, Based, linked, Here, acts, passes, fails, Evaluates, gives, evaluates_from, then_evaluates}
-use Rattle.code_generator.proofs.Accesses.{Indexes, expressions, wells, as_many_wells, codes, depths, leads, begins, entered, fetch_runs}
+use Rattle.code_generator.proofs.Setting.{Setting, outline, around, exact_around, on, Based, linked, Here, acts, passes, fails, Evaluates, gives}
+use Rattle.code_generator.proofs.Setting.{evaluates_from, then_evaluates}
+use Rattle.code_generator.proofs.Accesses.{Indexes, expressions, wells, as_many_wells, codes, depths, leads, begins, entered, fetch_runs, found as place_found}
+use Rattle.code_generator.proofs.Accesses.{PartAt, address_runs, exact_found, frame_found}
 use Rattle.code_generator.proofs.Evaluating.{sites, frames_of, fetched_at, RunsAs, CombinesAs, ExprRuns, LinkRuns, one_held}
-use Rattle.code_generator.proofs.Wholes.{few_components, row_evaluates, whole_runs}
+use Rattle.code_generator.proofs.Wholes.{few_components, row_evaluates, same_type, whole_runs}
 use Rattle.code_generator.proofs.Acts.{length_one, pushes, on_one_is, is_in_range, is_not_zero, squares, sums, differs, multiplies}
 use Rattle.code_generator.proofs.Acts.{on_two_is, divides, leaves}
 use Rattle.code_generator.proofs.Numbers.{Fits, sum_is, difference_is, product_is, fits_negated, negated_is, fits_magnitude, magnitude_is, fits_quotient}
 use Rattle.code_generator.proofs.Numbers.{quotient_is, fits_remainder, fits_truth, same_truth, same_test, same_positive, fits_next, fits_previous, same_below}
-use Rattle.code_generator.proofs.Numbers.{same_above, same_char}
+use Rattle.code_generator.proofs.Numbers.{same_above, same_char, same_range}
+
+-- a heading of a table is that of a block
+heading_there : (blocks : List Block) (number : ℕ) (heading : Heading) → slice_get (map heading_of blocks) number ≡ Some heading
+    → (block : Block) × (slice_get blocks number ≡ Some block) × (heading_of block ≡ heading)
+heading_there [] number heading e = absurd (none-some heading e)
+heading_there (block ∷ blocks) zero heading e = (block, refl, same_Some (heading_of block) heading e)
+heading_there (block ∷ blocks) (suc number) heading e = heading_there blocks number heading e
+
+-- as many cells as are there already
+actuals_deep : (height : ℕ) (depths : List PassedDepth) → height ≤ actuals_depth height depths
+actuals_deep height [] = omega arith
+actuals_deep height (d ∷ depths) = let rest = actuals_deep (height + d.cells) depths in omega arith
 
 module _ (g : Setting) where
   abbrev variables : List DeclaredVariable
@@ -70,60 +107,60 @@ module _ (g : Setting) where
   types = g.tree.types
 
   -- a number that is pushed
-  number_runs : (n : ℤ) (place : ℕ) (base held : List Cell) (s : effect.State) → Here g place (instr.LoadConstant n) → Fits n → Based g s.store base
-      → g.below + length held + 1 ≤ g.limit → Evaluates g s.turns (on g (base ++ held) place s.output) held (place + 1) (give (value.Number n) s)
+  number_runs : (n : ℤ) (place : ℕ) (base held : List Cell) (s : effect.State) → Here g place (instr.LoadConstant n) → Fits n → Based g s base
+      → g.below + length held + 1 ≤ g.limit → Evaluates g (on g (base ++ held) place s.output) held (place + 1) (give (value.Number n)) s
   number_runs n place base held s here fit based room =
       let full = based.full in
       let long = length-append base held in
-      gives g 1 _ base held (place + 1) n s based (acts g (instr.LoadConstant n) (base ++ held) ((base ++ held) ++ Number n ∷ []) place s.output _ here refl
-      (pushes g.running.frame g.limit g.size (base ++ held) n (omega arith))) fit (omega arith)
+      inr (gives g 1 _ base held (place + 1) n s based (acts g (instr.LoadConstant n) (base ++ held) ((base ++ held) ++ Number n ∷ []) place s.output _ here
+      refl
+      (pushes g.frame g.limit g.size (base ++ held) n (omega arith))) fit (omega arith))
 
   -- a constant
   constant_runs : (number : ℕ) (n : ℤ) → RunsAs g (expr_step g.scope (Constant number n)) (expr_depth_step (Constant number n))
-      (expr_is_well_formed variables types (sites g) (Constant number n)) (value_step (Constant number n))
+      (expr_is_well_formed (outline g) g.number (Constant number n)) (value_step (Constant number n))
   constant_runs number n place base held s stands well based room =
       number_runs n place base held (record s { visited = s.visited ++ record { number = number; environment = g.environment; store = s.store } ∷ [] })
-      stands.0 (record { is = well }) (record { full = based.full; alike = based.alike }) room
+      stands.0 (record { is = well }) based room
 
   -- what a variable or a component holds
   variable_runs : (access : Access) (indexes : Indexes g) (defined : ℕ)
       → RunsAs g (variable_code g.scope access (codes g indexes) defined) (access_depth (depths g indexes))
-      (all_hold (wells g indexes) && (leads_to_ordinal variables types (sites g) access.root access.selectors.items (length (wells g indexes))
+      (all_hold (wells g indexes) && (leads_to_ordinal (outline g) g.number access.root access.selectors.items (length (wells g indexes))
       && nat_lt defined (sites g)))
       (λ env. meaning.accessed access (map value_of (expressions g indexes)) env >>= λ q. fetch q defined)
   variable_runs access indexes defined place base held s stands good based room =
       let parts = and_parts _ _ good in
       let parts' = and_parts _ _ parts.1 in
       let led_to = leads g (is_ordinal types) access.root access.selectors.items (length (expressions g indexes))
-      (subst (λ k. leads_to_ordinal variables types (sites g) access.root access.selectors.items k ≡ true) (as_many_wells g indexes) parts'.0) in
-      let start = begins g access (is_ordinal g.tree.types) (length (expressions g indexes)) led_to in
-      subst (λ r. Evaluates g s.turns (on g (base ++ held) place s.output) held (place + length (variable_code g.scope access (codes g indexes) defined))
-      (effect.and_then r (λ q. fetch q defined))) (sym (start.meant (map value_of (expressions g indexes)) s))
-      (fetch_runs g (behind_fields access.selectors.items) indexes (access_offset g.scope access) start.there start.its led_to.last defined place base held
-      (entered g access.number s) start.part start.ends led_to.is_wanted start.well parts.0 (led_to.counts ∙ sym start.counts)
-      (ltb-true defined (sites g) parts'.1) stands (record { full = based.full; alike = based.alike }) room)
+      (subst (λ k. leads_to_ordinal (outline g) g.number access.root access.selectors.items k ≡ true) (as_many_wells g indexes) parts'.0) in
+      let start = begins g access (is_ordinal g.tree.types) (length (expressions g indexes)) (codes g indexes) led_to in
+      subst (λ action. Evaluates g (on g (base ++ held) place s.output) held (place + length (variable_code g.scope access (codes g indexes) defined))
+      (action >>= λ q. fetch q defined) s) (sym (start.meant (map value_of (expressions g indexes))))
+      (fetch_runs g access indexes led_to.last start parts.0 led_to.counts led_to.is_wanted defined place base held (entered g access.number s)
+      (ltb-true defined (sites g) parts'.1) stands based room)
 
   -- an operation that is never in error: the instruction leaves a number, which is the one that is meant
   given_runs : (apply : Instr) (place : ℕ) (stack base held : List Cell) (c d : ℤ) (s : effect.State) (attempt : Attempt frames.Frames) → Here g place apply
       → obeys g.target apply (fetched_at g stack place s.output) ≡ and_then attempt (with_frames (fetched_at g stack place s.output))
-      → attempt ≡ Ok (frames_of g ((base ++ held) ++ Number d ∷ [])) → d ≡ c → Fits c → Based g s.store base → g.below + length held < g.limit
-      → Evaluates g s.turns (on g stack place s.output) held (place + 1) (give (value.Number c) s)
+      → attempt ≡ Ok (frames_of g ((base ++ held) ++ Number d ∷ [])) → d ≡ c → Fits c → Based g s base → g.below + length held < g.limit
+      → Evaluates g (on g stack place s.output) held (place + 1) (give (value.Number c)) s
   given_runs apply place stack base held c d s attempt here rule does same fit based room =
-      gives g 1 _ base held (place + 1) c s based (acts g apply stack ((base ++ held) ++ Number c ∷ []) place s.output attempt here rule (does ∙ ap (λ v. Ok
-      (frames_of g ((base ++ held) ++ Number v ∷ []))) same)) fit room
+      inr (gives g 1 _ base held (place + 1) c s based (acts g apply stack ((base ++ held) ++ Number c ∷ []) place s.output attempt here rule
+      (does ∙ ap (λ v. Ok
+      (frames_of g ((base ++ held) ++ Number v ∷ []))) same)) fit room)
 
   -- a test of the number on top, which stays there
   tested_runs : (check : Instr) (site place : ℕ) (base held : List Cell) (n : ℤ) (s : effect.State) (holds : Attempt Bool) (good : Bool)
       → StandsAt g.target place check (g.target.is_open site) → moved g.target.to check ≡ check
       → obeys g.target check (fetched_at g ((base ++ held) ++ Number n ∷ []) place s.output) ≡ checked g.target.sites site
-      (fetched_at g ((base ++ held) ++ Number n ∷ []) place s.output) holds → holds ≡ Ok good → site < (sites g) → Based g s.store base
+      (fetched_at g ((base ++ held) ++ Number n ∷ []) place s.output) holds → holds ≡ Ok good → site < (sites g) → Based g s base
       → g.below + length held < g.limit → Fits n
-      → Evaluates g s.turns (on g ((base ++ held) ++ Number n ∷ []) place s.output) held (place + 1)
-      (effect.and_then (require good site s) (λ _. give (value.Number n)))
+      → Evaluates g (on g ((base ++ held) ++ Number n ∷ []) place s.output) held (place + 1) (require good site >>= (λ _. give (value.Number n))) s
   tested_runs check site place base held n s holds true stands same rule e within based room fit =
-      gives g 0 _ base held (place + 1) n s based (passes g check ((base ++ held) ++ Number n ∷ []) place site s.output holds same rule stands e) fit room
+      inr (gives g 0 _ base held (place + 1) n s based (passes g check ((base ++ held) ++ Number n ∷ []) place site s.output holds same rule stands e) fit room)
   tested_runs check site place base held n s holds false stands same rule e within based room fit =
-      fails g check ((base ++ held) ++ Number n ∷ []) place site s.output holds same rule s.turns stands within e
+      inr (fails g check ((base ++ held) ++ Number n ∷ []) place site s.output holds same rule s.turns stands within e)
 
   -- an operation behind a check of its result or of its operand
   checked_runs : (check apply : Instr) (site place : ℕ) (stack base held : List Cell) (c d : ℤ) (s : effect.State) (holds : Attempt Bool)
@@ -132,18 +169,18 @@ module _ (g : Setting) where
       → obeys g.target check (fetched_at g stack place s.output) ≡ checked g.target.sites site (fetched_at g stack place s.output) holds
       → obeys g.target apply (fetched_at g stack (place + 1) s.output) ≡ and_then attempt (with_frames (fetched_at g stack (place + 1) s.output))
       → holds ≡ Ok good
-      → (good ≡ true → (attempt ≡ Ok (frames_of g ((base ++ held) ++ Number d ∷ []))) × (d ≡ c) × Fits c) → site < (sites g) → Based g s.store base
+      → (good ≡ true → (attempt ≡ Ok (frames_of g ((base ++ held) ++ Number d ∷ []))) × (d ≡ c) × Fits c) → site < (sites g) → Based g s base
       → g.below + length held < g.limit
-      → Evaluates g s.turns (on g stack place s.output) held (place + 2) (effect.and_then (require good site s) (λ _. give (value.Number c)))
+      → Evaluates g (on g stack place s.output) held (place + 2) (require good site >>= (λ _. give (value.Number c))) s
   checked_runs check apply site place stack base held c d s holds attempt true stands here same rule rule' e does within based room =
       let d' = does refl in
       let l = passes g check stack place site s.output holds same rule stands e in
       let m = given_runs apply (place + 1) stack base held c d s attempt here rule' d'.0 d'.1 d'.2 based room in
       let p : place + 1 + 1 ≡ place + 2 = omega arith in
-      subst (λ q. Evaluates g s.turns (on g stack place s.output) held q (give (value.Number c) s)) p
-      (evaluates_from g 0 s.turns _ _ held (place + 1 + 1) (give (value.Number c) s) l m)
+      subst (λ q. Evaluates g (on g stack place s.output) held q (give (value.Number c)) s) p
+      (evaluates_from g 0 _ _ held (place + 1 + 1) (give (value.Number c)) s l m)
   checked_runs check apply site place stack base held c d s holds attempt false stands here same rule rule' e does within based room =
-      fails g check stack place site s.output holds same rule s.turns stands within e
+      inr (fails g check stack place site s.output holds same rule s.turns stands within e)
 
   -- a result that is checked to be of type integer
   result_runs : (check apply : Instr) (overflow place : ℕ) (stack base held : List Cell) (c d : ℤ) (s : effect.State) (holds : Attempt Bool)
@@ -151,17 +188,17 @@ module _ (g : Setting) where
       → obeys g.target check (fetched_at g stack place s.output) ≡ checked g.target.sites overflow (fetched_at g stack place s.output) holds
       → obeys g.target apply (fetched_at g stack (place + 1) s.output) ≡ and_then attempt (with_frames (fetched_at g stack (place + 1) s.output))
       → holds ≡ Ok (frames.is_integer c)
-      → attempt ≡ Ok (frames_of g ((base ++ held) ++ Number d ∷ [])) → (Fits c → d ≡ c) → overflow < (sites g) → Based g s.store base
+      → attempt ≡ Ok (frames_of g ((base ++ held) ++ Number d ∷ [])) → (Fits c → d ≡ c) → overflow < (sites g) → Based g s base
       → g.below + length held < g.limit
-      → Evaluates g s.turns (on g stack place s.output) held (place + 2) (meaning.whole overflow c s)
+      → Evaluates g (on g stack place s.output) held (place + 2) (meaning.whole overflow c) s
   result_runs check apply overflow place stack base held c d s holds attempt stands here same rule rule' e does is within based room =
-      subst (λ t. Evaluates g s.turns (on g stack place s.output) held (place + 2) (effect.and_then (require t overflow s) (λ _. give (value.Number c))))
+      subst (λ t. Evaluates g (on g stack place s.output) held (place + 2) (require t overflow >>= (λ _. give (value.Number c))) s)
       (sym (same_test c))
       (checked_runs check apply overflow place stack base held c d s holds attempt (frames.is_integer c) stands here same rule rule' e
       (λ good. let fit : Fits c = record { is = good } in (does, is fit, fit)) within based room)
 
   -- one number gives way to another
-  module _ (place : ℕ) (base held : List Cell) (n : ℤ) (s : effect.State) (based : Based g s.store base) (room : g.below + length held < g.limit)
+  module _ (place : ℕ) (base held : List Cell) (n : ℤ) (s : effect.State) (based : Based g s base) (room : g.below + length held < g.limit)
       (fit : Fits n) where
     abbrev cells : List Cell
     cells = base ++ held
@@ -169,8 +206,8 @@ module _ (g : Setting) where
     abbrev one : List Cell
     one = cells ++ Number n ∷ []
 
-    within_frame : g.running.frame + 4 ≤ length cells
-    within_frame = linked g s.store base held based
+    within_frame : g.frame + 4 ≤ length cells
+    within_frame = linked g s base held based
 
     below_limit : length cells < g.limit
     below_limit = let full = based.full in omega (arith, length-append base held)
@@ -178,24 +215,24 @@ module _ (g : Setting) where
     one_given : (apply : Instr) (f : ℤ → ℤ) (c : ℤ) → Here g place apply
         → obeys g.target apply (fetched_at g one place s.output) ≡ and_then (frames.on_one f (frames_of g one))
         (with_frames (fetched_at g one place s.output)) → f n ≡ c → Fits c
-        → Evaluates g s.turns (on g one place s.output) held (place + 1) (give (value.Number c) s)
+        → Evaluates g (on g one place s.output) held (place + 1) (give (value.Number c)) s
     one_given apply f c here rule same fit' =
         given_runs apply place one base held c (f n) s (frames.on_one f (frames_of g one)) here rule
-        (on_one_is g.running.frame g.limit g.size cells within_frame f n below_limit) same fit' based room
+        (on_one_is g.frame g.limit g.size cells within_frame f n below_limit) same fit' based room
 
     truth_given : (apply : Instr) (test : ℤ → Bool) → Here g place apply
         → obeys g.target apply (fetched_at g one place s.output) ≡ and_then (frames.on_one (λ v. frames.truth (test v)) (frames_of g one))
-        (with_frames (fetched_at g one place s.output)) → Evaluates g s.turns (on g one place s.output) held (place + 1) (give (value.Number (truth
-        (test n))) s)
+        (with_frames (fetched_at g one place s.output)) → Evaluates g (on g one place s.output) held (place + 1) (give (value.Number (truth
+        (test n)))) s
     truth_given apply test here rule =
         one_given apply (λ v. frames.truth (test v)) (truth (test n)) here rule (same_truth (test n)) (subst Fits (same_truth (test n)) (fits_truth (test n)))
 
     -- nothing changes
-    left_as_it_is : Evaluates g s.turns (on g one place s.output) held (place + 0) (give (value.Number n) s)
+    left_as_it_is : Evaluates g (on g one place s.output) held (place + 0) (give (value.Number n)) s
     left_as_it_is =
         let e : place ≡ place + 0 = omega arith in
-        gives g 0 _ base held (place + 0) n s based
-        (subst (λ p. Comes g.target 0 (on g one place s.output) (on g one p s.output)) e (stays_here g.target (on g one place s.output))) fit room
+        inr (gives g 0 _ base held (place + 0) n s based
+        (subst (λ p. Comes g.target 0 (on g one place s.output) (on g one p s.output)) e (stays_here g.target (on g one place s.output))) fit room)
 
     -- a test of a number that is meant where the test holds
     step_tested : (check : Instr) (site : ℕ) (d c : ℤ) (there : ℕ) (good : Bool) → StandsAt g.target there check (g.target.is_open site)
@@ -203,15 +240,14 @@ module _ (g : Setting) where
         → obeys g.target check (fetched_at g (cells ++ Number d ∷ []) there s.output) ≡ checked g.target.sites site
         (fetched_at g (cells ++ Number d ∷ []) there s.output) (Ok good)
         → (good ≡ true → (d ≡ c) × Fits c) → site < sites g
-        → Evaluates g s.turns (on g (cells ++ Number d ∷ []) there s.output) held (there + 1)
-        (effect.and_then (require good site s) (λ _. give (value.Number c)))
+        → Evaluates g (on g (cells ++ Number d ∷ []) there s.output) held (there + 1) (require good site >>= (λ _. give (value.Number c))) s
     step_tested check site d c there true stands same rule does within =
         let e = does refl in
-        gives g 0 _ base held (there + 1) c s based
+        inr (gives g 0 _ base held (there + 1) c s based
         (subst (λ v. Comes g.target 0 (on g (cells ++ Number d ∷ []) there s.output) (on g (cells ++ Number v ∷ []) (there + 1) s.output)) e.0
-        (passes g check (cells ++ Number d ∷ []) there site s.output (Ok true) same rule stands refl)) e.1 room
+        (passes g check (cells ++ Number d ∷ []) there site s.output (Ok true) same rule stands refl)) e.1 room)
     step_tested check site d c there false stands same rule does within =
-        fails g check (cells ++ Number d ∷ []) there site s.output (Ok false) same rule s.turns stands within refl
+        inr (fails g check (cells ++ Number d ∷ []) there site s.output (Ok false) same rule s.turns stands within refl)
 
     -- a step to the number beside it, which is tested then
     stepped_runs : (step check : Instr) (site : ℕ) (f : ℤ → ℤ → ℤ) (c : ℤ) (good : Bool) → Here g place (instr.LoadConstant (pos 1))
@@ -220,23 +256,23 @@ module _ (g : Setting) where
         → obeys g.target check (fetched_at g (cells ++ Number (f n (pos 1)) ∷ []) (place + 1 + 1) s.output) ≡ checked g.target.sites site
         (fetched_at g (cells ++ Number (f n (pos 1)) ∷ []) (place + 1 + 1) s.output) (Ok good)
         → (good ≡ true → (f n (pos 1) ≡ c) × Fits c) → site < (sites g) → g.below + length held + 2 ≤ g.limit
-        → Evaluates g s.turns (on g one place s.output) held (place + 3) (effect.and_then (require good site s) (λ _. give (value.Number c)))
+        → Evaluates g (on g one place s.output) held (place + 3) (require good site >>= (λ _. give (value.Number c))) s
     stepped_runs step check site f c good at1 at2 at3 rule same rule' does within deep =
         let full = based.full in
         let two = one ++ Number (pos 1) ∷ [] in
         let after = cells ++ Number (f n (pos 1)) ∷ [] in
         let pushed = acts g (instr.LoadConstant (pos 1)) one two place s.output _ at1 refl
-        (pushes g.running.frame g.limit g.size one (pos 1) (omega (arith, length_one cells (Number n), length-append base held))) in
+        (pushes g.frame g.limit g.size one (pos 1) (omega (arith, length_one cells (Number n), length-append base held))) in
         let stepped = acts g step two after (place + 1) s.output (frames.on_two f (frames_of g two)) at2 (rule (fetched_at g two (place + 1) s.output))
-        (on_two_is g.running.frame g.limit g.size cells within_frame n (pos 1) f below_limit) in
+        (on_two_is g.frame g.limit g.size cells within_frame n (pos 1) f below_limit) in
         let p : place + 1 + 1 + 1 ≡ place + 3 = omega arith in
-        subst (λ q. Evaluates g s.turns (on g one place s.output) held q (effect.and_then (require good site s) (λ _. give (value.Number c)))) p
-        (evaluates_from g 2 s.turns _ _ held (place + 1 + 1 + 1) (effect.and_then (require good site s) (λ _. give (value.Number c)))
+        subst (λ q. Evaluates g (on g one place s.output) held q (require good site >>= (λ _. give (value.Number c))) s) p
+        (evaluates_from g 2 _ _ held (place + 1 + 1 + 1) (require good site >>= (λ _. give (value.Number c))) s
         (comes_on g.target 1 1 _ _ _ pushed stepped) (step_tested check site (f n (pos 1)) c (place + 1 + 1) good at3 same rule' does within))
 
-    operated_runs : (operation : Monadic) → Stands g.target place (monadic_code operation) → monadic_is_well_formed variables types (sites g) operation ≡ true
+    operated_runs : (operation : Monadic) → Stands g.target place (monadic_code operation) → monadic_is_well_formed (outline g) g.number operation ≡ true
         → g.below + length held + monadic_depth operation ≤ g.limit
-        → Evaluates g s.turns (on g one place s.output) held (place + length (monadic_code operation)) (operated operation (value.Number n) s)
+        → Evaluates g (on g one place s.output) held (place + length (monadic_code operation)) (operated operation (value.Number n)) s
     operated_runs monadic.Plus stands well deep = left_as_it_is
     operated_runs monadic.Minus stands well deep =
         one_given instr.Negate (int_wrapping_neg w32) (neg_ℤ n) stands.0 refl (negated_is n fit) (fits_negated n fit)
@@ -246,21 +282,21 @@ module _ (g : Setting) where
     operated_runs (monadic.Sqr overflow) stands well deep =
         result_runs (instr.CheckSquare overflow) instr.Square overflow place one base held (n *ℤ n) (int_wrapping_mul w32 n n) s _ _ stands.0 stands.1.0 refl
         refl refl
-        (squares g.running.frame g.limit g.size cells within_frame n)
-        (on_one_is g.running.frame g.limit g.size cells within_frame (λ v. int_wrapping_mul w32 v v) n below_limit) (product_is n n fit fit)
+        (squares g.frame g.limit g.size cells within_frame n)
+        (on_one_is g.frame g.limit g.size cells within_frame (λ v. int_wrapping_mul w32 v v) n below_limit) (product_is n n fit fit)
         (ltb-true overflow (sites g) well) based room
     operated_runs monadic.Odd stands well deep = truth_given instr.Odd is_odd stands.0 refl
     operated_runs monadic.Ord stands well deep = left_as_it_is
     operated_runs (monadic.Chr no_char) stands well deep =
         tested_runs (instr.CheckRange no_char (pos 0) (pos 127)) no_char place base held n s _ (is_within (pos 0) (pos 127) n) stands.0 refl refl
-        (is_in_range g.running.frame g.limit g.size cells within_frame (pos 0) (pos 127) n ∙ ap Ok (same_char n)) (ltb-true no_char
+        (is_in_range g.frame g.limit g.size cells within_frame (pos 0) (pos 127) n ∙ ap Ok (same_char n)) (ltb-true no_char
         (sites g) well) based room fit
     operated_runs (monadic.Succ no_successor last) stands well deep =
         let parts = and_parts (nat_lt no_successor (sites g)) (is_whole last) well in
         let good : Fits last = record { is = parts.1 } in
         let low = neg_ℤ (pos 2147483647) in
         let m = int_wrapping_add w32 n (pos 1) in
-        let tested = is_in_range g.running.frame g.limit g.size cells within_frame low last m ∙ ap Ok (same_below n last fit good) in
+        let tested = is_in_range g.frame g.limit g.size cells within_frame low last m ∙ ap Ok (same_below n last fit good) in
         stepped_runs instr.Add (instr.CheckRange no_successor low last) no_successor (int_wrapping_add w32) (n +ℤ pos 1) (int_lt n last) stands.0 stands.1.0
         stands.1.1.0 (λ m. refl) refl (ap (checked g.target.sites no_successor (fetched_at g (cells ++ Number m ∷ []) (place + 1 + 1) s.output)) tested)
         (λ less. let f = fits_next n last fit good less in (sum_is n (pos 1) fit (record { is = refl }) f, f))
@@ -270,7 +306,7 @@ module _ (g : Setting) where
         let good : Fits first = record { is = parts.1 } in
         let high = pos 2147483647 in
         let m = int_wrapping_sub w32 n (pos 1) in
-        let tested = is_in_range g.running.frame g.limit g.size cells within_frame first high m ∙ ap Ok (same_above n first fit good) in
+        let tested = is_in_range g.frame g.limit g.size cells within_frame first high m ∙ ap Ok (same_above n first fit good) in
         stepped_runs instr.Subtract (instr.CheckRange no_predecessor first high) no_predecessor (int_wrapping_sub w32) (n -ℤ pos 1) (int_lt first n) stands.0
         stands.1.0 stands.1.1.0 (λ m. refl) refl
         (ap (checked g.target.sites no_predecessor (fetched_at g (cells ++ Number m ∷ []) (place + 1 + 1) s.output)) tested)
@@ -278,22 +314,23 @@ module _ (g : Setting) where
         (ltb-true no_predecessor (sites g) parts.0) deep
 
   -- an operation on one operand
-  monadic_runs : (number : ℕ) (operation : Monadic) (c : List Instr) (depth : ℕ) (well : Bool) (v : Evaluation) → RunsAs g c depth well v
-      → RunsAs g (c ++ monadic_code operation) (max depth (monadic_depth operation)) (monadic_is_well_formed variables types (sites g) operation && well)
-      (λ e. effect.enter number e >>= λ _. v e >>= operated operation)
-  monadic_runs number operation c depth well v runs place base held s stands good based room =
+  monadic_runs : (number : ℕ) (operation : Monadic) (c : List Instr) (depth : ℕ) (well : Bool) (v : Evaluation) → UsesTurnsExactly (v (around g))
+      → RunsAs g c depth well v
+      → RunsAs g (c ++ monadic_code operation) (max depth (monadic_depth operation)) (monadic_is_well_formed (outline g) g.number operation && well)
+      (λ e. effect.enter number e.visible >>= λ _. v e >>= operated operation)
+  monadic_runs number operation c depth well v exact runs place base held s stands good based room =
       let s' : effect.State = record s { visited = s.visited ++ record { number = number; environment = g.environment; store = s.store } ∷ [] } in
-      let parts = and_parts (monadic_is_well_formed variables types (sites g) operation) well good in
+      let parts = and_parts (monadic_is_well_formed (outline g) g.number operation) well good in
       let e : place + length c + length (monadic_code operation) ≡ place + length (c ++ monadic_code operation) = omega
       (arith, length-append c (monadic_code operation)) in
       let rest = stands_back g.target place c (monadic_code operation) stands in
-      subst (λ p. Evaluates g s.turns (on g (base ++ held) place s.output) held p (effect.and_then (v g.environment s') (operated operation))) e
-      (then_evaluates g s.turns _ held held (place + length c) (place + length c + length (monadic_code operation)) (v g.environment s') (operated operation)
+      subst (λ p. Evaluates g (on g (base ++ held) place s.output) held p (v (around g) >>= (operated operation)) s') e
+      (then_evaluates g _ held held (place + length c) (place + length c + length (monadic_code operation)) (v (around g)) (operated operation) s' exact
       (runs place base held s' (stands_front g.target place c (monadic_code operation) stands) parts.1 based (omega arith))
       (λ base2 n s2 based2 fit2 room2. operated_runs (place + length c) base2 held n s2 based2 room2 fit2 operation rest parts.0 (omega arith)))
 
   -- two numbers give way to a third
-  module _ (place : ℕ) (base held : List Cell) (a b : ℤ) (s : effect.State) (based : Based g s.store base) (room : g.below + length held < g.limit)
+  module _ (place : ℕ) (base held : List Cell) (a b : ℤ) (s : effect.State) (based : Based g s base) (room : g.below + length held < g.limit)
       (fit : Fits a) (fit' : Fits b) where
     abbrev left_held : List Cell
     left_held = (base ++ held) ++ Number a ∷ []
@@ -301,11 +338,11 @@ module _ (g : Setting) where
     abbrev two : List Cell
     two = left_held ++ Number b ∷ []
 
-    in_frame : g.running.frame + 4 ≤ length (base ++ held)
-    in_frame = linked g s.store base held based
+    in_frame : g.frame + 4 ≤ length (base ++ held)
+    in_frame = linked g s base held based
 
     -- the divisor stands above the dividend and the links
-    above : g.running.frame + 4 ≤ length left_held
+    above : g.frame + 4 ≤ length left_held
     above = let h = in_frame in omega (arith, length_one (base ++ held) (Number a))
 
     within_limit : length (base ++ held) < g.limit
@@ -313,16 +350,15 @@ module _ (g : Setting) where
 
     truths_given : (apply : Instr) (test : ℤ → ℤ → Bool) → Here g place apply
         → obeys g.target apply (fetched_at g two place s.output) ≡ and_then (frames.on_two (λ x y. frames.truth (test x y)) (frames_of g two))
-        (with_frames (fetched_at g two place s.output)) → Evaluates g s.turns (on g two place s.output) held (place + 1)
-        (give (value.Number (truth (test a b))) s)
+        (with_frames (fetched_at g two place s.output)) → Evaluates g (on g two place s.output) held (place + 1) (give (value.Number (truth (test a b)))) s
     truths_given apply test here rule =
         given_runs apply place two base held (truth (test a b)) (frames.truth (test a b)) s (frames.on_two (λ x y. frames.truth (test x y)) (frames_of g two))
         here rule
-        (on_two_is g.running.frame g.limit g.size (base ++ held) in_frame a b (λ x y. frames.truth (test x y)) within_limit) (same_truth (test a b))
+        (on_two_is g.frame g.limit g.size (base ++ held) in_frame a b (λ x y. frames.truth (test x y)) within_limit) (same_truth (test a b))
         (subst Fits (same_truth (test a b)) (fits_truth (test a b))) based room
 
     relation_runs : (r : Relation) → Stands g.target place (relation_instr r ∷ [])
-        → Evaluates g s.turns (on g two place s.output) held (place + 1) (give (value.Number (truth (relates r a b))) s)
+        → Evaluates g (on g two place s.output) held (place + 1) (give (value.Number (truth (relates r a b)))) s
     relation_runs relation.Equal stands = truths_given instr.Equal int_eq stands.0 refl
     relation_runs relation.NotEqual stands = truths_given instr.NotEqual (λ x y. not (int_eq x y)) stands.0 refl
     relation_runs relation.Less stands = truths_given instr.Less int_lt stands.0 refl
@@ -336,36 +372,36 @@ module _ (g : Setting) where
         → obeys g.target check (fetched_at g two place s.output) ≡ checked g.target.sites overflow (fetched_at g two place s.output) holds
         → obeys g.target apply (fetched_at g two (place + 1) s.output) ≡ and_then attempt (with_frames (fetched_at g two (place + 1) s.output))
         → holds ≡ Ok (frames.is_integer c) → attempt ≡ Ok (frames_of g ((base ++ held) ++ Number d ∷ [])) → (Fits c → d ≡ c) → nat_lt overflow (sites g) ≡ true
-        → Evaluates g s.turns (on g two place s.output) held (place + 2) (meaning.whole overflow c s)
+        → Evaluates g (on g two place s.output) held (place + 2) (meaning.whole overflow c) s
     both_checked check apply overflow c d holds attempt stands here same rule rule' e does is well =
         result_runs check apply overflow place two base held c d s holds attempt stands here same rule rule' e does is (ltb-true overflow
         (sites g) well) based room
 
-    combined_runs : (operation : Dyadic) → Stands g.target place (dyadic_code operation) → dyadic_is_well_formed variables types (sites g) operation ≡ true
-        → Evaluates g s.turns (on g two place s.output) held (place + length (dyadic_code operation)) (combined operation (value.Number a) (value.Number b) s)
+    combined_runs : (operation : Dyadic) → Stands g.target place (dyadic_code operation) → dyadic_is_well_formed (outline g) g.number operation ≡ true
+        → Evaluates g (on g two place s.output) held (place + length (dyadic_code operation)) (combined operation (value.Number a) (value.Number b)) s
     combined_runs (dyadic.Plus overflow) stands well =
         both_checked (instr.CheckSum overflow) instr.Add overflow (a +ℤ b) (int_wrapping_add w32 a b) _ _ stands.0 stands.1.0 refl refl refl
-        (sums g.running.frame g.limit g.size (base ++ held) in_frame a b)
-        (on_two_is g.running.frame g.limit g.size (base ++ held) in_frame a b (int_wrapping_add w32) within_limit) (sum_is a b fit fit') well
+        (sums g.frame g.limit g.size (base ++ held) in_frame a b)
+        (on_two_is g.frame g.limit g.size (base ++ held) in_frame a b (int_wrapping_add w32) within_limit) (sum_is a b fit fit') well
     combined_runs (dyadic.Minus overflow) stands well =
         both_checked (instr.CheckDifference overflow) instr.Subtract overflow (a -ℤ b) (int_wrapping_sub w32 a b) _ _ stands.0 stands.1.0 refl refl refl
-        (differs g.running.frame g.limit g.size (base ++ held) in_frame a b)
-        (on_two_is g.running.frame g.limit g.size (base ++ held) in_frame a b (int_wrapping_sub w32) within_limit) (difference_is a b fit fit') well
+        (differs g.frame g.limit g.size (base ++ held) in_frame a b)
+        (on_two_is g.frame g.limit g.size (base ++ held) in_frame a b (int_wrapping_sub w32) within_limit) (difference_is a b fit fit') well
     combined_runs (dyadic.Times overflow) stands well =
         both_checked (instr.CheckProduct overflow) instr.Multiply overflow (a *ℤ b) (int_wrapping_mul w32 a b) _ _ stands.0 stands.1.0 refl refl refl
-        (multiplies g.running.frame g.limit g.size (base ++ held) in_frame a b)
-        (on_two_is g.running.frame g.limit g.size (base ++ held) in_frame a b (int_wrapping_mul w32) within_limit) (product_is a b fit fit') well
+        (multiplies g.frame g.limit g.size (base ++ held) in_frame a b)
+        (on_two_is g.frame g.limit g.size (base ++ held) in_frame a b (int_wrapping_mul w32) within_limit) (product_is a b fit fit') well
     combined_runs (dyadic.Div by_zero) stands well =
         checked_runs (instr.CheckZero by_zero) instr.Divide by_zero place two base held (int_div a b) (int_wrapping_div w32 a b) s _ _ (frames.is_true b)
         stands.0 stands.1.0 refl refl refl
-        (is_not_zero g.running.frame g.limit g.size left_held above b)
-        (λ good. (divides g.running.frame g.limit g.size (base ++ held) in_frame a b within_limit good, quotient_is a b fit, fits_quotient a b fit))
+        (is_not_zero g.frame g.limit g.size left_held above b)
+        (λ good. (divides g.frame g.limit g.size (base ++ held) in_frame a b within_limit good, quotient_is a b fit, fits_quotient a b fit))
         (ltb-true by_zero (sites g) well) based room
     combined_runs (dyadic.Mod by_zero_or_less) stands well =
         checked_runs (check_positive by_zero_or_less) instr.Modulo by_zero_or_less place two base held (int_rem_euclid a b) (int_rem_euclid a b) s _ _
         (int_le (pos 1) b) stands.0 stands.1.0 refl refl refl
-        (is_in_range g.running.frame g.limit g.size left_held above (pos 1) (pos 2147483647) b ∙ ap Ok (same_positive b fit'))
-        (λ good. (leaves g.running.frame g.limit g.size (base ++ held) in_frame a b within_limit good, refl, fits_remainder a b fit' good))
+        (is_in_range g.frame g.limit g.size left_held above (pos 1) (pos 2147483647) b ∙ ap Ok (same_positive b fit'))
+        (λ good. (leaves g.frame g.limit g.size (base ++ held) in_frame a b within_limit good, refl, fits_remainder a b fit' good))
         (ltb-true by_zero_or_less (sites g) well) based room
     combined_runs dyadic.And stands well = truths_given instr.And (λ x y. frames.is_true x && frames.is_true y) stands.0 refl
     combined_runs dyadic.Or stands well = truths_given instr.Or (λ x y. frames.is_true x || frames.is_true y) stands.0 refl
@@ -373,9 +409,9 @@ module _ (g : Setting) where
 
   -- two rows give way to their order, and that is compared with 0
   ordered_runs : (r : Relation) (count place : ℕ) (base held : List Cell) (ns ms : List ℤ) (s : effect.State) → length ns ≡ count → length ms ≡ count
-      → Stands g.target place (instr.Compare count ∷ instr.LoadConstant (pos 0) ∷ relation_instr r ∷ []) → Based g s.store base
+      → Stands g.target place (instr.Compare count ∷ instr.LoadConstant (pos 0) ∷ relation_instr r ∷ []) → Based g s base
       → g.below + length held + 2 ≤ g.limit
-      → Evaluates g s.turns (on g (((base ++ held) ++ cells_of ns) ++ cells_of ms) place s.output) held (place + 3) (give (meaning.compared r ns ms) s)
+      → Evaluates g (on g (((base ++ held) ++ cells_of ns) ++ cells_of ms) place s.output) held (place + 3) (give (meaning.compared r ns ms)) s
   ordered_runs r count place base held ns ms s long as_long stands based deep =
       let cells = base ++ held in
       let full = based.full in
@@ -385,27 +421,27 @@ module _ (g : Setting) where
       let ordered = cells ++ Number order ∷ [] in
       let is_order : order ≡ order_of ns ms = same_order ns ms (long ∙ sym as_long) in
       let compared = acts g (instr.Compare count) both ordered place s.output _ stands.0 refl
-      (compares g.running.frame g.limit g.size cells (linked g s.store base held based) ns ms count long as_long (omega arith)) in
+      (compares g.frame g.limit g.size cells (linked g s base held based) ns ms count long as_long (omega arith)) in
       let zero = acts g (instr.LoadConstant (pos 0)) ordered (ordered ++ Number (pos 0) ∷ []) (place + 1) s.output _ stands.1.0 refl
-      (pushes g.running.frame g.limit g.size ordered (pos 0) (omega (arith, length_one cells (Number order)))) in
+      (pushes g.frame g.limit g.size ordered (pos 0) (omega (arith, length_one cells (Number order)))) in
       let fit : Fits order = subst Fits (sym is_order) (order_fits ns ms) in
       let related = relation_runs (place + 1 + 1) base held order (pos 0) s based (omega arith) fit (record { is = refl }) r stands.1.1 in
-      let whole = evaluates_from g 2 s.turns _ _ held (place + 1 + 1 + 1) (give (value.Number (truth (relates r order (pos 0)))) s)
+      let whole = evaluates_from g 2 _ _ held (place + 1 + 1 + 1) (give (value.Number (truth (relates r order (pos 0))))) s
       (comes_on g.target 1 1 _ _ _ compared zero) related in
       let e : place + 1 + 1 + 1 ≡ place + 3 = omega arith in
-      subst (λ p. Evaluates g s.turns (on g both place s.output) held p (give (meaning.compared r ns ms) s)) e
-      (subst (λ o. Evaluates g s.turns (on g both place s.output) held (place + 1 + 1 + 1) (give (value.Number (truth (relates r o
-      (pos 0)))) s)) is_order whole)
+      subst (λ p. Evaluates g (on g both place s.output) held p (give (meaning.compared r ns ms)) s) e
+      (subst (λ o. Evaluates g (on g both place s.output) held (place + 1 + 1 + 1) (give (value.Number (truth (relates r o
+      (pos 0))))) s) is_order whole)
 
   -- two whole values are compared
   compare_runs : (number : ℕ) (r : Relation) (left : Whole) (left_indexes : Indexes g) (right : Whole)
       (right_indexes : Indexes g)
       → RunsAs g (compare_code r (length_of left) (whole_code g.scope left (codes g left_indexes)) (whole_code g.scope right (codes g right_indexes)))
       (max (whole_depth left (depths g left_indexes)) (max (whole_depth right (depths g right_indexes) + length_of left) 2))
-      (all_hold (whole_indexes left (wells g left_indexes)) && (is_well_formed_whole variables types (sites g) left (length (wells g left_indexes))
+      (all_hold (whole_indexes left (wells g left_indexes)) && (is_well_formed_whole (outline g) g.number left (length (wells g left_indexes))
       && (all_hold (whole_indexes right (wells g right_indexes))
-      && (is_well_formed_whole variables types (sites g) right (length (wells g right_indexes)) && nat_eq (length_of left) (length_of right)))))
-      (λ env. meaning.whole_of left (map value_of (expressions g left_indexes)) env >>= λ ns. effect.enter number env >>= λ _.
+      && (is_well_formed_whole (outline g) g.number right (length (wells g right_indexes)) && nat_eq (length_of left) (length_of right)))))
+      (λ env. meaning.whole_of left (map value_of (expressions g left_indexes)) env >>= λ ns. effect.enter number env.visible >>= λ _.
       meaning.whole_of right (map value_of (expressions g right_indexes)) env >>= λ ms. give (meaning.compared r ns ms))
   compare_runs number r left left_indexes right right_indexes place base held s stands good based deep =
       let n = length_of left in
@@ -413,12 +449,12 @@ module _ (g : Setting) where
       let d = whole_code g.scope right (codes g right_indexes) in
       let last = instr.Compare (row_length n) ∷ instr.LoadConstant (pos 0) ∷ relation_instr r ∷ [] in
       let one = and_parts (all_hold (whole_indexes left (wells g left_indexes))) _ good in
-      let two = and_parts (is_well_formed_whole variables types (sites g) left (length (wells g left_indexes))) _ one.1 in
+      let two = and_parts (is_well_formed_whole (outline g) g.number left (length (wells g left_indexes))) _ one.1 in
       let three = and_parts (all_hold (whole_indexes right (wells g right_indexes))) _ two.1 in
-      let four = and_parts (is_well_formed_whole variables types (sites g) right (length (wells g right_indexes))) (nat_eq n (length_of right)) three.1 in
+      let four = and_parts (is_well_formed_whole (outline g) g.number right (length (wells g right_indexes))) (nat_eq n (length_of right)) three.1 in
       let as_long : n ≡ length_of right = eqb-true n (length_of right) four.1 in
-      let left_well = subst (λ k. is_well_formed_whole variables types (sites g) left k ≡ true) (as_many_wells g left_indexes) two.0 in
-      let right_well = subst (λ k. is_well_formed_whole variables types (sites g) right k ≡ true) (as_many_wells g right_indexes) four.0 in
+      let left_well = subst (λ k. is_well_formed_whole (outline g) g.number left k ≡ true) (as_many_wells g left_indexes) two.0 in
+      let right_well = subst (λ k. is_well_formed_whole (outline g) g.number right k ≡ true) (as_many_wells g right_indexes) four.0 in
       let same : n ≡ row_length n = few_components g left (length (expressions g left_indexes)) left_well in
       let behind = stands_back g.target place c (d ++ last) stands in
       let there = place + length c in
@@ -426,98 +462,101 @@ module _ (g : Setting) where
       let e : end ≡ place + length (c ++ (d ++ last)) = omega (arith, length-append c (d ++ last), length-append d last) in
       let next' : List ℤ → List ℤ → Action Value = λ ns ms. give (meaning.compared r ns ms) in
       let next : List ℤ → Action Value = λ ns. effect.enter number g.environment >>= λ _.
-      meaning.whole_of right (map value_of (expressions g right_indexes)) g.environment >>= next' ns in
-      subst (λ p. Evaluates g s.turns (on g (base ++ held) place s.output) held p
-      (effect.and_then (meaning.whole_of left (map value_of (expressions g left_indexes)) g.environment s) next)) e
-      (row_evaluates g s.turns _ held held there end n (meaning.whole_of left (map value_of (expressions g left_indexes)) g.environment s) next
+      meaning.whole_of right (map value_of (expressions g right_indexes)) (around g) >>= next' ns in
+      subst (λ p. Evaluates g (on g (base ++ held) place s.output) held p
+      (meaning.whole_of left (map value_of (expressions g left_indexes)) (around g) >>= next) s) e
+      (row_evaluates g _ held held there end n (meaning.whole_of left (map value_of (expressions g left_indexes)) (around g)) next s
+      (exact_whole (around g) (exact_around g) left (expressions g left_indexes))
       (whole_runs g left left_indexes place base held s (stands_front g.target place c (d ++ last) stands) one.0 left_well based (omega arith))
       (λ base2 ns s2 based2 long fits.
       let above = held ++ cells_of ns in
       let high = length-append held (cells_of ns) in
       let s3 = entered g number s2 in
       let wide = length-cells_of ns in
-      subst (λ cells. Evaluates g s2.turns (on g cells there s2.output) held end (next ns s2)) (sym (append_assoc base2 held (cells_of ns)))
-      (row_evaluates g s2.turns _ above held (there + length d) end (length_of right)
-      (meaning.whole_of right (map value_of (expressions g right_indexes)) g.environment s3) (next' ns)
+      subst (λ cells. Evaluates g (on g cells there s2.output) held end (next ns) s2) (sym (append_assoc base2 held (cells_of ns)))
+      (row_evaluates g _ above held (there + length d) end (length_of right) (meaning.whole_of right (map value_of (expressions g right_indexes)) (around g))
+      (next' ns) s3 (exact_whole (around g) (exact_around g) right (expressions g right_indexes))
       (whole_runs g right right_indexes there base2 above s3 (stands_front g.target there d last behind) three.0 right_well
-      (record { full = based2.full; alike = based2.alike }) (omega arith))
+      based2 (omega arith))
       (λ base3 ms s4 based4 long' fits'.
-      subst (λ cells. Evaluates g s4.turns (on g (cells ++ cells_of ms) (there + length d) s4.output) held end (next' ns ms s4)) (append_assoc base3 held
+      subst (λ cells. Evaluates g (on g (cells ++ cells_of ms) (there + length d) s4.output) held end (next' ns ms) s4) (append_assoc base3 held
       (cells_of ns))
       (ordered_runs r (row_length n) (there + length d) base3 held ns ms s4 (long ∙ same) (long' ∙ sym as_long ∙ same)
       (stands_back g.target there d last behind)
       based4 (omega arith))))))
 
   -- a value above what is held and one number more
-  above_one : (turns : ℕ) (m : State) (held : List Cell) (a : ℤ) (held' : List Cell) (place place' : ℕ) (r : Reply Value) (next : Value → Action Value)
-      → Evaluates g turns m (held ++ Number a ∷ []) place r
-      → ((base : List Cell) (n : ℤ) (s : effect.State) → Based g s.store base → Fits n → g.below + length held < g.limit
-      → Evaluates g s.turns (on g (((base ++ held) ++ Number a ∷ []) ++ Number n ∷ []) place s.output) held' place' (next (value.Number n) s))
-      → Evaluates g turns m held' place' (effect.and_then r next)
-  above_one turns m held a held' place place' r next e h =
-      then_evaluates g turns m (held ++ Number a ∷ []) held' place place' r next e
-      (λ base n s based fit room.
+  above_one : (m : State) (held : List Cell) (a : ℤ) (held' : List Cell) (place place' : ℕ) (first : Action Value) (next : Value → Action Value)
+      (s : effect.State) → UsesTurnsExactly first → Evaluates g m (held ++ Number a ∷ []) place first s
+      → ((base : List Cell) (n : ℤ) (t : effect.State) → Based g t base → Fits n → g.below + length held < g.limit
+      → Evaluates g (on g (((base ++ held) ++ Number a ∷ []) ++ Number n ∷ []) place t.output) held' place' (next (value.Number n)) t)
+      → Evaluates g m held' place' (first >>= next) s
+  above_one m held a held' place place' first next s exact e h =
+      then_evaluates g m (held ++ Number a ∷ []) held' place place' first next s exact e
+      (λ base n t based fit room.
       let one = length_one held (Number a) in
-      subst (λ cells. Evaluates g s.turns (on g (cells ++ Number n ∷ []) place s.output) held' place' (next (value.Number n) s)) (sym (one_held g base held a))
-      (h base n s based fit (omega arith)))
+      subst (λ cells. Evaluates g (on g (cells ++ Number n ∷ []) place t.output) held' place' (next (value.Number n)) t) (sym (one_held g base held a))
+      (h base n t based fit (omega arith)))
 
   -- an operator and its right operand
-  link_runs : (number : ℕ) (operation : Dyadic) (c : List Instr) (depth : ℕ) (well : Bool) (v : Evaluation) → RunsAs g c depth well v
-      → CombinesAs g (c ++ dyadic_code operation) (depth + 1) (dyadic_is_well_formed variables types (sites g) operation && well)
+  link_runs : (number : ℕ) (operation : Dyadic) (c : List Instr) (depth : ℕ) (well : Bool) (v : Evaluation) → UsesTurnsExactly (v (around g))
+      → RunsAs g c depth well v
+      → CombinesAs g (c ++ dyadic_code operation) (depth + 1) (dyadic_is_well_formed (outline g) g.number operation && well)
       (meaning.link_step (record { number = number; operation = operation; operand = v }))
-  link_runs number operation c depth well v runs place base held a s stands good based room fit =
+  link_runs number operation c depth well v exact runs place base held a s stands good based room fit =
       let s' : effect.State = record s { visited = s.visited ++ record { number = number; environment = g.environment; store = s.store } ∷ [] } in
-      let parts = and_parts (dyadic_is_well_formed variables types (sites g) operation) well good in
+      let parts = and_parts (dyadic_is_well_formed (outline g) g.number operation) well good in
       let one = length_one held (Number a) in
       let e : place + length c + length (dyadic_code operation) ≡ place + length (c ++ dyadic_code operation) = omega
       (arith, length-append c (dyadic_code operation)) in
       let rest = stands_back g.target place c (dyadic_code operation) stands in
       let next : Value → Action Value = combined operation (value.Number a) in
       let operand = runs place base (held ++ Number a ∷ []) s' (stands_front g.target place c (dyadic_code operation) stands) parts.1 based (omega arith) in
-      subst (λ p. Evaluates g s.turns (on g ((base ++ held) ++ Number a ∷ []) place s.output) held p (effect.and_then (v g.environment s') next)) e
-      (subst (λ cells. Evaluates g s.turns (on g cells place s.output) held (place + length c + length (dyadic_code operation))
-      (effect.and_then (v g.environment s') next)) (one_held g base held a)
-      (above_one s.turns _ held a held (place + length c) (place + length c + length (dyadic_code operation)) (v g.environment s') next operand
+      subst (λ p. Evaluates g (on g ((base ++ held) ++ Number a ∷ []) place s.output) held p (v (around g) >>= next) s') e
+      (subst (λ cells. Evaluates g (on g cells place s.output) held (place + length c + length (dyadic_code operation)) (v (around g) >>= next) s')
+      (one_held g base held a)
+      (above_one _ held a held (place + length c) (place + length c + length (dyadic_code operation)) (v (around g)) next s' exact operand
       (λ base2 n s2 based2 fit2 room2. combined_runs (place + length c) base2 held a n s2 based2 room2 fit fit2 operation rest parts.0)))
 
   -- the operators of a chain, from left to right
   links_run : (links : List ((l : Link) × LinkRuns g l)) (depth place : ℕ) (base held : List Cell) (a : ℤ) (s : effect.State)
       → Stands g.target place (joined (map (link_code g.scope) (map (λ l. l.0) links)))
-      → all_hold (map (is_well_formed_link variables types (sites g)) (map (λ l. l.0) links)) ≡ true → Based g s.store base
+      → all_hold (map (is_well_formed_link (outline g) g.number) (map (λ l. l.0) links)) ≡ true → Based g s base
       → g.below + length held + fold max depth (map link_depth (map (λ l. l.0) links)) ≤ g.limit → g.below + length held < g.limit → Fits a
-      → Evaluates g s.turns (on g ((base ++ held) ++ Number a ∷ []) place s.output) held
-      (place + length (joined (map (link_code g.scope) (map (λ l. l.0) links))))
-      (in_turn (map link_of (map (λ l. l.0) links)) g.environment (value.Number a) s)
+      → Evaluates g (on g ((base ++ held) ++ Number a ∷ []) place s.output) held (place + length (joined (map (link_code g.scope) (map (λ l. l.0) links))))
+      (in_turn (map link_of (map (λ l. l.0) links)) (around g) (value.Number a)) s
   links_run [] depth place base held a s stands good based deep room fit =
       let e : place ≡ place + 0 = omega arith in
-      gives g 0 _ base held (place + 0) a s based (subst (λ p. Comes g.target 0 (on g ((base ++ held) ++ Number a ∷ []) place s.output) (on g ((base ++ held)
-      ++ Number a ∷ []) p s.output)) e (stays_here g.target _)) fit room
+      inr (gives g 0 _ base held (place + 0) a s based (subst (λ p. Comes g.target 0 (on g ((base ++ held) ++ Number a ∷ []) place s.output) (on g ((base ++
+      held)
+      ++ Number a ∷ []) p s.output)) e (stays_here g.target _)) fit room)
   links_run (l ∷ links) depth place base held a s stands good based deep room fit =
       let c = link_code g.scope l.0 in
       let rest = joined (map (link_code g.scope) (map (λ k. k.0) links)) in
       let d = start_within (max depth (link_depth l.0)) (map link_depth (map (λ k. k.0) links)) in
       let e : place + length c + length rest ≡ place + length (c ++ rest) = omega (arith, length-append c rest) in
-      let next : Value → Action Value = λ w. in_turn (map link_of (map (λ k. k.0) links)) g.environment w in
-      subst (λ p. Evaluates g s.turns (on g ((base ++ held) ++ Number a ∷ []) place s.output) held p
-      (effect.and_then (link_of l.0 g.environment (value.Number a) s) next)) e
-      (then_evaluates g s.turns _ held held (place + length c) (place + length c + length rest) (link_of l.0 g.environment (value.Number a) s) next
-      (l.1 place base held a s (stands_front g.target place c rest stands) (and_parts _ _ good).0 based (omega arith) fit)
+      let next : Value → Action Value = λ w. in_turn (map link_of (map (λ k. k.0) links)) (around g) w in
+      subst (λ p. Evaluates g (on g ((base ++ held) ++ Number a ∷ []) place s.output) held p (link_of l.0 (around g) (value.Number a) >>= next) s) e
+      (then_evaluates g _ held held (place + length c) (place + length c + length rest) (link_of l.0 (around g) (value.Number a)) next s
+      (l.1.1 (value.Number a))
+      (l.1.0 place base held a s (stands_front g.target place c rest stands) (and_parts _ _ good).0 based (omega arith) fit)
       (λ base2 n s2 based2 fit2 room2. links_run links (max depth (link_depth l.0)) (place + length c) base2 held n s2
       (stands_back g.target place c rest stands) (and_parts _ _ good).1 based2 deep room2 fit2))
 
   chain_runs : (first : (e : Expr) × ExprRuns g e) (links : List ((l : Link) × LinkRuns g l))
       → RunsAs g (expr_code g.scope first.0 ++ joined (map (link_code g.scope) (map (λ l. l.0) links)))
       (fold max (expr_depth first.0) (map link_depth (map (λ l. l.0) links)))
-      (is_well_formed_expr variables types (sites g) first.0 && all_hold (map (is_well_formed_link variables types (sites g)) (map (λ l. l.0) links)))
+      (is_well_formed_expr (outline g) g.number first.0 && all_hold (map (is_well_formed_link (outline g) g.number) (map (λ l. l.0) links)))
       (λ e. value_of first.0 e >>= λ v. in_turn (map link_of (map (λ l. l.0) links)) e v)
   chain_runs first links place base held s stands good based deep =
       let c = expr_code g.scope first.0 in
       let rest = joined (map (link_code g.scope) (map (λ k. k.0) links)) in
       let d = start_within (expr_depth first.0) (map link_depth (map (λ k. k.0) links)) in
       let e : place + length c + length rest ≡ place + length (c ++ rest) = omega (arith, length-append c rest) in
-      let next : Value → Action Value = λ w. in_turn (map link_of (map (λ k. k.0) links)) g.environment w in
-      subst (λ p. Evaluates g s.turns (on g (base ++ held) place s.output) held p (effect.and_then (value_of first.0 g.environment s) next)) e
-      (then_evaluates g s.turns _ held held (place + length c) (place + length c + length rest) (value_of first.0 g.environment s) next
+      let next : Value → Action Value = λ w. in_turn (map link_of (map (λ k. k.0) links)) (around g) w in
+      subst (λ p. Evaluates g (on g (base ++ held) place s.output) held p (value_of first.0 (around g) >>= next) s) e
+      (then_evaluates g _ held held (place + length c) (place + length c + length rest) (value_of first.0 (around g)) next s
+      (exact_value (around g) (exact_around g) first.0)
       (first.1 place base held s (stands_front g.target place c rest stands) (and_parts _ _ good).0 based (omega arith))
       (λ base2 n s2 based2 fit2 room2. links_run links (expr_depth first.0) (place + length c) base2 held n s2 (stands_back g.target place c rest stands)
       (and_parts _ _ good).1 based2 deep room2 fit2))
@@ -535,75 +574,406 @@ module _ (g : Setting) where
       (λ x. CombinesAs g c'
       d' w' x) (sym t) runs)))
 
-  abbrev is_step : Expr-F Bool Bool → Bool
-  is_step = expr_is_well_formed variables types (sites g)
+  same_passes : (c c' : List Instr) (d d' : PassedDepth) (w w' : ℕ → ℕ → Bool) (v v' : Passing) → c ≡ c' → d ≡ d' → w ≡ w' → v ≡ v' → PassesAs g c' d' w' v'
+      → PassesAs g c d w v
+  same_passes c c' d d' w w' v v' p q r t runs =
+      subst (λ x. PassesAs g x d w v) (sym p) (subst (λ x. PassesAs g c' x w v) (sym q) (subst (λ x. PassesAs g c' d' x v) (sym r) (subst
+      (λ x. PassesAs g c' d' w' x) (sym t) runs)))
 
-  abbrev is_link_step : Link-F Bool Bool → Bool
-  is_link_step = link_is_well_formed variables types (sites g)
+  -- ---- actual parameters
 
-  rolled_expr : (x : Expr-F Expr Link) → RunsAs g (expr_step g.scope (map-Expr Expr Link (List Instr) (List Instr) (expr_code g.scope) (link_code g.scope) x))
-      (expr_depth_step (map-Expr Expr Link ℕ ℕ expr_depth link_depth x))
-      (is_step (map-Expr Expr Link Bool Bool (fold-Expr Bool Bool is_step is_link_step) (fold-Link Bool Bool is_step is_link_step) x))
-      (value_step (map-Expr Expr Link Evaluation Combination value_of link_of x)) → ExprRuns g (roll-Expr x)
+  -- there is one of which the test holds
+  one_there : {A : Type 0} (test : A → Bool) (o : Option A) → of_one test o ≡ true → (x : A) × (o ≡ Some x) × (test x ≡ true)
+  one_there test None e = absurd (false≢true e)
+  one_there test (Some x) e = (x, refl, e)
+
+  -- a value that is passed, on top, and its test
+  tested_passes : (good : Bool) (fits : RangeTest) (callee position place : ℕ) (base held : List Cell) (n : ℤ) (s : effect.State) (formal : DeclaredVariable)
+      → (int_le fits.range.first n && int_le n fits.range.last) ≡ good → StandsAt g.target place (range_check fits) (g.target.is_open fits.site)
+      → fits.site < sites g → formal_of (outline g) callee position ≡ Some formal → takes_value (outline g) fits formal ≡ true → Based g s base → Fits n
+      → Passes g (on g ((base ++ held) ++ Number n ∷ []) place s.output) held (place + 1) 1 callee position
+      (require good fits.site >>= λ _. give (OfValue (value.Number n))) s
+  tested_passes true fits callee position place base held n s formal holds stands within is takes based fit =
+      let parts = and_parts _ _ takes in
+      let parts' = and_parts _ _ parts.1 in
+      let passed = passes g (range_check fits) ((base ++ held) ++ Number n ∷ []) place fits.site s.output _ refl refl stands
+      (is_in_range g.frame g.limit g.size (base ++ held) (linked g s base held based) fits.range.first fits.range.last n ∙ ap Ok holds) in
+      inr (
+        base,
+        based,
+        Number n ∷ [],
+        formal,
+        is,
+        (parts.0, parts'.0, fit, refl),
+        refl,
+        comes_less g.target (s.turns - s.turns) 0 _ _ (omega arith) passed,
+        omega arith,
+      )
+  tested_passes false fits callee position place base held n s formal holds stands within is takes based fit =
+      inr (fails g (range_check fits) ((base ++ held) ++ Number n ∷ []) place fits.site s.output _ refl refl s.turns stands within
+      (is_in_range g.frame g.limit g.size (base ++ held) (linked g s base held based) fits.range.first fits.range.last n ∙ ap Ok holds))
+
+  value_is_passed : (v : (e : Expr) × ExprRuns g e) (fits : RangeTest)
+      → PassesAs g (expr_code g.scope v.0 ++ (range_check fits ∷ [])) (record { depth = expr_depth v.0; cells = 1 })
+      (λ callee position. is_well_formed_expr (outline g) g.number v.0 && passes_value (outline g) g.number fits callee position)
+      (λ env. value_of v.0 env >>= λ w. require (effect.is_in fits.range w) fits.site >>= λ _. give (OfValue w))
+  value_is_passed v fits callee position place base held s stands good based deep =
+      let c = expr_code g.scope v.0 in
+      let check = range_check fits ∷ [] in
+      let parts = and_parts (is_well_formed_expr (outline g) g.number v.0) (passes_value (outline g) g.number fits callee position) good in
+      let tests = and_parts (is_well_formed_test (outline g) g.number fits) (is_passed_to (outline g) g.number (takes_value (outline g) fits) callee position)
+      parts.1 in
+      let within = ltb-true fits.site (sites g) (and_parts (nat_lt fits.site (sites g)) (is_whole fits.range.first && is_whole fits.range.last) tests.0).0 in
+      let formal = one_there (takes_value (outline g) fits) (formal_of (outline g) callee position) tests.1 in
+      let e : place + length c + 1 ≡ place + length (c ++ check) = omega (arith, length-append c check) in
+      let next : Value → Action Argument = λ w. require (effect.is_in fits.range w) fits.site >>= λ _. give (OfValue w) in
+      subst (λ p. Passes g (on g (base ++ held) place s.output) held p 1 callee position (value_of v.0 (around g) >>= next) s) e
+      (value_passes g _ held held (place + length c) (place + length c + 1) 1 callee position (value_of v.0 (around g)) next s
+      (exact_value (around g) (exact_around g) v.0) (v.1 place base held s (stands_front g.target place c check stands) parts.0 based deep)
+      (λ base2 n t based2 fit.
+      subst (λ test. Passes g (on g ((base2 ++ held) ++ Number n ∷ []) (place + length c) t.output) held (place + length c + 1) 1 callee position
+      (require test fits.site >>= λ _. give (OfValue (value.Number n))) t) (sym (same_range fits.range n fit))
+      (tested_passes _ fits callee position (place + length c) base2 held n t formal.0 refl (stands_back g.target place c check stands).0 within formal.1
+      formal.2 based2 fit)))
+
+  whole_is_passed : (type_id : TypeId) (v : Whole) (indexes : Indexes g)
+      → PassesAs g (whole_code g.scope v (codes g indexes)) (record { depth = whole_depth v (depths g indexes); cells = length_of v })
+      (λ callee position. all_hold (whole_indexes v (wells g indexes)) && (is_well_formed_whole (outline g) g.number v (length (wells g indexes))
+      && passes_whole (outline g) g.number type_id (length_of v) callee position))
+      (λ env. meaning.whole_of v (map value_of (expressions g indexes)) env >>= λ ns. give (OfRow ns))
+  whole_is_passed type_id v indexes callee position place base held s stands good based deep =
+      let c = whole_code g.scope v (codes g indexes) in
+      let n = length_of v in
+      let one = and_parts (all_hold (whole_indexes v (wells g indexes))) _ good in
+      let two = and_parts (is_well_formed_whole (outline g) g.number v (length (wells g indexes))) (passes_whole (outline g) g.number type_id n callee position)
+      one.1 in
+      let well = subst (λ k. is_well_formed_whole (outline g) g.number v k ≡ true) (as_many_wells g indexes) two.0 in
+      let formal = one_there (takes_whole (outline g) type_id n) (formal_of (outline g) callee position) two.1 in
+      let takes = and_parts _ _ formal.2 in
+      let same = and_parts _ _ takes.1 in
+      let sizes = and_parts _ _ same.1 in
+      let many : type_cells types formal.0.type_id ≡ n =
+      ap (λ (id : TypeId). type_cells types id) (sym (same_type g type_id formal.0.type_id same.0)) ∙ eqb-true (type_cells types type_id) n sizes.1 in
+      row_passes g _ held held (place + length c) (place + length c) n n callee position (meaning.whole_of v (map value_of (expressions g indexes)) (around g))
+      (λ ns. give (OfRow ns)) s (exact_whole (around g) (exact_around g) v (expressions g indexes))
+      (whole_runs g v indexes place base held s stands one.0 well based deep)
+      (λ base2 ns t based2 long fits.
+      inr (
+        base2,
+        based2,
+        cells_of ns,
+        formal.0,
+        formal.1,
+        (takes.0, long ∙ sym many, fits, refl),
+        length-cells_of ns ∙ long,
+        comes_less g.target (t.turns - t.turns) 0 _ _ (omega arith) (stays_here g.target _),
+        omega arith,
+      ))
+
+  reference_is_passed : (type_id : TypeId) (access : Access) (indexes : Indexes g)
+      → PassesAs g (address_code g.scope access (codes g indexes)) (record { depth = access_depth (depths g indexes); cells = 1 })
+      (λ callee position. all_hold (wells g indexes)
+      && passes_variable (outline g) g.number type_id access.root access.selectors.items (length (wells g indexes)) callee position)
+      (λ env. meaning.accessed access (map value_of (expressions g indexes)) env >>= λ q. give (OfPlace q))
+  reference_is_passed type_id access indexes callee position place base held s stands good based deep =
+      let c = address_code g.scope access (codes g indexes) in
+      let wanted : TypeId → Bool = λ id. is_same id type_id in
+      let one = and_parts (all_hold (wells g indexes)) _ good in
+      let two = and_parts (leads_to_type (outline g) g.number type_id access.root access.selectors.items (length (wells g indexes)))
+      (is_passed_to (outline g) g.number (takes_variable type_id) callee position) one.1 in
+      let led_to = leads g wanted access.root access.selectors.items (length (expressions g indexes))
+      (subst (λ k. leads_to_type (outline g) g.number type_id access.root access.selectors.items k ≡ true) (as_many_wells g indexes) two.0) in
+      let start = begins g access wanted (length (expressions g indexes)) (codes g indexes) led_to in
+      let formal = one_there (takes_variable type_id) (formal_of (outline g) callee position) two.1 in
+      let takes = and_parts _ _ formal.2 in
+      let its : led_to.last ≡ formal.0.type_id = same_type g led_to.last type_id led_to.is_wanted ∙ same_type g type_id formal.0.type_id takes.1 in
+      let found = place_found g access indexes led_to.last start one.0 led_to.counts in
+      let next : Option Place → Action Argument = λ q. give (OfPlace q) in
+      subst (λ action. Passes g (on g (base ++ held) place s.output) held (place + length c) 1 callee position (action >>= next) s)
+      (sym (start.meant (map value_of (expressions g indexes))))
+      (address_passes g _ held held (place + length c) (place + length c) led_to.last 1 callee position found next (entered g access.number s)
+      (exact_found g access indexes led_to.last start one.0 led_to.counts)
+      (address_runs g access indexes led_to.last start one.0 led_to.counts place base held (entered g access.number s) stands based deep)
+      (λ base2 d p t based2 part.
+      inr (
+        base2,
+        based2,
+        Number (pos d) ∷ [],
+        formal.0,
+        formal.1,
+        (d, takes.0, subst (λ u. PartAt g p u d) its part, refl),
+        refl,
+        comes_less g.target (t.turns - t.turns) 0 _ _ (omega arith) (stays_here g.target _),
+        omega arith,
+      )))
+
+  -- ---- a call
+
+  abbrev bare : List ((p : Passed) × PassedRuns g p) → List Passed
+  bare actuals = map (λ p. p.0) actuals
+
+  abbrev actuals_code : List ((p : Passed) × PassedRuns g p) → List Instr
+  actuals_code actuals = joined (map (passed_code g.scope) (bare actuals))
+
+  actuals_pass : (actuals : List ((p : Passed) × PassedRuns g p)) (callee position below height place : ℕ) (base held : List Cell) (s : effect.State)
+      → length held ≡ below + height → Stands g.target place (actuals_code actuals)
+      → all_hold (placed_for callee position (map (is_well_formed_passed (outline g) g.number) (bare actuals))) ≡ true → Based g s base
+      → g.below + below + actuals_depth height (map passed_depth (bare actuals)) ≤ g.limit
+      → AllPass g (on g (base ++ held) place s.output) held (place + length (actuals_code actuals)) callee position (length actuals)
+      (all_passed (map passing_of (bare actuals)) (around g)) s
+  actuals_pass [] callee position below height place base held s high stands good based deep =
+      let here : place ≡ place + 0 = omega arith in
+      let comes = subst (λ q. Comes g.target 0 (on g (base ++ held) place s.output) (on g ((base ++ held) ++ []) q s.output)) here
+      (subst (λ cells. Comes g.target 0 (on g (base ++ held) place s.output) (on g cells place s.output)) (sym (append-nil (base ++ held)))
+      (stays_here g.target _)) in
+      inr (base, based, [], refl, omega (arith, high), refl, comes_less g.target (s.turns - s.turns) 0 _ _ (omega arith) comes, omega arith)
+  actuals_pass (one ∷ actuals) callee position below height place base held s high stands good based deep =
+      let c = passed_code g.scope one.0 in
+      let rest = actuals_code actuals in
+      let d = passed_depth one.0 in
+      let end = place + length c + length rest in
+      let e : end ≡ place + length (c ++ rest) = omega (arith, length-append c rest) in
+      let parts = and_parts (is_well_formed_passed (outline g) g.number one.0 callee position)
+      (all_hold (placed_for callee (suc position) (map (is_well_formed_passed (outline g) g.number) (bare actuals)))) good in
+      let next : Argument → Action (List Argument) = λ argument. all_passed (map passing_of (bare actuals)) (around g) >>= λ arguments.
+      give (argument ∷ arguments) in
+      subst (λ p. AllPass g (on g (base ++ held) place s.output) held p callee position (suc (length actuals)) (passing_of one.0 (around g) >>= next) s) e
+      (then_pass g _ held held (place + length c) end d.cells callee position position (suc (length actuals)) (passing_of one.0 (around g)) next s
+      (exact_passing (around g) (exact_around g) one.0)
+      (one.1 callee position place base held s (stands_front g.target place c rest stands) parts.0 based (omega (arith, high)))
+      (λ base2 argument cells formal t based2 is fitted long.
+      let above = held ++ cells in
+      let taller = length-append held cells in
+      subst (λ stack. AllPass g (on g stack (place + length c) t.output) held end callee position (suc (length actuals)) (next argument) t)
+      (sym (append_assoc base2 held cells))
+      (passed_then g _ above held end callee (suc position) position (length actuals) (suc (length actuals))
+      (all_passed (map passing_of (bare actuals)) (around g)) (λ arguments. give (argument ∷ arguments)) t
+      (exact_passed (around g) (exact_around g) (bare actuals))
+      (actuals_pass actuals callee (suc position) below (height + d.cells) (place + length c) base2 above t (omega (arith, high, taller, long))
+      (stands_back g.target place c rest stands) parts.1 based2 (omega arith))
+      (λ base3 arguments cells3 u based3 fitted3 room many.
+      inr (
+        base3,
+        based3,
+        cells ++ cells3,
+        (formal, is, cells, cells3, refl, fitted, fitted3),
+        omega (arith, room, taller, length-append cells cells3),
+        ap suc many,
+        subst (λ stack. Comes g.target (u.turns - u.turns) (on g ((base3 ++ above) ++ cells3) end u.output) (on g stack end u.output))
+            (ap (λ l. l ++ cells3) (sym (append_assoc base3 held cells)) ∙ append_assoc (base3 ++ held) cells cells3)
+            (comes_less g.target (u.turns - u.turns) 0 _ _ (omega arith) (stays_here g.target _)),
+        omega arith,
+      )))))
+
+  -- the mark of a new frame, whose static link leads to this frame
+  marked_runs : (level outer place : ℕ) (base held : List Cell) (s : effect.State) → Leads g.fixed level g.frame outer → Here g place (instr.MarkStack level)
+      → Based g s base → g.below + length held + 4 ≤ g.limit
+      → Comes g.target 1 (on g (base ++ held) place s.output) (on g (base ++ (held ++ links_of g outer)) (place + 1) s.output)
+  marked_runs level outer place base held s l here based room =
+      let cells = base ++ held in
+      let full = based.full in
+      let long = length-append base held in
+      subst (λ stack. Comes g.target 1 (on g cells place s.output) (on g stack (place + 1) s.output)) (append_assoc base held (links_of g outer))
+      (acts g (instr.MarkStack level) cells (cells ++ links_of g outer) place s.output (calls.marked level (frames_of g cells)) here refl
+      (marks g.frame g.limit g.size cells level outer (omega arith) (frame_found g level outer base held s based l)))
+
+  module _ (known : CallsAt g) where
+    call_returns : (is_function : Bool) (call : Call) (actuals : List ((p : Passed) × PassedRuns g p)) (place : ℕ) (base held : List Cell) (s : effect.State)
+        → Stands g.target place (call_code g.scope call (map (passed_code g.scope) (bare actuals)))
+        → is_well_formed_call (outline g) g.number is_function call (map (is_well_formed_passed (outline g) g.number) (bare actuals)) ≡ true → Based g s base
+        → g.below + length held + call_depth (map passed_depth (bare actuals)) ≤ g.limit
+        → Returns g (on g (base ++ held) place s.output) held (place + length (call_code g.scope call (map (passed_code g.scope) (bare actuals)))) is_function
+        (meaning.call_of call (map passing_of (bare actuals)) (around g)) s
+    call_returns is_function call actuals place base held s stands good based deep =
+        let routine = called_routine g.scope call.block in
+        let level = links_to g.scope routine.level in
+        let c = actuals_code actuals in
+        let jump = instr.CallProcedure (row_length routine.cells) routine.place ∷ [] in
+        let wf = map (is_well_formed_passed (outline g) g.number) (bare actuals) in
+        let parts = and_parts (may_call (outline g) g.number is_function call.block (length wf)) (all_hold (placed_for call.block 0 wf)) good in
+        let callee = one_there (is_callable (outline g) g.number is_function (length wf)) (slice_get (outline g).headings call.block) parts.0 in
+        let block = heading_there (g.tree.blocks.items) call.block callee.0 callee.1 in
+        let up : links_to g.scope 0 ≡ level + (links_to g.scope 0 - level) = omega arith in
+        let way = leads_split g.fixed level (links_to g.scope 0 - level) g.frame g.bottom (subst (λ n. Leads g.fixed n g.frame g.bottom) up g.chain) in
+        let outer = way.0 in
+        let links = links_of g outer in
+        let above = held ++ links in
+        let taller : length above ≡ length held + 4 = length-append held links in
+        let s1 = entered g call.number s in
+        let more = actuals_deep 4 (map passed_depth (bare actuals)) in
+        let marked = marked_runs level outer place base held s way.1 stands.0 based (omega arith) in
+        let argument_code = stands_front g.target (place + 1) c jump stands.1 in
+        let jumping = stands_back g.target (place + 1) c jump stands.1 in
+        let end = place + 1 + length c + 1 in
+        let e : end ≡ place + length (call_code g.scope call (map (passed_code g.scope) (bare actuals))) = omega (arith, length-append c jump) in
+        let next : List Argument → Action Value = λ arguments. calls_of g.tree g.depth call.block arguments g.environment in
+        let many : length wf ≡ length actuals = length-map (bare actuals) (is_well_formed_passed (outline g) g.number) ∙ length-map actuals (λ p. p.0) in
+        subst (λ p. Returns g (on g (base ++ held) place s.output) held p is_function
+        (all_passed (map passing_of (bare actuals)) (around g) >>= next) s1) e
+        (returns_from g 1 _ _ held end is_function (all_passed (map passing_of (bare actuals)) (around g) >>= next) s1 marked
+        (then_returns g _ above held (place + 1 + length c) end call.block 0 (length actuals) is_function
+        (all_passed (map passing_of (bare actuals)) (around g)) next s1 (exact_passed (around g) (exact_around g) (bare actuals))
+        (actuals_pass actuals call.block 0 (length held) 4 (place + 1) base above s1 taller argument_code parts.1 based deep)
+        (λ base2 arguments cells t based2 fitted room counted.
+        known is_function call.block block.0 outer (place + 1 + length c) base2 held cells arguments t block.1
+        (subst (λ n. is_callable (outline g) g.number is_function n (heading_of block.0) ≡ true) (many ∙ sym counted)
+        (ap (is_callable (outline g) g.number is_function (length wf)) block.2 ∙ callee.2))
+        way.1 jumping.0 jumping.2 based2 fitted (omega (arith, room, taller)))))
+
+    call_evaluates : (call : Call) (actuals : List ((p : Passed) × PassedRuns g p))
+        → RunsAs g (call_code g.scope call (map (passed_code g.scope) (bare actuals))) (call_depth (map passed_depth (bare actuals)))
+        (is_well_formed_call (outline g) g.number true call (map (is_well_formed_passed (outline g) g.number) (bare actuals)))
+        (meaning.call_of call (map passing_of (bare actuals)))
+    call_evaluates call actuals place base held s stands good based deep =
+        let more = actuals_deep 4 (map passed_depth (bare actuals)) in
+        function_evaluates g _ held (place + length (call_code g.scope call (map (passed_code g.scope) (bare actuals))))
+        (meaning.call_of call (map passing_of (bare actuals)) (around g)) s (omega arith)
+        (call_returns true call actuals place base held s stands good based deep)
+
+  -- ---- all forms
+
+  abbrev is_step : Expr-F Bool (ℕ → ℕ → Bool) Bool → Bool
+  is_step = expr_is_well_formed (outline g) g.number
+
+  abbrev is_passed_step : Passed-F Bool (ℕ → ℕ → Bool) Bool → ℕ → ℕ → Bool
+  is_passed_step = passed_is_well_formed (outline g) g.number
+
+  abbrev is_link_step : Link-F Bool (ℕ → ℕ → Bool) Bool → Bool
+  is_link_step = link_is_well_formed (outline g) g.number
+
+  abbrev Code : Type 0
+  Code = List Instr
+
+  abbrev Test : Type 0
+  Test = ℕ → ℕ → Bool
+
+  rolled_expr : (x : Expr-F Expr Passed Link)
+      → RunsAs g (expr_step g.scope (map-Expr Expr Passed Link Code Code Code (expr_code g.scope) (passed_code g.scope) (link_code g.scope) x))
+      (expr_depth_step (map-Expr Expr Passed Link ℕ PassedDepth ℕ expr_depth passed_depth link_depth x))
+      (is_step (map-Expr Expr Passed Link Bool Test Bool (is_well_formed_expr (outline g) g.number) (is_well_formed_passed (outline g) g.number)
+      (is_well_formed_link (outline g) g.number) x))
+      (value_step (map-Expr Expr Passed Link Evaluation Passing Combination value_of passing_of link_of x)) → ExprRuns g (roll-Expr x)
   rolled_expr x =
-      same_runs _ _ _ _ _ _ _ _ (fold-roll-Expr (List Instr) (List Instr) (expr_step g.scope) link_step x)
-      (fold-roll-Expr ℕ ℕ expr_depth_step link_depth_step x) (fold-roll-Expr Bool Bool is_step is_link_step x)
-      (fold-roll-Expr Evaluation Combination value_step meaning.link_step x)
+      same_runs _ _ _ _ _ _ _ _ (fold-roll-Expr Code Code Code (expr_step g.scope) (passed_code_step g.scope) link_step x)
+      (fold-roll-Expr ℕ PassedDepth ℕ expr_depth_step passed_depth_step link_depth_step x)
+      (fold-roll-Expr Bool Test Bool is_step is_passed_step is_link_step x)
+      (fold-roll-Expr Evaluation Passing Combination value_step meaning.passed_step meaning.link_step x)
 
-  rolled_link : (x : Link-F Expr Link) → CombinesAs g (link_step (map-Link Expr Link (List Instr) (List Instr) (expr_code g.scope) (link_code g.scope) x))
-      (link_depth_step (map-Link Expr Link ℕ ℕ expr_depth link_depth x))
-      (is_link_step (map-Link Expr Link Bool Bool (fold-Expr Bool Bool is_step is_link_step) (fold-Link Bool Bool is_step is_link_step) x))
-      (meaning.link_step (map-Link Expr Link Evaluation Combination value_of link_of x)) → LinkRuns g (roll-Link x)
-  rolled_link x =
-      same_combines _ _ _ _ _ _ _ _ (fold-roll-Link (List Instr) (List Instr) (expr_step g.scope) link_step x)
-      (fold-roll-Link ℕ ℕ expr_depth_step link_depth_step x) (fold-roll-Link Bool Bool is_step is_link_step x)
-      (fold-roll-Link Evaluation Combination value_step meaning.link_step x)
+  rolled_passed : (x : Passed-F Expr Passed Link)
+      → PassesAs g (passed_code_step g.scope (map-Passed Expr Passed Link Code Code Code (expr_code g.scope) (passed_code g.scope) (link_code g.scope) x))
+      (passed_depth_step (map-Passed Expr Passed Link ℕ PassedDepth ℕ expr_depth passed_depth link_depth x))
+      (is_passed_step (map-Passed Expr Passed Link Bool Test Bool (is_well_formed_expr (outline g) g.number) (is_well_formed_passed (outline g) g.number)
+      (is_well_formed_link (outline g) g.number) x))
+      (meaning.passed_step (map-Passed Expr Passed Link Evaluation Passing Combination value_of passing_of link_of x)) → PassedRuns g (roll-Passed x)
+  rolled_passed x =
+      same_passes _ _ _ _ _ _ _ _ (fold-roll-Passed Code Code Code (expr_step g.scope) (passed_code_step g.scope) link_step x)
+      (fold-roll-Passed ℕ PassedDepth ℕ expr_depth_step passed_depth_step link_depth_step x)
+      (fold-roll-Passed Bool Test Bool is_step is_passed_step is_link_step x)
+      (fold-roll-Passed Evaluation Passing Combination value_step meaning.passed_step meaning.link_step x)
 
-  expr_layer : (y : Expr-F ((e : Expr) × ExprRuns g e) ((l : Link) × LinkRuns g l))
-      → ExprRuns g (roll-Expr (map-Expr ((e : Expr) × ExprRuns g e) ((l : Link) × LinkRuns g l) Expr Link (λ e. e.0) (λ l. l.0) y))
-  expr_layer (Constant number n) = rolled_expr (Constant number n) (constant_runs number n)
-  expr_layer (Variable access indexes defined) =
-      rolled_expr (map-Expr ((e : Expr) × ExprRuns g e) ((l : Link) × LinkRuns g l) Expr Link (λ e. e.0) (λ l. l.0) (Variable access indexes defined))
-      (variable_runs access indexes.items defined)
-  expr_layer (MonadicOf number operation operand) =
-      rolled_expr (MonadicOf number operation (record { ptr = operand.ptr; alloc = operand.alloc; value = operand.value.0 }))
-      (monadic_runs number operation (expr_code g.scope operand.value.0) (expr_depth operand.value.0)
-      (is_well_formed_expr variables types (sites g) operand.value.0) (value_of operand.value.0) operand.value.1)
-  expr_layer (Chain first rest) =
-      rolled_expr (map-Expr ((e : Expr) × ExprRuns g e) ((l : Link) × LinkRuns g l) Expr Link (λ e. e.0) (λ l. l.0) (Chain first rest))
-      (chain_runs first.value rest.items)
-  expr_layer (Compare number r left left_indexes right right_indexes) =
-      rolled_expr (map-Expr ((e : Expr) × ExprRuns g e) ((l : Link) × LinkRuns g l) Expr Link (λ e. e.0) (λ l. l.0)
-      (Compare number r left left_indexes right right_indexes)) (compare_runs number r left left_indexes.items right right_indexes.items)
+  abbrev Told : Type 0
+  Told = (e : Expr) × ExprRuns g e
 
-  link_layer : (y : Link-F ((e : Expr) × ExprRuns g e) ((l : Link) × LinkRuns g l))
-      → LinkRuns g (roll-Link (map-Link ((e : Expr) × ExprRuns g e) ((l : Link) × LinkRuns g l) Expr Link (λ e. e.0) (λ l. l.0) y))
-  link_layer y =
-      rolled_link (map-Link ((e : Expr) × ExprRuns g e) ((l : Link) × LinkRuns g l) Expr Link (λ e. e.0) (λ l. l.0) y)
-      (link_runs y.number y.operation (expr_code g.scope y.operand.0) (expr_depth y.operand.0) (is_well_formed_expr variables types (sites g) y.operand.0)
-      (value_of y.operand.0) y.operand.1)
+  abbrev ToldPassed : Type 0
+  ToldPassed = (p : Passed) × PassedRuns g p
 
-  -- the code of an expression leaves its value on top, or stops as the expression does
-  pub expr_runs : (e : Expr) → ExprRuns g e
-  expr_runs =
-      ind-Expr (ExprRuns g) (LinkRuns g) (λ x y is. subst (λ z. ExprRuns g (roll-Expr z)) is (expr_layer y))
-      (λ x y is. subst (λ z. LinkRuns g (roll-Link z)) is (link_layer y))
+  abbrev ToldLink : Type 0
+  ToldLink = (l : Link) × LinkRuns g l
 
-  -- the code of a width leaves it on top, or stops as the width does; a value has this one where none is given
-  pub width_runs : (width : Option Width) (v : Written) (default : ℤ) → default_width v ≡ instr.LoadConstant default → Fits default
-      → RunsAs g (width_code g.scope width v) (width_depth width) (is_well_formed_width variables types (sites g) width) (width_of width default)
-  width_runs None v default is fit place base held s stands good based room =
-      number_runs default place base held s (subst (λ i. Stands g.target place (i ∷ [])) is stands).0 fit based room
-  width_runs (Some width) v default is fit place base held s stands good based room =
-      let c = expr_code g.scope width.value in
-      let check = check_positive width.site in
-      let parts = and_parts (nat_lt width.site (sites g)) (is_well_formed_expr variables types (sites g) width.value) good in
-      let e : place + length c + 1 ≡ place + length (c ++ check ∷ []) = omega (arith, length-append c (check ∷ [])) in
-      let next : Value → Action Value = λ w. require (effect.is_positive w) width.site >>= λ _. give w in
-      subst (λ p. Evaluates g s.turns (on g (base ++ held) place s.output) held p (effect.and_then (value_of width.value g.environment s) next)) e
-      (then_evaluates g s.turns _ held held (place + length c) (place + length c + 1) (value_of width.value g.environment s) next
-      (expr_runs width.value place base held s (stands_front g.target place c (check ∷ []) stands) parts.1 based room)
-      (λ base2 n s2 based2 fit room2.
-      tested_runs check width.site (place + length c) base2 held n s2 _ (int_le (pos 1) n) (stands_back g.target place c (check ∷ []) stands).0 refl refl
-      (is_in_range g.running.frame g.limit g.size (base2 ++ held) (linked g s2.store base2 held based2) (pos 1) (pos 2147483647) n
-      ∙ ap Ok (same_positive n fit)) (ltb-true width.site (sites g) parts.0) based2 room2 fit))
+  abbrev plain : Expr-F Told ToldPassed ToldLink → Expr-F Expr Passed Link
+  plain = map-Expr Told ToldPassed ToldLink Expr Passed Link (λ e. e.0) (λ p. p.0) (λ l. l.0)
+
+  abbrev plain_passed : Passed-F Told ToldPassed ToldLink → Passed-F Expr Passed Link
+  plain_passed = map-Passed Told ToldPassed ToldLink Expr Passed Link (λ e. e.0) (λ p. p.0) (λ l. l.0)
+
+  abbrev plain_link : Link-F Told ToldPassed ToldLink → Link-F Expr Passed Link
+  plain_link = map-Link Told ToldPassed ToldLink Expr Passed Link (λ e. e.0) (λ p. p.0) (λ l. l.0)
+
+  module _ (known : CallsAt g) where
+    expr_layer : (y : Expr-F Told ToldPassed ToldLink) → ExprRuns g (roll-Expr (plain y))
+    expr_layer (Constant number n) = rolled_expr (Constant number n) (constant_runs number n)
+    expr_layer (Variable access indexes defined) = rolled_expr (plain (Variable access indexes defined)) (variable_runs access indexes.items defined)
+    expr_layer (MonadicOf number operation operand) =
+        rolled_expr (MonadicOf number operation (record { ptr = operand.ptr; alloc = operand.alloc; value = operand.value.0 }))
+        (monadic_runs number operation (expr_code g.scope operand.value.0) (expr_depth operand.value.0)
+        (is_well_formed_expr (outline g) g.number operand.value.0) (value_of operand.value.0) (exact_value (around g) (exact_around g) operand.value.0)
+        operand.value.1)
+    expr_layer (Chain first rest) = rolled_expr (plain (Chain first rest)) (chain_runs first.value rest.items)
+    expr_layer (Compare number r left left_indexes right right_indexes) =
+        rolled_expr (plain (Compare number r left left_indexes right right_indexes))
+        (compare_runs number r left left_indexes.items right right_indexes.items)
+    expr_layer (CallOf call actuals) = rolled_expr (plain (CallOf call actuals)) (call_evaluates known call actuals.items)
+
+    passed_layer : (y : Passed-F Told ToldPassed ToldLink) → PassedRuns g (roll-Passed (plain_passed y))
+    passed_layer (PassedValue v fits) = rolled_passed (PassedValue v.0 fits) (value_is_passed v fits)
+    passed_layer (PassedWhole type_id v indexes) =
+        rolled_passed (plain_passed (PassedWhole type_id v indexes)) (whole_is_passed type_id v indexes.items)
+    passed_layer (Reference type_id access indexes) =
+        rolled_passed (plain_passed (Reference type_id access indexes)) (reference_is_passed type_id access indexes.items)
+
+    link_layer : (y : Link-F Told ToldPassed ToldLink) → LinkRuns g (roll-Link (plain_link y))
+    link_layer y =
+        let x = plain_link y in
+        let meant = fold-roll-Link Evaluation Passing Combination value_step meaning.passed_step meaning.link_step x in
+        let exact = exact_value (around g) (exact_around g) y.operand.0 in (
+          same_combines _ _ _ _ _ _ _ _ (fold-roll-Link Code Code Code (expr_step g.scope) (passed_code_step g.scope) link_step x)
+              (fold-roll-Link ℕ PassedDepth ℕ expr_depth_step passed_depth_step link_depth_step x)
+              (fold-roll-Link Bool Test Bool is_step is_passed_step is_link_step x) meant
+              (link_runs y.number y.operation (expr_code g.scope y.operand.0) (expr_depth y.operand.0) (is_well_formed_expr (outline g) g.number y.operand.0)
+              (value_of y.operand.0) exact y.operand.1),
+          λ v. subst (λ (f : Combination). UsesTurnsExactly (f (around g) v)) (sym meant)
+              (exact_link (around g) (exact_around g) y.number y.operation (value_of y.operand.0) v exact),
+        )
+
+    -- the code of an expression leaves its value on top, or stops as the expression does
+    pub expr_runs : (e : Expr) → ExprRuns g e
+    expr_runs =
+        ind-Expr (ExprRuns g) (PassedRuns g) (LinkRuns g) (λ x y is. subst (λ z. ExprRuns g (roll-Expr z)) is (expr_layer y))
+        (λ x y is. subst (λ z. PassedRuns g (roll-Passed z)) is (passed_layer y)) (λ x y is. subst (λ z. LinkRuns g (roll-Link z)) is (link_layer y))
+
+    -- that of an actual parameter leaves what is passed
+    pub passed_runs : (p : Passed) → PassedRuns g p
+    passed_runs =
+        ind-Passed (ExprRuns g) (PassedRuns g) (LinkRuns g) (λ x y is. subst (λ z. ExprRuns g (roll-Expr z)) is (expr_layer y))
+        (λ x y is. subst (λ z. PassedRuns g (roll-Passed z)) is (passed_layer y)) (λ x y is. subst (λ z. LinkRuns g (roll-Link z)) is (link_layer y))
+
+    abbrev told_actuals : List Passed → List ToldPassed
+    told_actuals actuals = map (λ p. (p, passed_runs p)) actuals
+
+    bare_told : (actuals : List Passed) → bare (told_actuals actuals) ≡ actuals
+    bare_told [] = refl
+    bare_told (p ∷ actuals) = ap (λ rest. p ∷ rest) (bare_told actuals)
+
+    -- that of a call leaves the value of a function
+    pub call_runs : (is_function : Bool) (call : Call) (actuals : List Passed) (place : ℕ) (base held : List Cell) (s : effect.State)
+        → Stands g.target place (call_code g.scope call (map (passed_code g.scope) actuals))
+        → is_well_formed_call (outline g) g.number is_function call (map (is_well_formed_passed (outline g) g.number) actuals) ≡ true → Based g s base
+        → g.below + length held + call_depth (map passed_depth actuals) ≤ g.limit
+        → Returns g (on g (base ++ held) place s.output) held (place + length (call_code g.scope call (map (passed_code g.scope) actuals))) is_function
+        (meaning.call_of call (map passing_of actuals) (around g)) s
+    call_runs is_function call actuals =
+        subst (λ all. (place : ℕ) (base held : List Cell) (s : effect.State) → Stands g.target place (call_code g.scope call (map (passed_code g.scope) all))
+        → is_well_formed_call (outline g) g.number is_function call (map (is_well_formed_passed (outline g) g.number) all) ≡ true → Based g s base
+        → g.below + length held + call_depth (map passed_depth all) ≤ g.limit
+        → Returns g (on g (base ++ held) place s.output) held (place + length (call_code g.scope call (map (passed_code g.scope) all))) is_function
+        (meaning.call_of call (map passing_of all) (around g)) s) (bare_told actuals) (call_returns known is_function call (told_actuals actuals))
+
+    -- the code of a width leaves it on top, or stops as the width does; a value has this one where none is given
+    pub width_runs : (width : Option Width) (v : Written) (default : ℤ) → default_width v ≡ instr.LoadConstant default → Fits default
+        → RunsAs g (width_code g.scope width v) (width_depth width) (is_well_formed_width (outline g) g.number width) (width_of width default)
+    width_runs None v default is fit place base held s stands good based room =
+        number_runs default place base held s (subst (λ i. Stands g.target place (i ∷ [])) is stands).0 fit based room
+    width_runs (Some width) v default is fit place base held s stands good based room =
+        let c = expr_code g.scope width.value in
+        let check = check_positive width.site in
+        let parts = and_parts (nat_lt width.site (sites g)) (is_well_formed_expr (outline g) g.number width.value) good in
+        let e : place + length c + 1 ≡ place + length (c ++ check ∷ []) = omega (arith, length-append c (check ∷ [])) in
+        let next : Value → Action Value = λ w. require (effect.is_positive w) width.site >>= λ _. give w in
+        subst (λ p. Evaluates g (on g (base ++ held) place s.output) held p (value_of width.value (around g) >>= next) s) e
+        (then_evaluates g _ held held (place + length c) (place + length c + 1) (value_of width.value (around g)) next s
+        (exact_value (around g) (exact_around g) width.value)
+        (expr_runs width.value place base held s (stands_front g.target place c (check ∷ []) stands) parts.1 based room)
+        (λ base2 n s2 based2 fit room2.
+        tested_runs check width.site (place + length c) base2 held n s2 _ (int_le (pos 1) n) (stands_back g.target place c (check ∷ []) stands).0 refl refl
+        (is_in_range g.frame g.limit g.size (base2 ++ held) (linked g s2 base2 held based2) (pos 1) (pos 2147483647) n
+        ∙ ap Ok (same_positive n fit)) (ltb-true width.site (sites g) parts.0) based2 room2 fit))

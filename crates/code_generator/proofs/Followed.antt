@@ -1,5 +1,5 @@
 -- What code that follows a program has, whoever made it.
-use Rattle.std.proofs.Common.{◌≡◌, ℕ, ◌+◌, ◌<◌, List, [], ◌∷◌, ◌++◌, length, Some, None, inl, inr, ap, ◌∙◌, subst, ⊎_elim, arith}
+use Rattle.std.proofs.Common.{◌≡◌, ℕ, ◌+◌, ◌<◌, ◌≤◌, ◌⊎◌, List, [], ◌∷◌, ◌++◌, length, Some, None, inl, inr, ap, ◌∙◌, subst, ⊎_elim, arith}
 use Rattle.std.specs.Prelude.{slice_get, replicate, if◌then◌else◌}
 use Rattle.std.proofs.lemmas.Bool.{cases_lt, le-ltb, lt-leb}
 use Rattle.pcode_assembler.specs.declared.code.Code.{Code}
@@ -14,20 +14,24 @@ use Rattle.stack_machine.specs.declared.cell.Cell.TheVariants.{Undefined}
 use Rattle.stack_machine.specs.Frames.{first_frames}
 use Rattle.stack_machine.specs.Machine.{with_frame, taken}
 use Rattle.stack_machine.specs.Run.{Outcome, machine, steps, first_state, outcome_of}
-use Rattle.code_generator.specs.Follows.{DoesAll, DoesAsMuch, IsExplained, Follows}
-use Rattle.code_generator.specs.Laws.{FramesFit, ErrorsCome}
-use Rattle.code_scheme.specs.Need.{program_need}
+use Rattle.code_generator.specs.Follows.{DoesAll, DoesAsMuch, IsExplained, Follows, IsFullAtStart, IsFullAtCall, most_cells}
+use Rattle.code_generator.specs.Laws.{FramesFit, ErrorsCome, starved_in}
+use Rattle.code_scheme.specs.Need.{block_need, living_need}
 
--- a run that finds its store full has fewer cells than the need
-full_has_fewer : (tree : Tree) (code : Code) (input : List ℕ) (cells budget : ℕ) → Follows code tree
-    → (machine code input cells budget).stop ≡ stop.StoreFull → cells < program_need tree
-full_has_fewer tree code input cells budget follows full =
-    (subst (IsExplained tree cells (meaning tree input) (machine code input cells budget)) full (follows.sound input cells budget)).1
+-- a run that finds its store full has fewer cells than its first frame or the activations that last may need
+full_has_fewer : (tree : Tree) (code : Code) (input : List ℕ) (cells budget : ℕ) → Follows code tree → cells ≤ most_cells
+    → (machine code input cells budget).stop ≡ stop.StoreFull
+    → (cells < block_need tree 0) ⊎ ((turns : ℕ) × (cells < living_need tree (starved_in tree input turns)))
+full_has_fewer tree code input cells budget follows small full =
+    ⊎_elim
+    (λ (first : IsFullAtStart tree cells (machine code input cells budget)). inl first.1)
+    (λ (call : (turns : ℕ) × IsFullAtCall tree input cells turns (machine code input cells budget)). inr (call.0, call.1.needs))
+    (subst (IsExplained tree input cells (machine code input cells budget)) full (follows.sound input cells budget small))
 
 -- on a machine with just the need, a larger frame doesn't fit
 pub frames_fit : FramesFit
-frames_fit tree code variables evaluation rest follows is =
-    let cells = program_need tree in
+frames_fit tree code variables evaluation rest follows small none is =
+    let cells = block_need tree 0 in
     let m = first_state [] cells in
     let sites = code.sites.items in
     let enter = Enter variables evaluation in
@@ -41,7 +45,12 @@ frames_fit tree code variables evaluation rest follows is =
       limit = 4 + variables + evaluation;
     }) else None)) [] (steps sites (enter ∷ rest) 0)) (lt-leb (4 + variables + evaluation) cells large) in
     let full = ap (λ (o : Outcome). o.stop) (begins ∙ entered ∙ refused) in
-    absurd (omega (arith, full_has_fewer tree code [] cells 1 follows full)))
+    ⊎_elim
+    (λ (first : cells < block_need tree 0). absurd (omega (arith, first)))
+    (λ (call : (turns : ℕ) × (cells < living_need tree (starved_in tree [] turns))).
+    let nothing = ap (living_need tree) (none call.0) in
+    absurd (omega (arith, call.1, nothing)))
+    (full_has_fewer tree code [] cells 1 follows small full))
     (λ fits. fits)
     (cases_lt cells (4 + variables + evaluation))
 
@@ -57,11 +66,18 @@ outcome_is run output s p q = ap (λ o. record { output = o; stop = run.stop }) 
 
 -- a store that is large enough is never full
 pub errors_come : ErrorsCome
-errors_come tree code input turns id cells follows errs enough =
-    elim (follows.complete input cells turns) [
+errors_come tree code input turns id cells follows errs small enough =
+    elim (follows.complete input cells turns small) [
       | inl does ↦
           let run = machine code input cells does.0 in
           let all = does_all tree (meaning tree input turns).output (meaning tree input turns).ending id run errs does.1 in
           (does.0, all.1.0, all.1.1, outcome_is run (meaning tree input turns).output _ all.0 all.1.2)
-      | inr full ↦ absurd (omega (arith, full_has_fewer tree code input cells full.0 follows full.1))
+      | inr full ↦
+          let at_start = enough.at_start in
+          ⊎_elim
+          (λ (first : cells < block_need tree 0). absurd (omega (arith, first, at_start)))
+          (λ (call : (turns : ℕ) × (cells < living_need tree (starved_in tree input turns))).
+          let at_call = enough.at_calls call.0 in
+          absurd (omega (arith, call.1, at_call)))
+          (full_has_fewer tree code input cells full.0 follows small full.1)
     ]

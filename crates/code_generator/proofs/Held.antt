@@ -1,8 +1,10 @@
 -- The cells that are held above the variables, in a frame that runs: what is loaded from them and stored into them; and
 -- what the instructions of a for statement do with the two bounds that are held.
-use Rattle.std.proofs.Common.{◌≡◌, ℕ, zero, suc, ◌+◌, ◌<◌, ◌≤◌, List, [], ◌∷◌, ◌++◌, length, Some, Ok, refl, sym, ap, ◌∙◌, subst, arith, append-nil}
+use Rattle.std.proofs.Common.{◌≡◌, ℕ, zero, suc, ◌+◌, ◌<◌, ◌≤◌, List, [], ◌∷◌, ◌++◌, length, Option, Some, None, Ok, inr, refl, sym, ap, ◌∙◌, subst, arith}
+use Rattle.std.proofs.Common.{append-nil}
 use Rattle.std.proofs.Common.{append_assoc, length-append, Bool, true, false}
-use Rattle.std.specs.Prelude.{slice_get, slice_set, ℤ, pos, int_le, not, ◌&&◌, ◌||◌, if◌then◌else◌}
+use Rattle.std.proofs.lemmas.Bool.{and_parts, eqb-true, false≢true}
+use Rattle.std.specs.Prelude.{◌-◌, nat_eq, slice_get, slice_set, ℤ, pos, int_le, not, ◌&&◌, ◌||◌, if◌then◌else◌}
 use Rattle.std.specs.Ordering.{int_eq}
 use Rattle.std.proofs.lemmas.Int.{ints}
 use Rattle.std.proofs.lemmas.List.{length-set}
@@ -13,29 +15,35 @@ use Rattle.typed_tree.specs.declared.tree.Direction.{Direction}
 use Rattle.typed_tree.specs.declared.tree.Direction.TheVariants as direction
 use Rattle.typed_tree.specs.declared.tree.RangeTest.{RangeTest}
 use Rattle.types.specs.Types.{is_ordinal}
-use Rattle.typed_tree.specs.WellFormed.{leads_to_ordinal}
+use Rattle.typed_tree.specs.declared.tree.Variable.{Variable}
+use Rattle.typed_tree.specs.declared.tree.VariableKind.{VariableKind}
+use Rattle.typed_tree.specs.declared.tree.VariableKind.TheVariants as kinds
+use Rattle.typed_tree.specs.WellFormed.{is_control, is_declared, is_local_kind, is_variable_kind, leads_to_ordinal, of_one}
 use Rattle.meaning.specs.declared.store.Value.TheVariants as value
-use Rattle.meaning.specs.Store as meant
-use Rattle.meaning.specs.Store.{Place, kept, forgotten}
+use Rattle.meaning.specs.declared.store.Value.{Value}
+use Rattle.meaning.specs.Store.{Place, kept, forgotten, stored}
 use Rattle.meaning.specs.Counting.{has_values, next_value}
 use Rattle.meaning.specs.Meaning.{is_among}
 use Rattle.meaning.specs.Effect as effect
-use Rattle.meaning.specs.Effect.{Action, require}
+use Rattle.meaning.specs.Effect.{Action, ◌>>=◌, require}
 use Rattle.stack_machine.specs.declared.cell.Cell.{Cell}
 use Rattle.stack_machine.specs.declared.cell.Cell.TheVariants.{Undefined, Number}
 use Rattle.machine_arithmetic.specs.declared.arithmetic.Dyadic.TheVariants as dyadic
 use Rattle.stack_machine.specs.Frames as frames
 use Rattle.stack_machine.specs.Frames.{is_true, truth, on_two}
 use Rattle.stack_machine.specs.Machine.{State, and_then, with_frames}
-use Rattle.code_scheme.specs.Code.{row_code, range_check}
-use Rattle.code_scheme.specs.Scopes.{variable_offset, held_offset}
-use Rattle.code_generator.proofs.Accesses.{leads}
+use Rattle.code_scheme.specs.Code.{control_offset, row_code, range_check}
+use Rattle.code_scheme.specs.declared.home.Home.{Home}
+use Rattle.code_scheme.specs.Scopes.{block_level, held_offset, links, links_to, variable_home}
+use Rattle.code_generator.proofs.Accesses.{LeadsTo, frame_found, leads}
 use Rattle.code_generator.proofs.Reach.{Comes, Stands, StandsAt, obeys, comes_on, comes_less, stays_here}
 use Rattle.code_generator.proofs.Numbers.{Fits, same_range}
-use Rattle.code_generator.proofs.Setting.{Setting, running_at, on, Based, linked, Here, acts, passes, fails, branches_on, jumps, Executes, executes_from}
+use Rattle.code_generator.proofs.Setting.{Setting, Shown, Way, Direct, ByAddress, Reaches, outline, running_at, on, Based, linked, limit_far, Here, acts}
+use Rattle.code_generator.proofs.Setting.{passes, fails, branches_on, jumps, Executes, executes_from}
 use Rattle.code_generator.proofs.Acts.{framed, length_one, pushes, loads, stores, on_two_is, is_in_range}
-use Rattle.code_generator.proofs.Alike.{Alike, LiesIn, alike_written, alike_undefined, cell_within}
-use Rattle.code_generator.proofs.Parts.{ordinal_part, variable_part}
+use Rattle.code_generator.proofs.Alike.{LiesIn, Leads, HasFit, alike_set, cell_of, cell_within, keeps_set}
+use Rattle.code_generator.proofs.Parts.{ordinal_part}
+use Rattle.code_generator.proofs.Places.{place_apart}
 use Rattle.code_generator.proofs.Alike.{slice_get-front}
 
 -- cells above others
@@ -67,121 +75,170 @@ true_truth false = refl
 
 module _ (g : Setting) where
   abbrev frames_of : List Cell → frames.Frames
-  frames_of = framed g.running.frame g.limit g.size
+  frames_of = framed g.frame g.limit g.size
 
   -- ---- the cell of a scalar
 
-  module _ (p : Place) (start : ℕ) (lies : LiesIn g.world p (g.running.frame + start)) where
-    scalar_inside : (store : meant.Store) (base : List Cell) → Based g store base → g.running.frame + start < length base
-    scalar_inside store base based = cell_within g.world store base p (g.running.frame + start) based.alike lies
+  module _ (p : Place) (start : ℕ) (lies : LiesIn g.world p (g.frame + start)) where
+    scalar_inside : (s : effect.State) (base : List Cell) → Based g s base → g.frame + start < length base
+    scalar_inside s base based = cell_within g.world s.store base p (g.frame + start) based.alike lies
 
     -- what is popped into it
-    pub stores_scalar : (store : meant.Store) (base held cells : List Cell) (cell : Cell) (place : ℕ) (output : List ℕ) → Based g store base
+    pub stores_scalar : (s : effect.State) (base held cells : List Cell) (cell : Cell) (place : ℕ) (output : List ℕ) → Based g s base
         → cells ≡ (base ++ held) ++ cell ∷ [] → Here g place (instr.Store 0 start)
-        → Comes g.target 1 (on g cells place output) (on g (slice_set base (g.running.frame + start) cell ++ held) (place + 1) output)
-    stores_scalar store base held cells cell place output based is here =
+        → Comes g.target 1 (on g cells place output) (on g (slice_set base (g.frame + start) cell ++ held) (place + 1) output)
+    stores_scalar s base held cells cell place output based is here =
         let below = base ++ held in
-        let low = scalar_inside store base based in
+        let low = scalar_inside s base based in
         let at = length-append base held in
-        let does = stores g.running.frame g.limit g.size below (linked g store base held based) cell 0 start g.running.frame refl (omega arith)
-        ∙ ap (λ cs. Ok (frames_of cs)) (set_front base held (g.running.frame + start) cell low) in
-        acts g (instr.Store 0 start) cells (slice_set base (g.running.frame + start) cell ++ held) place output
+        let does = stores g.frame g.limit g.size below (linked g s base held based) cell 0 start g.frame refl (omega arith)
+        ∙ ap (λ cs. Ok (frames_of cs)) (set_front base held (g.frame + start) cell low) in
+        acts g (instr.Store 0 start) cells (slice_set base (g.frame + start) cell ++ held) place output
         (frames.store 0 start (frames_of cells)) here refl (ap (λ cs. frames.store 0 start (frames_of cs)) is ∙ does)
 
-  -- a scalar that gets a value, wherever it lies
-  pub scalar_kept : (p : Place) (cell : ℕ) (store : meant.Store) (base : List Cell) (n : ℤ) → LiesIn g.world p cell → Based g store base → Fits n
-      → Based g (kept store (Some p) (value.Number n)) (slice_set base cell (Number n))
-  scalar_kept p cell store base n lies based fit = record {
-    full = length-set base cell (Number n) ∙ based.full;
-    alike = alike_written g.world store base p cell n g.apart lies fit based.alike;
+  -- what is stored at a place of a scalar that lives is no later activation's
+  still_fresh : (p : Place) (cell : ℕ) (new : Option Value) (s : effect.State) (base : List Cell) → LiesIn g.world p cell → Based g s base → (q : Place)
+      → s.activations ≤ q.activation → stored ((p, new) ∷ s.store) q ≡ None
+  still_fresh p cell new s base lies based q later =
+      let young = based.old lies.owner lies.lives in
+      let its = lies.lies.its in
+      ap (λ same. if same then new else stored s.store q) (place_apart p q (λ e. let no : ⊥ = omega (arith, its, young, later, e) in no))
+      ∙ based.fresh q later
+
+  -- a scalar that gets a value or becomes undefined, wherever it lies
+  scalar_set : (p : Place) (cell : ℕ) (new : Option Value) (s : effect.State) (base : List Cell) → HasFit new → LiesIn g.world p cell → Based g s base
+      → Based g (record s { store = (p, new) ∷ s.store }) (slice_set base cell (cell_of new))
+  scalar_set p cell new s base fit lies based = record {
+    full = length-set base cell (cell_of new) ∙ based.full;
+    alike = alike_set g.world s.store base g.fixed p cell new g.apart lies fit based.alike;
+    keeps = keeps_set g.world s.store base g.fixed p cell new g.apart lies based.keeps;
+    old = based.old;
+    fresh = still_fresh p cell new s base lies based;
+    lasting = based.lasting;
+    deep = based.deep;
   }
+
+  pub scalar_kept : (p : Place) (cell : ℕ) (s : effect.State) (base : List Cell) (n : ℤ) → LiesIn g.world p cell → Based g s base → Fits n
+      → Based g (record s { store = kept s.store (Some p) (value.Number n) }) (slice_set base cell (Number n))
+  scalar_kept p cell s base n lies based fit = scalar_set p cell (Some (value.Number n)) s base fit lies based
 
   -- a variable that is an ordinal and lies where the code finds it
   pub record IsScalar (root : ℕ) : Type 0 where
     pub home : Place
     pub home_is : g.environment.variables root ≡ Some home
-    pub lies : LiesIn g.world home (g.running.frame + variable_offset g.scope root)
+    pub lies : LiesIn g.world home (g.frame + control_offset g.scope root)
 
-  pub is_scalar : (root : ℕ) → leads_to_ordinal g.tree.variables.items g.tree.types (length g.tree.sites.items) root [] 0 ≡ true → IsScalar root
-  is_scalar root well =
-      let l = leads g (is_ordinal g.tree.types) root [] 0 well in
-      let ends = g.ends root l.variable l.declared in
-      let above = g.above_is in
-      let start = variable_part g.tree.types g.world g.below g.environment g.running root (variable_offset g.scope root) l.variable.type_id
-      (g.shows root l.variable l.declared) (omega (arith, ends.0)) ends.1 in
-      let same = same_Some l.variable.type_id l.last l.ends in
-      record {
-        home = start.0;
-        home_is = start.1;
-        lies = ordinal_part g.tree.types g.world g.below start.0 l.variable.type_id (g.running.frame + variable_offset g.scope root)
-            (ap (is_ordinal g.tree.types) same ∙ l.is_wanted) start.2;
-      }
+  module _ (root : ℕ) (well : is_control (outline g) g.number root ≡ true) where
+    abbrev parts : (is_declared (outline g) g.number is_local_kind root ≡ true) × (leads_to_ordinal (outline g) g.number root [] 0 ≡ true)
+    parts = and_parts (is_declared (outline g) g.number is_local_kind root) (leads_to_ordinal (outline g) g.number root [] 0) well
+
+    abbrev found : LeadsTo g (is_ordinal g.tree.types) root [] 0
+    found = leads g (is_ordinal g.tree.types) root [] 0 parts.1
+
+    -- the block itself declares it, and it is no variable parameter
+    its_own : (nat_eq found.variable.block g.number ≡ true) × (is_local_kind found.variable.kind ≡ true)
+    its_own =
+        and_parts (nat_eq found.variable.block g.number) (is_local_kind found.variable.kind)
+        (ap (of_one (λ (v : Variable). nat_eq v.block g.number && is_local_kind v.kind)) (sym found.declared) ∙ parts.0)
+
+    plain : (kind : VariableKind) → is_local_kind kind ≡ true → is_variable_kind kind ≡ false
+    plain kinds.Local e = refl
+    plain kinds.ValueParameter e = refl
+    plain kinds.VariableParameter e = absurd (false≢true e)
+    plain kinds.Result e = refl
+
+    abbrev home_here : Home
+    home_here = variable_home g.scope root
+
+    refers_not : home_here.refers ≡ false
+    refers_not = ap (λ (h : Home). h.refers) (g.homes_are root found.variable found.declared) ∙ plain found.variable.kind its_own.1
+
+    no_links : links_to g.scope home_here.level ≡ 0
+    no_links =
+        let level : home_here.level ≡ g.scope.level = ap (λ (h : Home). h.level) (g.homes_are root found.variable found.declared)
+        ∙ ap (block_level g.tree) (eqb-true found.variable.block g.number its_own.0) ∙ sym g.level_is in
+        let none : g.scope.level - g.scope.level ≡ 0 = omega arith in
+        ap (links_to g.scope) level ∙ ap links none
+
+    abbrev shown : Shown g.tree g.world g.fixed g.below g.frame g.scope g.environment root found.variable
+    shown = g.shows root found.variable found.declared found.visible
+
+    lies_by : (way : Way) → Reaches g.tree g.world g.fixed g.below shown.place found.variable (shown.owner + home_here.start) home_here.refers way
+        → LiesIn g.world shown.place (g.frame + control_offset g.scope root)
+    lies_by Direct r =
+        let same = same_Some found.variable.type_id found.last found.ends in
+        let here : g.frame ≡ shown.owner = subst (λ n. Leads g.fixed n g.frame shown.owner) no_links shown.leads in
+        subst (λ frame. LiesIn g.world shown.place (frame + control_offset g.scope root)) (sym here)
+        (ordinal_part g.tree.types g.world g.below shown.place found.variable.type_id (shown.owner + home_here.start)
+        (ap (is_ordinal g.tree.types) same ∙ found.is_wanted) r.1)
+    lies_by (ByAddress address) r = absurd (false≢true (sym refers_not ∙ r.0))
+
+    pub is_scalar : IsScalar root
+    is_scalar = record { home = shown.place; home_is = shown.place_is; lies = lies_by shown.way shown.reaches }
 
   module _ (root : ℕ) (scalar : IsScalar root) where
     abbrev pub slot : ℕ
-    slot = g.running.frame + variable_offset g.scope root
+    slot = g.frame + control_offset g.scope root
 
     -- what is popped into it
-    pub stores_variable : (store : meant.Store) (base held cells : List Cell) (cell : Cell) (place : ℕ) (output : List ℕ) → Based g store base
-        → cells ≡ (base ++ held) ++ cell ∷ [] → Here g place (instr.Store 0 (variable_offset g.scope root))
+    pub stores_variable : (s : effect.State) (base held cells : List Cell) (cell : Cell) (place : ℕ) (output : List ℕ) → Based g s base
+        → cells ≡ (base ++ held) ++ cell ∷ [] → Here g place (instr.Store 0 (control_offset g.scope root))
         → Comes g.target 1 (on g cells place output) (on g (slice_set base slot cell ++ held) (place + 1) output)
-    stores_variable = stores_scalar scalar.home (variable_offset g.scope root) scalar.lies
+    stores_variable = stores_scalar scalar.home (control_offset g.scope root) scalar.lies
 
-    pub inside : (store : meant.Store) (base : List Cell) → Based g store base → slot < length base
-    inside = scalar_inside scalar.home (variable_offset g.scope root) scalar.lies
+    pub inside : (s : effect.State) (base : List Cell) → Based g s base → slot < length base
+    inside = scalar_inside scalar.home (control_offset g.scope root) scalar.lies
 
-    pub variable_kept : (store : meant.Store) (base : List Cell) (n : ℤ) → Based g store base → Fits n
-        → Based g (kept store (g.environment.variables root) (value.Number n)) (slice_set base slot (Number n))
-    variable_kept store base n based fit =
-        subst (λ home. Based g (kept store home (value.Number n)) (slice_set base slot (Number n))) (sym scalar.home_is)
-        (scalar_kept scalar.home slot store base n scalar.lies based fit)
+    pub variable_kept : (s : effect.State) (base : List Cell) (n : ℤ) → Based g s base → Fits n
+        → Based g (record s { store = kept s.store (g.environment.variables root) (value.Number n) }) (slice_set base slot (Number n))
+    variable_kept s base n based fit =
+        subst (λ home. Based g (record s { store = kept s.store home (value.Number n) }) (slice_set base slot (Number n))) (sym scalar.home_is)
+        (scalar_kept scalar.home slot s base n scalar.lies based fit)
 
-    pub variable_forgotten : (store : meant.Store) (base : List Cell) → Based g store base
-        → Based g (forgotten store (g.environment.variables root)) (slice_set base slot Undefined)
-    variable_forgotten store base based = record {
-      full = length-set base slot Undefined ∙ based.full;
-      alike = subst (λ home. Alike g.world (forgotten store home) (slice_set base slot Undefined)) (sym scalar.home_is)
-          (alike_undefined g.world store base scalar.home slot g.apart scalar.lies based.alike);
-    }
+    pub variable_forgotten : (s : effect.State) (base : List Cell) → Based g s base
+        → Based g (record s { store = forgotten s.store (g.environment.variables root) }) (slice_set base slot Undefined)
+    variable_forgotten s base based =
+        subst (λ home. Based g (record s { store = forgotten s.store home }) (slice_set base slot Undefined)) (sym scalar.home_is)
+        (scalar_set scalar.home slot None s base tt scalar.lies based)
 
   -- ---- held cells
 
   -- where they lie
   held_at : (held : List Cell) (n : ℕ) → length held ≡ g.scope.height → g.below + (length held + n) < g.limit
-      → g.running.frame + held_offset g.scope n ≡ g.below + (length held + n)
-  held_at held n high room = let a = g.above_is in let b = g.far in omega (arith, high)
+      → g.frame + held_offset g.scope n ≡ g.below + (length held + n)
+  held_at held n high room = let a = g.above_is in let b = limit_far g in omega (arith, high)
 
-  pub loads_held : (store : meant.Store) (base held rest more cells : List Cell) (n : ℕ) (cell : Cell) (place : ℕ) (output : List ℕ) → Based g store base
+  pub loads_held : (s : effect.State) (base held rest more cells : List Cell) (n : ℕ) (cell : Cell) (place : ℕ) (output : List ℕ) → Based g s base
       → length held ≡ g.scope.height → cells ≡ (base ++ (held ++ rest)) ++ more → slice_get rest n ≡ Some cell
       → g.below + length held + length rest + length more < g.limit → Here g place (instr.Load 0 (held_offset g.scope n))
       → Comes g.target 1 (on g cells place output) (on g (cells ++ cell ∷ []) (place + 1) output)
-  loads_held store base held rest more cells n cell place output based high is found room here =
+  loads_held s base held rest more cells n cell place output based high is found room here =
       let full = based.full in
       let few = slice_get_within rest n cell found in
       let long = ap length is ∙ length-append (base ++ (held ++ rest)) more in
-      let at : g.running.frame + held_offset g.scope n ≡ length base + (length held + n) = held_at held n high (omega arith)
+      let at : g.frame + held_offset g.scope n ≡ length base + (length held + n) = held_at held n high (omega arith)
       ∙ ap (λ m. m + (length held + n)) (sym full) in
-      let there : slice_get cells (g.running.frame + held_offset g.scope n) ≡ Some cell =
+      let there : slice_get cells (g.frame + held_offset g.scope n) ≡ Some cell =
       ap (slice_get cells) at ∙ ap (λ cs. slice_get cs (length base + (length held + n))) is
       ∙ slice_get-front (base ++ (held ++ rest)) more (length base + (length held + n)) cell
       (slice_get-above base (held ++ rest) (length held + n) cell (slice_get-above held rest n cell found)) in
       let all : length cells ≡ length base + (length held + length rest) + length more =
       omega (arith, long, length-append base (held ++ rest), length-append held rest) in
       acts g (instr.Load 0 (held_offset g.scope n)) cells (cells ++ cell ∷ []) place output (frames.load 0 (held_offset g.scope n) (frames_of cells)) here refl
-      (loads g.running.frame g.limit g.size cells 0 (held_offset g.scope n) g.running.frame cell (omega (arith, all, full)) refl (omega (arith, at, all, few))
+      (loads g.frame g.limit g.size cells 0 (held_offset g.scope n) g.frame cell (omega (arith, all, full)) refl (omega (arith, at, all, few))
       there)
 
-  pub stores_held : (store : meant.Store) (base held rest cells : List Cell) (n : ℕ) (cell : Cell) (place : ℕ) (output : List ℕ) → Based g store base
+  pub stores_held : (s : effect.State) (base held rest cells : List Cell) (n : ℕ) (cell : Cell) (place : ℕ) (output : List ℕ) → Based g s base
       → length held ≡ g.scope.height → cells ≡ (base ++ (held ++ rest)) ++ cell ∷ [] → n < length rest → g.below + length held + length rest ≤ g.limit
       → Here g place (instr.Store 0 (held_offset g.scope n))
       → Comes g.target 1 (on g cells place output) (on g (base ++ (held ++ slice_set rest n cell)) (place + 1) output)
-  stores_held store base held rest cells n cell place output based high is few room here =
+  stores_held s base held rest cells n cell place output based high is few room here =
       let below = base ++ (held ++ rest) in
       let full = based.full in
-      let at : g.running.frame + held_offset g.scope n ≡ length base + (length held + n) = held_at held n high (omega arith)
+      let at : g.frame + held_offset g.scope n ≡ length base + (length held + n) = held_at held n high (omega arith)
       ∙ ap (λ m. m + (length held + n)) (sym full) in
       let all : length below ≡ length base + (length held + length rest) = omega (arith, length-append base (held ++ rest), length-append held rest) in
-      let does = stores g.running.frame g.limit g.size below (linked g store base (held ++ rest) based) cell 0 (held_offset g.scope n) g.running.frame refl
+      let does = stores g.frame g.limit g.size below (linked g s base (held ++ rest) based) cell 0 (held_offset g.scope n) g.frame refl
       (omega (arith, at, all)) ∙ ap (λ i. Ok (frames_of (slice_set below i cell))) at
       ∙ ap (λ cs. Ok (frames_of cs)) (set_above base (held ++ rest) (length held + n) cell)
       ∙ ap (λ cs. Ok (frames_of (base ++ cs))) (set_above held rest n cell) in
@@ -190,23 +247,23 @@ module _ (g : Setting) where
 
   -- two numbers on top give way to a third
   pub operates : (i : Instr) (f : ℤ → ℤ → ℤ) (cells : List Cell) (a b : ℤ) (place : ℕ) (output : List ℕ) → Here g place i
-      → ((s : State) → obeys g.target i s ≡ and_then (on_two f s.frames) (with_frames s)) → g.running.frame + 4 ≤ length cells → length cells < g.limit
+      → ((s : State) → obeys g.target i s ≡ and_then (on_two f s.frames) (with_frames s)) → g.frame + 4 ≤ length cells → length cells < g.limit
       → Comes g.target 1 (on g ((cells ++ Number a ∷ []) ++ Number b ∷ []) place output) (on g (cells ++ Number (f a b) ∷ []) (place + 1) output)
   operates i f cells a b place output here rule in_frame room =
       acts g i ((cells ++ Number a ∷ []) ++ Number b ∷ []) (cells ++ Number (f a b) ∷ []) place output
       (on_two f (frames_of ((cells ++ Number a ∷ []) ++ Number b ∷ []))) here
       (rule (running_at g ((cells ++ Number a ∷ []) ++ Number b ∷ []) (g.target.to place + 1) output))
-      (on_two_is g.running.frame g.limit g.size cells in_frame a b f room)
+      (on_two_is g.frame g.limit g.size cells in_frame a b f room)
 
   pub pushes_number : (cells : List Cell) (n : ℤ) (place : ℕ) (output : List ℕ) → Here g place (instr.LoadConstant n) → length cells < g.limit
       → Comes g.target 1 (on g cells place output) (on g (cells ++ Number n ∷ []) (place + 1) output)
   pushes_number cells n place output here room =
       acts g (instr.LoadConstant n) cells (cells ++ Number n ∷ []) place output (frames.load_constant n (frames_of cells)) here refl
-      (pushes g.running.frame g.limit g.size cells n room)
+      (pushes g.frame g.limit g.size cells n room)
 
   -- ---- the bounds of a for statement, which are held
 
-  module _ (store : meant.Store) (base held : List Cell) (n l : ℤ) (output : List ℕ) (based : Based g store base) (high : length held ≡ g.scope.height)
+  module _ (s : effect.State) (base held : List Cell) (n l : ℤ) (output : List ℕ) (based : Based g s base) (high : length held ≡ g.scope.height)
       (room : g.below + length held + 4 ≤ g.limit) where
     abbrev bounds : List Cell
     bounds = Number n ∷ Number l ∷ []
@@ -217,8 +274,8 @@ module _ (g : Setting) where
     long : length here ≡ g.below + length held + 2
     long = let full = based.full in omega (arith, length-append base (held ++ bounds), length-append held bounds)
 
-    in_frame : g.running.frame + 4 ≤ length here
-    in_frame = linked g store base (held ++ bounds) based
+    in_frame : g.frame + 4 ≤ length here
+    in_frame = linked g s base (held ++ bounds) based
 
     -- they are compared, and a jump is taken where the comparison is false
     pub decides : (i : Instr) (f : ℤ → ℤ → ℤ) (holds : Bool) (place out : ℕ)
@@ -228,8 +285,8 @@ module _ (g : Setting) where
         → Comes g.target 4 (on g here place output) (on g here (if holds then place + 4 else out) output)
     decides i f holds place out at1 at2 at3 at4 rule is =
         let size = long in
-        let a = loads_held store base held bounds [] here 0 (Number n) place output based high (sym (append-nil here)) refl (omega arith) at1 in
-        let b = loads_held store base held bounds (Number n ∷ []) (here ++ Number n ∷ []) 1 (Number l) (place + 1) output based high refl refl (omega arith)
+        let a = loads_held s base held bounds [] here 0 (Number n) place output based high (sym (append-nil here)) refl (omega arith) at1 in
+        let b = loads_held s base held bounds (Number n ∷ []) (here ++ Number n ∷ []) 1 (Number l) (place + 1) output based high refl refl (omega arith)
         at2 in
         let c = operates i f here n l (place + 1 + 1) output at3 rule in_frame (omega arith) in
         let d = branches_on g out here (f n l) (place + 1 + 1 + 1) output at4 in_frame in
@@ -241,15 +298,15 @@ module _ (g : Setting) where
 
     -- a value that is held becomes that of the control variable
     pub begins : (control place : ℕ) (scalar : IsScalar control) → Fits n → Here g place (instr.Load 0 (held_offset g.scope 0))
-        → Here g (place + 1) (instr.Store 0 (variable_offset g.scope control))
+        → Here g (place + 1) (instr.Store 0 (control_offset g.scope control))
         → Comes g.target 2 (on g here place output) (on g (slice_set base (slot control scalar) (Number n) ++ (held ++ bounds)) (place + 2) output)
     begins control place scalar fit at1 at2 =
         let p : place + 1 + 1 ≡ place + 2 = omega arith in
         let after = slice_set base (slot control scalar) (Number n) ++ (held ++ bounds) in
         subst (λ q. Comes g.target 2 (on g here place output) (on g after q output)) p
         (comes_on g.target 1 1 _ _ _
-        (loads_held store base held bounds [] here 0 (Number n) place output based high (sym (append-nil here)) refl (omega arith) at1)
-        (stores_variable control scalar store base (held ++ bounds) (here ++ Number n ∷ []) (Number n) (place + 1) output based refl at2))
+        (loads_held s base held bounds [] here 0 (Number n) place output based high (sym (append-nil here)) refl (omega arith) at1)
+        (stores_variable control scalar s base (held ++ bounds) (here ++ Number n ∷ []) (Number n) (place + 1) output based refl at2))
 
     -- the next value is held, and the next round begins
     pub steps : (i : Instr) (f : ℤ → ℤ → ℤ) (next : ℤ) (place head : ℕ) → Here g place (instr.Load 0 (held_offset g.scope 0))
@@ -259,10 +316,10 @@ module _ (g : Setting) where
         → Comes g.target 1 (on g here place output) (on g (base ++ (held ++ Number next ∷ Number l ∷ [])) head output)
     steps i f next place head at1 at2 at3 at4 at5 rule is =
         let size = long in
-        let a = loads_held store base held bounds [] here 0 (Number n) place output based high (sym (append-nil here)) refl (omega arith) at1 in
+        let a = loads_held s base held bounds [] here 0 (Number n) place output based high (sym (append-nil here)) refl (omega arith) at1 in
         let b = pushes_number (here ++ Number n ∷ []) (pos 1) (place + 1) output at2 (omega (arith, length_one here (Number n))) in
         let c = operates i f here n (pos 1) (place + 1 + 1) output at3 rule in_frame (omega arith) in
-        let d = stores_held store base held bounds (here ++ Number (f n (pos 1)) ∷ []) 0 (Number (f n (pos 1))) (place + 1 + 1 + 1) output based high refl
+        let d = stores_held s base held bounds (here ++ Number (f n (pos 1)) ∷ []) 0 (Number (f n (pos 1))) (place + 1 + 1 + 1) output based high refl
         (omega arith) (omega arith) at4 in
         let e = jumps g head (base ++ (held ++ Number (f n (pos 1)) ∷ Number l ∷ [])) (place + 1 + 1 + 1 + 1) output at5 in
         let whole = comes_on g.target 1 4 _ _ _ a (comes_on g.target 1 3 _ _ _ b (comes_on g.target 1 2 _ _ _ c (comes_on g.target 1 1 _ _ _ d e))) in
@@ -270,32 +327,34 @@ module _ (g : Setting) where
         (comes_less g.target 1 5 _ _ (omega arith) whole)
 
     -- behind the loop nothing more is held, and the control variable is undefined
-    pub leaves : (control place : ℕ) (scalar : IsScalar control) → Fits n → Fits l → Here g place (instr.Store 0 (variable_offset g.scope control))
-        → Here g (place + 1) (instr.Store 0 (variable_offset g.scope control)) → Here g (place + 1 + 1) (instr.Load 0 2)
-        → Here g (place + 1 + 1 + 1) (instr.Store 0 (variable_offset g.scope control))
+    pub leaves : (control place : ℕ) (scalar : IsScalar control) → Fits n → Fits l → Here g place (instr.Store 0 (control_offset g.scope control))
+        → Here g (place + 1) (instr.Store 0 (control_offset g.scope control)) → Here g (place + 1 + 1) (instr.Load (links_to g.scope 0) 2)
+        → Here g (place + 1 + 1 + 1) (instr.Store 0 (control_offset g.scope control))
         → Comes g.target 4 (on g here place output) (on g (slice_set base (slot control scalar) Undefined ++ held) (place + 4) output)
     leaves control place scalar fit fit' at1 at2 at3 at4 =
         let c = slot control scalar in
         let one = held ++ Number n ∷ [] in
         let base1 = slice_set base c (Number l) in
         let base2 = slice_set base1 c (Number n) in
-        let based1 = variable_kept control scalar store base l based fit' in
-        let store1 = kept store (g.environment.variables control) (value.Number l) in
-        let based2 = variable_kept control scalar store1 base1 n based1 fit in
-        let store2 = kept store1 (g.environment.variables control) (value.Number n) in
+        let based1 = variable_kept control scalar s base l based fit' in
+        let s1 = record s { store = kept s.store (g.environment.variables control) (value.Number l) } in
+        let based2 = variable_kept control scalar s1 base1 n based1 fit in
+        let s2 = record s1 { store = kept s1.store (g.environment.variables control) (value.Number n) } in
         let is1 : here ≡ (base ++ one) ++ Number l ∷ [] = ap (λ cs. base ++ cs) (sym (append_assoc held (Number n ∷ []) (Number l ∷ [])))
         ∙ sym (append_assoc base one (Number l ∷ [])) in
-        let a = stores_variable control scalar store base one here (Number l) place output based is1 at1 in
-        let b = stores_variable control scalar store1 base1 held (base1 ++ one) (Number n) (place + 1) output based1
+        let a = stores_variable control scalar s base one here (Number l) place output based is1 at1 in
+        let b = stores_variable control scalar s1 base1 held (base1 ++ one) (Number n) (place + 1) output based1
         (sym (append_assoc base1 held (Number n ∷ []))) at2 in
         let cells = base2 ++ held in
         let size = length-append base2 held in
         let full = based2.full in
-        let links = linked g store2 base2 held based2 in
-        let blank = slice_get-front base2 held (g.running.frame + 2) Undefined (based2.alike.blank g.running g.lives g.outermost) in
-        let d = acts g (instr.Load 0 2) cells (cells ++ Undefined ∷ []) (place + 1 + 1) output (frames.load 0 2 (frames_of cells)) at3 refl
-        (loads g.running.frame g.limit g.size cells 0 2 g.running.frame Undefined (omega arith) refl (omega arith) blank) in
-        let e = stores_variable control scalar store2 base2 held (cells ++ Undefined ∷ []) Undefined (place + 1 + 1 + 1) output based2 refl at4 in
+        let links = linked g s2 base2 held based2 in
+        let blank = slice_get-front base2 held (g.bottom + 2) Undefined (based2.keeps.each (g.bottom + 2) Undefined g.blank) in
+        let up = links_to g.scope 0 in
+        let d = acts g (instr.Load up 2) cells (cells ++ Undefined ∷ []) (place + 1 + 1) output (frames.load up 2 (frames_of cells)) at3 refl
+        (loads g.frame g.limit g.size cells up 2 g.bottom Undefined (omega arith) (frame_found g up g.bottom base2 held s2 based2 g.chain)
+        (slice_get_within cells (g.bottom + 2) Undefined blank) blank) in
+        let e = stores_variable control scalar s2 base2 held (cells ++ Undefined ∷ []) Undefined (place + 1 + 1 + 1) output based2 refl at4 in
         let whole = comes_on g.target 1 3 _ _ _ a (comes_on g.target 1 2 _ _ _ b (comes_on g.target 1 1 _ _ _ d e)) in
         let same : slice_set base2 c Undefined ≡ slice_set base c Undefined = set_twice base1 c (Number n) Undefined ∙ set_twice base c (Number l) Undefined in
         let p : place + 1 + 1 + 1 + 1 ≡ place + 4 = omega arith in
@@ -304,7 +363,7 @@ module _ (g : Setting) where
 
   -- ---- the index of a case statement, which is held
 
-  module _ (store : meant.Store) (base held : List Cell) (n : ℤ) (output : List ℕ) (based : Based g store base) (high : length held ≡ g.scope.height)
+  module _ (s : effect.State) (base held : List Cell) (n : ℤ) (output : List ℕ) (based : Based g s base) (high : length held ≡ g.scope.height)
       (room : g.below + length held + 3 ≤ g.limit) where
     abbrev index : List Cell
     index = base ++ (held ++ Number n ∷ [])
@@ -316,10 +375,10 @@ module _ (g : Setting) where
     compares constant arm place at1 at2 at3 at4 =
         let full = based.full in
         let size : length index ≡ g.below + length held + 1 = omega (arith, length-append base (held ++ Number n ∷ []), length-append held (Number n ∷ [])) in
-        let in_frame = linked g store base (held ++ Number n ∷ []) based in
+        let in_frame = linked g s base (held ++ Number n ∷ []) based in
         let differs = truth (not (int_eq constant n)) in
         let a = pushes_number index constant place output at1 (omega arith) in
-        let b = loads_held store base held (Number n ∷ []) (Number constant ∷ []) (index ++ Number constant ∷ []) 0 (Number n) (place + 1) output based high
+        let b = loads_held s base held (Number n ∷ []) (Number constant ∷ []) (index ++ Number constant ∷ []) 0 (Number n) (place + 1) output based high
         refl
         refl (omega arith) at2 in
         let c = operates instr.NotEqual (frames.of_two dyadic.NotEqual) index constant n (place + 1 + 1) output at3 (λ s. refl) in_frame (omega arith) in
@@ -354,24 +413,23 @@ module _ (g : Setting) where
   -- the test of a value on top, behind which more comes
   tests_by : (fits : RangeTest) (below held : List Cell) (n : ℤ) (place end : ℕ) (s : effect.State) (next : Action (Unit {0})) (good : Bool)
       → (int_le fits.range.first n && int_le n fits.range.last) ≡ good → StandsAt g.target place (range_check fits) (g.target.is_open fits.site)
-      → fits.site < length g.tree.sites.items → g.running.frame + 4 ≤ length below
-      → Executes g s.turns (on g (below ++ Number n ∷ []) (place + 1) s.output) held end (next s)
-      → Executes g s.turns (on g (below ++ Number n ∷ []) place s.output) held end (effect.and_then (require good fits.site s) (λ _. next))
+      → fits.site < length g.tree.sites.items → g.frame + 4 ≤ length below
+      → Executes g (on g (below ++ Number n ∷ []) (place + 1) s.output) held end next s
+      → Executes g (on g (below ++ Number n ∷ []) place s.output) held end (require good fits.site >>= (λ _. next)) s
   tests_by fits below held n place end s next true holds stands site in_frame then' =
-      executes_from g 0 s.turns _ _ held end (next s)
+      executes_from g 0 _ _ held end next s
       (passes g (range_check fits) (below ++ Number n ∷ []) place fits.site s.output _ refl refl stands
-      (is_in_range g.running.frame g.limit g.size below in_frame fits.range.first fits.range.last n ∙ ap Ok holds)) then'
+      (is_in_range g.frame g.limit g.size below in_frame fits.range.first fits.range.last n ∙ ap Ok holds)) then'
   tests_by fits below held n place end s next false holds stands site in_frame then' =
-      fails g (range_check fits) (below ++ Number n ∷ []) place fits.site s.output _ refl refl s.turns stands site
-      (is_in_range g.running.frame g.limit g.size below in_frame fits.range.first fits.range.last n ∙ ap Ok holds)
+      inr (fails g (range_check fits) (below ++ Number n ∷ []) place fits.site s.output _ refl refl s.turns stands site
+      (is_in_range g.frame g.limit g.size below in_frame fits.range.first fits.range.last n ∙ ap Ok holds))
 
   pub tests : (fits : RangeTest) (below held : List Cell) (n : ℤ) (place end : ℕ) (s : effect.State) (next : Action (Unit {0})) → Fits n
-      → StandsAt g.target place (range_check fits) (g.target.is_open fits.site) → fits.site < length g.tree.sites.items → g.running.frame + 4 ≤ length below
-      → Executes g s.turns (on g (below ++ Number n ∷ []) (place + 1) s.output) held end (next s)
-      → Executes g s.turns (on g (below ++ Number n ∷ []) place s.output) held end
-      (effect.and_then (require (effect.is_in fits.range (value.Number n)) fits.site s) (λ _. next))
+      → StandsAt g.target place (range_check fits) (g.target.is_open fits.site) → fits.site < length g.tree.sites.items → g.frame + 4 ≤ length below
+      → Executes g (on g (below ++ Number n ∷ []) (place + 1) s.output) held end next s
+      → Executes g (on g (below ++ Number n ∷ []) place s.output) held end (require (effect.is_in fits.range (value.Number n)) fits.site >>= (λ _. next)) s
   tests fits below held n place end s next fit stands site in_frame then' =
-      subst (λ test. Executes g s.turns (on g (below ++ Number n ∷ []) place s.output) held end (effect.and_then (require test fits.site s) (λ _. next)))
+      subst (λ test. Executes g (on g (below ++ Number n ∷ []) place s.output) held end (require test fits.site >>= (λ _. next)) s)
       (sym (same_range fits.range n fit)) (tests_by fits below held n place end s next _ refl stands site in_frame then')
 
 -- ---- the values of a control variable

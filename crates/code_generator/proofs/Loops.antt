@@ -1,131 +1,199 @@
 -- Loops: a head where each round begins, and a round that comes back to it or leaves the loop. Each round behind which
 -- another follows uses a turn, so a run with as many turns as a bound takes no more rounds than that.
-use Rattle.std.proofs.Common.{◌≡◌, ℕ, zero, suc, ◌+◌, ◌-◌, ◌<◌, ◌≤◌, List, ◌++◌, [], ◌∷◌, Option, Some, None, inl, inr, refl, arith}
+use Rattle.std.proofs.Common.{◌≡◌, ℕ, zero, suc, ◌+◌, ◌-◌, ◌<◌, ◌≤◌, ◌⊎◌, List, ◌++◌, [], ◌∷◌, Option, Some, None, inl, inr, refl, arith}
 use Rattle.std.specs.Prelude.{ℤ}
 use Rattle.meaning.specs.declared.outcome.Ending.{Ending}
 use Rattle.meaning.specs.declared.outcome.Ending.TheVariants as ending
 use Rattle.meaning.specs.declared.store.Value.{Value}
 use Rattle.meaning.specs.declared.store.Value.TheVariants as value
 use Rattle.meaning.specs.Effect as effect
-use Rattle.meaning.specs.Effect.{Reply, Gives, Action, Round}
+use Rattle.meaning.specs.Effect.{Reply, Gives, Action, Round, ◌>>=◌, use_turn}
+use Rattle.meaning.specs.Laws.{UsesTurnsExactly}
+use Rattle.meaning.proofs.Loops.{UsesTurns, looped-rounds}
 use Rattle.stack_machine.specs.declared.cell.Cell.{Cell}
 use Rattle.stack_machine.specs.declared.cell.Cell.TheVariants.{Number}
 use Rattle.stack_machine.specs.Machine.{State}
 use Rattle.code_generator.proofs.Reach.{Comes, comes_on, comes_less, stays_here}
 use Rattle.code_generator.proofs.Numbers.{Fits}
-use Rattle.code_generator.proofs.Setting.{Setting, on, Based, Halts, Ends, Evaluates, Executes, executes_on, ends_on}
+use Rattle.code_generator.proofs.Setting.{Setting, on, Based, Halts, Ends, ends_on, Starves, starves_on, starves_first, starves_behind, Valued, Evaluates}
+use Rattle.code_generator.proofs.Setting.{Executed}
+use Rattle.code_generator.proofs.Setting.{Executes, executes_behind, executes_same}
 
 -- in a setting, a loop with what is held at its head where a round begins with this, its head and its end, and what is
 -- held there
 module _ (g : Setting) {A : Type 0} (fit : A → Type 0) (hold : A → List Cell) (head end : ℕ) (held : List Cell) where
-  -- What the code of a part of a round does, with so many turns left here, by so many instructions more than turns: it
-  -- comes to the end, or to the head with fewer turns than a bound; or the loop ends.
-  abbrev pub Rounds : ℕ → ℕ → ℕ → State → Reply (Option A) → Type 0
-  Rounds gain bound turns m (Gives None s) =
-      (base : List Cell) × Based g s.store base × Comes g.target (turns - s.turns + gain) m (on g (base ++ held) end s.output) × (s.turns ≤ turns)
-  Rounds gain bound turns m (Gives (Some a) s) =
-      (base : List Cell) × Based g s.store base × Comes g.target (turns - s.turns + gain) m (on g (base ++ hold a) head s.output) × (s.turns < bound) × fit a
-  Rounds gain bound turns m (effect.Stops why s) = Ends g turns m why s.output
+  -- What the code of a part of a round does, with so many turns left here, by instructions for so many turns more: it comes
+  -- to the end, or to the head with fewer turns than a bound; or the loop ends.
+  abbrev pub Rounded : ℕ → ℕ → ℕ → State → Reply (Option A) → Type 0
+  Rounded gain bound turns m (Gives None s) =
+      (base : List Cell) × Based g s base × Comes g.target (turns - s.turns + gain) m (on g (base ++ held) end s.output) × (s.turns ≤ turns)
+  Rounded gain bound turns m (Gives (Some a) s) =
+      (base : List Cell) × Based g s base × Comes g.target (turns - s.turns + gain) m (on g (base ++ hold a) head s.output) × (s.turns < bound) × fit a
+      × (s.turns ≤ turns)
+  Rounded gain bound turns m (effect.Stops why s) = Ends g turns m why s.output
 
-  pub rounds_on : (gain bound turns left : ℕ) (a b : State) (r : Reply (Option A)) → left ≤ turns → Comes g.target (turns - left) a b
-      → Rounds gain bound left b r → Rounds gain bound turns a r
-  rounds_on gain bound turns left a b (Gives None s) le l e = (
+  -- or the store is full
+  abbrev pub Rounds : ℕ → ℕ → State → Action (Option A) → effect.State → Type 0
+  Rounds gain bound m action s = Starves g m action s ⊎ Rounded gain bound s.turns m (action s)
+
+  pub rounded_on : (gain bound turns left : ℕ) (a b : State) (r : Reply (Option A)) → left ≤ turns → Comes g.target (turns - left) a b
+      → Rounded gain bound left b r → Rounded gain bound turns a r
+  rounded_on gain bound turns left a b (Gives None s) le l e = (
     e.0,
     e.1,
     comes_less g.target (turns - s.turns + gain) (turns - left + (left - s.turns + gain)) a _ (omega arith)
         (comes_on g.target (turns - left) (left - s.turns + gain) a b _ l e.2),
     omega (arith, e.3),
   )
-  rounds_on gain bound turns left a b (Gives (Some x) s) le l e = (
+  rounded_on gain bound turns left a b (Gives (Some x) s) le l e = (
     e.0,
     e.1,
     comes_less g.target (turns - s.turns + gain) (turns - left + (left - s.turns + gain)) a _ (omega arith)
         (comes_on g.target (turns - left) (left - s.turns + gain) a b _ l e.2),
     e.3,
     e.4,
+    omega (arith, e.5),
   )
-  rounds_on gain bound turns left a b (effect.Stops why s) le l e = ends_on g turns left a b why s.output l e
+  rounded_on gain bound turns left a b (effect.Stops why s) le l e = ends_on g turns left a b why s.output l e
 
-  -- where no turn is used
-  pub rounds_from : (least gain bound turns : ℕ) (a b : State) (r : Reply (Option A)) → Comes g.target least a b → Rounds gain bound turns b r
-      → Rounds gain bound turns a r
-  rounds_from least gain bound turns a b r l e =
-      rounds_on gain bound turns turns a b r (omega arith) (comes_less g.target (turns - turns) least a b (omega arith) l) e
+  -- behind a piece that gave something
+  rounds_behind : {B : Type 0} (gain bound : ℕ) (m there : State) (first : Action B) (next : B → Action (Option A)) (s t : effect.State) (v : B)
+      → UsesTurnsExactly first → first s ≡ Gives v t → t.turns ≤ s.turns → Comes g.target (s.turns - t.turns) m there
+      → Rounds gain bound there (next v) t → Starves g m (first >>= next) s ⊎ Rounded gain bound s.turns m (next v t)
+  rounds_behind gain bound m there first next s t v exact is le l (inl x) =
+      inl (starves_behind g (s.turns - t.turns) m there first next s t v exact is l x)
+  rounds_behind gain bound m there first next s t v exact is le l (inr e) =
+      inr (rounded_on gain bound s.turns t.turns m there (next v t) le l e)
 
   -- what comes behind a statement
-  pub then_rounds : (gain bound turns : ℕ) (m : State) (here : List Cell) (place : ℕ) (r : Reply (Unit {0})) (next : Unit {0} → Action (Option A))
-      → Executes g turns m here place r → ((base : List Cell) (s : effect.State) → Based g s.store base → s.turns ≤ turns → Rounds gain bound s.turns
-      (on g (base ++ here) place s.output) (next tt s)) → Rounds gain bound turns m (effect.and_then r next)
-  then_rounds gain bound turns m here place (Gives done s) next e h =
-      rounds_on gain bound turns s.turns m _ (next tt s) e.3 e.2 (h e.0 s e.1 e.3)
-  then_rounds gain bound turns m here place (effect.Stops why s) next e h = e
+  pub then_rounds : (gain bound : ℕ) (m : State) (here : List Cell) (place : ℕ) (first : Action (Unit {0})) (next : Unit {0} → Action (Option A))
+      (s : effect.State) → UsesTurnsExactly first → Executes g m here place first s
+      → ((base : List Cell) (t : effect.State) → Based g t base → t.turns ≤ s.turns → Rounds gain bound (on g (base ++ here) place t.output) (next tt) t)
+      → Rounds gain bound m (first >>= next) s
+  then_rounds gain bound m here place first next s exact (inl x) h = inl (starves_first g m first next s x)
+  then_rounds gain bound m here place first next s exact (inr e) h = by (first s) refl e
+    where
+      by : (r : Reply (Unit {0})) → first s ≡ r → Executed g s.turns m here place r
+          → Starves g m (first >>= next) s ⊎ Rounded gain bound s.turns m (effect.and_then r next)
+      by (Gives done t) is e = rounds_behind gain bound m _ first next s t tt exact is e.3 e.2 (h e.0 t e.1 e.3)
+      by (effect.Stops why t) is e = inr e
 
   -- what comes behind a value
-  pub value_rounds : (gain bound turns : ℕ) (m : State) (here : List Cell) (place : ℕ) (r : Reply Value) (next : Value → Action (Option A))
-      → Evaluates g turns m here place r → ((base : List Cell) (n : ℤ) (s : effect.State) → Based g s.store base → Fits n → s.turns ≤ turns
-      → Rounds gain bound s.turns (on g ((base ++ here) ++ Number n ∷ []) place s.output) (next (value.Number n) s))
-      → Rounds gain bound turns m (effect.and_then r next)
-  value_rounds gain bound turns m here place (Gives (value.Number n) s) next e h =
-      rounds_on gain bound turns s.turns m _ (next (value.Number n) s) e.5 e.2 (h e.0 n s e.1 e.3 e.5)
-  value_rounds gain bound turns m here place (effect.Stops why s) next e h = e
+  pub value_rounds : (gain bound : ℕ) (m : State) (here : List Cell) (place : ℕ) (first : Action Value) (next : Value → Action (Option A))
+      (s : effect.State) → UsesTurnsExactly first → Evaluates g m here place first s
+      → ((base : List Cell) (n : ℤ) (t : effect.State) → Based g t base → Fits n → t.turns ≤ s.turns
+      → Rounds gain bound (on g ((base ++ here) ++ Number n ∷ []) place t.output) (next (value.Number n)) t)
+      → Rounds gain bound m (first >>= next) s
+  value_rounds gain bound m here place first next s exact (inl x) h = inl (starves_first g m first next s x)
+  value_rounds gain bound m here place first next s exact (inr e) h = by (first s) refl e
+    where
+      by : (r : Reply Value) → first s ≡ r → Valued g s.turns m here place r
+          → Starves g m (first >>= next) s ⊎ Rounded gain bound s.turns m (effect.and_then r next)
+      by (Gives (value.Number n) t) is e = rounds_behind gain bound m _ first next s t (value.Number n) exact is e.5 e.2 (h e.0 n t e.1 e.3 e.5)
+      by (effect.Stops why t) is e = inr e
+
+  -- what a piece does behind a turn that was used before it
+  abbrev pub RoundsBehind : ℕ → ℕ → ℕ → State → Action (Option A) → effect.State → Type 0
+  RoundsBehind gain bound turns m action s = Starves g m action s ⊎ Rounded gain bound turns m (action s)
+
+  pub rounds_later : (gain bound turns : ℕ) (a b : State) (action : Action (Option A)) (s : effect.State) → s.turns ≤ turns
+      → Comes g.target (turns - s.turns) a b → Rounds gain bound b action s → RoundsBehind gain bound turns a action s
+  rounds_later gain bound turns a b action s le l (inl x) = inl (starves_on g (turns - s.turns) a b action s l x)
+  rounds_later gain bound turns a b action s le l (inr e) = inr (rounded_on gain bound turns s.turns a b (action s) le l e)
 
   -- a turn, behind which an instruction came or comes
-  pub turned : (bound k : ℕ) (s : effect.State) (m : State) (next : Unit {0} → Action (Option A)) → m.output ≡ s.output
-      → ((left : ℕ) → k ≡ suc left → Rounds 0 bound k m (next tt (record s { turns = left }))) → Rounds 0 bound k m (effect.and_then (effect.take_turn k s)
-      next)
-  turned bound zero s m next same h = (m, comes_less g.target (0 - g.slack) 0 m m (omega arith) (stays_here g.target m), same)
-  turned bound (suc left) s m next same h = h left refl
+  pub turned : (bound : ℕ) (s : effect.State) (m : State) (next : Unit {0} → Action (Option A)) → m.output ≡ s.output
+      → ((left : ℕ) → s.turns ≡ suc left → RoundsBehind 0 bound s.turns m (next tt) (record s { turns = left }))
+      → Rounds 0 bound m (use_turn >>= next) s
+  turned bound s m next same h = by s.turns refl
+    where
+      behind : (left : ℕ) → s.turns ≡ suc left → RoundsBehind 0 bound s.turns m (next tt) (record s { turns = left })
+          → Starves g m (use_turn >>= next) s ⊎ Rounded 0 bound s.turns m (next tt (record s { turns = left }))
+      behind left is (inl x) = inl (suc x.0, x.1, x.2, x.3, x.4, omega (arith, is, x.5))
+      behind left is (inr e) = inr e
+
+      by : (k : ℕ) → s.turns ≡ k → Starves g m (use_turn >>= next) s ⊎ Rounded 0 bound s.turns m (effect.and_then (effect.take_turn k s) next)
+      by zero is = inr (m, comes_less g.target (s.turns - g.slack) 0 m m (omega (arith, is)) (stays_here g.target m), same)
+      by (suc left) is = behind left is (h left is)
 
   -- behind a round the next one comes, or the loop is over
-  round_then : (turns : ℕ) (m : State) (r : Reply (Option A)) (next : A → Action (Unit {0})) → Rounds 0 turns turns m r
-      → ((a : A) (base : List Cell) (s : effect.State) → s.turns < turns → fit a → Based g s.store base
-      → Executes g s.turns (on g (base ++ hold a) head s.output) held end (next a s)) → Executes g turns m held end
-      (effect.and_then r (λ more. effect.another more next))
-  round_then turns m (Gives None s) next e h = (
-    e.0,
-    e.1,
-    comes_less g.target (turns - s.turns) (turns - s.turns + 0) m _ (omega arith) e.2,
-    e.3,
-  )
-  round_then turns m (Gives (Some a) s) next e h =
-      executes_on g turns s.turns m _ held end (next a s) (omega (arith, e.3))
-      (comes_less g.target (turns - s.turns) (turns - s.turns + 0) m _ (omega arith) e.2) (h a e.0 s e.3 e.4 e.1)
-  round_then turns m (effect.Stops why s) next e h = e
+  round_then : (m : State) (first : Action (Option A)) (next : A → Action (Unit {0})) (s : effect.State) → UsesTurnsExactly first
+      → Rounds 0 s.turns m first s
+      → ((a : A) (base : List Cell) (t : effect.State) → t.turns < s.turns → fit a → Based g t base
+      → Executes g (on g (base ++ hold a) head t.output) held end (next a) t)
+      → Executes g m held end (first >>= λ more. effect.another more next) s
+  round_then m first next s exact (inl x) h = inl (starves_first g m first (λ more. effect.another more next) s x)
+  round_then m first next s exact (inr e) h = by (first s) refl e
+    where
+      by : (r : Reply (Option A)) → first s ≡ r → Rounded 0 s.turns s.turns m r
+          → Starves g m (first >>= λ more. effect.another more next) s
+          ⊎ Executed g s.turns m held end (effect.and_then r (λ more. effect.another more next))
+      by (Gives None t) is e =
+          inr (e.0, e.1, comes_less g.target (s.turns - t.turns) (s.turns - t.turns + 0) m _ (omega arith) e.2, e.3)
+      by (Gives (Some a) t) is e =
+          executes_behind g m _ held end first (λ more. effect.another more next) s t (Some a) exact is e.5
+          (comes_less g.target (s.turns - t.turns) (s.turns - t.turns + 0) m _ (omega arith) e.2) (h a e.0 t e.3 e.4 e.1)
+      by (effect.Stops why t) is e = inr e
 
   -- what is shown of each round
   abbrev pub RoundRuns : Round A → Type 0
   RoundRuns round =
-      (a : A) (base : List Cell) (s : effect.State) → fit a → Based g s.store base → Rounds 0 s.turns s.turns (on g (base ++ hold a) head s.output) (round a s)
+      (a : A) (base : List Cell) (s : effect.State) → fit a → Based g s base → Rounds 0 s.turns (on g (base ++ hold a) head s.output) (round a) s
 
-  loops_within : (round : Round A) → RoundRuns round → (bound : ℕ) (a : A) (base : List Cell) (s : effect.State) → s.turns ≤ bound → fit a
-      → Based g s.store base → Executes g s.turns (on g (base ++ hold a) head s.output) held end (effect.looping bound round a s)
-  loops_within round runs zero a base s few fits based =
-      round_then s.turns _ (round a s) (λ b. effect.stop ending.More) (runs a base s fits based) (λ b base2 t fewer fits2 based2. absurd (omega arith))
-  loops_within round runs (suc bound) a base s few fits based =
-      round_then s.turns _ (round a s) (effect.looping bound round) (runs a base s fits based)
-      (λ b base2 t fewer fits2 based2. loops_within round runs bound b base2 t (omega arith) fits2 based2)
+  module _ (round : Round A) (uses : UsesTurns round) (exact : (a : A) → UsesTurnsExactly (round a)) (runs : RoundRuns round) where
+    loops_within : (bound : ℕ) (a : A) (base : List Cell) (s : effect.State) → s.turns ≤ bound → fit a → Based g s base
+        → Executes g (on g (base ++ hold a) head s.output) held end (effect.looped round a) s
+    loops_within zero a base s few fits based =
+        executes_same g _ held end (effect.looped round a) (round a >>= λ more. effect.another more (effect.looped round)) s (looped-rounds round uses a)
+        (round_then _ (round a) (effect.looped round) s (exact a) (runs a base s fits based) (λ b base2 t fewer fits2 based2. absurd (omega arith)))
+    loops_within (suc bound) a base s few fits based =
+        executes_same g _ held end (effect.looped round a) (round a >>= λ more. effect.another more (effect.looped round)) s (looped-rounds round uses a)
+        (round_then _ (round a) (effect.looped round) s (exact a) (runs a base s fits based)
+        (λ b base2 t fewer fits2 based2. loops_within bound b base2 t (omega arith) fits2 based2))
 
-  -- the loop
-  pub loops : (round : Round A) → RoundRuns round → (a : A) (base : List Cell) (s : effect.State) → fit a → Based g s.store base
-      → Executes g s.turns (on g (base ++ hold a) head s.output) held end (effect.looped round a s)
-  loops round runs a base s fits based = loops_within round runs s.turns a base s (omega arith) fits based
+    -- the loop
+    pub loops : (a : A) (base : List Cell) (s : effect.State) → fit a → Based g s base
+        → Executes g (on g (base ++ hold a) head s.output) held end (effect.looped round a) s
+    loops a base s fits based = loops_within s.turns a base s (omega arith) fits based
 
 -- the setting with other slack, and with other cells held
 abbrev pub reset : Setting → ℕ → ℕ → Setting
 reset g slack height = record g {
   slack = slack;
   scope = record g.scope { height = height };
+  homes_are = g.homes_are;
+  routines_are = g.routines_are;
+  level_is = g.level_is;
+  near = g.near;
   above_is = g.above_is;
-  shows = g.shows;
-  ends = g.ends;
+  shows = λ root variable at seen.
+      let x = g.shows root variable at seen in
+      record { place = x.place; place_is = x.place_is; owner = x.owner; leads = x.leads; way = x.way; reaches = x.reaches };
+  chain = g.chain;
 }
 
 module _ (g : Setting) (slack height : ℕ) where
-  pub to_reset : (store : _) (base : List Cell) → Based g store base → Based (reset g slack height) store base
-  to_reset store base based = record { full = based.full; alike = based.alike }
+  pub to_reset : (s : effect.State) (base : List Cell) → Based g s base → Based (reset g slack height) s base
+  to_reset s base based = record {
+    full = based.full;
+    alike = based.alike;
+    keeps = based.keeps;
+    old = based.old;
+    fresh = based.fresh;
+    lasting = based.lasting;
+    deep = based.deep;
+  }
 
-  pub from_reset : (store : _) (base : List Cell) → Based (reset g slack height) store base → Based g store base
-  from_reset store base based = record { full = based.full; alike = based.alike }
+  pub from_reset : (s : effect.State) (base : List Cell) → Based (reset g slack height) s base → Based g s base
+  from_reset s base based = record {
+    full = based.full;
+    alike = based.alike;
+    keeps = based.keeps;
+    old = based.old;
+    fresh = based.fresh;
+    lasting = based.lasting;
+    deep = based.deep;
+  }
 
   halts_from_reset : (m : State) (why : Ending) (output : List ℕ) → Halts (reset g slack height) m why output → Halts g m why output
   halts_from_reset m why output h = record { why = h.why; stops = h.stops; so = h.so }
@@ -140,26 +208,37 @@ module _ (g : Setting) (slack height : ℕ) where
   ends_from_reset turns left m ending.More output le e = (e.0, comes_less g.target (turns - g.slack) (left - slack) m e.0 le e.1, e.2)
 
   -- a statement with as much slack
-  pub executes_from_reset : (turns : ℕ) (m : State) (held : List Cell) (place : ℕ) (r : Reply (Unit {0})) → slack ≡ g.slack
-      → Executes (reset g slack height) turns m held place r → Executes g turns m held place r
-  executes_from_reset turns m held place (Gives done s) same e = (e.0, from_reset s.store e.0 e.1, e.2, e.3)
-  executes_from_reset turns m held place (effect.Stops why s) same e = ends_from_reset turns turns m why s.output (omega arith) e
+  pub executes_from_reset : (m : State) (held : List Cell) (place : ℕ) (action : Action (Unit {0})) (s : effect.State) → slack ≡ g.slack
+      → Executes (reset g slack height) m held place action s → Executes g m held place action s
+  executes_from_reset m held place action s same (inl x) = inl x
+  executes_from_reset m held place action s same (inr e) = inr (by (action s) e)
+    where
+      by : (r : Reply (Unit {0})) → Executed (reset g slack height) s.turns m held place r → Executed g s.turns m held place r
+      by (Gives done t) e = (e.0, from_reset t e.0 e.1, e.2, e.3)
+      by (effect.Stops why t) e = ends_from_reset s.turns s.turns m why t.output (omega arith) e
 
   -- a round with less slack, behind its turn
-  pub rounds_from_reset : {A : Type 0} (fit : A → Type 0) (hold : A → List Cell) (head end : ℕ) (held : List Cell) (left : ℕ) (m : State) (r : Reply (Option A))
-      → suc slack ≤ g.slack → Rounds (reset g slack height) fit hold head end held 1 (suc left) left m r
-      → Rounds g fit hold head end held 0 (suc left) (suc left) m r
-  rounds_from_reset fit hold head end held left m (Gives None s) le e = (
-    e.0,
-    from_reset s.store e.0 e.1,
-    comes_less g.target (suc left - s.turns + 0) (left - s.turns + 1) m _ (omega arith) e.2,
-    omega (arith, e.3),
-  )
-  rounds_from_reset fit hold head end held left m (Gives (Some a) s) le e = (
-    e.0,
-    from_reset s.store e.0 e.1,
-    comes_less g.target (suc left - s.turns + 0) (left - s.turns + 1) m _ (omega arith) e.2,
-    e.3,
-    e.4,
-  )
-  rounds_from_reset fit hold head end held left m (effect.Stops why s) le e = ends_from_reset (suc left) left m why s.output (omega arith) e
+  pub rounds_from_reset : {A : Type 0} (fit : A → Type 0) (hold : A → List Cell) (head end : ℕ) (held : List Cell) (left : ℕ) (m : State)
+      (action : Action (Option A)) (s : effect.State) → suc slack ≤ g.slack → s.turns ≡ left
+      → Rounds (reset g slack height) fit hold head end held 1 (suc left) m action s
+      → RoundsBehind g fit hold head end held 0 (suc left) (suc left) m action s
+  rounds_from_reset fit hold head end held left m action s le is (inl x) = inl x
+  rounds_from_reset {A} fit hold head end held left m action s le is (inr e) = inr (by (action s) e)
+    where
+      by : (r : Reply (Option A)) → Rounded (reset g slack height) fit hold head end held 1 (suc left) s.turns m r
+          → Rounded g fit hold head end held 0 (suc left) (suc left) m r
+      by (Gives None t) e = (
+        e.0,
+        from_reset t e.0 e.1,
+        comes_less g.target (suc left - t.turns + 0) (s.turns - t.turns + 1) m _ (omega arith) e.2,
+        omega (arith, e.3),
+      )
+      by (Gives (Some a) t) e = (
+        e.0,
+        from_reset t e.0 e.1,
+        comes_less g.target (suc left - t.turns + 0) (s.turns - t.turns + 1) m _ (omega arith) e.2,
+        e.3,
+        e.4,
+        omega (arith, e.5),
+      )
+      by (effect.Stops why t) e = ends_from_reset (suc left) s.turns m why t.output (omega arith) e

@@ -1,6 +1,6 @@
 -- Parts of variables: a place of an array or a record, all of whose scalar components lie one behind another from a cell
 -- on. Each selector leads from such a part to another one. It says nothing of what the components hold.
-use Rattle.std.proofs.Common.{◌≡◌, ℕ, zero, suc, ◌+◌, ◌*◌, ◌≤◌, ◌≤ℤ◌, List, [], ◌∷◌, ◌++◌, Option, Some, None, refl, sym, ap, ◌∙◌, subst, arith}
+use Rattle.std.proofs.Common.{◌≡◌, ℕ, zero, suc, ◌+◌, ◌*◌, ◌≤◌, ◌≤ℤ◌, List, [], ◌∷◌, ◌++◌, Option, Some, None, refl, sym, ap, ◌∙◌, subst, arith, inr}
 use Rattle.std.proofs.Common.{append-nil, append_assoc}
 use Rattle.std.specs.Prelude.{slice_get, ℤ, pos, ◌-ℤ◌, true, ◌&&◌, nat_eq}
 use Rattle.std.specs.Option.{option_map, option_and_then}
@@ -25,8 +25,8 @@ use Rattle.typed_tree.specs.declared.tree.RangeTest.{RangeTest}
 use Rattle.typed_tree.specs.declared.tree.Selector.{Selector}
 use Rattle.typed_tree.specs.declared.tree.Selector.TheVariants as selector
 use Rattle.typed_tree.specs.Accesses.{are_values_of, element_type, field_type, selected, led}
-use Rattle.meaning.specs.Store.{Environment, Place}
-use Rattle.code_generator.proofs.Alike.{Activation, World, Lies, LiesIn, Extent, Leads, leads_to, Shown, Direct}
+use Rattle.meaning.specs.Store.{Place}
+use Rattle.code_generator.proofs.Alike.{Activation, World, LiesIn}
 
 -- a place with more steps behind its own
 abbrev pub inner : Place → Steps → Place
@@ -56,16 +56,6 @@ step_lies world p whole part cell offset step among from = record {
       subst (λ q. LiesIn world q (cell + offset + k)) (sym (inner_twice p (step ∷ []) steps))
       (subst (LiesIn world (inner p (step ∷ steps))) e (from.each (offset + k) (step ∷ steps) (among k steps at)));
 }
-
--- a variable that is reached directly lies where it is looked for
-pub direct_lies : (env : Environment) (world : World) (a : Activation) (root level : ℕ) (extent : Extent) → Shown env world a root (Direct level extent)
-    → (b : Activation) × Leads world level a b × (p : Place) × (env.variables root ≡ Some p) × LiesFrom world p extent.components (b.frame + extent.start)
-direct_lies env world a root level extent s =
-    let b = s.0 in
-    let whole : Place = record { activation = b.number; variable = root; steps = [] } in
-    let lies : (k : ℕ) (steps : Steps) → slice_get extent.components k ≡ Some steps → Lies b (inner whole steps) (b.frame + extent.start + k) = λ k steps at.
-    record { its = refl; extent = extent; owned = s.2; inward = k; reached = at; cell_is = refl } in
-    (b, s.1, whole, s.3, record { each = λ k steps at. record { owner = b; lives = leads_to world level a b s.1; lies = lies k steps at } })
 
 -- what a selector of an element says of its types
 pub record IsElement (types : List Form) (range : OrdinalRange) (cells : ℕ) (t part : TypeId) : Type 0 where
@@ -180,12 +170,28 @@ module _ (types : List Form) (world : World) (end : ℕ) where
       few = (let inside = field_ends types t position f found in let all = part.few in omega arith);
     }
 
-  -- the whole of a variable that is reached directly
-  pub variable_part : (env : Environment) (a : Activation) (root start : ℕ) (t : TypeId)
-      → Shown env world a root (Direct 0 (record { start = start; components = components_of types t })) → a.frame + start + cells_of types t ≤ end
-      → cells_of types t ≤ 65536 → (p : Place) × (env.variables root ≡ Some p) × IsPart p t (a.frame + start)
-  variable_part env a root start t shown within few =
-      let way = direct_lies env world a root 0 (record { start = start; components = components_of types t }) shown in
-      let at : way.0.frame ≡ a.frame = ap (λ (x : Activation). x.frame) (sym way.1.1) in
-      let from = subst (λ frame. LiesFrom world way.2 (components_of types t) (frame + start)) at way.4 in
-      (way.2, way.3, record { from = from; within = within; few = few })
+-- a part of an older world lies in one with an activation more too, below a later end
+pub part_above : (types : List Form) (a : Activation) (world : World) (end later : ℕ) (p : Place) (t : TypeId) (cell : ℕ) → end ≤ later
+    → IsPart types world end p t cell → IsPart types (a ∷ world) later p t cell
+part_above types a world end later p t cell le part =
+    let inside = part.within in
+    record {
+      from = record {
+        each = λ k steps at.
+            let l = part.from.each k steps at in
+            record { owner = l.owner; lives = inr l.lives; lies = l.lies };
+      };
+      within = omega arith;
+      few = part.few;
+    }
+
+-- it ends before a later cell too, and where its own cells do
+pub part_later : (types : List Form) (world : World) (end later : ℕ) (p : Place) (t : TypeId) (cell : ℕ) → end ≤ later → IsPart types world end p t cell
+    → IsPart types world later p t cell
+part_later types world end later p t cell le part =
+    let inside = part.within in
+    record { from = part.from; within = omega arith; few = part.few }
+
+pub part_up_to : (types : List Form) (world : World) (end : ℕ) (p : Place) (t : TypeId) (cell : ℕ) → IsPart types world end p t cell
+    → IsPart types world (cell + cells_of types t) p t cell
+part_up_to types world end p t cell part = record { from = part.from; within = omega arith; few = part.few }

@@ -1,73 +1,129 @@
 -- One activation of a block, whose code runs: what stays as it is meanwhile, and what the machine does of what the
 -- program does.
-use Rattle.std.proofs.Common.{◌≡◌, ℕ, zero, suc, ◌+◌, ◌-◌, ◌<◌, ◌≤◌, ◌⊎◌, inl, inr, List, [], ◌∷◌, ◌++◌, length, map, Some, None, Ok, Err, refl, sym, ap, ◌∙◌}
-use Rattle.std.proofs.Common.{subst, arith, length-append, Bool, true, false, Contains}
-use Rattle.std.specs.Prelude.{slice_get, ℤ, if◌then◌else◌}
+use Rattle.std.proofs.Common.{◌≡◌, ℕ, zero, suc, ◌+◌, ◌-◌, ◌<◌, ◌≤◌, ◌⊎◌, inl, inr, List, [], ◌∷◌, ◌++◌, length, map, Some, None, Ok, Err, refl, sym, ap}
+use Rattle.std.proofs.Common.{subst, arith, length-append, Bool, true, false, ◌∙◌}
+use Rattle.std.specs.Prelude.{slice_get, ℤ, pos, if◌then◌else◌}
 use Rattle.pcode_assembler.specs.declared.instr.Instr.{Instr}
 use Rattle.pcode_assembler.specs.declared.instr.Instr.TheVariants as instr
-use Rattle.types.specs.Components.{components_of}
-use Rattle.types.specs.Types.{cells_of}
 use Rattle.typed_tree.specs.declared.tree.Tree.{Tree}
+use Rattle.typed_tree.specs.declared.tree.Block.{Block}
 use Rattle.typed_tree.specs.declared.tree.Variable.{Variable}
+use Rattle.typed_tree.specs.WellFormed.{IsWellFormed, Outline, is_visible, outline_of}
+use Rattle.types.specs.Types.{cells_of}
 use Rattle.meaning.specs.declared.outcome.Ending.{Ending}
 use Rattle.meaning.specs.declared.outcome.Ending.TheVariants as ending
 use Rattle.meaning.specs.declared.store.Value.{Value}
 use Rattle.meaning.specs.declared.store.Value.TheVariants as value
 use Rattle.meaning.specs.Store as meant
-use Rattle.meaning.specs.Store.{Environment}
+use Rattle.meaning.specs.Store.{Environment, Place, stored}
 use Rattle.meaning.specs.Effect as effect
-use Rattle.meaning.specs.Effect.{Reply, Gives, Action}
+use Rattle.meaning.specs.Effect.{Reply, Gives, Action, ◌>>=◌}
+use Rattle.meaning.specs.Laws.{UsesTurnsExactly}
+use Rattle.meaning.specs.Meaning.{Surroundings, calls_of}
+use Rattle.meaning.proofs.Used.{ExactCalls, exact_calls}
 use Rattle.stack_machine.specs.declared.stop.Stop.{Stop}
 use Rattle.stack_machine.specs.declared.stop.Stop.TheVariants as stop
 use Rattle.stack_machine.specs.declared.cell.Cell.{Cell}
-use Rattle.stack_machine.specs.declared.cell.Cell.TheVariants.{Number}
+use Rattle.stack_machine.specs.declared.cell.Cell.TheVariants.{Undefined, Number}
 use Rattle.stack_machine.specs.Deeds.{jumped_if_false}
 use Rattle.stack_machine.specs.Frames.{Frames, Attempt, is_true}
 use Rattle.stack_machine.specs.Machine.{State, and_then, checked, with_frames, with_place, error_of}
 use Rattle.check_remover.specs.Strip.{moved}
-use Rattle.code_scheme.specs.Scopes.{Scope, variable_offset}
+use Rattle.code_scheme.specs.Code.{program_code, routines_of}
+use Rattle.code_scheme.specs.Depth.{block_depth}
+use Rattle.code_scheme.specs.Need.{living_need}
+use Rattle.code_scheme.specs.Scopes.{Scope, block_level, home_of, links_to, other_cells, parameter_cells, variable_home}
 use Rattle.code_generator.specs.Follows.{StopsAs}
+use Rattle.code_generator.specs.Large.{is_too_large}
 use Rattle.code_generator.specs.Tables.{site_table, in_plain_numbers}
-use Rattle.code_generator.proofs.Reach.{Target, StandsAt, Comes, obeys, Stops, comes_on, comes_less, stays_here, comes_by, stops_on, stops_by}
+use Rattle.code_generator.proofs.Reach.{Target, Stands, StandsAt, Comes, obeys, Stops, comes_on, comes_less, stays_here, comes_by, stops_on, stops_by}
 use Rattle.code_generator.proofs.Acts.{framed, branches}
-use Rattle.code_generator.proofs.Alike.{Activation, World, IsApart, Alike, Shown, Direct}
+use Rattle.code_generator.proofs.Alike.{World, Lives, Fixed, IsApart, Alike, Keeps, Leads, Activation}
 use Rattle.code_generator.proofs.Numbers.{Fits}
+use Rattle.code_generator.proofs.Parts.{IsPart}
+use Rattle.code_generator.proofs.Repeats.{repeats}
+
+-- how code reaches a variable: it lies in a frame, or its address does
+pub data Way : Type 0 where
+  Direct : Way
+  ByAddress : ℕ → Way
+
+-- a variable of this type lies in a cell, which is the one told, or the one whose address is fixed there
+abbrev pub Reaches : Tree → World → Fixed → ℕ → Place → Variable → ℕ → Bool → Way → Type 0
+Reaches tree world fixed end p variable cell refers Direct = (refers ≡ false) × IsPart tree.types world end p variable.type_id cell
+Reaches tree world fixed end p variable cell refers (ByAddress address) =
+    (refers ≡ true) × (slice_get fixed cell ≡ Some (Some (Number (pos address)))) × IsPart tree.types world end p variable.type_id address
+
+-- a variable is visible, and code finds it, or its address, in a frame to which static links lead
+pub record Shown (tree : Tree) (world : World) (fixed : Fixed) (end frame : ℕ) (scope : Scope) (env : Environment) (root : ℕ) (variable : Variable) : Type 0
+  where
+    pub place : Place
+    pub place_is : env.variables root ≡ Some place
+    pub owner : ℕ
+    pub leads : Leads fixed (links_to scope (variable_home scope root).level) frame owner
+    pub way : Way
+    pub reaches : Reaches tree world fixed end place variable (owner + (variable_home scope root).start) (variable_home scope root).refers way
 
 -- an activation of a block that runs on the machine
 pub record Setting : Type 0 where
   pub tree : Tree
+  pub well : IsWellFormed tree
+  pub short : is_too_large tree ≡ false
   -- the machine's code, in which the program's code stands
   pub target : Target
   pub sites_are : target.sites ≡ site_table tree.sites.items
+  pub stands : Stands target 0 (program_code tree)
+  -- behind each call an instruction follows, whose index is a number
+  pub comes_back : (place count routine : ℕ) → slice_get target.whole place ≡ Some (instr.CallProcedure count routine)
+      → (target.to place + 1 < length target.code) × (target.to place + 1 ≤ 1000000)
+  pub repeats_are_few : (number : ℕ) (block : Block) → slice_get tree.blocks.items number ≡ Some block → suc (repeats block.body) ≤ target.rate
   pub input : List ℕ
   -- how many cells the machine has, and how far the frame's pushes go
   pub size : ℕ
   pub limit : ℕ
-  -- the activations that live, and the one that runs
+  -- an offset reaches each cell
+  pub small : size ≤ 16777216
+  pub inside : limit ≤ size
+  -- the block that runs
+  pub number : ℕ
+  pub block : Block
+  pub block_is : slice_get tree.blocks.items number ≡ Some block
+  -- the activations that live, and what is fixed below the cells that are held above the variables of the running one
   pub world : World
-  pub running : Activation
-  pub lives : Contains world running
-  pub apart : IsApart world
-  -- how many cells lie below those that are held above the variables of the running activation
+  pub fixed : Fixed
+  pub apart : IsApart world fixed
+  -- how many cells these are, and where the running frame begins
   pub below : ℕ
+  pub fixed_is : length fixed ≡ below
+  pub frame : ℕ
+  pub frame_within : frame + 4 ≤ below
+  -- the frame fits into what its block may need, behind the need of the activations that lasted before it
+  pub callers : List ℕ
+  pub low : frame ≤ living_need tree callers
+  pub limit_is : limit ≡ frame + (4 + parameter_cells tree number + other_cells tree number + block_depth block)
   -- how many turns at most have no instruction yet behind which they were used: a repeat uses one before its first
   pub slack : ℕ
+  -- calls may be so many in one another
+  pub depth : ℕ
   -- where the code finds the variables, and where they are
   pub scope : Scope
-  pub environment : Environment
+  pub homes_are : (root : ℕ) (variable : Variable) → slice_get tree.variables.items root ≡ Some variable
+      → variable_home scope root ≡ home_of tree root variable
+  pub routines_are : scope.routines ≡ routines_of tree
+  pub level_is : scope.level ≡ block_level tree number
+  -- an offset reaches all of a variable
+  pub near : (root : ℕ) (variable : Variable) → slice_get tree.variables.items root ≡ Some variable → (variable_home scope root).refers ≡ false
+      → (variable_home scope root).start + cells_of tree.types variable.type_id ≤ 16777215
   -- where the cells begin that are held
-  pub above_is : below ≡ running.frame + scope.above
-  -- an offset reaches each cell, and the first above the variables
-  pub far : limit ≤ 16777216
-  pub near : below ≤ 16777215
-  -- until routines come, it is the program's block
-  pub outermost : running.outer ≡ None
+  pub above_is : below ≡ frame + scope.above
+  pub environment : Environment
   pub types_are : environment.types ≡ tree.types
-  pub shows : (root : ℕ) (variable : Variable) → slice_get tree.variables.items root ≡ Some variable → Shown environment world running root
-      (Direct 0 (record { start = variable_offset scope root; components = components_of tree.types variable.type_id }))
-  -- a variable ends below the cells that are held, and takes no more than a type does
-  pub ends : (root : ℕ) (variable : Variable) → slice_get tree.variables.items root ≡ Some variable
-      → (variable_offset scope root + cells_of tree.types variable.type_id ≤ scope.above) × (cells_of tree.types variable.type_id ≤ 65536)
+  pub shows : (root : ℕ) (variable : Variable) → slice_get tree.variables.items root ≡ Some variable → is_visible (outline_of tree) number root ≡ true
+      → Shown tree world fixed below frame scope environment root variable
+  -- the static links lead to the program's frame, which has no return: the cell of that is undefined
+  pub bottom : ℕ
+  pub chain : Leads fixed (links_to scope 0) frame bottom
+  pub blank : slice_get fixed (bottom + 2) ≡ Some (Some Undefined)
 
 -- an element of a table, and of the table that was made from it
 found_at : {A B : Type 0} (f : A → B) (xs : List A) (i : ℕ) → i < length xs → (x : A) × (slice_get xs i ≡ Some x) × (slice_get (map f xs) i ≡ Some (f x))
@@ -76,24 +132,65 @@ found_at f (x ∷ xs) zero h = (x, refl, refl)
 found_at f (x ∷ xs) (suc i) h = found_at f xs i (omega arith)
 
 module _ (g : Setting) where
+  -- by what the program's forms are measured
+  abbrev pub outline : Outline
+  outline = outline_of g.tree
+
+  -- what is visible in the running activation, and what calls do there
+  abbrev pub around : Surroundings
+  around = record { visible = g.environment; calls = calls_of g.tree g.depth }
+
+  pub exact_around : ExactCalls (calls_of g.tree g.depth)
+  exact_around = exact_calls g.tree g.depth
+
   -- the machine in the running frame, at an instruction of its code
   abbrev pub running_at : List Cell → ℕ → List ℕ → State
   running_at cells index output =
-      record { frames = framed g.running.frame g.limit g.size cells; place = index; input = g.input; output = output }
+      record { frames = framed g.frame g.limit g.size cells; place = index; input = g.input; output = output }
 
   -- the machine in the running frame, where a place of the program's code goes
   abbrev pub on : List Cell → ℕ → List ℕ → State
   on cells place output = running_at cells (g.target.to place) output
 
-  -- the cells below those that are held, as many as ever and alike to the program's store
-  pub record Based (store : meant.Store) (base : List Cell) : Type 0 where
+  -- the cells below those that are held, as many as ever and alike to a store, where so many activations have begun, these
+  -- blocks last, and so many turns are left
+  pub record Grounded (store : meant.Store) (activations : ℕ) (living : List ℕ) (turns : ℕ) (base : List Cell) : Type 0 where
     pub full : length base ≡ g.below
     pub alike : Alike g.world store base
+    pub keeps : Keeps g.fixed base
+    -- the activations that live have begun, and those that haven't own nothing
+    pub old : (a : Activation) → Lives g.world a → a.number < activations
+    pub fresh : (p : Place) → activations ≤ p.activation → stored store p ≡ None
+    pub lasting : living ≡ g.number ∷ g.callers
+    pub deep : turns < g.depth
+
+  -- the same of a state
+  abbrev pub Based : effect.State → List Cell → Type 0
+  Based s base = Grounded s.store s.activations s.living s.turns base
+
+  -- behind some turns
+  pub later : (left : ℕ) (s : effect.State) (base : List Cell) → left ≤ s.turns → Based s base → Based (record s { turns = left }) base
+  later left s base le based =
+      let deep = based.deep in
+      record {
+        full = based.full;
+        alike = based.alike;
+        keeps = based.keeps;
+        old = based.old;
+        fresh = based.fresh;
+        lasting = based.lasting;
+        deep = omega arith;
+      }
 
   -- the links of the running frame are there, whatever is held
-  pub linked : (store : meant.Store) (base held : List Cell) → Based store base → g.running.frame + 4 ≤ length (base ++ held)
-  linked store base held based =
-      let h = based.alike.linked g.running g.lives in omega (arith, length-append base held)
+  pub linked : (s : effect.State) (base held : List Cell) → Based s base → g.frame + 4 ≤ length (base ++ held)
+  linked s base held based =
+      let h = g.frame_within in
+      let full = based.full in
+      omega (arith, length-append base held)
+
+  pub limit_far : g.limit ≤ 16777216
+  limit_far = let a = g.inside in let b = g.small in omega arith
 
   -- from here the machine stops as the program ends
   pub record Halts (m : State) (end : Ending) (output : List ℕ) : Type 0 where
@@ -143,7 +240,7 @@ module _ (g : Setting) where
   -- an instruction of the store alone
   pub acts : (i : Instr) (cells after : List Cell) (place : ℕ) (output : List ℕ) (attempt : Attempt Frames) → Here place i
       → obeys g.target i (running_at cells (g.target.to place + 1) output) ≡ and_then attempt
-      (with_frames (running_at cells (g.target.to place + 1) output)) → attempt ≡ Ok (framed g.running.frame g.limit g.size after)
+      (with_frames (running_at cells (g.target.to place + 1) output)) → attempt ≡ Ok (framed g.frame g.limit g.size after)
       → Comes g.target 1 (on cells place output) (on after (place + 1) output)
   acts i cells after place output attempt here rule e =
       goes_on i cells after place output output here (rule ∙ ap (λ a. and_then a (with_frames (running_at cells (g.target.to place + 1) output))) e)
@@ -155,8 +252,8 @@ module _ (g : Setting) where
 
   -- a conditional jump pops a number, and goes where its target goes if that is 0
   branches_by : (target : ℕ) (cells below : List Cell) (place : ℕ) (output : List ℕ) (holds : Bool) → Here place (instr.JumpIfFalse (g.target.to target))
-      → jumped_if_false (g.target.to target) (framed g.running.frame g.limit g.size cells) ≡ Ok
-      (framed g.running.frame g.limit g.size below, if holds then None else Some (g.target.to target))
+      → jumped_if_false (g.target.to target) (framed g.frame g.limit g.size cells) ≡ Ok
+      (framed g.frame g.limit g.size below, if holds then None else Some (g.target.to target))
       → Comes g.target 1 (on cells place output) (on below (if holds then place + 1 else target) output)
   branches_by target cells below place output true here e =
       subst (λ index. Comes g.target 1 (on cells place output) (running_at below index output)) (sym here.1)
@@ -167,11 +264,11 @@ module _ (g : Setting) where
       (ap (λ r. and_then r (with_place (running_at cells (g.target.to place + 1) output))) e)
 
   pub branches_on : (target : ℕ) (below : List Cell) (n : ℤ) (place : ℕ) (output : List ℕ) → StandsAt g.target place (instr.JumpIfFalse target) true
-      → g.running.frame + 4 ≤ length below
+      → g.frame + 4 ≤ length below
       → Comes g.target 1 (on (below ++ Number n ∷ []) place output) (on below (if is_true n then place + 1 else target) output)
   branches_on target below n place output stands in_frame =
       branches_by target (below ++ Number n ∷ []) below place output (is_true n) stands
-      (branches g.running.frame g.limit g.size below in_frame (g.target.to target) n)
+      (branches g.frame g.limit g.size below in_frame (g.target.to target) n)
 
   -- a check, which stays or is left out, and what it tests
   module _ (check : Instr) (cells : List Cell) (place site : ℕ) (output : List ℕ) (holds : Attempt Bool) (same : moved g.target.to check ≡ check)
@@ -209,26 +306,61 @@ module _ (g : Setting) where
         → Ends turns (on cells place output) (ending.Error site) output
     fails turns stands within e = fails_by turns (g.target.is_open site) refl stands within e
 
+  -- ---- a full store
+
+  -- The machine comes to the beginning of an activation whose frame doesn't fit: with as many turns as were used before
+  -- it the piece stops for want of one, and those that last then need more cells than there are.
+  abbrev pub Starves : {A : Type 0} → State → Action A → effect.State → Type 0
+  Starves m action s =
+      (used : ℕ) × (there : effect.State) × (action (record s { turns = used }) ≡ effect.Stops ending.More there)
+      × Stops g.target m (record { output = there.output; stop = stop.StoreFull }) × (g.size < living_need g.tree there.starved) × (used ≤ s.turns)
+
+  pub starves_on : {A : Type 0} (least : ℕ) (a b : State) (action : Action A) (s : effect.State) → Comes g.target least a b → Starves b action s
+      → Starves a action s
+  starves_on least a b action s l x = (x.0, x.1, x.2, stops_on g.target least a b _ l x.3, x.4, x.5)
+
+  -- the first of two pieces
+  pub starves_first : {A B : Type 0} (m : State) (first : Action A) (next : A → Action B) (s : effect.State) → Starves m first s
+      → Starves m (first >>= next) s
+  starves_first m first next s x = (x.0, x.1, ap (λ r. effect.and_then r next) x.2, x.3, x.4, x.5)
+
+  -- the second
+  pub starves_behind : {A B : Type 0} (least : ℕ) (m there : State) (first : Action A) (next : A → Action B) (s t : effect.State) (v : A)
+      → UsesTurnsExactly first → first s ≡ Gives v t → Comes g.target least m there → Starves there (next v) t → Starves m (first >>= next) s
+  starves_behind least m there first next s t v exact is l x =
+      let from = exact s t v is in (
+        from.0 + x.0,
+        x.1,
+        ap (λ r. effect.and_then r next) (from.2 x.0) ∙ x.2,
+        stops_on g.target least m there _ l x.3,
+        x.4,
+        omega (arith, from.1, x.5),
+      )
+
   -- ---- the code of an expression
 
   -- what the code of an expression does, with so many turns left here: its value comes on top of what is held, over
   -- cells alike to the store; or the expression ends
-  abbrev pub Evaluates : ℕ → State → List Cell → ℕ → Reply Value → Type 0
-  Evaluates turns m held place (Gives (value.Number n) s) =
-      (base : List Cell) × Based s.store base × Comes g.target (turns - s.turns) m (on ((base ++ held) ++ Number n ∷ []) place s.output) × Fits n ×
+  abbrev pub Valued : ℕ → State → List Cell → ℕ → Reply Value → Type 0
+  Valued turns m held place (Gives (value.Number n) s) =
+      (base : List Cell) × Based s base × Comes g.target (turns - s.turns) m (on ((base ++ held) ++ Number n ∷ []) place s.output) × Fits n ×
       (g.below + length held < g.limit) × (s.turns ≤ turns)
-  Evaluates turns m held place (effect.Stops end s) = Ends turns m end s.output
+  Valued turns m held place (effect.Stops end s) = Ends turns m end s.output
+
+  -- or the store is full
+  abbrev pub Evaluates : State → List Cell → ℕ → Action Value → effect.State → Type 0
+  Evaluates m held place action s = Starves m action s ⊎ Valued s.turns m held place (action s)
 
   -- a value that is there after some instructions
-  pub gives : (least : ℕ) (m : State) (base held : List Cell) (place : ℕ) (n : ℤ) (s : effect.State) → Based s.store base
+  pub gives : (least : ℕ) (m : State) (base held : List Cell) (place : ℕ) (n : ℤ) (s : effect.State) → Based s base
       → Comes g.target least m (on ((base ++ held) ++ Number n ∷ []) place s.output) → Fits n → g.below + length held < g.limit
-      → Evaluates s.turns m held place (Gives (value.Number n) s)
+      → Valued s.turns m held place (Gives (value.Number n) s)
   gives least m base held place n s based l fit room =
       (base, based, comes_less g.target (s.turns - s.turns) least m _ (omega arith) l, fit, room, omega arith)
 
-  pub evaluates_on : (turns left : ℕ) (a b : State) (held : List Cell) (place : ℕ) (r : Reply Value) → left ≤ turns → Comes g.target (turns - left) a b
-      → Evaluates left b held place r → Evaluates turns a held place r
-  evaluates_on turns left a b held place (Gives (value.Number n) s) le l e = (
+  valued_on : (turns left : ℕ) (a b : State) (held : List Cell) (place : ℕ) (r : Reply Value) → left ≤ turns → Comes g.target (turns - left) a b
+      → Valued left b held place r → Valued turns a held place r
+  valued_on turns left a b held place (Gives (value.Number n) s) le l e = (
     e.0,
     e.1,
     comes_less g.target (turns - s.turns) (turns - left + (left - s.turns)) a _ (omega arith)
@@ -237,87 +369,129 @@ module _ (g : Setting) where
     e.4,
     omega (arith, e.5),
   )
-  evaluates_on turns left a b held place (effect.Stops end s) le l e = ends_on turns left a b end s.output l e
+  valued_on turns left a b held place (effect.Stops end s) le l e = ends_on turns left a b end s.output l e
 
   -- where no turn is used
-  pub evaluates_from : (least turns : ℕ) (a b : State) (held : List Cell) (place : ℕ) (r : Reply Value) → Comes g.target least a b
-      → Evaluates turns b held place r → Evaluates turns a held place r
-  evaluates_from least turns a b held place r l e =
-      evaluates_on turns turns a b held place r (omega arith) (comes_less g.target (turns - turns) least a b (omega arith) l) e
+  pub evaluates_from : (least : ℕ) (a b : State) (held : List Cell) (place : ℕ) (action : Action Value) (s : effect.State) → Comes g.target least a b
+      → Evaluates b held place action s → Evaluates a held place action s
+  evaluates_from least a b held place action s l (inl x) = inl (starves_on least a b action s l x)
+  evaluates_from least a b held place action s l (inr e) =
+      inr (valued_on s.turns s.turns a b held place (action s) (omega arith) (comes_less g.target (s.turns - s.turns) least a b (omega arith) l) e)
+
+  -- behind a piece that gave something
+  pub evaluates_behind : {A : Type 0} (m there : State) (held : List Cell) (place : ℕ) (first : Action A) (next : A → Action Value) (s t : effect.State)
+      (v : A) → UsesTurnsExactly first → first s ≡ Gives v t → t.turns ≤ s.turns → Comes g.target (s.turns - t.turns) m there
+      → Evaluates there held place (next v) t → Starves m (first >>= next) s ⊎ Valued s.turns m held place (next v t)
+  evaluates_behind m there held place first next s t v exact is le l (inl x) =
+      inl (starves_behind (s.turns - t.turns) m there first next s t v exact is l x)
+  evaluates_behind m there held place first next s t v exact is le l (inr e) = inr (valued_on s.turns t.turns m there held place (next v t) le l e)
 
   -- one after another
-  pub then_evaluates : (turns : ℕ) (m : State) (held held' : List Cell) (place place' : ℕ) (r : Reply Value) (next : Value → Action Value)
-      → Evaluates turns m held place r → ((base : List Cell) (n : ℤ) (s : effect.State) → Based s.store base → Fits n → g.below + length held < g.limit →
-      Evaluates s.turns (on ((base ++ held) ++ Number n ∷ []) place s.output) held' place' (next (value.Number n) s))
-      → Evaluates turns m held' place' (effect.and_then r next)
-  then_evaluates turns m held held' place place' (Gives (value.Number n) s) next e h =
-      evaluates_on turns s.turns m _ held' place' (next (value.Number n) s) e.5 e.2 (h e.0 n s e.1 e.3 e.4)
-  then_evaluates turns m held held' place place' (effect.Stops end s) next e h = e
+  pub then_evaluates : (m : State) (held held' : List Cell) (place place' : ℕ) (first : Action Value) (next : Value → Action Value) (s : effect.State)
+      → UsesTurnsExactly first → Evaluates m held place first s
+      → ((base : List Cell) (n : ℤ) (t : effect.State) → Based t base → Fits n → g.below + length held < g.limit
+      → Evaluates (on ((base ++ held) ++ Number n ∷ []) place t.output) held' place' (next (value.Number n)) t)
+      → Evaluates m held' place' (first >>= next) s
+  then_evaluates m held held' place place' first next s exact (inl x) h = inl (starves_first m first next s x)
+  then_evaluates m held held' place place' first next s exact (inr e) h = by (first s) refl e
+    where
+      by : (r : Reply Value) → first s ≡ r → Valued s.turns m held place r
+          → Starves m (first >>= next) s ⊎ Valued s.turns m held' place' (effect.and_then r next)
+      by (Gives (value.Number n) t) is e =
+          evaluates_behind m _ held' place' first next s t (value.Number n) exact is e.5 e.2 (h e.0 n t e.1 e.3 e.4)
+      by (effect.Stops end t) is e = inr e
 
   -- ---- the code of a statement
 
   -- what the code of a statement does, with so many turns left here: what is held stays, over cells alike to the store;
   -- or the statement ends
-  abbrev pub Executes : ℕ → State → List Cell → ℕ → Reply (Unit {0}) → Type 0
-  Executes turns m held place (Gives done s) =
-      (base : List Cell) × Based s.store base × Comes g.target (turns - s.turns) m (on (base ++ held) place s.output) × (s.turns ≤ turns)
-  Executes turns m held place (effect.Stops end s) = Ends turns m end s.output
+  abbrev pub Executed : ℕ → State → List Cell → ℕ → Reply (Unit {0}) → Type 0
+  Executed turns m held place (Gives done s) =
+      (base : List Cell) × Based s base × Comes g.target (turns - s.turns) m (on (base ++ held) place s.output) × (s.turns ≤ turns)
+  Executed turns m held place (effect.Stops end s) = Ends turns m end s.output
+
+  -- or the store is full
+  abbrev pub Executes : State → List Cell → ℕ → Action (Unit {0}) → effect.State → Type 0
+  Executes m held place action s = Starves m action s ⊎ Executed s.turns m held place (action s)
 
   -- a state that is there after some instructions
-  pub done : (least : ℕ) (m : State) (base held : List Cell) (place : ℕ) (s : effect.State) → Based s.store base
-      → Comes g.target least m (on (base ++ held) place s.output) → Executes s.turns m held place (Gives tt s)
+  pub done : (least : ℕ) (m : State) (base held : List Cell) (place : ℕ) (s : effect.State) → Based s base
+      → Comes g.target least m (on (base ++ held) place s.output) → Executed s.turns m held place (Gives tt s)
   done least m base held place s based l = (base, based, comes_less g.target (s.turns - s.turns) least m _ (omega arith) l, omega arith)
 
-  pub executes_on : (turns left : ℕ) (a b : State) (held : List Cell) (place : ℕ) (r : Reply (Unit {0})) → left ≤ turns → Comes g.target (turns - left) a b
-      → Executes left b held place r → Executes turns a held place r
-  executes_on turns left a b held place (Gives done s) le l e = (
+  executed_on : (turns left : ℕ) (a b : State) (held : List Cell) (place : ℕ) (r : Reply (Unit {0})) → left ≤ turns → Comes g.target (turns - left) a b
+      → Executed left b held place r → Executed turns a held place r
+  executed_on turns left a b held place (Gives done s) le l e = (
     e.0,
     e.1,
     comes_less g.target (turns - s.turns) (turns - left + (left - s.turns)) a _ (omega arith)
         (comes_on g.target (turns - left) (left - s.turns) a b _ l e.2),
     omega (arith, e.3),
   )
-  executes_on turns left a b held place (effect.Stops end s) le l e = ends_on turns left a b end s.output l e
+  executed_on turns left a b held place (effect.Stops end s) le l e = ends_on turns left a b end s.output l e
 
   -- where no turn is used
-  pub executes_from : (least turns : ℕ) (a b : State) (held : List Cell) (place : ℕ) (r : Reply (Unit {0})) → Comes g.target least a b
-      → Executes turns b held place r → Executes turns a held place r
-  executes_from least turns a b held place r l e =
-      executes_on turns turns a b held place r (omega arith) (comes_less g.target (turns - turns) least a b (omega arith) l) e
+  pub executes_from : (least : ℕ) (a b : State) (held : List Cell) (place : ℕ) (action : Action (Unit {0})) (s : effect.State) → Comes g.target least a b
+      → Executes b held place action s → Executes a held place action s
+  executes_from least a b held place action s l (inl x) = inl (starves_on least a b action s l x)
+  executes_from least a b held place action s l (inr e) =
+      inr (executed_on s.turns s.turns a b held place (action s) (omega arith) (comes_less g.target (s.turns - s.turns) least a b (omega arith) l) e)
 
-  -- one after another
-  pub then_executes : (turns : ℕ) (m : State) (held : List Cell) (place place' : ℕ) (r : Reply (Unit {0})) (next : Unit {0} → Action (Unit {0}))
-      → Executes turns m held place r → ((base : List Cell) (s : effect.State) → Based s.store base → Executes s.turns (on (base ++ held) place s.output) held
-      place' (next tt s)) → Executes turns m held place' (effect.and_then r next)
-  then_executes turns m held place place' (Gives done s) next e h =
-      executes_on turns s.turns m _ held place' (next tt s) e.3 e.2 (h e.0 s e.1)
-  then_executes turns m held place place' (effect.Stops end s) next e h = e
+  -- the same action
+  pub executes_same : (m : State) (held : List Cell) (place : ℕ) (action other : Action (Unit {0})) (s : effect.State)
+      → ((t : effect.State) → action t ≡ other t) → Executes m held place other s → Executes m held place action s
+  executes_same m held place action other s same (inl x) = inl (x.0, x.1, same (record s { turns = x.0 }) ∙ x.2, x.3, x.4, x.5)
+  executes_same m held place action other s same (inr e) = inr (subst (Executed s.turns m held place) (sym (same s)) e)
 
-  -- what comes behind a statement that leaves other cells held
-  pub then_leaves : (turns : ℕ) (m : State) (held held' : List Cell) (place place' : ℕ) (r : Reply (Unit {0})) (next : Unit {0} → Action (Unit {0}))
-      → Executes turns m held place r → ((base : List Cell) (s : effect.State) → Based s.store base → Executes s.turns (on (base ++ held) place s.output) held'
-      place' (next tt s)) → Executes turns m held' place' (effect.and_then r next)
-  then_leaves turns m held held' place place' (Gives done s) next e h =
-      executes_on turns s.turns m _ held' place' (next tt s) e.3 e.2 (h e.0 s e.1)
-  then_leaves turns m held held' place place' (effect.Stops end s) next e h = e
+  -- behind a piece that gave something
+  pub executes_behind : {A : Type 0} (m there : State) (held : List Cell) (place : ℕ) (first : Action A) (next : A → Action (Unit {0}))
+      (s t : effect.State) (v : A) → UsesTurnsExactly first → first s ≡ Gives v t → t.turns ≤ s.turns → Comes g.target (s.turns - t.turns) m there
+      → Executes there held place (next v) t → Starves m (first >>= next) s ⊎ Executed s.turns m held place (next v t)
+  executes_behind m there held place first next s t v exact is le l (inl x) =
+      inl (starves_behind (s.turns - t.turns) m there first next s t v exact is l x)
+  executes_behind m there held place first next s t v exact is le l (inr e) = inr (executed_on s.turns t.turns m there held place (next v t) le l e)
+
+  -- one after another, where other cells may be held behind the second
+  pub then_executes : (m : State) (held held' : List Cell) (place place' : ℕ) (first : Action (Unit {0})) (next : Unit {0} → Action (Unit {0}))
+      (s : effect.State) → UsesTurnsExactly first → Executes m held place first s
+      → ((base : List Cell) (t : effect.State) → Based t base → Executes (on (base ++ held) place t.output) held' place' (next tt) t)
+      → Executes m held' place' (first >>= next) s
+  then_executes m held held' place place' first next s exact (inl x) h = inl (starves_first m first next s x)
+  then_executes m held held' place place' first next s exact (inr e) h = by (first s) refl e
+    where
+      by : (r : Reply (Unit {0})) → first s ≡ r → Executed s.turns m held place r
+          → Starves m (first >>= next) s ⊎ Executed s.turns m held' place' (effect.and_then r next)
+      by (Gives done t) is e = executes_behind m _ held' place' first next s t tt exact is e.3 e.2 (h e.0 t e.1)
+      by (effect.Stops end t) is e = inr e
 
   -- what the machine does behind a statement that gives
-  pub behind_executes : (turns : ℕ) (m : State) (held held' : List Cell) (place place' : ℕ) (r : Reply (Unit {0})) → Executes turns m held place r
-      → ((base : List Cell) (s : effect.State) → Based s.store base → Comes g.target 0 (on (base ++ held) place s.output)
-      (on (base ++ held') place' s.output)) → Executes turns m held' place' r
-  behind_executes turns m held held' place place' (Gives done s) e h = (
-    e.0,
-    e.1,
-    comes_less g.target (turns - s.turns) (turns - s.turns + 0) m _ (omega arith)
-        (comes_on g.target (turns - s.turns) 0 m _ _ e.2 (h e.0 s e.1)),
-    e.3,
-  )
-  behind_executes turns m held held' place place' (effect.Stops end s) e h = e
+  pub behind_executes : (m : State) (held held' : List Cell) (place place' : ℕ) (action : Action (Unit {0})) (s : effect.State)
+      → Executes m held place action s → ((base : List Cell) (t : effect.State) → Based t base → Comes g.target 0 (on (base ++ held) place t.output)
+      (on (base ++ held') place' t.output)) → Executes m held' place' action s
+  behind_executes m held held' place place' action s (inl x) h = inl x
+  behind_executes m held held' place place' action s (inr e) h = inr (by (action s) e)
+    where
+      by : (r : Reply (Unit {0})) → Executed s.turns m held place r → Executed s.turns m held' place' r
+      by (Gives done t) e = (
+        e.0,
+        e.1,
+        comes_less g.target (s.turns - t.turns) (s.turns - t.turns + 0) m _ (omega arith)
+            (comes_on g.target (s.turns - t.turns) 0 m _ _ e.2 (h e.0 t e.1)),
+        e.3,
+      )
+      by (effect.Stops end t) e = e
 
   -- what comes after a value
-  pub after_value : (turns : ℕ) (m : State) (held held' : List Cell) (place place' : ℕ) (r : Reply Value) (next : Value → Action (Unit {0}))
-      → Evaluates turns m held place r → ((base : List Cell) (n : ℤ) (s : effect.State) → Based s.store base → Fits n → Executes s.turns (on ((base ++ held)
-      ++ Number n ∷ []) place s.output) held' place' (next (value.Number n) s)) → Executes turns m held' place' (effect.and_then r next)
-  after_value turns m held held' place place' (Gives (value.Number n) s) next e h =
-      executes_on turns s.turns m _ held' place' (next (value.Number n) s) e.5 e.2 (h e.0 n s e.1 e.3)
-  after_value turns m held held' place place' (effect.Stops end s) next e h = e
+  pub after_value : (m : State) (held held' : List Cell) (place place' : ℕ) (first : Action Value) (next : Value → Action (Unit {0})) (s : effect.State)
+      → UsesTurnsExactly first → Evaluates m held place first s
+      → ((base : List Cell) (n : ℤ) (t : effect.State) → Based t base → Fits n
+      → Executes (on ((base ++ held) ++ Number n ∷ []) place t.output) held' place' (next (value.Number n)) t)
+      → Executes m held' place' (first >>= next) s
+  after_value m held held' place place' first next s exact (inl x) h = inl (starves_first m first next s x)
+  after_value m held held' place place' first next s exact (inr e) h = by (first s) refl e
+    where
+      by : (r : Reply Value) → first s ≡ r → Valued s.turns m held place r
+          → Starves m (first >>= next) s ⊎ Executed s.turns m held' place' (effect.and_then r next)
+      by (Gives (value.Number n) t) is e =
+          executes_behind m _ held' place' first next s t (value.Number n) exact is e.5 e.2 (h e.0 n t e.1 e.3)
+      by (effect.Stops end t) is e = inr e

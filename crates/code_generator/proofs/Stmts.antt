@@ -1,5 +1,5 @@
 -- The code of a statement keeps the program's store and the cells of its frame alike, or stops as the statement does.
-use Rattle.std.proofs.Common.{◌≡◌, ℕ, suc, ◌+◌, ◌<◌, ◌≤◌, max, Option, List, [], ◌∷◌, ◌++◌, length, map, Some, None, Ok, refl, sym, ap, ◌∙◌, subst, arith}
+use Rattle.std.proofs.Common.{◌≡◌, ℕ, suc, ◌+◌, ◌<◌, ◌≤◌, max, Option, List, [], ◌∷◌, ◌++◌, length, map, Some, None, Ok, inr, refl, sym, ap, ◌∙◌, subst, arith}
 use Rattle.std.proofs.Common.{length-append, append_assoc, append-nil, Bool, true, false}
 use Rattle.std.specs.Prelude.{slice_set, ℤ, pos, negsuc, ◌+ℤ◌, ◌-ℤ◌, int_le, not, nat_lt, ◌-◌, ◌&&◌, replicate, take, codes, if◌then◌else◌, fold}
 use Rattle.std.specs.Global.{Vec}
@@ -10,10 +10,8 @@ use Rattle.std.specs.Fmt.{signed_decimal}
 use Rattle.std.proofs.lemmas.Bool.{ltb-true, and_parts}
 use Rattle.pcode_assembler.specs.declared.instr.Instr.{Instr}
 use Rattle.pcode_assembler.specs.declared.instr.Instr.TheVariants as instr
-use Rattle.std.specs.declared.alloc.Global.{Global}
-use Rattle.std.specs.declared.boxed.Box.{Box}
-use Rattle.types.specs.Forms.{Form}
-use Rattle.typed_tree.specs.declared.tree.Variable.{Variable as DeclaredVariable}
+use Rattle.typed_tree.specs.declared.tree.Call.{Call}
+use Rattle.typed_tree.specs.declared.tree.Passed.{Passed}
 use Rattle.typed_tree.specs.declared.tree.RangeTest.{RangeTest}
 use Rattle.typed_tree.specs.declared.tree.Direction.{Direction}
 use Rattle.typed_tree.specs.declared.tree.Direction.TheVariants as direction
@@ -27,7 +25,7 @@ use Rattle.typed_tree.specs.declared.tree.Whole.{Whole}
 use Rattle.typed_tree.specs.declared.tree.Expr.{Expr}
 use Rattle.typed_tree.specs.declared.tree.Stmt.{Stmt}
 use Rattle.typed_tree.specs.declared.tree.Stmt.TheOpen.{Stmt-F}
-use Rattle.typed_tree.specs.declared.tree.Stmt.TheOpen.Stmt-F.{Empty, Assign, Copy, Write, Compound, If, While, Repeat, For, Case}
+use Rattle.typed_tree.specs.declared.tree.Stmt.TheOpen.Stmt-F.{Empty, Assign, Copy, Write, Compound, If, While, Repeat, For, Case, Call as Calling}
 use Rattle.typed_tree.specs.declared.tree.Stmt.TheViews.{roll-Stmt}
 use Rattle.typed_tree.specs.declared.tree.Stmt.TheFolds.{fold-Stmt, map-Stmt, fold-roll-Stmt, ind-Stmt}
 use Rattle.meaning.specs.declared.outcome.Ending.TheVariants as ending
@@ -36,10 +34,13 @@ use Rattle.meaning.specs.declared.store.Value.TheVariants as value
 use Rattle.meaning.specs.Store.{kept, forgotten}
 use Rattle.meaning.specs.Counting.{has_values, next_value, value_behind}
 use Rattle.meaning.specs.Effect as effect
-use Rattle.meaning.specs.Effect.{Reply, Gives, Action, Round, ◌>>=◌, number_of, require, give}
+use Rattle.meaning.specs.Laws.{UsesTurnsExactly}
+use Rattle.meaning.proofs.Loops.{UsesTurns, for_uses, repeat_uses, while_uses}
+use Rattle.meaning.proofs.Used.{exact_effect, exact_statements, exact_value}
+use Rattle.meaning.specs.Effect.{Action, Round, ◌>>=◌, number_of, require, give}
 use Rattle.meaning.specs.Meaning.{Execution, is_so, turn_if, while_round, repeat_round, for_round, for_rounds, for_between, is_among, arm_of, whole_of}
 use Rattle.meaning.specs.Meaning.{alternative_of, value_of, width_of, effect_of, effect_step, parameter_of, all_of, line_ended}
-use Rattle.meaning.specs.Meaning.{default_width as default_width_of}
+use Rattle.meaning.specs.Meaning.{call_of, passing_of, default_width as default_width_of}
 use Rattle.stack_machine.specs.declared.cell.Cell.{Cell}
 use Rattle.stack_machine.specs.declared.cell.Cell.TheVariants.{Undefined, Number}
 use Rattle.machine_arithmetic.specs.declared.arithmetic.Dyadic.TheVariants as dyadic
@@ -51,17 +52,24 @@ use Rattle.stack_machine.specs.Texts as texts
 use Rattle.code_scheme.specs.Scopes.{Scope, count, held_offset, holding, row_length}
 use Rattle.code_scheme.specs.Code.{Placed, placed, if_code, if_else_code, while_code, repeat_code, for_code, for_entry, for_begin, for_next, for_end}
 use Rattle.code_scheme.specs.Code.{order_instr, next_instr, row_code, arms_code, case_code, expr_code, width_code, write_instr, parameter_code, line_end_code}
-use Rattle.code_scheme.specs.Code.{write_code, stmt_code, stmt_step, default_width, ordinal_instr, ordinal_width, whole_code}
-use Rattle.code_scheme.specs.Depth.{greatest, stmt_depth, stmt_depth_step, arms_depth, expr_depth, parameter_depth, width_depth, whole_depth}
+use Rattle.code_scheme.specs.Code.{call_code, passed_code, write_code, stmt_code, stmt_step, default_width, ordinal_instr, ordinal_width, whole_code}
+use Rattle.code_scheme.specs.Depth.{call_depth, greatest, passed_depth, stmt_depth, stmt_depth_step, arms_depth, expr_depth, parameter_depth, width_depth}
+use Rattle.code_scheme.specs.Depth.{whole_depth}
 use Rattle.typed_tree.specs.WellFormed.{all_hold, is_well_formed_expr, is_well_formed_width, is_well_formed_parameter, is_well_formed_test, is_well_formed_stmt}
-use Rattle.typed_tree.specs.WellFormed.{stmt_is_well_formed, is_well_formed_whole, leads_to_ordinal, length_of, whole_indexes}
+use Rattle.typed_tree.specs.WellFormed.{stmt_is_well_formed, is_control, is_well_formed_call, is_well_formed_passed, is_well_formed_whole, length_of}
+use Rattle.typed_tree.specs.WellFormed.{whole_indexes}
 use Rattle.code_generator.proofs.Reach.{Stands, StandsAt, obeys, stands_front, stands_back, Comes, comes_less, comes_on, stays_here}
-use Rattle.code_generator.proofs.Setting.{Setting, on, Based, linked, Here, goes_on, jumps, branches_on, behind_executes, fails, Executes, done}
-use Rattle.code_generator.proofs.Setting.{executes_from, then_executes, then_leaves, after_value}
-use Rattle.code_generator.proofs.Loops.{Rounds, RoundRuns, rounds_on, then_rounds, value_rounds, turned, loops, reset, rounds_from_reset, executes_from_reset}
+use Rattle.code_generator.proofs.Setting.{Setting, outline, around, exact_around, on, Based, later, linked, limit_far, Here, goes_on, jumps, branches_on}
+use Rattle.code_generator.proofs.Setting.{behind_executes, fails, Executes, done, executes_from, then_executes, after_value}
+use Rattle.code_generator.proofs.Loops.{Rounds, RoundsBehind, RoundRuns, rounds_later, then_rounds, value_rounds, turned, loops, reset, to_reset}
+use Rattle.code_generator.proofs.Loops.{rounds_from_reset, executes_from_reset}
 use Rattle.code_generator.proofs.Accesses.{Indexes, expressions, wells, codes as index_codes}
 use Rattle.code_generator.proofs.Assigns.{told, told_back, assign_runs, copy_runs}
 use Rattle.code_generator.proofs.Evaluating.{sites, ExecutesAs, fetched_at, frames_of, one_held}
+use Rattle.code_generator.proofs.Exact.{exact_call, exact_for_round, exact_for_rounds, exact_parameter, exact_parameters, exact_repeat_round, exact_while_round}
+use Rattle.code_generator.proofs.Exact.{exact_whole, exact_width, whole_effect, whole_effects, whole_value}
+use Rattle.code_generator.proofs.Passing.{CallsAt, CallsRun, returns_executes}
+use Rattle.code_generator.proofs.Repeats.{repeats, repeats_step}
 use Rattle.code_generator.proofs.Wholes.{AllFit, few_components, fitting_bytes, row_executes, whole_runs}
 use Rattle.code_generator.proofs.Held.{slot, IsScalar, is_scalar, variable_kept, variable_forgotten, loads_held, stores_held, decides}
 use Rattle.code_generator.proofs.Held.{begins, steps, leaves, tests}
@@ -70,7 +78,7 @@ use Rattle.code_scheme.proofs.Pieces.{length-For, start_within}
 use Rattle.code_generator.proofs.Acts.{length_one, writes}
 use Rattle.code_generator.proofs.Numbers.{Fits, fits_by_abs, sum_is, difference_is}
 use Rattle.code_generator.proofs.Rows.{cells_of, length-cells_of, same_byte, writes_string}
-use Rattle.code_generator.proofs.Exprs.{expr_runs, width_runs}
+use Rattle.code_generator.proofs.Exprs.{call_runs, expr_runs, width_runs}
 
 -- what the machine writes in a width is what the program writes
 same_integer_text : (n width : ℤ) → texts.integer_text n width ≡ effect.integer_text n width
@@ -111,13 +119,7 @@ placed_flat : {X : Type 0} (code_of : Scope → X → List Instr) (scope : Scope
 placed_flat code_of scope [] place = refl
 placed_flat code_of scope (x ∷ xs) place = ap (λ rest. code_of scope x ++ rest) (placed_flat code_of scope xs (place + length (code_of scope x)))
 
-module _ (g : Setting) where
-  abbrev variables : List DeclaredVariable
-  variables = g.tree.variables.items
-
-  abbrev types : List Form
-  types = g.tree.types
-
+module _ (g : Setting) (known : CallsAt g) where
   -- a value and its width give way to a text
   text_runs : (write : Instr) (text : List ℕ) (place : ℕ) (cells after : List Cell) (output : List ℕ) (attempt : Attempt (frames.Frames × List ℕ))
       → Here g place write → obeys g.target write (fetched_at g cells place output) ≡ machine.and_then attempt
@@ -127,28 +129,28 @@ module _ (g : Setting) where
       goes_on g write cells after place output (output ++ text) here (rule ∙ ap (λ r. machine.and_then r (with_text (fetched_at g cells place output))) does)
 
   ordinal_writes : (r : Representation) (place : ℕ) (cells : List Cell) (n w : ℤ) (output : List ℕ) → Fits n → Stands g.target place (ordinal_instr r ∷ [])
-      → g.running.frame + 4 ≤ length cells
+      → g.frame + 4 ≤ length cells
       → Comes g.target 1 (on g ((cells ++ Number n ∷ []) ++ Number w ∷ []) place output)
       (on g cells (place + 1) (output ++ effect.text_of r (value.Number n) (value.Number w)))
   ordinal_writes representation.Char place cells n w output fit stands in_frame =
       let two = (cells ++ Number n ∷ []) ++ Number w ∷ [] in
       subst (λ t. Comes g.target 1 (on g two place output) (on g cells (place + 1) (output ++ t))) (same_char_text n w fit)
       (text_runs instr.WriteChar (texts.char_text n w) place two cells output _ stands.0 refl
-      (writes g.running.frame g.limit g.size cells in_frame n w texts.char_text))
+      (writes g.frame g.limit g.size cells in_frame n w texts.char_text))
   ordinal_writes representation.Integer place cells n w output fit stands in_frame =
       let two = (cells ++ Number n ∷ []) ++ Number w ∷ [] in
       subst (λ t. Comes g.target 1 (on g two place output) (on g cells (place + 1) (output ++ t))) (same_integer_text n w)
       (text_runs instr.WriteInteger (texts.integer_text n w) place two cells output _ stands.0 refl
-      (writes g.running.frame g.limit g.size cells in_frame n w texts.integer_text))
+      (writes g.frame g.limit g.size cells in_frame n w texts.integer_text))
   ordinal_writes representation.Boolean place cells n w output fit stands in_frame =
       let two = (cells ++ Number n ∷ []) ++ Number w ∷ [] in
       subst (λ t. Comes g.target 1 (on g two place output) (on g cells (place + 1) (output ++ t)))
       (same_string_text (if frames.is_true n then codes "true" else codes "false") w)
       (text_runs instr.WriteBoolean (texts.boolean_text n w) place two cells output _ stands.0 refl
-      (writes g.running.frame g.limit g.size cells in_frame n w texts.boolean_text))
+      (writes g.frame g.limit g.size cells in_frame n w texts.boolean_text))
 
   string_writes : (count : ℕ) (row : List ℤ) (place : ℕ) (cells : List Cell) (w : ℤ) (output : List ℕ) → length row ≡ count → AllFit row
-      → Stands g.target place (instr.WriteString count ∷ []) → g.running.frame + 4 ≤ length cells
+      → Stands g.target place (instr.WriteString count ∷ []) → g.frame + 4 ≤ length cells
       → Comes g.target 1 (on g ((cells ++ cells_of row) ++ Number w ∷ []) place output)
       (on g cells (place + 1) (output ++ effect.row_text row (value.Number w)))
   string_writes count row place cells w output long fit stands in_frame =
@@ -156,18 +158,18 @@ module _ (g : Setting) where
       subst (λ t. Comes g.target 1 (on g string place output) (on g cells (place + 1) (output ++ t)))
       (same_string_text (map texts.byte_of row) w ∙ ap (λ bytes. effect.string_text bytes w) (fitting_bytes row fit))
       (text_runs (instr.WriteString count) (texts.string_text (map texts.byte_of row) w) place string cells output _ stands.0 refl
-      (writes_string g.running.frame g.limit g.size cells in_frame row w count long))
+      (writes_string g.frame g.limit g.size cells in_frame row w count long))
 
   -- a width above the cells of a value, with which it gives way to a text
   width_writes : (width : Option Width) (v : Written) (default : ℤ) (row : List ℤ) (text : Value → List ℕ) (place : ℕ) (base held : List Cell)
       (s : effect.State) → default_width v ≡ instr.LoadConstant default → Fits default
-      → Stands g.target place (width_code g.scope width v ++ (write_instr v ∷ [])) → is_well_formed_width variables types (sites g) width ≡ true
-      → Based g s.store base
+      → Stands g.target place (width_code g.scope width v ++ (write_instr v ∷ [])) → is_well_formed_width (outline g) g.number width ≡ true
+      → Based g s base
       → g.below + length held + (width_depth width + length row) ≤ g.limit
-      → ((there : ℕ) (cells : List Cell) (w : ℤ) (output : List ℕ) → Stands g.target there (write_instr v ∷ []) → g.running.frame + 4 ≤ length cells
+      → ((there : ℕ) (cells : List Cell) (w : ℤ) (output : List ℕ) → Stands g.target there (write_instr v ∷ []) → g.frame + 4 ≤ length cells
       → Comes g.target 1 (on g ((cells ++ cells_of row) ++ Number w ∷ []) there output) (on g cells (there + 1) (output ++ text (value.Number w))))
-      → Executes g s.turns (on g ((base ++ held) ++ cells_of row) place s.output) held (place + length (width_code g.scope width v) + 1)
-      (effect.and_then (width_of width default g.environment s) (λ w. effect.write (text w)))
+      → Executes g (on g ((base ++ held) ++ cells_of row) place s.output) held (place + length (width_code g.scope width v) + 1)
+      (width_of width default (around g) >>= (λ w. effect.write (text w))) s
   width_writes width v default row text place base held s is fit stands good based deep writes =
       let wide = width_code g.scope width v in
       let writing = write_instr v ∷ [] in
@@ -175,21 +177,22 @@ module _ (g : Setting) where
       let long = length-append held (cells_of row) in
       let next : Value → Action (Unit {0}) = λ w. effect.write (text w) in
       let end = place + length wide + 1 in
-      let runs = width_runs g width v default is fit place base more s (stands_front g.target place wide writing stands) good based
+      let runs = width_runs g known width v default is fit place base more s (stands_front g.target place wide writing stands) good based
       (omega (arith, length-cells_of row)) in
-      subst (λ cells. Executes g s.turns (on g cells place s.output) held end (effect.and_then (width_of width default g.environment s) next))
+      subst (λ cells. Executes g (on g cells place s.output) held end (width_of width default (around g) >>= next) s)
       (sym (append_assoc base held (cells_of row)))
-      (after_value g s.turns _ more held (place + length wide) end (width_of width default g.environment s) next runs
+      (after_value g _ more held (place + length wide) end (width_of width default (around g)) next s (exact_width (around g) (exact_around g) width default)
+      runs
       (λ base2 w u based2 fit2.
-      subst (λ cells. Executes g u.turns (on g (cells ++ Number w ∷ []) (place + length wide) u.output) held end (next (value.Number w) u))
+      subst (λ cells. Executes g (on g (cells ++ Number w ∷ []) (place + length wide) u.output) held end (next (value.Number w)) u)
       (append_assoc base2 held (cells_of row))
-      (done g 1 _ base2 held end (record u { output = u.output ++ text (value.Number w) }) (record { full = based2.full; alike = based2.alike })
-      (writes (place + length wide) (base2 ++ held) w u.output (stands_back g.target place wide writing stands) (linked g u.store base2 held based2)))))
+      (inr (done g 1 _ base2 held end (record u { output = u.output ++ text (value.Number w) }) based2
+      (writes (place + length wide) (base2 ++ held) w u.output (stands_back g.target place wide writing stands) (linked g u base2 held based2))))))
 
   -- a value that is written, and its width
   abbrev ParameterRuns : WriteParameter → Type 0
   ParameterRuns p =
-      ExecutesAs g (λ scope _. parameter_code scope p) (parameter_depth p) (is_well_formed_parameter variables types (sites g) p) (parameter_of p)
+      ExecutesAs g (λ scope _. parameter_code scope p) (parameter_depth p) (is_well_formed_parameter (outline g) g.number p) (parameter_of p)
 
   -- a string that is written, with these index expressions in it
   abbrev StringRuns : Whole → Vec Expr → Option Width → List Expr → Type 0
@@ -197,8 +200,8 @@ module _ (g : Setting) where
       ExecutesAs g (λ scope _. whole_code scope v (map (expr_code scope) es)
       ++ (width_code scope width (String v indexes) ++ (instr.WriteString (row_length (length_of v)) ∷ [])))
       (max (whole_depth v (map expr_depth es)) (width_depth width + length_of v))
-      ((all_hold (whole_indexes v (map (is_well_formed_expr variables types (sites g)) es)) && is_well_formed_whole variables types (sites g) v (length es))
-      && is_well_formed_width variables types (sites g) width)
+      ((all_hold (whole_indexes v (map (is_well_formed_expr (outline g) g.number) es)) && is_well_formed_whole (outline g) g.number v (length es))
+      && is_well_formed_width (outline g) g.number width)
       (λ env. whole_of v (map value_of es) env >>= λ row. width_of width (pos (length_of v)) env >>= λ w. effect.write (effect.row_text row w))
 
   string_runs : (v : Whole) (vec : Vec Expr) (width : Option Width) (indexes : Indexes g) → StringRuns v vec width (expressions g indexes)
@@ -207,17 +210,18 @@ module _ (g : Setting) where
       let c = whole_code g.scope v (index_codes g indexes) in
       let wide = width_code g.scope width (String v vec) in
       let writing = instr.WriteString (row_length n) ∷ [] in
-      let shape = is_well_formed_whole variables types (sites g) v (length (expressions g indexes)) in
-      let parts = and_parts (all_hold (whole_indexes v (wells g indexes)) && shape) (is_well_formed_width variables types (sites g) width) good in
+      let shape = is_well_formed_whole (outline g) g.number v (length (expressions g indexes)) in
+      let parts = and_parts (all_hold (whole_indexes v (wells g indexes)) && shape) (is_well_formed_width (outline g) g.number width) good in
       let inside = and_parts (all_hold (whole_indexes v (wells g indexes))) shape parts.0 in
       let same : n ≡ row_length n = few_components g v (length (expressions g indexes)) inside.1 in
       let behind = stands_back g.target place c (wide ++ writing) stands in
       let e : place + length c + length wide + 1 ≡ place + length (c ++ (wide ++ writing)) = omega
       (arith, length-append c (wide ++ writing), length-append wide writing) in
-      let next : List ℤ → Action (Unit {0}) = λ row. width_of width (pos n) g.environment >>= λ w. effect.write (effect.row_text row w) in
-      let meant = whole_of v (map value_of (expressions g indexes)) g.environment s in
-      subst (λ q. Executes g s.turns (on g (base ++ held) place s.output) held q (effect.and_then meant next)) e
-      (row_executes g s.turns _ held held (place + length c) (place + length c + length wide + 1) n meant next
+      let next : List ℤ → Action (Unit {0}) = λ row. width_of width (pos n) (around g) >>= λ w. effect.write (effect.row_text row w) in
+      let meant = whole_of v (map value_of (expressions g indexes)) (around g) in
+      subst (λ q. Executes g (on g (base ++ held) place s.output) held q (meant >>= next) s) e
+      (row_executes g _ held held (place + length c) (place + length c + length wide + 1) n meant next s
+      (exact_whole (around g) (exact_around g) v (expressions g indexes))
       (whole_runs g v indexes place base held s (stands_front g.target place c (wide ++ writing) stands) inside.0 inside.1 based (omega arith))
       (λ base2 row t based2 long fit.
       width_writes width (String v vec) (pos n) row (effect.row_text row) (place + length c) base2 held t (ap (λ m. instr.LoadConstant (pos m)) (sym same))
@@ -229,51 +233,53 @@ module _ (g : Setting) where
       let c = expr_code g.scope v in
       let wide = width_code g.scope width (Ordinal v r) in
       let writing = ordinal_instr r ∷ [] in
-      let parts = and_parts (is_well_formed_expr variables types (sites g) v) (is_well_formed_width variables types (sites g) width) good in
+      let parts = and_parts (is_well_formed_expr (outline g) g.number v) (is_well_formed_width (outline g) g.number width) good in
       let behind = stands_back g.target place c (wide ++ writing) stands in
       let e : place + length c + length wide + 1 ≡ place + length (c ++ (wide ++ writing)) = omega
       (arith, length-append c (wide ++ writing), length-append wide writing) in
       let default = default_width_of r in
-      let next : Value → Action (Unit {0}) = λ x. width_of width default g.environment >>= λ w. effect.write (effect.text_of r x w) in
-      subst (λ q. Executes g s.turns (on g (base ++ held) place s.output) held q (effect.and_then (value_of v g.environment s) next)) e
-      (after_value g s.turns _ held held (place + length c) (place + length c + length wide + 1) (value_of v g.environment s) next
-      (expr_runs g v place base held s (stands_front g.target place c (wide ++ writing) stands) parts.0 based (omega arith))
+      let next : Value → Action (Unit {0}) = λ x. width_of width default (around g) >>= λ w. effect.write (effect.text_of r x w) in
+      subst (λ q. Executes g (on g (base ++ held) place s.output) held q (value_of v (around g) >>= next) s) e
+      (after_value g _ held held (place + length c) (place + length c + length wide + 1) (value_of v (around g)) next s
+      (exact_value (around g) (exact_around g) v)
+      (expr_runs g known v place base held s (stands_front g.target place c (wide ++ writing) stands) parts.0 based (omega arith))
       (λ base2 n t based2 fit.
       width_writes width (Ordinal v r) default (n ∷ []) (effect.text_of r (value.Number n)) (place + length c) base2 held t (same_default r) (default_fits r)
       behind parts.1 based2 (omega arith) (λ there cells w output here in_frame. ordinal_writes r there cells n w output fit here in_frame)))
   written_runs (String v indexes) width place base held s stands good based high deep =
-      let runs = subst (StringRuns v indexes width) (told_back g indexes.items) (string_runs v indexes width (told g indexes.items)) in
+      let runs = subst (StringRuns v indexes width) (told_back g known indexes.items) (string_runs v indexes width (told g known indexes.items)) in
       runs place base held s stands good based high deep
 
   parameter_runs : (p : WriteParameter) → ParameterRuns p
   parameter_runs p = written_runs p.value p.width
 
   -- nothing to do
-  nothing_runs : (place : ℕ) (base held : List Cell) (s : effect.State) → Based g s.store base
-      → Executes g s.turns (on g (base ++ held) place s.output) held (place + 0) (Gives tt s)
+  nothing_runs : (place : ℕ) (base held : List Cell) (s : effect.State) → Based g s base
+      → Executes g (on g (base ++ held) place s.output) held (place + 0) (give tt) s
   nothing_runs place base held s based =
       let e : place ≡ place + 0 = omega arith in
-      done g 0 _ base held (place + 0) s based (subst (λ p. Comes g.target 0 (on g (base ++ held) place s.output) (on g (base ++ held) p s.output)) e
-      (stays_here g.target _))
+      inr (done g 0 _ base held (place + 0) s based (subst (λ p. Comes g.target 0 (on g (base ++ held) place s.output) (on g (base ++ held) p s.output)) e
+      (stays_here g.target _)))
 
   -- pieces that are executed one after another
-  all_run : {X : Type 0} (code_of : X → Placed) (depth_of : X → ℕ) (well_of : X → Bool) (meant_by : X → Execution) (xs : List X)
+  all_run : {X : Type 0} (code_of : X → Placed) (depth_of : X → ℕ) (well_of : X → Bool) (meant_by : X → Execution)
+      (exact : (x : X) → UsesTurnsExactly (meant_by x (around g))) (xs : List X)
       → Each (λ x. ExecutesAs g (code_of x) (depth_of x) (well_of x) (meant_by x)) xs → (depth place : ℕ) (base held : List Cell) (s : effect.State)
-      → Stands g.target place (placed (map (λ code. code g.scope) (map code_of xs)) place) → all_hold (map well_of xs) ≡ true → Based g s.store base
+      → Stands g.target place (placed (map (λ code. code g.scope) (map code_of xs)) place) → all_hold (map well_of xs) ≡ true → Based g s base
       → length held ≡ g.scope.height → g.below + length held + fold max depth (map depth_of xs) ≤ g.limit
-      → Executes g s.turns (on g (base ++ held) place s.output) held (place + length (placed (map (λ code. code g.scope) (map code_of xs)) place))
-      (all_of (map meant_by xs) g.environment s)
-  all_run code_of depth_of well_of meant_by [] each depth place base held s stands good based high deep = nothing_runs place base held s based
-  all_run code_of depth_of well_of meant_by (x ∷ xs) each depth place base held s stands good based high deep =
+      → Executes g (on g (base ++ held) place s.output) held (place + length (placed (map (λ code. code g.scope) (map code_of xs)) place))
+      (all_of (map meant_by xs) (around g)) s
+  all_run code_of depth_of well_of meant_by exact [] each depth place base held s stands good based high deep = nothing_runs place base held s based
+  all_run code_of depth_of well_of meant_by exact (x ∷ xs) each depth place base held s stands good based high deep =
       let c = code_of x g.scope place in
       let rest = placed (map (λ code. code g.scope) (map code_of xs)) (place + length c) in
       let d = start_within (max depth (depth_of x)) (map depth_of xs) in
       let e : place + length c + length rest ≡ place + length (c ++ rest) = omega (arith, length-append c rest) in
-      let next : Unit {0} → Action (Unit {0}) = λ _. all_of (map meant_by xs) g.environment in
-      subst (λ p. Executes g s.turns (on g (base ++ held) place s.output) held p (effect.and_then (meant_by x g.environment s) next)) e
-      (then_executes g s.turns _ held (place + length c) (place + length c + length rest) (meant_by x g.environment s) next
+      let next : Unit {0} → Action (Unit {0}) = λ _. all_of (map meant_by xs) (around g) in
+      subst (λ p. Executes g (on g (base ++ held) place s.output) held p (meant_by x (around g) >>= next) s) e
+      (then_executes g _ held held (place + length c) (place + length c + length rest) (meant_by x (around g)) next s (exact x)
       (each.0 place base held s (stands_front g.target place c rest stands) (and_parts _ _ good).0 based high (omega arith))
-      (λ base2 t based2. all_run code_of depth_of well_of meant_by xs each.1 (max depth (depth_of x)) (place + length c) base2 held t
+      (λ base2 t based2. all_run code_of depth_of well_of meant_by exact xs each.1 (max depth (depth_of x)) (place + length c) base2 held t
       (stands_back g.target place c rest stands) (and_parts _ _ good).1 based2 high (omega arith)))
 
   each_parameter : (ps : List WriteParameter) → Each ParameterRuns ps
@@ -282,16 +288,16 @@ module _ (g : Setting) where
 
   -- a line end behind a writeln
   line_end_runs : (ends_line : Bool) (place : ℕ) (base held : List Cell) (s : effect.State) → Stands g.target place (line_end_code ends_line)
-      → Based g s.store base → Executes g s.turns (on g (base ++ held) place s.output) held (place + length (line_end_code ends_line)) (line_ended ends_line s)
+      → Based g s base → Executes g (on g (base ++ held) place s.output) held (place + length (line_end_code ends_line)) (line_ended ends_line) s
   line_end_runs true place base held s stands based =
-      done g 1 _ base held (place + 1) (record s { output = s.output ++ 10 ∷ [] }) (record { full = based.full; alike = based.alike })
-      (goes_on g instr.WriteLine (base ++ held) (base ++ held) place s.output (s.output ++ 10 ∷ []) stands.0 refl)
+      inr (done g 1 _ base held (place + 1) (record s { output = s.output ++ 10 ∷ [] }) based
+      (goes_on g instr.WriteLine (base ++ held) (base ++ held) place s.output (s.output ++ 10 ∷ []) stands.0 refl))
   line_end_runs false place base held s stands based = nothing_runs place base held s based
 
   write_runs : (number : ℕ) (ps : List WriteParameter) (ends_line : Bool)
       → ExecutesAs g (λ scope _. write_code scope ps ends_line) (greatest (map parameter_depth ps))
-      (all_hold (map (is_well_formed_parameter variables types (sites g)) ps))
-      (λ e. effect.enter number e >>= λ _. all_of (map parameter_of ps) e >>= λ _. line_ended ends_line)
+      (all_hold (map (is_well_formed_parameter (outline g) g.number) ps))
+      (λ e. effect.enter number e.visible >>= λ _. all_of (map parameter_of ps) e >>= λ _. line_ended ends_line)
   write_runs number ps ends_line place base held s stands good based high deep =
       let s1 : effect.State = record s { visited = s.visited ++ record { number = number; environment = g.environment; store = s.store } ∷ [] } in
       let code_of : WriteParameter → Placed = λ p scope _. parameter_code scope p in
@@ -300,13 +306,14 @@ module _ (g : Setting) where
       let ending = line_end_code ends_line in
       let same : c' ≡ c = placed_flat parameter_code g.scope ps place in
       let e : place + length c + length ending ≡ place + length (c ++ ending) = omega (arith, length-append c ending) in
-      let values = all_run code_of parameter_depth (is_well_formed_parameter variables types (sites g)) parameter_of ps (each_parameter ps) 0 place base held s1
+      let values = all_run code_of parameter_depth (is_well_formed_parameter (outline g) g.number) parameter_of
+      (exact_parameter (around g) (exact_around g)) ps (each_parameter ps) 0 place base held s1
       (subst (Stands g.target place) (sym same) (stands_front g.target place c ending stands)) good based high deep in
-      subst (λ p. Executes g s.turns (on g (base ++ held) place s.output) held p
-      (effect.and_then (all_of (map parameter_of ps) g.environment s1) (λ _. line_ended ends_line))) e
-      (then_executes g s.turns _ held (place + length c) (place + length c + length ending) (all_of (map parameter_of ps) g.environment s1)
-      (λ _. line_ended ends_line) (subst (λ p. Executes g s.turns (on g (base ++ held) place s.output) held (place + length p) (all_of (map parameter_of
-      ps) g.environment s1)) same values)
+      subst (λ p. Executes g (on g (base ++ held) place s.output) held p (all_of (map parameter_of ps) (around g) >>= (λ _. line_ended ends_line)) s1) e
+      (then_executes g _ held held (place + length c) (place + length c + length ending) (all_of (map parameter_of ps) (around g)) (λ _. line_ended ends_line)
+      s1 (exact_parameters (around g) (exact_around g) ps)
+      (subst (λ p. Executes g (on g (base ++ held) place s.output) held (place + length p) (all_of (map parameter_of
+      ps) (around g)) s1) same values)
       (λ base2 t based2. line_end_runs ends_line (place + length c) base2 held t (stands_back g.target place c ending stands) based2))
 
   -- a condition, and a jump where it is false
@@ -314,78 +321,74 @@ module _ (g : Setting) where
   branch_code condition target = expr_code g.scope condition ++ instr.JumpIfFalse target ∷ []
 
   branch_runs : (condition : Expr) (target place end : ℕ) (base held : List Cell) (s : effect.State) (next : Bool → Action (Unit {0}))
-      → Stands g.target place (branch_code condition target) → is_well_formed_expr variables types (sites g) condition ≡ true → Based g s.store base
+      → Stands g.target place (branch_code condition target) → is_well_formed_expr (outline g) g.number condition ≡ true → Based g s base
       → g.below + length held + expr_depth condition ≤ g.limit
-      → ((holds : Bool) (base2 : List Cell) (t : effect.State) → Based g t.store base2
-      → Executes g t.turns (on g (base2 ++ held) (if holds then place + length (expr_code g.scope condition) + 1 else target) t.output) held end (next holds t))
-      → Executes g s.turns (on g (base ++ held) place s.output) held end
-      (effect.and_then (value_of condition g.environment s) (λ v. next (is_so v)))
+      → ((holds : Bool) (base2 : List Cell) (t : effect.State) → Based g t base2
+      → Executes g (on g (base2 ++ held) (if holds then place + length (expr_code g.scope condition) + 1 else target) t.output) held end (next holds) t)
+      → Executes g (on g (base ++ held) place s.output) held end (value_of condition (around g) >>= (λ v. next (is_so v))) s
   branch_runs condition target place end base held s next stands good based room goes_on =
       let test = expr_code g.scope condition in
       let here = stands_back g.target place test (instr.JumpIfFalse target ∷ []) stands in
-      after_value g s.turns _ held held (place + length test) end (value_of condition g.environment s) (λ v. next (is_so v))
-      (expr_runs g condition place base held s (stands_front g.target place test (instr.JumpIfFalse target ∷ []) stands) good based room)
+      after_value g _ held held (place + length test) end (value_of condition (around g)) (λ v. next (is_so v)) s
+      (exact_value (around g) (exact_around g) condition)
+      (expr_runs g known condition place base held s (stands_front g.target place test (instr.JumpIfFalse target ∷ []) stands) good based room)
       (λ base2 n t based2 fit.
-      executes_from g 1 t.turns _ _ held end (next (frames.is_true n) t)
-      (branches_on g target (base2 ++ held) n (place + length test) t.output here.0 (linked g t.store base2 held based2))
+      executes_from g 1 _ _ held end (next (frames.is_true n)) t
+      (branches_on g target (base2 ++ held) n (place + length test) t.output here.0 (linked g t base2 held based2))
       (goes_on (frames.is_true n) base2 t based2))
 
--- how many repeats stand in each other: so many turns are used before an instruction comes
-abbrev alternative_repeats : Option (Box ℕ Global) → ℕ
-alternative_repeats None = 0
-alternative_repeats (Some repeats) = repeats.value
-
-abbrev repeats_step : Stmt-F ℕ → ℕ
-repeats_step (Empty number) = 0
-repeats_step (Assign number becomes target indexes fits v) = 0
-repeats_step (Copy number becomes target indexes type_id v value_indexes) = 0
-repeats_step (Write number name parameters ends_line) = 0
-repeats_step (Compound number statements) = greatest statements.items
-repeats_step (If number condition consequence alternative) = max consequence.value (alternative_repeats alternative)
-repeats_step (While number loop_number word condition body) = body.value
-repeats_step (Repeat number loop_number word statements condition) = greatest statements.items + 1
-repeats_step (For number loop_number word control first first_fits way last last_fits body) = body.value
-repeats_step (Case number site index constants arms) = greatest arms.items
-
-abbrev pub repeats : Stmt → ℕ
-repeats = fold-Stmt ℕ repeats_step
+  -- a call of a procedure
+  calling_runs : (call : Call) (actuals : List Passed)
+      → ExecutesAs g (λ scope _. call_code scope call (map (passed_code scope) actuals)) (call_depth (map passed_depth actuals))
+      (is_well_formed_call (outline g) g.number false call (map (is_well_formed_passed (outline g) g.number) actuals))
+      (λ e. call_of call (map passing_of actuals) e >>= λ _. give tt)
+  calling_runs call actuals place base held s stands good based high deep =
+      returns_executes g _ held (place + length (call_code g.scope call (map (passed_code g.scope) actuals)))
+      (call_of call (map passing_of actuals) (around g)) s
+      (exact_call (around g) (exact_around g) call actuals) (call_runs g known false call actuals place base held s stands good based deep)
 
 -- what is shown of a statement, in each setting
 abbrev pub StmtRuns : Stmt → Type 0
-StmtRuns s = (g : Setting) → repeats s ≤ g.slack → ExecutesAs g (stmt_code s) (stmt_depth s) (is_well_formed_stmt g.tree.variables.items g.tree.types (length
-    g.tree.sites.items) s)
+StmtRuns s = (g : Setting) → CallsRun g.depth → repeats s ≤ g.slack → ExecutesAs g (stmt_code s) (stmt_depth s) (is_well_formed_stmt (outline g) g.number s)
     (effect_of s)
 
-each_statement : (g : Setting) (ss : List ((s : Stmt) × StmtRuns s)) (before : ℕ) → fold max before (map repeats (map (λ x. x.0) ss)) ≤ g.slack → Each
-    (λ s. ExecutesAs g (stmt_code s) (stmt_depth s) (is_well_formed_stmt g.tree.variables.items g.tree.types (length g.tree.sites.items) s) (effect_of s))
+each_statement : (g : Setting) (known : CallsRun g.depth) (ss : List ((s : Stmt) × StmtRuns s)) (before : ℕ)
+    → fold max before (map repeats (map (λ x. x.0) ss)) ≤ g.slack → Each
+    (λ s. ExecutesAs g (stmt_code s) (stmt_depth s) (is_well_formed_stmt (outline g) g.number s) (effect_of s))
     (map (λ x. x.0) ss)
-each_statement g [] before few = tt
-each_statement g (s ∷ ss) before few =
+each_statement g known [] before few = tt
+each_statement g known (s ∷ ss) before few =
     let least = start_within (max before (repeats s.0)) (map repeats (map (λ x. x.0) ss)) in
-    (s.1 g (omega arith), each_statement g ss (max before (repeats s.0)) few)
+    (s.1 g known (omega arith), each_statement g known ss (max before (repeats s.0)) few)
 
-compound_runs : (g : Setting) (number : ℕ) (ss : List ((s : Stmt) × StmtRuns s)) → greatest (map repeats (map (λ x. x.0) ss)) ≤ g.slack
+compound_runs : (g : Setting) (known : CallsRun g.depth) (number : ℕ) (ss : List ((s : Stmt) × StmtRuns s))
+    → greatest (map repeats (map (λ x. x.0) ss)) ≤ g.slack
     → ExecutesAs g (λ scope place. placed (map (λ code. code scope) (map stmt_code (map (λ x. x.0) ss))) place)
     (greatest (map stmt_depth (map (λ x. x.0) ss)))
-    (all_hold (map (is_well_formed_stmt g.tree.variables.items g.tree.types (length g.tree.sites.items)) (map (λ x. x.0) ss)))
-    (λ e. effect.enter number e >>= λ _. all_of (map effect_of (map (λ x. x.0) ss)) e)
-compound_runs g number ss few place base held s stands good based high deep =
+    (all_hold (map (is_well_formed_stmt (outline g) g.number) (map (λ x. x.0) ss)))
+    (λ e. effect.enter number e.visible >>= λ _. all_of (map effect_of (map (λ x. x.0) ss)) e)
+compound_runs g known number ss few place base held s stands good based high deep =
     let s1 : effect.State = record s { visited = s.visited ++ record { number = number; environment = g.environment; store = s.store } ∷ [] } in
-    all_run g stmt_code stmt_depth (is_well_formed_stmt g.tree.variables.items g.tree.types (length g.tree.sites.items)) effect_of (map (λ x. x.0) ss)
-    (each_statement g ss 0 few) 0 place base held s1 stands good (record { full = based.full; alike = based.alike }) high deep
+    all_run g (known g refl) stmt_code stmt_depth (is_well_formed_stmt (outline g) g.number) effect_of (exact_effect (around g) (exact_around g))
+    (map (λ x. x.0) ss)
+    (each_statement g known ss 0 few) 0 place base held s1 stands good based high deep
 
-empty_runs : (g : Setting) (number : ℕ) → ExecutesAs g (λ _ _. []) 0 true (λ e. effect.enter number e)
-empty_runs g number place base held s stands good based high deep =
-    nothing_runs g place base held (record s { visited = s.visited ++ record { number = number; environment = g.environment; store = s.store } ∷ [] })
-    (record { full = based.full; alike = based.alike })
+empty_runs : (g : Setting) (known : CallsRun g.depth) (number : ℕ) → ExecutesAs g (λ _ _. []) 0 true (λ e. effect.enter number e.visible)
+empty_runs g known number place base held s stands good based high deep =
+    nothing_runs g (known g refl) place base held (record s {
+      visited = s.visited ++ record { number = number; environment = g.environment; store = s.store } ∷
+          [];
+    })
+    based
 
 -- an if statement without `else`
-if_runs : (g : Setting) (number : ℕ) (condition : Expr) (consequence : (s : Stmt) × StmtRuns s) → max (repeats consequence.0) 0 ≤ g.slack
+if_runs : (g : Setting) (known : CallsRun g.depth) (number : ℕ) (condition : Expr) (consequence : (s : Stmt) × StmtRuns s)
+    → max (repeats consequence.0) 0 ≤ g.slack
     → ExecutesAs g (λ scope. if_code (expr_code scope condition) (stmt_code consequence.0) scope)
     (max (expr_depth condition) (max (stmt_depth consequence.0) 0))
-    (is_well_formed_expr (variables g) (types g) (sites g) condition && (is_well_formed_stmt (variables g) (types g) (sites g) consequence.0 && true))
-    (λ e. effect.enter number e >>= λ _. value_of condition e >>= λ v. if is_so v then effect_of consequence.0 e else alternative_of None e)
-if_runs g number condition consequence few place base held s stands good based high deep =
+    (is_well_formed_expr (outline g) g.number condition && (is_well_formed_stmt (outline g) g.number consequence.0 && true))
+    (λ e. effect.enter number e.visible >>= λ _. value_of condition e >>= λ v. if is_so v then effect_of consequence.0 e else alternative_of None e)
+if_runs g known number condition consequence few place base held s stands good based high deep =
     let s1 : effect.State = record s { visited = s.visited ++ record { number = number; environment = g.environment; store = s.store } ∷ [] } in
     let test = expr_code g.scope condition in
     let yes = place + length test + 1 in
@@ -398,26 +401,24 @@ if_runs g number condition consequence few place base held s stands good based h
     let inside = subst (λ p. Stands g.target p code) at back in
     let e : target ≡ place + length (test ++ (instr.JumpIfFalse target ∷ code)) = omega (arith, length-append test (instr.JumpIfFalse target ∷ code)) in
     let parts = and_parts _ _ good in
-    let next : Bool → Action (Unit {0}) = λ holds. if holds then effect_of consequence.0 g.environment else alternative_of None g.environment in
-    subst (λ p. Executes g s.turns (on g (base ++ held) place s.output) held p
-    (effect.and_then (value_of condition g.environment s1) (λ v. next (is_so v)))) e
-    (branch_runs g condition target place target base held s1 next front parts.0 (record { full = based.full; alike = based.alike }) (omega arith)
-    (λ holds. elim holds as (λ h. (base2 : List Cell) (t : effect.State) → Based g t.store base2 → Executes g t.turns
-    (on g (base2 ++ held) (if h then yes else target) t.output) held target (next h t)) [
-      | true ↦ λ base2 t based2. consequence.1 g (omega arith) yes base2 held t inside (and_parts _ _ parts.1).0 based2 high (omega arith)
-      | false ↦ λ base2 t based2. done g 0 _ base2 held target t based2 (stays_here g.target _)
+    let next : Bool → Action (Unit {0}) = λ holds. if holds then effect_of consequence.0 (around g) else alternative_of None (around g) in
+    subst (λ p. Executes g (on g (base ++ held) place s.output) held p (value_of condition (around g) >>= (λ v. next (is_so v))) s1) e
+    (branch_runs g (known g refl) condition target place target base held s1 next front parts.0 based (omega arith)
+    (λ holds. elim holds as (λ h. (base2 : List Cell) (t : effect.State) → Based g t base2
+    → Executes g (on g (base2 ++ held) (if h then yes else target) t.output) held target (next h) t) [
+      | true ↦ λ base2 t based2. consequence.1 g known (omega arith) yes base2 held t inside (and_parts _ _ parts.1).0 based2 high (omega arith)
+      | false ↦ λ base2 t based2. inr (done g 0 _ base2 held target t based2 (stays_here g.target _))
     ]))
 
 -- and one with it
-if_else_runs : (g : Setting) (number : ℕ) (condition : Expr) (consequence alternative : (s : Stmt) × StmtRuns s)
+if_else_runs : (g : Setting) (known : CallsRun g.depth) (number : ℕ) (condition : Expr) (consequence alternative : (s : Stmt) × StmtRuns s)
     → max (repeats consequence.0) (repeats alternative.0) ≤ g.slack
     → ExecutesAs g (λ scope. if_else_code (expr_code scope condition) (stmt_code consequence.0) (stmt_code alternative.0) scope)
     (max (expr_depth condition) (max (stmt_depth consequence.0) (stmt_depth alternative.0)))
-    (is_well_formed_expr (variables g) (types g) (sites g) condition && (is_well_formed_stmt (variables g) (types g) (sites g) consequence.0
-    && is_well_formed_stmt (variables g) (types g)
-    (sites g) alternative.0))
-    (λ e. effect.enter number e >>= λ _. value_of condition e >>= λ v. if is_so v then effect_of consequence.0 e else effect_of alternative.0 e)
-if_else_runs g number condition consequence alternative few place base held s stands good based high deep =
+    (is_well_formed_expr (outline g) g.number condition && (is_well_formed_stmt (outline g) g.number consequence.0
+    && is_well_formed_stmt (outline g) g.number alternative.0))
+    (λ e. effect.enter number e.visible >>= λ _. value_of condition e >>= λ v. if is_so v then effect_of consequence.0 e else effect_of alternative.0 e)
+if_else_runs g known number condition consequence alternative few place base held s stands good based high deep =
     let s1 : effect.State = record s { visited = s.visited ++ record { number = number; environment = g.environment; store = s.store } ∷ [] } in
     let test = expr_code g.scope condition in
     let yes = place + length test + 1 in
@@ -435,25 +436,25 @@ if_else_runs g number condition consequence alternative few place base held s st
     let e : end ≡ place + length (test ++ (instr.JumpIfFalse no ∷ (code ++ behind))) =
     omega (arith, length-append test (instr.JumpIfFalse no ∷ (code ++ behind)), length-append code behind) in
     let parts = and_parts _ _ good in
-    let next : Bool → Action (Unit {0}) = λ holds. if holds then effect_of consequence.0 g.environment else effect_of alternative.0 g.environment in
-    subst (λ p. Executes g s.turns (on g (base ++ held) place s.output) held p
-    (effect.and_then (value_of condition g.environment s1) (λ v. next (is_so v)))) e
-    (branch_runs g condition no place end base held s1 next front parts.0 (record { full = based.full; alike = based.alike }) (omega arith)
-    (λ holds. elim holds as (λ h. (base2 : List Cell) (t : effect.State) → Based g t.store base2 → Executes g t.turns
-    (on g (base2 ++ held) (if h then yes else no) t.output) held end (next h t)) [
+    let next : Bool → Action (Unit {0}) = λ holds. if holds then effect_of consequence.0 (around g) else effect_of alternative.0 (around g) in
+    subst (λ p. Executes g (on g (base ++ held) place s.output) held p (value_of condition (around g) >>= (λ v. next (is_so v))) s1) e
+    (branch_runs g (known g refl) condition no place end base held s1 next front parts.0 based (omega arith)
+    (λ holds. elim holds as (λ h. (base2 : List Cell) (t : effect.State) → Based g t base2
+    → Executes g (on g (base2 ++ held) (if h then yes else no) t.output) held end (next h) t) [
       | true ↦ λ base2 t based2.
-          behind_executes g t.turns _ held held (yes + length code) end (effect_of consequence.0 g.environment t)
-          (consequence.1 g (omega arith) yes base2 held t (stands_front g.target yes code behind inside) (and_parts _ _ parts.1).0 based2 high (omega arith))
+          behind_executes g _ held held (yes + length code) end (effect_of consequence.0 (around g)) t
+          (consequence.1 g known (omega arith) yes base2 held t (stands_front g.target yes code behind inside) (and_parts _ _ parts.1).0 based2 high
+          (omega arith))
           (λ base3 u based3. comes_less g.target 0 1 _ _ (omega arith) (jumps g end (base3 ++ held) (yes + length code) u.output jump.0))
-      | false ↦ λ base2 t based2. alternative.1 g (omega arith) no base2 held t jump.1 (and_parts _ _ parts.1).1 based2 high (omega arith)
+      | false ↦ λ base2 t based2. alternative.1 g known (omega arith) no base2 held t jump.1 (and_parts _ _ parts.1).1 based2 high (omega arith)
     ]))
 
 -- a while statement
-while_runs : (g : Setting) (number : ℕ) (condition : Expr) (body : (s : Stmt) × StmtRuns s) → repeats body.0 ≤ g.slack
+while_runs : (g : Setting) (known : CallsRun g.depth) (number : ℕ) (condition : Expr) (body : (s : Stmt) × StmtRuns s) → repeats body.0 ≤ g.slack
     → ExecutesAs g (λ scope. while_code (expr_code scope condition) (stmt_code body.0) scope) (max (expr_depth condition) (stmt_depth body.0))
-    (is_well_formed_expr (variables g) (types g) (sites g) condition && is_well_formed_stmt (variables g) (types g) (sites g) body.0)
-    (λ e. effect.enter number e >>= λ _. effect.looped (while_round (value_of condition) (effect_of body.0) e) tt)
-while_runs g number condition body few place base held s stands good based high deep =
+    (is_well_formed_expr (outline g) g.number condition && is_well_formed_stmt (outline g) g.number body.0)
+    (λ e. effect.enter number e.visible >>= λ _. effect.looped (while_round (value_of condition) (effect_of body.0) e) tt)
+while_runs g known number condition body few place base held s stands good based high deep =
     let s1 : effect.State = record s { visited = s.visited ++ record { number = number; environment = g.environment; store = s.store } ∷ [] } in
     let test = expr_code g.scope condition in
     let inside = place + length test + 1 in
@@ -466,60 +467,59 @@ while_runs g number condition body few place base held s stands good based high 
     let jump = stands_back g.target inside code back within in
     let e : end ≡ place + length (test ++ (instr.JumpIfFalse end ∷ (code ++ back))) =
     omega (arith, length-append test (instr.JumpIfFalse end ∷ (code ++ back)), length-append code back) in
-    let parts = and_parts (is_well_formed_expr (variables g) (types g) (sites g) condition) (is_well_formed_stmt (variables g) (types g)
-    (sites g) body.0) good in
+    let parts = and_parts (is_well_formed_expr (outline g) g.number condition) (is_well_formed_stmt (outline g) g.number body.0) good in
     let hold : Unit {0} → List Cell = λ _. held in
-    let round : Round (Unit {0}) = while_round (value_of condition) (effect_of body.0) g.environment in
-    let turns_on : (bound : ℕ) (holds : Bool) (base2 : List Cell) (t : effect.State) → Based g t.store base2 → t.turns ≤ bound → (m : State)
+    let round : Round (Unit {0}) = while_round (value_of condition) (effect_of body.0) (around g) in
+    let turns_on : (bound : ℕ) (holds : Bool) (base2 : List Cell) (t : effect.State) → Based g t base2 → t.turns ≤ bound → (m : State)
     → m.output ≡ t.output → Comes g.target 1 m (on g (base2 ++ held) (if holds then inside else end) t.output)
-    → Rounds g (λ _. Unit {0}) hold place end held 0 bound t.turns m
-    (turn_if holds (effect_of body.0 g.environment) t) =
-    λ bound holds. elim holds as (λ h. (base2 : List Cell) (t : effect.State) → Based g t.store base2 → t.turns ≤ bound → (m : State)
+    → Rounds g (λ _. Unit {0}) hold place end held 0 bound m (turn_if holds (effect_of body.0 (around g))) t =
+    λ bound holds. elim holds as (λ h. (base2 : List Cell) (t : effect.State) → Based g t base2 → t.turns ≤ bound → (m : State)
     → m.output ≡ t.output → Comes g.target 1 m (on g (base2 ++ held) (if h then inside else end) t.output)
-    → Rounds g (λ _. Unit {0}) hold place end held 0 bound t.turns m
-    (turn_if h (effect_of body.0 g.environment) t)) [
+    → Rounds g (λ _. Unit {0}) hold place end held 0 bound m (turn_if h (effect_of body.0 (around g))) t) [
       | true ↦ λ base2 t based2 few' m same came.
-          turned g (λ _. Unit {0}) hold place end held bound t.turns t m (λ _. effect_of body.0 g.environment >>= λ _. give (Some tt)) same (λ left is.
-          rounds_on g (λ _. Unit {0}) hold place end held 0 bound t.turns left m (on g (base2 ++ held) inside t.output)
-          ((effect_of body.0 g.environment >>= λ _. give (Some tt)) (record t { turns = left })) (omega arith)
-          (comes_less g.target (t.turns - left) 1 m _ (omega arith) came)
-          (then_rounds g (λ _. Unit {0}) hold place end held 0 bound left _ held (inside + length code) (effect_of body.0 g.environment (record t {
-            turns =
-                left;
-          }))
-          (λ _. give (Some tt))
-          (body.1 g few inside base2 held (record t { turns = left }) (stands_front g.target inside code back within) parts.1
-          (record { full = based2.full; alike = based2.alike }) high (omega arith))
-          (λ base3 u based3 fewer. (
+          turned g (λ _. Unit {0}) hold place end held bound t m (λ _. effect_of body.0 (around g) >>= λ _. give (Some tt)) same (λ left is.
+          rounds_later g (λ _. Unit {0}) hold place end held 0 bound t.turns m (on g (base2 ++ held) inside t.output)
+          (effect_of body.0 (around g) >>= λ _. give (Some tt)) (record t { turns = left }) (omega (arith, is))
+          (comes_less g.target (t.turns - left) 1 m _ (omega (arith, is)) came)
+          (then_rounds g (λ _. Unit {0}) hold place end held 0 bound _ held (inside + length code) (effect_of body.0 (around g)) (λ _. give (Some tt))
+          (record t { turns = left }) (exact_effect (around g) (exact_around g) body.0)
+          (body.1 g known few inside base2 held (record t { turns = left }) (stands_front g.target inside code back within) parts.1
+          (later g left t base2 (omega (arith, is)) based2) high (omega arith))
+          (λ base3 u based3 fewer. inr (
             base3,
             based3,
             comes_less g.target (u.turns - u.turns + 0) 1 _ _ (omega arith) (jumps g place (base3 ++ held) (inside + length code) u.output jump.0),
-            omega arith,
+            omega (arith, is, fewer),
             tt,
+            omega arith,
           ))))
-      | false ↦ λ base2 t based2 few' m same came. (base2, based2, comes_less g.target (t.turns - t.turns + 0) 1 m _ (omega arith) came, omega arith)
+      | false ↦ λ base2 t based2 few' m same came. inr
+          (base2, based2, comes_less g.target (t.turns - t.turns + 0) 1 m _ (omega arith) came, omega arith)
     ] in
     let runs : RoundRuns g (λ _. Unit {0}) hold place end held round =
     λ start base2 t fits based2.
-    value_rounds g (λ _. Unit {0}) hold place end held 0 t.turns t.turns _ held (place + length test) (value_of condition g.environment t)
-    (λ v. turn_if (is_so v) (effect_of body.0 g.environment))
-    (expr_runs g condition place base2 held t front parts.0 based2 (omega arith))
+    value_rounds g (λ _. Unit {0}) hold place end held 0 t.turns _ held (place + length test) (value_of condition (around g))
+    (λ v. turn_if (is_so v) (effect_of body.0 (around g))) t (exact_value (around g) (exact_around g) condition)
+    (expr_runs g (known g refl) condition place base2 held t front parts.0 based2 (omega arith))
     (λ base3 n u based3 fit fewer.
     turns_on t.turns (frames.is_true n) base3 u based3 fewer _ refl
-    (branches_on g end (base3 ++ held) n (place + length test) u.output here.0 (linked g u.store base3 held based3))) in
-    subst (λ p. Executes g s.turns (on g (base ++ held) place s.output) held p (effect.looped round tt s1)) e
-    (loops g (λ _. Unit {0}) hold place end held round runs tt base s1 tt (record { full = based.full; alike = based.alike }))
+    (branches_on g end (base3 ++ held) n (place + length test) u.output here.0 (linked g u base3 held based3))) in
+    let uses = while_uses (value_of condition) (effect_of body.0) (around g) (whole_value (around g) (exact_around g) condition).0
+    (whole_effect (around g) (exact_around g) body.0).0 in
+    subst (λ p. Executes g (on g (base ++ held) place s.output) held p (effect.looped round tt) s1) e
+    (loops g (λ _. Unit {0}) hold place end held round uses (λ start. exact_while_round (around g) (exact_around g) condition body.0) runs tt base s1 tt based)
 
 -- a repeat statement
-repeat_runs : (g : Setting) (number : ℕ) (condition : Expr) (ss : List ((s : Stmt) × StmtRuns s)) → greatest (map repeats (map (λ x. x.0) ss)) + 1 ≤ g.slack
+repeat_runs : (g : Setting) (known : CallsRun g.depth) (number : ℕ) (condition : Expr) (ss : List ((s : Stmt) × StmtRuns s))
+    → greatest (map repeats (map (λ x. x.0) ss)) + 1 ≤ g.slack
     → ExecutesAs g (λ scope. repeat_code (placed (map (λ code. code scope) (map stmt_code (map (λ x. x.0) ss)))) (expr_code scope condition))
     (max (greatest (map stmt_depth (map (λ x. x.0) ss))) (expr_depth condition))
-    (all_hold (map (is_well_formed_stmt (variables g) (types g) (sites g)) (map (λ x. x.0) ss)) && is_well_formed_expr (variables g) (types g)
-    (sites g) condition)
-    (λ e. effect.enter number e >>= λ _. effect.looped (repeat_round (all_of (map effect_of (map (λ x. x.0) ss))) (value_of condition) e) tt)
-repeat_runs g number condition ss few place base held s stands good based high deep =
+    (all_hold (map (is_well_formed_stmt (outline g) g.number) (map (λ x. x.0) ss)) && is_well_formed_expr (outline g) g.number condition)
+    (λ e. effect.enter number e.visible >>= λ _. effect.looped (repeat_round (all_of (map effect_of (map (λ x. x.0) ss))) (value_of condition) e) tt)
+repeat_runs g known number condition ss few place base held s stands good based high deep =
     let s1 : effect.State = record s { visited = s.visited ++ record { number = number; environment = g.environment; store = s.store } ∷ [] } in
     let h = reset g (g.slack - 1) g.scope.height in
+    let known_there = known h refl in
     let code = placed (map (λ c. c g.scope) (map stmt_code (map (λ x. x.0) ss))) place in
     let test = expr_code g.scope condition in
     let last = place + length code in
@@ -528,83 +528,85 @@ repeat_runs g number condition ss few place base held s stands good based high d
     let behind = stands_back g.target place code (test ++ back) stands in
     let jump = stands_back g.target last test back behind in
     let e : end ≡ place + length (code ++ (test ++ back)) = omega (arith, length-append code (test ++ back), length-append test back) in
-    let parts = and_parts (all_hold (map (is_well_formed_stmt (variables g) (types g) (sites g)) (map (λ x. x.0) ss)))
-    (is_well_formed_expr (variables g) (types g) (sites g) condition) good in
+    let parts = and_parts (all_hold (map (is_well_formed_stmt (outline g) g.number) (map (λ x. x.0) ss)))
+    (is_well_formed_expr (outline g) g.number condition) good in
     let hold : Unit {0} → List Cell = λ _. held in
     let statements = all_of (map effect_of (map (λ x. x.0) ss)) in
-    let round : Round (Unit {0}) = repeat_round statements (value_of condition) g.environment in
-    let decides : (bound : ℕ) (n : ℤ) (base2 : List Cell) (t : effect.State) → Based h t.store base2 → t.turns < bound
-    → Rounds h (λ _. Unit {0}) hold place end held 1 bound
-    t.turns (on g ((base2 ++ held) ++ Number n ∷ []) (last + length test) t.output) (give (if frames.is_true n then None else Some tt) t) =
+    let round : Round (Unit {0}) = repeat_round statements (value_of condition) (around g) in
+    let until : Value → Action (Option (Unit {0})) = λ v. give (if is_so v then None else Some tt) in
+    let rest : Action (Option (Unit {0})) = statements (around g) >>= λ _. value_of condition (around g) >>= until in
+    let decides : (bound : ℕ) (n : ℤ) (base2 : List Cell) (t : effect.State) → Based h t base2 → t.turns < bound
+    → Rounds h (λ _. Unit {0}) hold place end held 1 bound (on g ((base2 ++ held) ++ Number n ∷ []) (last + length test) t.output)
+    (give (if frames.is_true n then None else Some tt)) t =
     λ bound n base2 t based2 fewer.
     (elim (frames.is_true n) as (λ b. Comes g.target 1 (on g ((base2 ++ held) ++ Number n ∷ []) (last + length test) t.output)
     (on g (base2 ++ held) (if b then last + length test + 1 else place) t.output) → Rounds h (λ _. Unit {0}) hold place end held 1 bound
-    t.turns (on g ((base2 ++ held) ++ Number n ∷ []) (last + length test) t.output) (give (if b then None else Some tt) t)) [
-      | true ↦ λ came. (base2, based2, comes_less g.target (t.turns - t.turns + 1) 1 _ _ (omega arith) came, omega arith)
-      | false ↦ λ came. (base2, based2, comes_less g.target (t.turns - t.turns + 1) 1 _ _ (omega arith) came, fewer, tt)
-    ]) (branches_on g place (base2 ++ held) n (last + length test) t.output jump.0 (linked h t.store base2 held based2)) in
-    let inside : (left : ℕ) (base2 : List Cell) (t : effect.State) → t.turns ≡ left → Based h t.store base2
-    → Rounds h (λ _. Unit {0}) hold place end held 1 (suc left) left
-    (on g (base2 ++ held) place t.output)
-    ((statements g.environment >>= λ _. value_of condition g.environment >>= λ v. give (if is_so v then None else Some tt)) t) =
+    (on g ((base2 ++ held) ++ Number n ∷ []) (last + length test) t.output) (give (if b then None else Some tt)) t) [
+      | true ↦ λ came. inr (base2, based2, comes_less g.target (t.turns - t.turns + 1) 1 _ _ (omega arith) came, omega arith)
+      | false ↦ λ came. inr (base2, based2, comes_less g.target (t.turns - t.turns + 1) 1 _ _ (omega arith) came, fewer, tt, omega arith)
+    ]) (branches_on g place (base2 ++ held) n (last + length test) t.output jump.0 (linked h t base2 held based2)) in
+    let inside : (left : ℕ) (base2 : List Cell) (t : effect.State) → t.turns ≡ left → Based h t base2
+    → Rounds h (λ _. Unit {0}) hold place end held 1 (suc left) (on g (base2 ++ held) place t.output) rest t =
     λ left base2 t is based2.
-    then_rounds h (λ _. Unit {0}) hold place end held 1 (suc left) left _ held last (statements g.environment t)
-    (λ _. value_of condition g.environment >>= λ v. give (if is_so v then None else Some tt))
-    (subst (λ n. Executes h n (on g (base2 ++ held) place t.output) held last (statements g.environment t)) is
-    (all_run h stmt_code stmt_depth (is_well_formed_stmt (variables g) (types g) (sites g)) effect_of (map (λ x. x.0) ss)
-    (each_statement h ss 0 (omega arith)) 0 place base2 held t (stands_front g.target place code (test ++ back) stands) parts.0 based2 high (omega arith)))
+    then_rounds h (λ _. Unit {0}) hold place end held 1 (suc left) _ held last (statements (around g)) (λ _. value_of condition (around g) >>= until) t
+    (exact_statements (around g) (exact_around g) (map (λ x. x.0) ss))
+    (all_run h known_there stmt_code stmt_depth (is_well_formed_stmt (outline g) g.number) effect_of (exact_effect (around g) (exact_around g))
+    (map (λ x. x.0) ss)
+    (each_statement h known ss 0 (omega arith)) 0 place base2 held t (stands_front g.target place code (test ++ back) stands) parts.0 based2 high (omega arith))
     (λ base3 u based3 fewer.
-    value_rounds h (λ _. Unit {0}) hold place end held 1 (suc left) u.turns _ held (last + length test) (value_of condition g.environment u)
-    (λ v. give (if is_so v then None else Some tt))
-    (expr_runs h condition last base3 held u (stands_front g.target last test back behind) parts.1 based3 (omega arith))
-    (λ base4 n w based4 fit fewest. decides (suc left) n base4 w based4 (omega arith))) in
+    value_rounds h (λ _. Unit {0}) hold place end held 1 (suc left) _ held (last + length test) (value_of condition (around g)) until u
+    (exact_value (around g) (exact_around g) condition)
+    (expr_runs h known_there condition last base3 held u (stands_front g.target last test back behind) parts.1 based3 (omega arith))
+    (λ base4 n w based4 fit fewest. decides (suc left) n base4 w based4 (omega (arith, is, fewer, fewest)))) in
     let runs : RoundRuns g (λ _. Unit {0}) hold place end held round =
     λ start base2 t fits based2.
-    turned g (λ _. Unit {0}) hold place end held t.turns t.turns t _ (λ _. statements g.environment >>= λ _. value_of condition g.environment >>= λ v. give
-    (if is_so v then None else Some tt)) refl (λ left is.
-    subst (λ n. Rounds g (λ _. Unit {0}) hold place end held 0 n n (on g (base2 ++ held) place t.output)
-    ((statements g.environment >>= λ _. value_of condition g.environment >>= λ v. give (if is_so v then None else Some tt)) (record t { turns = left })))
+    turned g (λ _. Unit {0}) hold place end held t.turns t _ (λ _. rest) refl (λ left is.
+    subst (λ n. RoundsBehind g (λ _. Unit {0}) hold place end held 0 n n (on g (base2 ++ held) place t.output) rest (record t { turns = left }))
     (sym is)
-    (rounds_from_reset g (g.slack - 1) g.scope.height (λ _. Unit {0}) hold place end held left _ _ (omega arith)
-    (inside left base2 (record t { turns = left }) refl (record { full = based2.full; alike = based2.alike })))) in
-    subst (λ p. Executes g s.turns (on g (base ++ held) place s.output) held p (effect.looped round tt s1)) e
-    (loops g (λ _. Unit {0}) hold place end held round runs tt base s1 tt (record { full = based.full; alike = based.alike }))
+    (rounds_from_reset g (g.slack - 1) g.scope.height (λ _. Unit {0}) hold place end held left _ rest (record t { turns = left }) (omega arith) refl
+    (inside left base2 (record t { turns = left }) refl
+    (to_reset g (g.slack - 1) g.scope.height (record t { turns = left }) base2 (later g left t base2 (omega (arith, is)) based2))))) in
+    let uses = repeat_uses statements (value_of condition) (around g) (whole_effects (around g) (exact_around g) (map (λ x. x.0) ss)).0
+    (whole_value (around g) (exact_around g) condition).0 in
+    subst (λ p. Executes g (on g (base ++ held) place s.output) held p (effect.looped round tt) s1) e
+    (loops g (λ _. Unit {0}) hold place end held round uses (λ start. exact_repeat_round (around g) (exact_around g) (map (λ x. x.0) ss) condition) runs tt
+    base s1 tt based)
 
 -- ---- a for statement
 
 -- the bounds that are held are compared as the direction says, and a jump is taken where they leave no value
-ordered : (g : Setting) (store : _) (base held : List Cell) (n l : ℤ) (output : List ℕ) (way : Direction) (place out : ℕ) → Based g store base
+ordered : (g : Setting) (s : effect.State) (base held : List Cell) (n l : ℤ) (output : List ℕ) (way : Direction) (place out : ℕ) → Based g s base
     → length held ≡ g.scope.height → g.below + length held + 4 ≤ g.limit → Here g place (instr.Load 0 (held_offset g.scope 0))
     → Here g (place + 1) (instr.Load 0 (held_offset g.scope 1))
     → StandsAt g.target (place + 1 + 1) (order_instr way) (stays g.target.is_open (order_instr way))
     → StandsAt g.target (place + 1 + 1 + 1) (instr.JumpIfFalse out) true
     → Comes g.target 4 (on g (base ++ (held ++ Number n ∷ Number l ∷ [])) place output)
     (on g (base ++ (held ++ Number n ∷ Number l ∷ [])) (if has_values way n l then place + 4 else out) output)
-ordered g store base held n l output direction.To place out based high room at1 at2 at3 at4 =
-    decides g store base held n l output based high room instr.LessOrEqual (frames.of_two dyadic.LessOrEqual) (int_le n l) place out at1 at2 at3 at4
+ordered g s base held n l output direction.To place out based high room at1 at2 at3 at4 =
+    decides g s base held n l output based high room instr.LessOrEqual (frames.of_two dyadic.LessOrEqual) (int_le n l) place out at1 at2 at3 at4
     (λ s. refl) refl
-ordered g store base held n l output direction.DownTo place out based high room at1 at2 at3 at4 =
-    decides g store base held n l output based high room instr.GreaterOrEqual (frames.of_two dyadic.GreaterOrEqual) (int_le l n) place out at1 at2 at3 at4
+ordered g s base held n l output direction.DownTo place out based high room at1 at2 at3 at4 =
+    decides g s base held n l output based high room instr.GreaterOrEqual (frames.of_two dyadic.GreaterOrEqual) (int_le l n) place out at1 at2 at3 at4
     (λ s. refl) refl
 
 -- the next value is held, and the next round begins
-stepped : (g : Setting) (store : _) (base held : List Cell) (n l : ℤ) (output : List ℕ) (way : Direction) (place head : ℕ) → Based g store base
+stepped : (g : Setting) (s : effect.State) (base held : List Cell) (n l : ℤ) (output : List ℕ) (way : Direction) (place head : ℕ) → Based g s base
     → length held ≡ g.scope.height → g.below + length held + 4 ≤ g.limit → Fits n → Fits (next_value way n)
     → Here g place (instr.Load 0 (held_offset g.scope 0)) → Here g (place + 1) (instr.LoadConstant (pos 1))
     → StandsAt g.target (place + 1 + 1) (next_instr way) (stays g.target.is_open (next_instr way))
     → Here g (place + 1 + 1 + 1) (instr.Store 0 (held_offset g.scope 0)) → StandsAt g.target (place + 1 + 1 + 1 + 1) (instr.Jump head) true
     → Comes g.target 1 (on g (base ++ (held ++ Number n ∷ Number l ∷ [])) place output)
     (on g (base ++ (held ++ Number (next_value way n) ∷ Number l ∷ [])) head output)
-stepped g store base held n l output direction.To place head based high room fit fit' at1 at2 at3 at4 at5 =
-    steps g store base held n l output based high room instr.Add (frames.of_two dyadic.Add) (n +ℤ pos 1) place head at1 at2 at3 at4 at5 (λ s. refl)
+stepped g s base held n l output direction.To place head based high room fit fit' at1 at2 at3 at4 at5 =
+    steps g s base held n l output based high room instr.Add (frames.of_two dyadic.Add) (n +ℤ pos 1) place head at1 at2 at3 at4 at5 (λ s. refl)
     (sum_is n (pos 1) fit one_fits fit')
-stepped g store base held n l output direction.DownTo place head based high room fit fit' at1 at2 at3 at4 at5 =
-    steps g store base held n l output based high room instr.Subtract (frames.of_two dyadic.Subtract) (n -ℤ pos 1) place head at1 at2 at3 at4 at5 (λ s. refl)
+stepped g s base held n l output direction.DownTo place head based high room fit fit' at1 at2 at3 at4 at5 =
+    steps g s base held n l output based high room instr.Subtract (frames.of_two dyadic.Subtract) (n -ℤ pos 1) place head at1 at2 at3 at4 at5 (λ s. refl)
     (difference_is n (pos 1) fit one_fits fit')
 
-module _ (g : Setting) (control : ℕ) (scalar : IsScalar g control) (way : Direction) (body : (s : Stmt) × StmtRuns s)
+module _ (g : Setting) (known : CallsRun g.depth) (control : ℕ) (scalar : IsScalar g control) (way : Direction) (body : (s : Stmt) × StmtRuns s)
     (few : repeats body.0 ≤ g.slack)
-    (good : is_well_formed_stmt g.tree.variables.items g.tree.types (length g.tree.sites.items) body.0 ≡ true) (head : ℕ) (held : List Cell)
+    (good : is_well_formed_stmt (outline g) g.number body.0 ≡ true) (head : ℕ) (held : List Cell)
     (high : length held ≡ g.scope.height) (room : g.below + length held + max 4 (stmt_depth body.0 + 2) ≤ g.limit) (l : ℤ) (fit_last : Fits l) where
   abbrev inner : Setting
   inner = reset g g.slack (count (g.scope.height + 2))
@@ -625,18 +627,18 @@ module _ (g : Setting) (control : ℕ) (scalar : IsScalar g control) (way : Dire
   fit n = Fits n × (has_values way n l ≡ true)
 
   abbrev round : Round ℤ
-  round = for_round control way l (effect_of body.0) g.environment
+  round = for_round control way l (effect_of body.0) (around g)
 
   enough : g.below + length held + 4 ≤ g.limit
   enough = omega arith
 
   -- behind the body
-  turns_back : (n : ℤ) (base : List Cell) (s : effect.State) (bound : ℕ) (same : Bool) → int_eq n l ≡ same → fit n → s.turns < bound → Based g s.store base
+  turns_back : (n : ℤ) (base : List Cell) (s : effect.State) (bound : ℕ) (same : Bool) → int_eq n l ≡ same → fit n → s.turns < bound → Based g s base
       → Stands g.target behind (for_next g.scope way head out)
       → Comes g.target 4 (on g (base ++ hold n) behind s.output) (on g (base ++ hold n) (if not same then behind + 4 else out) s.output)
-      → Rounds g fit hold head out (hold l) 0 bound s.turns (on g (base ++ hold n) behind s.output)
-      (give (if same then None else Some (next_value way n)) s)
-  turns_back n base s bound true is fits fewer based stands came = (
+      → Rounds g fit hold head out (hold l) 0 bound (on g (base ++ hold n) behind s.output)
+      (give (if same then None else Some (next_value way n))) s
+  turns_back n base s bound true is fits fewer based stands came = inr (
     base,
     based,
     comes_less g.target (s.turns - s.turns + 0) 4 _ _ (omega arith)
@@ -647,14 +649,16 @@ module _ (g : Setting) (control : ℕ) (scalar : IsScalar g control) (way : Dire
       let next = next_fits way n l fits.0 fit_last fits.1 is in
       let p : behind + 1 + 1 + 1 + 1 ≡ behind + 4 = omega arith in
       let rest = stands.1.1.1.1 in
-      let again = stepped g s.store base held n l s.output way (behind + 1 + 1 + 1 + 1) head based high enough fits.0 next.fits rest.0 rest.1.0 rest.1.1.0
+      let again = stepped g s base held n l s.output way (behind + 1 + 1 + 1 + 1) head based high enough fits.0 next.fits rest.0 rest.1.0 rest.1.1.0
       rest.1.1.1.0 rest.1.1.1.1.0 in
-      let from = subst (λ q. Comes g.target 1 (on g (base ++ hold n) q s.output) (on g (base ++ hold (next_value way n)) head s.output)) p again in (
+      let from = subst (λ q. Comes g.target 1 (on g (base ++ hold n) q s.output) (on g (base ++ hold (next_value way n)) head s.output)) p again in
+      inr (
         base,
         based,
         comes_less g.target (s.turns - s.turns + 0) 5 _ _ (omega arith) (comes_on g.target 4 1 _ _ _ came from),
         fewer,
         (next.fits, next.has),
+        omega arith,
       )
 
   for_round_runs : Stands g.target head (for_begin g.scope control) → Stands g.target (head + 2) body_code
@@ -662,111 +666,121 @@ module _ (g : Setting) (control : ℕ) (scalar : IsScalar g control) (way : Dire
   for_round_runs beginning inside next n base s fits based =
       let s1 : effect.State = record s { store = kept s.store (g.environment.variables control) (value.Number n) } in
       let base1 = slice_set base (slot g control scalar) (Number n) in
-      let based1 = variable_kept g control scalar s.store base n based fits.0 in
-      let came = begins g s.store base held n l s.output based high enough control head scalar fits.0 beginning.0 beginning.1.0 in
+      let based1 = variable_kept g control scalar s base n based fits.0 in
+      let came = begins g s base held n l s.output based high enough control head scalar fits.0 beginning.0 beginning.1.0 in
       let long : length (hold n) ≡ length held + 2 = length-append held (Number n ∷ Number l ∷ []) in
-      let reach = g.far in
-      turned g fit hold head out (hold l) s.turns s.turns s1 _ (λ _. effect_of body.0 g.environment >>= λ _. give (value_behind way l n)) refl (λ left is.
-      rounds_on g fit hold head out (hold l) 0 s.turns s.turns left _ (on g (base1 ++ hold n) (head + 2) s.output)
-      ((effect_of body.0 g.environment >>= λ _. give (value_behind way l n)) (record s1 { turns = left })) (omega arith)
-      (comes_less g.target (s.turns - left) 2 _ _ (omega arith) came)
-      (then_rounds g fit hold head out (hold l) 0 s.turns left _ (hold n) behind (effect_of body.0 g.environment (record s1 { turns = left }))
-      (λ _. give (value_behind way l n))
-      (executes_from_reset g g.slack (count (g.scope.height + 2)) left _ (hold n) behind (effect_of body.0 g.environment (record s1 { turns = left })) refl
-      (body.1 inner few (head + 2) base1 (hold n) (record s1 { turns = left }) inside good (record { full = based1.full; alike = based1.alike })
+      let reach = limit_far g in
+      let body_action = effect_of body.0 (around g) in
+      turned g fit hold head out (hold l) s.turns s1 _ (λ _. body_action >>= λ _. give (value_behind way l n)) refl (λ left is.
+      rounds_later g fit hold head out (hold l) 0 s.turns s.turns _ (on g (base1 ++ hold n) (head + 2) s.output)
+      (body_action >>= λ _. give (value_behind way l n)) (record s1 { turns = left }) (omega (arith, is))
+      (comes_less g.target (s.turns - left) 2 _ _ (omega (arith, is)) came)
+      (then_rounds g fit hold head out (hold l) 0 s.turns _ (hold n) behind body_action (λ _. give (value_behind way l n)) (record s1 { turns = left })
+      (exact_effect (around g) (exact_around g) body.0)
+      (executes_from_reset g g.slack (count (g.scope.height + 2)) _ (hold n) behind body_action (record s1 { turns = left }) refl
+      (body.1 inner known few (head + 2) base1 (hold n) (record s1 { turns = left }) inside good
+      (to_reset g g.slack (count (g.scope.height + 2)) (record s1 { turns = left }) base1 (later g left s1 base1 (omega (arith, is)) based1))
       (omega (arith, long, high, reach, room)) (omega (arith, long, room))))
       (λ base2 u based2 fewer.
       turns_back n base2 u s.turns (int_eq n l) refl fits (omega (arith, is, fewer)) based2 next
-      (decides g u.store base2 held n l u.output based2 high enough instr.NotEqual (frames.of_two dyadic.NotEqual) (not (int_eq n l)) behind out
+      (decides g u base2 held n l u.output based2 high enough instr.NotEqual (frames.of_two dyadic.NotEqual) (not (int_eq n l)) behind out
       next.0 next.1.0 next.1.1.0 next.1.1.1.0 (λ s. refl) refl))))
+
+  uses : UsesTurns round
+  uses = for_uses control way l (effect_of body.0) (around g) (whole_effect (around g) (exact_around g) body.0).0
+
+  exact_rounds : (n : ℤ) → UsesTurnsExactly (round n)
+  exact_rounds n = exact_for_round (around g) (exact_around g) control way l body.0 n
 
   -- behind the loop
   module _ (ending : Stands g.target out (for_end g.scope control)) where
-    leaves_it : (n : ℤ) (base : List Cell) (s : effect.State) → Fits n → Based g s.store base
-        → Executes g s.turns (on g (base ++ hold n) out s.output) held (out + 4) (effect.undefine (g.environment.variables control) s)
+    leaves_it : (n : ℤ) (base : List Cell) (s : effect.State) → Fits n → Based g s base
+        → Executes g (on g (base ++ hold n) out s.output) held (out + 4) (effect.undefine (g.environment.variables control)) s
     leaves_it n base s fits based =
         let c = slot g control scalar in
-        let based' = variable_forgotten g control scalar s.store base based in
-        done g 4 _ (slice_set base c Undefined) held (out + 4) (record s { store = forgotten s.store (g.environment.variables control) })
-        (record { full = based'.full; alike = based'.alike })
-        (leaves g s.store base held n l s.output based high enough control out scalar fits fit_last ending.0 ending.1.0 ending.1.1.0 ending.1.1.1.0)
+        let based' = variable_forgotten g control scalar s base based in
+        inr (done g 4 _ (slice_set base c Undefined) held (out + 4) (record s { store = forgotten s.store (g.environment.variables control) })
+        based'
+        (leaves g s base held n l s.output based high enough control out scalar fits fit_last ending.0 ending.1.0 ending.1.1.0 ending.1.1.1.0))
 
     module _ (first_fits last_fits : RangeTest) (site_first : first_fits.site < length g.tree.sites.items) (site_last : last_fits.site < length
         g.tree.sites.items) (place : ℕ) (at : place + 8 ≡ head) (entry : Stands g.target place (for_entry g.scope first_fits way last_fits out))
         (beginning : Stands g.target head (for_begin g.scope control)) (inside : Stands g.target (head + 2) body_code)
         (next : Stands g.target behind (for_next g.scope way head out)) where
       -- the tests of the bounds, and the rounds
-      tested : (n : ℤ) (base : List Cell) (s : effect.State) → Fits n → has_values way n l ≡ true → Based g s.store base
-          → Executes g s.turns (on g (base ++ hold n) (place + 4) s.output) (hold l) out
-          (for_rounds control first_fits way last_fits (effect_of body.0) g.environment n l s)
+      tested : (n : ℤ) (base : List Cell) (s : effect.State) → Fits n → has_values way n l ≡ true → Based g s base
+          → Executes g (on g (base ++ hold n) (place + 4) s.output) (hold l) out
+          (for_rounds control first_fits way last_fits (effect_of body.0) (around g) n l) s
       tested n base s fits has based =
           let here = base ++ hold n in
           let one = held ++ Number n ∷ [] in
           let rest = entry.1.1.1.1 in
-          let in_frame = linked g s.store base (hold n) based in
+          let in_frame = linked g s base (hold n) based in
           let full = based.full in
           let long : length here ≡ g.below + length held + 2 = omega (arith, length-append base (hold n), length-append held (Number n ∷ Number l ∷ [])) in
           let p : place + 1 + 1 + 1 + 1 ≡ place + 4 = omega arith in
           let q : place + 1 + 1 + 1 + 1 + 1 + 1 + 1 + 1 ≡ head = omega (arith, at) in
-          let a = loads_held g s.store base held (Number n ∷ Number l ∷ []) [] here 0 (Number n) (place + 1 + 1 + 1 + 1) s.output based high
+          let a = loads_held g s base held (Number n ∷ Number l ∷ []) [] here 0 (Number n) (place + 1 + 1 + 1 + 1) s.output based high
           (sym (append-nil here)) refl (omega arith) rest.0 in
-          let b = stores_held g s.store base held (Number n ∷ Number l ∷ []) (here ++ Number n ∷ []) 0 (Number n) (place + 1 + 1 + 1 + 1 + 1 + 1) s.output based
+          let b = stores_held g s base held (Number n ∷ Number l ∷ []) (here ++ Number n ∷ []) 0 (Number n) (place + 1 + 1 + 1 + 1 + 1 + 1) s.output based
           high refl (omega arith) (omega arith) rest.1.1.0 in
           let split : here ≡ (base ++ one) ++ Number l ∷ [] = ap (λ cs. base ++ cs) (sym (append_assoc held (Number n ∷ []) (Number l ∷ [])))
           ∙ sym (append_assoc base one (Number l ∷ [])) in
-          let in_frame' = linked g s.store base one based in
-          let loop = subst (λ m. Executes g s.turns (on g here m s.output) (hold l) out (effect.looped round n s)) (sym q)
-          (loops g fit hold head out (hold l) round (for_round_runs beginning inside next) n base s (fits, has) based) in
+          let in_frame' = linked g s base one based in
+          let loop = subst (λ m. Executes g (on g here m s.output) (hold l) out (effect.looped round n) s) (sym q)
+          (loops g fit hold head out (hold l) round uses exact_rounds (for_round_runs beginning inside next) n base s (fits, has) based) in
           let last' = tests g last_fits (base ++ one) (hold l) l (place + 1 + 1 + 1 + 1 + 1 + 1 + 1) out s (effect.looped round n) fit_last rest.1.1.1.0
           site_last
-          in_frame' (subst (λ cs. Executes g s.turns (on g cs (place + 1 + 1 + 1 + 1 + 1 + 1 + 1 + 1) s.output) (hold l) out (effect.looped round n s)) split
+          in_frame' (subst (λ cs. Executes g (on g cs (place + 1 + 1 + 1 + 1 + 1 + 1 + 1 + 1) s.output) (hold l) out (effect.looped round n) s) split
           loop) in
-          let last_here = subst (λ cs. Executes g s.turns (on g cs (place + 1 + 1 + 1 + 1 + 1 + 1 + 1) s.output) (hold l) out
-          (effect.and_then (require (effect.is_in last_fits.range (value.Number l)) last_fits.site s) (λ _. effect.looped round n))) (sym split) last' in
-          subst (λ m. Executes g s.turns (on g here m s.output) (hold l) out
-          (for_rounds control first_fits way last_fits (effect_of body.0) g.environment n l s)) p
-          (executes_from g 1 s.turns _ _ (hold l) out (for_rounds control first_fits way last_fits (effect_of body.0) g.environment n l s) a
+          let last_here = subst (λ cs. Executes g (on g cs (place + 1 + 1 + 1 + 1 + 1 + 1 + 1) s.output) (hold l) out
+          (require (effect.is_in last_fits.range (value.Number l)) last_fits.site >>= (λ _. effect.looped round n)) s) (sym split) last' in
+          subst (λ m. Executes g (on g here m s.output) (hold l) out (for_rounds control first_fits way last_fits (effect_of body.0) (around g) n l) s) p
+          (executes_from g 1 _ _ (hold l) out (for_rounds control first_fits way last_fits (effect_of body.0) (around g) n l) s a
           (tests g first_fits here (hold l) n (place + 1 + 1 + 1 + 1 + 1) out s
           (require (effect.is_in last_fits.range (value.Number l)) last_fits.site >>= λ _. effect.looped round n) fits rest.1.0 site_first in_frame
-          (executes_from g 1 s.turns _ _ (hold l) out
-          (effect.and_then (require (effect.is_in last_fits.range (value.Number l)) last_fits.site s) (λ _. effect.looped round n)) b last_here)))
+          (executes_from g 1 _ _ (hold l) out (require (effect.is_in last_fits.range (value.Number l)) last_fits.site >>= (λ _. effect.looped round n)) s b
+          last_here)))
 
       -- from the values of the bounds on
-      from_bounds : (n : ℤ) (base : List Cell) (s : effect.State) (has : Bool) → has_values way n l ≡ has → Fits n → Based g s.store base
+      from_bounds : (n : ℤ) (base : List Cell) (s : effect.State) (has : Bool) → has_values way n l ≡ has → Fits n → Based g s base
           → Comes g.target 4 (on g (base ++ hold n) place s.output) (on g (base ++ hold n) (if has then place + 4 else out) s.output)
-          → Executes g s.turns (on g (base ++ hold n) place s.output) held (out + 4)
-          (((if has then for_rounds control first_fits way last_fits (effect_of body.0) g.environment n l else give tt) >>= λ _. effect.undefine
-          (g.environment.variables control)) s)
+          → Executes g (on g (base ++ hold n) place s.output) held (out + 4)
+          (((if has then for_rounds control first_fits way last_fits (effect_of body.0) (around g) n l else give tt) >>= λ _. effect.undefine
+          (g.environment.variables control))) s
       from_bounds n base s true has fits based came =
-          executes_from g 4 s.turns _ _ held (out + 4)
-          ((for_rounds control first_fits way last_fits (effect_of body.0) g.environment n l >>= λ _. effect.undefine (g.environment.variables control)) s) came
-          (then_leaves g s.turns _ (hold l) held out (out + 4) (for_rounds control first_fits way last_fits (effect_of body.0) g.environment n l s)
-          (λ _. effect.undefine (g.environment.variables control)) (tested n base s fits has based)
+          executes_from g 4 _ _ held (out + 4) ((for_rounds control first_fits way last_fits (effect_of body.0) (around g) n l >>= λ _. effect.undefine
+          (g.environment.variables control))) s came
+          (then_executes g _ (hold l) held out (out + 4) (for_rounds control first_fits way last_fits (effect_of body.0) (around g) n l)
+          (λ _. effect.undefine (g.environment.variables control)) s
+          (exact_for_rounds (around g) (exact_around g) control first_fits way last_fits body.0 n l) (tested n base s fits has based)
           (λ base2 t based2. leaves_it l base2 t fit_last based2))
       from_bounds n base s false has fits based came =
-          executes_from g 4 s.turns _ _ held (out + 4) (effect.undefine (g.environment.variables control) s) came (leaves_it n base s fits based)
+          executes_from g 4 _ _ held (out + 4) (effect.undefine (g.environment.variables control)) s came (leaves_it n base s fits based)
 
-      for_between_runs : (n : ℤ) (base : List Cell) (s : effect.State) → Fits n → Based g s.store base
-          → Executes g s.turns (on g (base ++ hold n) place s.output) held (out + 4)
-          ((for_between control first_fits way last_fits (effect_of body.0) g.environment (value.Number n) (value.Number l) >>= λ _. effect.undefine
-          (g.environment.variables control)) s)
+      for_between_runs : (n : ℤ) (base : List Cell) (s : effect.State) → Fits n → Based g s base
+          → Executes g (on g (base ++ hold n) place s.output) held (out + 4)
+          ((for_between control first_fits way last_fits (effect_of body.0) (around g) (value.Number n) (value.Number l) >>= λ _. effect.undefine
+          (g.environment.variables control))) s
       for_between_runs n base s fits based =
           from_bounds n base s (has_values way n l) refl fits based
-          (ordered g s.store base held n l s.output way place out based high enough entry.0 entry.1.0 entry.1.1.0 entry.1.1.1.0)
+          (ordered g s base held n l s.output way place out based high enough entry.0 entry.1.0 entry.1.1.0 entry.1.1.1.0)
 
-for_runs : (g : Setting) (number control : ℕ) (first : Expr) (first_fits : RangeTest) (way : Direction) (last : Expr) (last_fits : RangeTest)
+for_runs : (g : Setting) (known : CallsRun g.depth) (number control : ℕ) (first : Expr) (first_fits : RangeTest) (way : Direction) (last : Expr)
+    (last_fits : RangeTest)
     (body : (s : Stmt) × StmtRuns s) → repeats body.0 ≤ g.slack
     → ExecutesAs g (λ scope. for_code control (expr_code scope first) first_fits way (expr_code scope last) last_fits (stmt_code body.0) scope)
     (max (max (expr_depth first) (expr_depth last + 1)) (max 4 (stmt_depth body.0 + 2)))
-    (leads_to_ordinal (variables g) (types g) (sites g) control [] 0 && (is_well_formed_expr (variables g) (types g) (sites g) first && (is_well_formed_test
-    (variables g) (types g) (sites g) first_fits &&
-    (is_well_formed_expr (variables g) (types g) (sites g) last && (is_well_formed_test (variables g) (types g) (sites g) last_fits && is_well_formed_stmt
-    (variables g) (types g) (sites g)
+    (is_control (outline g) g.number control && (is_well_formed_expr (outline g) g.number first && (is_well_formed_test
+    (outline g) g.number first_fits &&
+    (is_well_formed_expr (outline g) g.number last && (is_well_formed_test (outline g) g.number last_fits && is_well_formed_stmt
+    (outline g) g.number
     body.0)))))
-    (λ e. effect.enter number e >>= λ _. value_of first e >>= λ a. value_of last e >>= λ b. for_between control first_fits way last_fits (effect_of body.0) e
+    (λ e. effect.enter number e.visible >>= λ _. value_of first e >>= λ a. value_of last e >>= λ b. for_between control first_fits way last_fits
+    (effect_of body.0) e
     a b
-    >>= λ _. effect.undefine (e.variables control))
-for_runs g number control first first_fits way last last_fits body few place base held s stands good based high deep =
+    >>= λ _. effect.undefine (e.visible.variables control))
+for_runs g known number control first first_fits way last last_fits body few place base held s stands good based high deep =
     let s1 : effect.State = record s { visited = s.visited ++ record { number = number; environment = g.environment; store = s.store } ∷ [] } in
     let a = expr_code g.scope first in
     let b = expr_code g.scope last in
@@ -792,38 +806,40 @@ for_runs g number control first first_fits way last last_fits body few place bas
     let at_end = stands_back g.target (head + 2 + length inside) next end from_next in
     let e : out' + 4 ≡ place + length (for_code control a first_fits way b last_fits (stmt_code body.0) g.scope place) =
     omega (arith, length-For control a first_fits way b last_fits (stmt_code body.0) g.scope place) in
-    let p1 = and_parts (leads_to_ordinal (variables g) (types g) (sites g) control [] 0) _ good in
-    let p2 = and_parts (is_well_formed_expr (variables g) (types g) (sites g) first) _ p1.1 in
-    let p3 = and_parts (is_well_formed_test (variables g) (types g) (sites g) first_fits) _ p2.1 in
-    let p4 = and_parts (is_well_formed_expr (variables g) (types g) (sites g) last) _ p3.1 in
-    let p5 = and_parts (is_well_formed_test (variables g) (types g) (sites g) last_fits) (is_well_formed_stmt (variables g) (types g) (sites g) body.0) p4.1 in
+    let p1 = and_parts (is_control (outline g) g.number control) _ good in
+    let p2 = and_parts (is_well_formed_expr (outline g) g.number first) _ p1.1 in
+    let p3 = and_parts (is_well_formed_test (outline g) g.number first_fits) _ p2.1 in
+    let p4 = and_parts (is_well_formed_expr (outline g) g.number last) _ p3.1 in
+    let p5 = and_parts (is_well_formed_test (outline g) g.number last_fits) (is_well_formed_stmt (outline g) g.number body.0) p4.1 in
     let site_first = ltb-true first_fits.site (sites g) (and_parts (nat_lt first_fits.site (sites g)) _ p3.0).0 in
     let site_last = ltb-true last_fits.site (sites g) (and_parts (nat_lt last_fits.site (sites g)) _ p5.0).0 in
     let scalar = is_scalar g control p1.0 in
-    let rest : Value → Value → Action (Unit {0}) = λ v w. for_between control first_fits way last_fits (effect_of body.0) g.environment v w >>= λ _.
+    let rest : Value → Value → Action (Unit {0}) = λ v w. for_between control first_fits way last_fits (effect_of body.0) (around g) v w >>= λ _.
     effect.undefine (g.environment.variables control) in
-    subst (λ q. Executes g s.turns (on g (base ++ held) place s.output) held q
-    (effect.and_then (value_of first g.environment s1) (λ v. value_of last g.environment >>= λ w. rest v w))) e
-    (after_value g s.turns _ held held (place + length a) (out' + 4) (value_of first g.environment s1) (λ v. value_of last g.environment >>= λ w. rest v w)
-    (expr_runs g first place base held s1 at_a p2.0 (record { full = based.full; alike = based.alike }) (omega arith))
+    subst (λ q. Executes g (on g (base ++ held) place s.output) held q (value_of first (around g) >>= (λ v. value_of last (around g) >>= λ w. rest v w)) s1) e
+    (after_value g _ held held (place + length a) (out' + 4) (value_of first (around g)) (λ v. value_of last (around g) >>= λ w. rest v w) s1
+    (exact_value (around g) (exact_around g) first)
+    (expr_runs g (known g refl) first place base held s1 at_a p2.0 based (omega arith))
     (λ base2 n t based2 fit.
     let more : length (held ++ Number n ∷ []) ≡ length held + 1 = length_one held (Number n) in
-    subst (λ cells. Executes g t.turns (on g cells (place + length a) t.output) held (out' + 4)
-    (effect.and_then (value_of last g.environment t) (rest (value.Number n)))) (one_held g base2 held n)
-    (after_value g t.turns _ (held ++ Number n ∷ []) held test (out' + 4) (value_of last g.environment t) (rest (value.Number n))
-    (expr_runs g last (place + length a) base2 (held ++ Number n ∷ []) t at_b p4.0 based2 (omega (arith, more)))
+    subst (λ cells. Executes g (on g cells (place + length a) t.output) held (out' + 4) (value_of last (around g) >>= (rest (value.Number n))) t)
+    (one_held g base2 held n)
+    (after_value g _ (held ++ Number n ∷ []) held test (out' + 4) (value_of last (around g)) (rest (value.Number n)) t
+    (exact_value (around g) (exact_around g) last)
+    (expr_runs g (known g refl) last (place + length a) base2 (held ++ Number n ∷ []) t at_b p4.0 based2 (omega (arith, more)))
     (λ base3 l u based3 fit'.
     let two : (base3 ++ (held ++ Number n ∷ [])) ++ Number l ∷ [] ≡ base3 ++ (held ++ Number n ∷ Number l ∷ []) =
     append_assoc base3 (held ++ Number n ∷ []) (Number l ∷ []) ∙ ap (λ cs. base3 ++ cs) (append_assoc held (Number n ∷ []) (Number l ∷ [])) in
-    subst (λ cells. Executes g u.turns (on g cells test u.output) held (out' + 4) (rest (value.Number n) (value.Number l) u)) (sym two)
-    (for_between_runs g control scalar way body few p5.1 head held high (omega arith) l fit' at_end first_fits last_fits site_first site_last test refl at_entry
+    subst (λ cells. Executes g (on g cells test u.output) held (out' + 4) (rest (value.Number n) (value.Number l)) u) (sym two)
+    (for_between_runs g known control scalar way body few p5.1 head held high (omega arith) l fit' at_end first_fits last_fits site_first site_last test refl
+    at_entry
     at_begin at_inside at_next n base3 u fit based3)))))
 
 -- ---- a case statement
 
 -- a conditional jump to the next instruction takes a number away
 popped_there : (g : Setting) (below : List Cell) (n : ℤ) (place : ℕ) (output : List ℕ) → StandsAt g.target place (instr.JumpIfFalse (place + 1)) true
-    → g.running.frame + 4 ≤ length below → Comes g.target 0 (on g (below ++ Number n ∷ []) place output) (on g below (place + 1) output)
+    → g.frame + 4 ≤ length below → Comes g.target 0 (on g (below ++ Number n ∷ []) place output) (on g below (place + 1) output)
 popped_there g below n place output stands in_frame =
     let both : (b : Bool) → Comes g.target 1 (on g (below ++ Number n ∷ []) place output) (on g below (if b then place + 1 else place + 1) output)
     → Comes g.target 1 (on g (below ++ Number n ∷ []) place output) (on g below (place + 1) output) =
@@ -858,21 +874,21 @@ length-row : (scope : Scope) (arm arm' : ℕ) (row : List ℤ) → length (row_c
 length-row scope arm arm' [] = refl
 length-row scope arm arm' (constant ∷ row) = let e = length-row scope arm arm' row in omega arith
 
-module _ (g : Setting) (site : ℕ) (within : site < length g.tree.sites.items) (out : ℕ) (behind : List Instr) (held : List Cell)
+module _ (g : Setting) (known : CallsRun g.depth) (site : ℕ) (within : site < length g.tree.sites.items) (out : ℕ) (behind : List Instr) (held : List Cell)
     (high : length held ≡ g.scope.height) (n : ℤ) where
   abbrev index : List Cell
   index = held ++ Number n ∷ []
 
   no_arm : (place : ℕ) (base : List Cell) (s : effect.State) → Stands g.target place (instr.Fail site ∷ behind)
-      → Executes g s.turns (on g (base ++ index) place s.output) index out (effect.stop (ending.Error site) s)
-  no_arm place base s stands = fails g (instr.Fail site) (base ++ index) place site s.output (Ok false) refl refl s.turns stands.0 within refl
+      → Executes g (on g (base ++ index) place s.output) index out (effect.stop (ending.Error site)) s
+  no_arm place base s stands = inr (fails g (instr.Fail site) (base ++ index) place site s.output (Ok false) refl refl s.turns stands.0 within refl)
 
   arms_run : (rows : List (Vec ℤ)) (arms : List ((s : Stmt) × StmtRuns s)) (before place : ℕ) (base : List Cell) (s : effect.State)
       → fold max before (map repeats (map (λ x. x.0) arms)) ≤ g.slack
-      → all_hold (map (is_well_formed_stmt g.tree.variables.items g.tree.types (length g.tree.sites.items)) (map (λ x. x.0) arms)) ≡ true
-      → g.below + length held + max 3 (arms_depth rows (map stmt_depth (map (λ x. x.0) arms)) + 1) ≤ g.limit → Based g s.store base
+      → all_hold (map (is_well_formed_stmt (outline g) g.number) (map (λ x. x.0) arms)) ≡ true
+      → g.below + length held + max 3 (arms_depth rows (map stmt_depth (map (λ x. x.0) arms)) + 1) ≤ g.limit → Based g s base
       → Stands g.target place (arms_code g.scope out rows (map stmt_code (map (λ x. x.0) arms)) place ++ (instr.Fail site ∷ behind))
-      → Executes g s.turns (on g (base ++ index) place s.output) index out (arm_of site rows (map effect_of (map (λ x. x.0) arms)) n g.environment s)
+      → Executes g (on g (base ++ index) place s.output) index out (arm_of site rows (map effect_of (map (λ x. x.0) arms)) n (around g)) s
   arms_run [] arms before place base s few good deep based stands = no_arm place base s stands
   arms_run (row ∷ rows) [] before place base s few good deep based stands = no_arm place base s stands
   arms_run (row ∷ rows) (arm ∷ arms) before place base s few good deep based stands =
@@ -893,37 +909,38 @@ module _ (g : Setting) (site : ℕ) (within : site < length g.tree.sites.items) 
       let at : place + length compared + 1 ≡ inside = ap (λ m. place + m + 1) (length-row g.scope inside 0 row.items) in
       let from_arm = subst (λ p. Stands g.target p (code ++ (instr.Jump out ∷ (rest ++ tail)))) at jump.1 in
       let from_jump = stands_back g.target inside code (instr.Jump out ∷ (rest ++ tail)) from_arm in
-      let came = compares_row g s.store base held n s.output based high (omega arith) row.items inside place
+      let came = compares_row g s base held n s.output based high (omega arith) row.items inside place
       (stands_front g.target place compared (instr.Jump next ∷ (code ++ (instr.Jump out ∷ (rest ++ tail)))) whole) in
-      let parts = and_parts (is_well_formed_stmt g.tree.variables.items g.tree.types (length g.tree.sites.items) arm.0) _ good in
+      let parts = and_parts (is_well_formed_stmt (outline g) g.number arm.0) _ good in
       let long : length index ≡ length held + 1 = length_one held (Number n) in
-      let reach = g.far in
+      let reach = limit_far g in
       let inner = reset g g.slack (count (g.scope.height + 1)) in
-      let result : Bool → Reply (Unit {0}) = λ b. (if b then effect_of arm.0 g.environment else arm_of site rows (map effect_of others) n g.environment) s in
+      let result : Bool → Action (Unit {0}) = λ b. if b then effect_of arm.0 (around g) else arm_of site rows (map effect_of others) n (around g) in
       (elim (is_among row.items n) as (λ b. Comes g.target 0 (on g (base ++ index) place s.output)
-      (on g (base ++ index) (if b then inside else place + length compared) s.output) → Executes g s.turns (on g (base ++ index) place s.output) index out
-      (result b)) [
+      (on g (base ++ index) (if b then inside else place + length compared) s.output)
+      → Executes g (on g (base ++ index) place s.output) index out (result b) s) [
         | true ↦ λ there.
-            executes_from g 0 s.turns _ _ index out (effect_of arm.0 g.environment s) there
-            (behind_executes g s.turns _ index index (inside + length code) out (effect_of arm.0 g.environment s)
-            (executes_from_reset g g.slack (count (g.scope.height + 1)) s.turns _ index (inside + length code) (effect_of arm.0 g.environment s) refl
-            (arm.1 inner (omega arith) inside base index s (stands_front g.target inside code (instr.Jump out ∷ (rest ++ tail)) from_arm) parts.0
-            (record { full = based.full; alike = based.alike }) (omega (arith, long, high, reach, deep)) (omega (arith, long))))
+            executes_from g 0 _ _ index out (effect_of arm.0 (around g)) s there
+            (behind_executes g _ index index (inside + length code) out (effect_of arm.0 (around g)) s
+            (executes_from_reset g g.slack (count (g.scope.height + 1)) _ index (inside + length code) (effect_of arm.0 (around g)) s refl
+            (arm.1 inner known (omega arith) inside base index s (stands_front g.target inside code (instr.Jump out ∷ (rest ++ tail)) from_arm) parts.0
+            (to_reset g g.slack (count (g.scope.height + 1)) s base based) (omega (arith, long, high, reach, deep)) (omega (arith, long))))
             (λ base2 t based2. comes_less g.target 0 1 _ _ (omega arith) (jumps g out (base2 ++ index) (inside + length code) t.output from_jump.0)))
         | false ↦ λ there.
-            executes_from g 1 s.turns _ _ index out (arm_of site rows (map effect_of others) n g.environment s)
+            executes_from g 1 _ _ index out (arm_of site rows (map effect_of others) n (around g)) s
             (comes_on g.target 0 1 _ _ _ there (jumps g next (base ++ index) (place + length compared) s.output jump.0))
             (arms_run rows arms (max before (repeats arm.0)) next base s few parts.1 (omega arith) based from_jump.1)
       ]) came
 
-case_runs : (g : Setting) (number site : ℕ) (index : Expr) (rows : List (Vec ℤ)) (arms : List ((s : Stmt) × StmtRuns s)) (well : Bool)
+case_runs : (g : Setting) (known : CallsRun g.depth) (number site : ℕ) (index : Expr) (rows : List (Vec ℤ)) (arms : List ((s : Stmt) × StmtRuns s))
+    (well : Bool)
     → greatest (map repeats (map (λ x. x.0) arms)) ≤ g.slack
     → ExecutesAs g (λ scope. case_code site (expr_code scope index) rows (map stmt_code (map (λ x. x.0) arms)) scope)
     (max (expr_depth index) (max 3 (arms_depth rows (map stmt_depth (map (λ x. x.0) arms)) + 1)))
-    (nat_lt site (sites g) && (is_well_formed_expr (variables g) (types g) (sites g) index && (well && all_hold (map
-    (is_well_formed_stmt (variables g) (types g) (sites g)) (map (λ x. x.0) arms)))))
-    (λ e. effect.enter number e >>= λ _. value_of index e >>= λ v. arm_of site rows (map effect_of (map (λ x. x.0) arms)) (number_of v) e)
-case_runs g number site index rows arms well few place base held s stands good based high deep =
+    (nat_lt site (sites g) && (is_well_formed_expr (outline g) g.number index && (well && all_hold (map
+    (is_well_formed_stmt (outline g) g.number) (map (λ x. x.0) arms)))))
+    (λ e. effect.enter number e.visible >>= λ _. value_of index e >>= λ v. arm_of site rows (map effect_of (map (λ x. x.0) arms)) (number_of v) e)
+case_runs g known number site index rows arms well few place base held s stands good based high deep =
     let s1 : effect.State = record s { visited = s.visited ++ record { number = number; environment = g.environment; store = s.store } ∷ [] } in
     let test = expr_code g.scope index in
     let codes = map stmt_code (map (λ (x : (s : Stmt) × StmtRuns s). x.0) arms) in
@@ -939,21 +956,21 @@ case_runs g number site index rows arms well few place base held s stands good b
     let popping = subst (λ p. StandsAt g.target p (instr.JumpIfFalse (out + 1)) true) same at_end.1.0 in
     let e : out + 1 ≡ place + length (test ++ rest) = omega (arith, same, length-append test rest, length-append all (instr.Fail site ∷ pop)) in
     let p1 = and_parts (nat_lt site (sites g)) _ good in
-    let p2 = and_parts (is_well_formed_expr (variables g) (types g) (sites g) index) _ p1.1 in
-    let p3 = and_parts well (all_hold (map (is_well_formed_stmt (variables g) (types g) (sites g)) (map (λ x. x.0) arms))) p2.1 in
+    let p2 = and_parts (is_well_formed_expr (outline g) g.number index) _ p1.1 in
+    let p3 = and_parts well (all_hold (map (is_well_formed_stmt (outline g) g.number) (map (λ x. x.0) arms))) p2.1 in
     let within = ltb-true site (sites g) p1.0 in
-    let next : Value → Action (Unit {0}) = λ v. arm_of site rows (map effect_of (map (λ x. x.0) arms)) (number_of v) g.environment in
-    subst (λ q. Executes g s.turns (on g (base ++ held) place s.output) held q (effect.and_then (value_of index g.environment s1) next)) e
-    (after_value g s.turns _ held held first (out + 1) (value_of index g.environment s1) next
-    (expr_runs g index place base held s1 at_test p2.0 (record { full = based.full; alike = based.alike }) (omega arith))
+    let next : Value → Action (Unit {0}) = λ v. arm_of site rows (map effect_of (map (λ x. x.0) arms)) (number_of v) (around g) in
+    subst (λ q. Executes g (on g (base ++ held) place s.output) held q (value_of index (around g) >>= next) s1) e
+    (after_value g _ held held first (out + 1) (value_of index (around g)) next s1 (exact_value (around g) (exact_around g) index)
+    (expr_runs g (known g refl) index place base held s1 at_test p2.0 based (omega arith))
     (λ base2 n t based2 fit.
     let here = held ++ Number n ∷ [] in
-    subst (λ cells. Executes g t.turns (on g cells first t.output) held (out + 1) (next (value.Number n) t)) (one_held g base2 held n)
-    (behind_executes g t.turns _ here held out (out + 1) (next (value.Number n) t)
-    (arms_run g site within out pop held high n rows arms 0 first base2 t few p3.1 (omega arith) based2 from_arms)
+    subst (λ cells. Executes g (on g cells first t.output) held (out + 1) (next (value.Number n)) t) (one_held g base2 held n)
+    (behind_executes g _ here held out (out + 1) (next (value.Number n)) t
+    (arms_run g known site within out pop held high n rows arms 0 first base2 t few p3.1 (omega arith) based2 from_arms)
     (λ base3 u based3.
     subst (λ cells. Comes g.target 0 (on g cells out u.output) (on g (base3 ++ held) (out + 1) u.output)) (sym (one_held g base3 held n))
-    (popped_there g (base3 ++ held) n out u.output popping (linked g u.store base3 held based3))))))
+    (popped_there g (base3 ++ held) n out u.output popping (linked g u base3 held based3))))))
 
 same_executes : (g : Setting) (c c' : Placed) (d d' : ℕ) (w w' : Bool) (v v' : Execution) → c ≡ c' → d ≡ d' → w ≡ w' → v ≡ v' → ExecutesAs g c' d' w' v'
     → ExecutesAs g c d w v
@@ -963,43 +980,47 @@ same_executes g c c' d d' w w' v v' p q r t runs =
 
 module _ (x : Stmt-F Stmt) where
   abbrev is_step : Setting → Stmt-F Bool → Bool
-  is_step g = stmt_is_well_formed g.tree.variables.items g.tree.types (length g.tree.sites.items)
+  is_step g = stmt_is_well_formed (outline g) g.number
 
-  rolled_stmt : ((g : Setting) → repeats_step (map-Stmt Stmt ℕ repeats x) ≤ g.slack → ExecutesAs g (stmt_step (map-Stmt Stmt Placed stmt_code x))
+  rolled_stmt : ((g : Setting) → CallsRun g.depth → repeats_step (map-Stmt Stmt ℕ repeats x) ≤ g.slack
+      → ExecutesAs g (stmt_step (map-Stmt Stmt Placed stmt_code x))
       (stmt_depth_step (map-Stmt Stmt ℕ stmt_depth x))
       (is_step g (map-Stmt Stmt Bool (fold-Stmt Bool (is_step g)) x)) (effect_step (map-Stmt Stmt Execution effect_of x))) → StmtRuns (roll-Stmt x)
-  rolled_stmt runs g few =
+  rolled_stmt runs g known few =
       same_executes g _ _ _ _ _ _ _ _ (fold-roll-Stmt Placed stmt_step x) (fold-roll-Stmt ℕ stmt_depth_step x) (fold-roll-Stmt Bool (is_step g) x)
-      (fold-roll-Stmt Execution effect_step x) (runs g (subst (λ n. n ≤ g.slack) (fold-roll-Stmt ℕ repeats_step x) few))
+      (fold-roll-Stmt Execution effect_step x) (runs g known (subst (λ n. n ≤ g.slack) (fold-roll-Stmt ℕ repeats_step x) few))
 
 stmt_layer : (y : Stmt-F ((s : Stmt) × StmtRuns s)) → StmtRuns (roll-Stmt (map-Stmt ((s : Stmt) × StmtRuns s) Stmt (λ s. s.0) y))
-stmt_layer (Empty number) = rolled_stmt (Empty number) (λ g few. empty_runs g number)
+stmt_layer (Empty number) = rolled_stmt (Empty number) (λ g known few. empty_runs g known number)
 stmt_layer (Assign number becomes target indexes fits v) =
-    rolled_stmt (Assign number becomes target indexes fits v) (λ g few. assign_runs g number target fits v indexes.items)
+    rolled_stmt (Assign number becomes target indexes fits v) (λ g known few. assign_runs g (known g refl) number target fits v indexes.items)
 stmt_layer (Copy number becomes target indexes type_id v value_indexes) =
-    rolled_stmt (Copy number becomes target indexes type_id v value_indexes) (λ g few. copy_runs g number target type_id v indexes.items value_indexes.items)
+    rolled_stmt (Copy number becomes target indexes type_id v value_indexes)
+    (λ g known few. copy_runs g (known g refl) number target type_id v indexes.items value_indexes.items)
 stmt_layer (Write number name parameters ends_line) =
-    rolled_stmt (Write number name parameters ends_line) (λ g few. write_runs g number parameters.items ends_line)
+    rolled_stmt (Write number name parameters ends_line) (λ g known few. write_runs g (known g refl) number parameters.items ends_line)
+stmt_layer (Calling call actuals) = rolled_stmt (Calling call actuals) (λ g known few. calling_runs g (known g refl) call actuals.items)
 stmt_layer (Compound number statements) =
-    rolled_stmt (map-Stmt ((s : Stmt) × StmtRuns s) Stmt (λ s. s.0) (Compound number statements)) (λ g few. compound_runs g number statements.items few)
+    rolled_stmt (map-Stmt ((s : Stmt) × StmtRuns s) Stmt (λ s. s.0) (Compound number statements))
+    (λ g known few. compound_runs g known number statements.items few)
 stmt_layer (If number condition consequence None) =
     rolled_stmt (map-Stmt ((s : Stmt) × StmtRuns s) Stmt (λ s. s.0) (If number condition consequence None))
-    (λ g few. if_runs g number condition consequence.value few)
+    (λ g known few. if_runs g known number condition consequence.value few)
 stmt_layer (If number condition consequence (Some alternative)) =
     rolled_stmt (map-Stmt ((s : Stmt) × StmtRuns s) Stmt (λ s. s.0) (If number condition consequence (Some alternative)))
-    (λ g few. if_else_runs g number condition consequence.value alternative.value few)
+    (λ g known few. if_else_runs g known number condition consequence.value alternative.value few)
 stmt_layer (While number loop_number word condition body) =
     rolled_stmt (map-Stmt ((s : Stmt) × StmtRuns s) Stmt (λ s. s.0) (While number loop_number word condition body))
-    (λ g few. while_runs g number condition body.value few)
+    (λ g known few. while_runs g known number condition body.value few)
 stmt_layer (Repeat number loop_number word statements condition) =
     rolled_stmt (map-Stmt ((s : Stmt) × StmtRuns s) Stmt (λ s. s.0) (Repeat number loop_number word statements condition))
-    (λ g few. repeat_runs g number condition statements.items few)
+    (λ g known few. repeat_runs g known number condition statements.items few)
 stmt_layer (For number loop_number word control first first_fits way last last_fits body) =
     rolled_stmt (map-Stmt ((s : Stmt) × StmtRuns s) Stmt (λ s. s.0) (For number loop_number word control first first_fits way last last_fits body))
-    (λ g few. for_runs g number control first first_fits way last last_fits body.value few)
+    (λ g known few. for_runs g known number control first first_fits way last last_fits body.value few)
 stmt_layer (Case number site index constants arms) =
     rolled_stmt (map-Stmt ((s : Stmt) × StmtRuns s) Stmt (λ s. s.0) (Case number site index constants arms))
-    (λ g few. case_runs g number site index constants.items arms.items _ few)
+    (λ g known few. case_runs g known number site index constants.items arms.items _ few)
 
 -- the code of a statement keeps store and cells alike, or stops as the statement does
 pub stmt_runs : (s : Stmt) → StmtRuns s

@@ -16,6 +16,7 @@ use Rattle.typed_tree.specs.WellFormed.{whole_indexes}
 use Rattle.pcode_assembler.specs.declared.instr.Instr.TheVariants as instr
 use Rattle.types.specs.declared.form.TypeId.{TypeId}
 use Rattle.types.specs.Components.{Steps, components_of}
+use Rattle.types.specs.Forms.{Form}
 use Rattle.types.specs.Types.{cells_of, is_ordinal, is_same}
 use Rattle.types.proofs.Laid.{length_components}
 use Rattle.meaning.specs.declared.outcome.Ending.TheVariants as ending
@@ -24,8 +25,9 @@ use Rattle.meaning.specs.declared.store.Value.TheVariants as value
 use Rattle.meaning.specs.Store as meant
 use Rattle.meaning.specs.Store.{Place, stored, written}
 use Rattle.meaning.specs.Effect as effect
-use Rattle.meaning.specs.Effect.{Reply, Gives, Action, fetched, fetch_all, store_all}
-use Rattle.meaning.specs.Meaning.{selected, value_of, whole_of}
+use Rattle.meaning.specs.Laws.{UsesTurnsExactly}
+use Rattle.meaning.specs.Effect.{Reply, Gives, Action, ◌>>=◌, fetched, fetch_all, store_all}
+use Rattle.meaning.specs.Meaning.{value_of, whole_of}
 use Rattle.stack_machine.specs.declared.cell.Cell.{Cell}
 use Rattle.stack_machine.specs.declared.cell.Cell.TheVariants.{Number}
 use Rattle.stack_machine.specs.Frames.{is_defined}
@@ -34,16 +36,19 @@ use Rattle.stack_machine.specs.Texts as texts
 use Rattle.meaning.specs.Integers as integers
 use Rattle.code_scheme.specs.Code.{address_code, whole_code}
 use Rattle.code_scheme.specs.Depth.{whole_depth}
-use Rattle.code_scheme.specs.Scopes.{access_offset, behind_fields, row_length}
+use Rattle.code_scheme.specs.Scopes.{row_length}
 use Rattle.code_scheme.proofs.Pieces.{start_within}
-use Rattle.code_generator.proofs.Accesses.{Indexes, expressions, wells, codes, depths, PartAt, Addresses, leads, begins, entered, address_runs}
+use Rattle.code_generator.proofs.Accesses.{Indexes, expressions, wells, codes, depths, PartAt, Addressed, Addresses, leads, begins, entered}
+use Rattle.code_generator.proofs.Accesses.{found as place_found, exact_found}
+use Rattle.code_generator.proofs.Accesses.{address_runs}
 use Rattle.code_generator.proofs.Acts.{framed, length_one, pushes}
 use Rattle.code_generator.proofs.Addressing.{loads_many, all_defined, row_place_is, stores_at}
 use Rattle.stack_machine.specs.Addresses.{store_many}
 use Rattle.code_generator.proofs.Evaluating.{sites}
 use Rattle.code_generator.proofs.Held.{set_front, scalar_kept}
 use Rattle.code_generator.proofs.Reach.{Stands, StandsAt, stands_front, stands_back, Comes, comes_less, comes_on, stays_here}
-use Rattle.code_generator.proofs.Setting.{Setting, on, Based, linked, acts, passes, fails, Ends, ends_on, Evaluates, evaluates_on, Executes, executes_on}
+use Rattle.code_generator.proofs.Setting.{Setting, outline, around, on, Based, linked, acts, passes, fails, Ends, ends_on, Starves, starves_on}
+use Rattle.code_generator.proofs.Setting.{starves_first, starves_behind, Valued, Evaluates, evaluates_behind, Executed, Executes, executes_behind}
 use Rattle.code_generator.proofs.Alike.{LiesIn, cell_of, HasFit, alike_above}
 use Rattle.code_generator.proofs.Numbers.{Fits, fits_by_abs}
 use Rattle.code_generator.proofs.Parts.{inner}
@@ -216,39 +221,43 @@ store_all_is p (steps ∷ components) (n ∷ ns) s =
 
 module _ (g : Setting) where
   -- the components of a place get a row of numbers
-  pub row_kept : (p : Place) (components : List Steps) (d : ℕ) (ns : List ℤ) (store : meant.Store) (base : List Cell)
+  pub row_kept : (p : Place) (components : List Steps) (d : ℕ) (ns : List ℤ) (s : effect.State) (base : List Cell)
       → ((k : ℕ) (steps : Steps) → slice_get components k ≡ Some steps → LiesIn g.world (inner p steps) (d + k)) → length components ≡ length ns → AllFit ns
-      → Based g store base → Based g (stored_all store p components ns) (set_row base d (number_cells ns))
-  row_kept p [] d [] store base each long fit based = based
-  row_kept p [] d (n ∷ ns) store base each long fit based = absurd (omega arith)
-  row_kept p (steps ∷ components) d [] store base each long fit based = absurd (omega arith)
-  row_kept p (steps ∷ components) d (n ∷ ns) store base each long fit based =
+      → Based g s base → Based g (record s { store = stored_all s.store p components ns }) (set_row base d (number_cells ns))
+  row_kept p [] d [] s base each long fit based = based
+  row_kept p [] d (n ∷ ns) s base each long fit based = absurd (omega arith)
+  row_kept p (steps ∷ components) d [] s base each long fit based = absurd (omega arith)
+  row_kept p (steps ∷ components) d (n ∷ ns) s base each long fit based =
       let here : d + 0 ≡ d = omega arith in
       let lies = subst (LiesIn g.world (inner p steps)) here (each 0 steps refl) in
-      row_kept p components (d + 1) ns (written store (inner p steps) (value.Number n)) (slice_set base d (Number n))
+      row_kept p components (d + 1) ns (record s { store = written s.store (inner p steps) (value.Number n) }) (slice_set base d (Number n))
       (λ k more at. let e : d + suc k ≡ d + 1 + k = omega arith in subst (LiesIn g.world (inner p more)) e (each (suc k) more at)) (omega arith) fit.1
-      (scalar_kept g (inner p steps) d store base n lies based fit.0)
+      (scalar_kept g (inner p steps) d s base n lies based fit.0)
 
   -- ---- the code of a whole value
 
   -- what the code of a whole value does, with so many turns left here: the row of its numbers comes on top of what is held,
   -- over cells alike to the store; or the value ends the run
-  abbrev pub Pushes : ℕ → State → List Cell → ℕ → ℕ → Reply (List ℤ) → Type 0
-  Pushes turns m held place count (Gives ns s) =
-      (base : List Cell) × Based g s.store base × Comes g.target (turns - s.turns) m (on g ((base ++ held) ++ number_cells ns) place s.output)
+  abbrev pub Pushed : ℕ → State → List Cell → ℕ → ℕ → Reply (List ℤ) → Type 0
+  Pushed turns m held place count (Gives ns s) =
+      (base : List Cell) × Based g s base × Comes g.target (turns - s.turns) m (on g ((base ++ held) ++ number_cells ns) place s.output)
       × (length ns ≡ count) × AllFit ns × (s.turns ≤ turns)
-  Pushes turns m held place count (effect.Stops end s) = Ends g turns m end s.output
+  Pushed turns m held place count (effect.Stops end s) = Ends g turns m end s.output
+
+  -- or the store is full
+  abbrev pub Pushes : State → List Cell → ℕ → ℕ → Action (List ℤ) → effect.State → Type 0
+  Pushes m held place count action s = Starves g m action s ⊎ Pushed s.turns m held place count (action s)
 
   -- a row that is there after some instructions
-  pub pushes_row : (least : ℕ) (m : State) (base held : List Cell) (place count : ℕ) (ns : List ℤ) (s : effect.State) → Based g s.store base
+  pub pushes_row : (least : ℕ) (m : State) (base held : List Cell) (place count : ℕ) (ns : List ℤ) (s : effect.State) → Based g s base
       → Comes g.target least m (on g ((base ++ held) ++ number_cells ns) place s.output) → length ns ≡ count → AllFit ns
-      → Pushes s.turns m held place count (Gives ns s)
+      → Pushed s.turns m held place count (Gives ns s)
   pushes_row least m base held place count ns s based l long fit =
       (base, based, comes_less g.target (s.turns - s.turns) least m _ (omega arith) l, long, fit, omega arith)
 
-  pushes_on : (turns left : ℕ) (a b : State) (held : List Cell) (place count : ℕ) (r : Reply (List ℤ)) → left ≤ turns → Comes g.target (turns - left) a b
-      → Pushes left b held place count r → Pushes turns a held place count r
-  pushes_on turns left a b held place count (Gives ns s) le l e = (
+  pushed_on : (turns left : ℕ) (a b : State) (held : List Cell) (place count : ℕ) (r : Reply (List ℤ)) → left ≤ turns → Comes g.target (turns - left) a b
+      → Pushed left b held place count r → Pushed turns a held place count r
+  pushed_on turns left a b held place count (Gives ns s) le l e = (
     e.0,
     e.1,
     comes_less g.target (turns - s.turns) (turns - left + (left - s.turns)) a _ (omega arith)
@@ -257,41 +266,62 @@ module _ (g : Setting) where
     e.4,
     omega (arith, e.5),
   )
-  pushes_on turns left a b held place count (effect.Stops end s) le l e = ends_on g turns left a b end s.output l e
+  pushed_on turns left a b held place count (effect.Stops end s) le l e = ends_on g turns left a b end s.output l e
 
   -- where no turn is used
-  pub pushes_from : (least turns : ℕ) (a b : State) (held : List Cell) (place count : ℕ) (r : Reply (List ℤ)) → Comes g.target least a b
-      → Pushes turns b held place count r → Pushes turns a held place count r
-  pushes_from least turns a b held place count r l e =
-      pushes_on turns turns a b held place count r (omega arith) (comes_less g.target (turns - turns) least a b (omega arith) l) e
+  pub pushes_from : (least : ℕ) (a b : State) (held : List Cell) (place count : ℕ) (action : Action (List ℤ)) (s : effect.State) → Comes g.target least a b
+      → Pushes b held place count action s → Pushes a held place count action s
+  pushes_from least a b held place count action s l (inl x) = inl (starves_on g least a b action s l x)
+  pushes_from least a b held place count action s l (inr e) =
+      inr (pushed_on s.turns s.turns a b held place count (action s) (omega arith) (comes_less g.target (s.turns - s.turns) least a b (omega arith) l) e)
 
   -- a row behind an address
-  address_pushes : (turns : ℕ) (m : State) (held held' : List Cell) (place place' : ℕ) (t : TypeId) (count : ℕ) (r : Reply (Option Place))
-      (next : Option Place → Action (List ℤ)) → Addresses g turns m held place t r
-      → ((base : List Cell) (d : ℕ) (p : Place) (s : effect.State) → Based g s.store base → PartAt g p t d → g.below + length held < g.limit
-      → Pushes s.turns (on g ((base ++ held) ++ Number (pos d) ∷ []) place s.output) held' place' count (next (Some p) s))
-      → Pushes turns m held' place' count (effect.and_then r next)
-  address_pushes turns m held held' place place' t count (Gives None s) next e h = absurd e
-  address_pushes turns m held held' place place' t count (Gives (Some p) s) next e h =
-      pushes_on turns s.turns m _ held' place' count (next (Some p) s) e.6 e.4 (h e.0 e.2 p s e.1 e.3 e.5)
-  address_pushes turns m held held' place place' t count (effect.Stops end s) next e h = e
+  address_pushes : (m : State) (held held' : List Cell) (place place' : ℕ) (t : TypeId) (count : ℕ) (first : Action (Option Place))
+      (next : Option Place → Action (List ℤ)) (s : effect.State) → UsesTurnsExactly first → Addresses g m held place t first s
+      → ((base : List Cell) (d : ℕ) (p : Place) (u : effect.State) → Based g u base → PartAt g p t d → g.below + length held < g.limit
+      → Pushes (on g ((base ++ held) ++ Number (pos d) ∷ []) place u.output) held' place' count (next (Some p)) u)
+      → Pushes m held' place' count (first >>= next) s
+  address_pushes m held held' place place' t count first next s exact (inl x) h = inl (starves_first g m first next s x)
+  address_pushes m held held' place place' t count first next s exact (inr e) h = by (first s) refl e
+    where
+      behind : (u : effect.State) (p : Place) (there : State) → first s ≡ Gives (Some p) u → u.turns ≤ s.turns → Comes g.target (s.turns - u.turns) m there
+          → Pushes there held' place' count (next (Some p)) u
+          → Starves g m (first >>= next) s ⊎ Pushed s.turns m held' place' count (next (Some p) u)
+      behind u p there is le l (inl x) = inl (starves_behind g (s.turns - u.turns) m there first next s u (Some p) exact is l x)
+      behind u p there is le l (inr d) = inr (pushed_on s.turns u.turns m there held' place' count (next (Some p) u) le l d)
+
+      by : (r : Reply (Option Place)) → first s ≡ r → Addressed g s.turns m held place t r
+          → Starves g m (first >>= next) s ⊎ Pushed s.turns m held' place' count (effect.and_then r next)
+      by (Gives None u) is e = absurd e
+      by (Gives (Some p) u) is e = behind u p _ is e.6 e.4 (h e.0 e.2 p u e.1 e.3 e.5)
+      by (effect.Stops end u) is e = inr e
 
   -- a value, or a statement, behind a row
-  pub row_evaluates : (turns : ℕ) (m : State) (held held' : List Cell) (place place' count : ℕ) (r : Reply (List ℤ)) (next : List ℤ → Action Value)
-      → Pushes turns m held place count r → ((base : List Cell) (ns : List ℤ) (s : effect.State) → Based g s.store base → length ns ≡ count → AllFit ns
-      → Evaluates g s.turns (on g ((base ++ held) ++ number_cells ns) place s.output) held' place' (next ns s))
-      → Evaluates g turns m held' place' (effect.and_then r next)
-  row_evaluates turns m held held' place place' count (Gives ns s) next e h =
-      evaluates_on g turns s.turns m _ held' place' (next ns s) e.5 e.2 (h e.0 ns s e.1 e.3 e.4)
-  row_evaluates turns m held held' place place' count (effect.Stops end s) next e h = e
+  pub row_evaluates : (m : State) (held held' : List Cell) (place place' count : ℕ) (first : Action (List ℤ)) (next : List ℤ → Action Value)
+      (s : effect.State) → UsesTurnsExactly first → Pushes m held place count first s
+      → ((base : List Cell) (ns : List ℤ) (u : effect.State) → Based g u base → length ns ≡ count → AllFit ns
+      → Evaluates g (on g ((base ++ held) ++ number_cells ns) place u.output) held' place' (next ns) u)
+      → Evaluates g m held' place' (first >>= next) s
+  row_evaluates m held held' place place' count first next s exact (inl x) h = inl (starves_first g m first next s x)
+  row_evaluates m held held' place place' count first next s exact (inr e) h = by (first s) refl e
+    where
+      by : (r : Reply (List ℤ)) → first s ≡ r → Pushed s.turns m held place count r
+          → Starves g m (first >>= next) s ⊎ Valued g s.turns m held' place' (effect.and_then r next)
+      by (Gives ns u) is e = evaluates_behind g m _ held' place' first next s u ns exact is e.5 e.2 (h e.0 ns u e.1 e.3 e.4)
+      by (effect.Stops end u) is e = inr e
 
-  pub row_executes : (turns : ℕ) (m : State) (held held' : List Cell) (place place' count : ℕ) (r : Reply (List ℤ)) (next : List ℤ → Action (Unit {0}))
-      → Pushes turns m held place count r → ((base : List Cell) (ns : List ℤ) (s : effect.State) → Based g s.store base → length ns ≡ count → AllFit ns
-      → Executes g s.turns (on g ((base ++ held) ++ number_cells ns) place s.output) held' place' (next ns s))
-      → Executes g turns m held' place' (effect.and_then r next)
-  row_executes turns m held held' place place' count (Gives ns s) next e h =
-      executes_on g turns s.turns m _ held' place' (next ns s) e.5 e.2 (h e.0 ns s e.1 e.3 e.4)
-  row_executes turns m held held' place place' count (effect.Stops end s) next e h = e
+  pub row_executes : (m : State) (held held' : List Cell) (place place' count : ℕ) (first : Action (List ℤ)) (next : List ℤ → Action (Unit {0}))
+      (s : effect.State) → UsesTurnsExactly first → Pushes m held place count first s
+      → ((base : List Cell) (ns : List ℤ) (u : effect.State) → Based g u base → length ns ≡ count → AllFit ns
+      → Executes g (on g ((base ++ held) ++ number_cells ns) place u.output) held' place' (next ns) u)
+      → Executes g m held' place' (first >>= next) s
+  row_executes m held held' place place' count first next s exact (inl x) h = inl (starves_first g m first next s x)
+  row_executes m held held' place place' count first next s exact (inr e) h = by (first s) refl e
+    where
+      by : (r : Reply (List ℤ)) → first s ≡ r → Pushed s.turns m held place count r
+          → Starves g m (first >>= next) s ⊎ Executed g s.turns m held' place' (effect.and_then r next)
+      by (Gives ns u) is e = executes_behind g m _ held' place' first next s u ns exact is e.5 e.2 (h e.0 ns u e.1 e.3 e.4)
+      by (effect.Stops end u) is e = inr e
 
   -- characters are pushed, the first one first
   pub characters_come : (characters : List ℕ) (place : ℕ) (cells : List Cell) (output : List ℕ)
@@ -307,7 +337,7 @@ module _ (g : Setting) where
       let rest = number_cells (map pos characters) in
       let e : place + 1 + length characters ≡ place + length (c ∷ characters) = omega arith in
       let first = acts g (instr.LoadConstant (pos c)) cells one place output _ stands.0 refl
-      (pushes g.running.frame g.limit g.size cells (pos c) (omega arith)) in
+      (pushes g.frame g.limit g.size cells (pos c) (omega arith)) in
       let others = characters_come characters (place + 1) one output stands.1 (omega arith) in
       let all = comes_less g.target 0 (1 + 0) _ _ (omega arith) (comes_on g.target 1 0 _ _ _ first others) in
       subst (λ cs. Comes g.target 0 (on g cells place output) (on g cs (place + length (c ∷ characters)) output))
@@ -329,9 +359,9 @@ module _ (g : Setting) where
   checked_row : (p : Place) (type_id : TypeId) (count d defined place : ℕ) (base held : List Cell) (s : effect.State)
       → Fetched s.store p (components_of g.tree.types type_id) defined
       → StandsAt g.target place (instr.CheckDefined defined count) (g.target.is_open defined) → defined < sites g
-      → length (components_of g.tree.types type_id) ≡ count → Based g s.store base
-      → Pushes s.turns (on g ((base ++ held) ++ map (cell_at s.store p) (components_of g.tree.types type_id)) place s.output) held (place + 1) count
-      (fetch_all (Some p) (components_of g.tree.types type_id) defined s)
+      → length (components_of g.tree.types type_id) ≡ count → Based g s base
+      → Pushes (on g ((base ++ held) ++ map (cell_at s.store p) (components_of g.tree.types type_id)) place s.output) held (place + 1) count
+      (fetch_all (Some p) (components_of g.tree.types type_id) defined) s
   checked_row p type_id count d defined place base held s (inl all) stands within long based =
       let components = components_of g.tree.types type_id in
       let cells = base ++ held in
@@ -340,25 +370,25 @@ module _ (g : Setting) where
       let many : length all.numbers ≡ count = sym (length-cells_of all.numbers) ∙ ap length (sym all.cells) ∙ as_long in
       let defined_all : list_all is_defined row ≡ true = ap (list_all is_defined) all.cells ∙ all_are_defined all.numbers in
       let passed = passes g (instr.CheckDefined defined count) (cells ++ row) place defined s.output _ refl refl stands
-      (all_defined g.running.frame g.limit g.size cells (linked g s.store base held based) row count as_long ∙ ap Ok defined_all) in
-      subst (λ r. Pushes s.turns (on g (cells ++ row) place s.output) held (place + 1) count r) (sym (all.gives s refl))
+      (all_defined g.frame g.limit g.size cells (linked g s base held based) row count as_long ∙ ap Ok defined_all) in
+      inr (subst (λ r. Pushed s.turns (on g (cells ++ row) place s.output) held (place + 1) count r) (sym (all.gives s refl))
       (pushes_row 0 _ base held (place + 1) count all.numbers s based
-      (subst (λ cs. Comes g.target 0 (on g (cells ++ row) place s.output) (on g (cells ++ cs) (place + 1) s.output)) all.cells passed) many all.fit)
+      (subst (λ cs. Comes g.target 0 (on g (cells ++ row) place s.output) (on g (cells ++ cs) (place + 1) s.output)) all.cells passed) many all.fit))
   checked_row p type_id count d defined place base held s (inr one) stands within long based =
       let components = components_of g.tree.types type_id in
       let cells = base ++ held in
       let row = map (cell_at s.store p) components in
       let as_long : length row ≡ count = length-map components (cell_at s.store p) ∙ long in
-      subst (λ r. Pushes s.turns (on g (cells ++ row) place s.output) held (place + 1) count r) (sym (one.stops s refl))
+      inr (subst (λ r. Pushed s.turns (on g (cells ++ row) place s.output) held (place + 1) count r) (sym (one.stops s refl))
       (fails g (instr.CheckDefined defined count) (cells ++ row) place defined s.output _ refl refl s.turns stands within
-      (all_defined g.running.frame g.limit g.size cells (linked g s.store base held based) row count as_long ∙ ap Ok one.cells))
+      (all_defined g.frame g.limit g.size cells (linked g s base held based) row count as_long ∙ ap Ok one.cells)))
 
   -- an address gives way to the row there, which is checked
   loaded_row : (p : Place) (type_id : TypeId) (count d defined place : ℕ) (base held : List Cell) (s : effect.State) → PartAt g p type_id d
       → Stands g.target place (instr.LoadMany count ∷ instr.CheckDefined defined count ∷ []) → defined < sites g → cells_of g.tree.types type_id ≡ count
-      → Based g s.store base → g.below + length held + count ≤ g.limit
-      → Pushes s.turns (on g ((base ++ held) ++ Number (pos d) ∷ []) place s.output) held (place + 1 + 1) count
-      (fetch_all (Some p) (components_of g.tree.types type_id) defined s)
+      → Based g s base → g.below + length held + count ≤ g.limit
+      → Pushes (on g ((base ++ held) ++ Number (pos d) ∷ []) place s.output) held (place + 1 + 1) count
+      (fetch_all (Some p) (components_of g.tree.types type_id) defined) s
   loaded_row p type_id count d defined place base held s part stands within many based deep =
       let components = components_of g.tree.types type_id in
       let cells = base ++ held in
@@ -373,22 +403,22 @@ module _ (g : Setting) where
       let long = length-append base held in
       let inside = part.within in
       let loaded = acts g (instr.LoadMany count) (cells ++ Number (pos d) ∷ []) (cells ++ take count (drop d cells)) place s.output _ stands.0 refl
-      (loads_many g.running.frame g.limit g.size cells (linked g s.store base held based) count d (omega arith) (omega arith)) in
+      (loads_many g.frame g.limit g.size cells (linked g s base held based) count d (omega arith) (omega arith)) in
       let there = subst (λ cs. Comes g.target 1 (on g (cells ++ Number (pos d) ∷ []) place s.output) (on g (cells ++ cs) (place + 1) s.output)) row loaded in
-      pushes_from 1 s.turns _ _ held (place + 1 + 1) count (fetch_all (Some p) components defined s) there
+      pushes_from 1 _ _ held (place + 1 + 1) count (fetch_all (Some p) components defined) s there
       (checked_row p type_id count d defined (place + 1) base held s (row_fetched s.store p components defined fits) stands.1.0 within all based)
 
   -- a row is no longer than the longest
-  pub few_components : (v : Whole) (indexes : ℕ) → is_well_formed_whole g.tree.variables.items g.tree.types (sites g) v indexes ≡ true
+  pub few_components : (v : Whole) (indexes : ℕ) → is_well_formed_whole (outline g) g.number v indexes ≡ true
       → length_of v ≡ row_length (length_of v)
   few_components (Text number characters) indexes well =
       let few = leb-true (length characters.items) 65536
       (and_parts (nat_le (length characters.items) 65536) (list_all is_character characters.items) well).0 in
       omega arith
   few_components (VariableOf access type_id cells defined) indexes well =
-      let parts = and_parts (leads_to_whole g.tree.variables.items g.tree.types (sites g) type_id access.root access.selectors.items indexes)
-      (is_value_of g.tree.variables.items g.tree.types (sites g) type_id cells && nat_lt defined (sites g)) well in
-      let parts' = and_parts (is_value_of g.tree.variables.items g.tree.types (sites g) type_id cells) (nat_lt defined (sites g)) parts.1 in
+      let parts = and_parts (leads_to_whole (outline g) g.number type_id access.root access.selectors.items indexes)
+      (is_value_of (outline g) g.number type_id cells && nat_lt defined (sites g)) well in
+      let parts' = and_parts (is_value_of (outline g) g.number type_id cells) (nat_lt defined (sites g)) parts.1 in
       let few = leb-true cells 65536 (and_parts (nat_eq cells (cells_of g.tree.types type_id)) (nat_le cells 65536) parts'.0).1 in
       omega arith
 
@@ -396,54 +426,50 @@ module _ (g : Setting) where
   pub whole_runs : (v : Whole) (indexes : Indexes g) (place : ℕ) (base held : List Cell) (s : effect.State)
       → Stands g.target place (whole_code g.scope v (codes g indexes))
       → all_hold (whole_indexes v (wells g indexes)) ≡ true
-      → is_well_formed_whole g.tree.variables.items g.tree.types (sites g) v (length (expressions g indexes)) ≡ true → Based g s.store base
+      → is_well_formed_whole (outline g) g.number v (length (expressions g indexes)) ≡ true → Based g s base
       → g.below + length held + whole_depth v (depths g indexes) ≤ g.limit
-      → Pushes s.turns (on g (base ++ held) place s.output) held (place + length (whole_code g.scope v (codes g indexes))) (length_of v)
-      (whole_of v (map value_of (expressions g indexes)) g.environment s)
+      → Pushes (on g (base ++ held) place s.output) held (place + length (whole_code g.scope v (codes g indexes))) (length_of v)
+      (whole_of v (map value_of (expressions g indexes)) (around g)) s
   whole_runs (Text number characters) indexes place base held s stands good well based deep =
       let codes_long = length-map characters.items (λ x. instr.LoadConstant (pos x)) in
       let e : place + length characters.items ≡ place + length (map (λ x. instr.LoadConstant (pos x)) characters.items) = omega arith in
       let full = based.full in
       let pushed = characters_come characters.items place (base ++ held) s.output stands (omega (arith, length-append base held)) in
       let ns = map pos characters.items in
-      subst (λ q. Pushes s.turns (on g (base ++ held) place s.output) held q (length characters.items) (Gives ns (entered g number s))) e
-      (pushes_row 0 _ base held (place + length characters.items) (length characters.items) ns (entered g number s)
-      (record { full = based.full; alike = based.alike }) pushed (length-map characters.items pos)
-      (characters_fit characters.items (and_parts (nat_le (length characters.items) 65536) (list_all is_character characters.items) well).1))
+      subst (λ q. Pushes (on g (base ++ held) place s.output) held q (length characters.items) (effect.give ns) (entered g number s)) e
+      (inr (pushes_row 0 _ base held (place + length characters.items) (length characters.items) ns (entered g number s)
+      based pushed (length-map characters.items pos)
+      (characters_fit characters.items (and_parts (nat_le (length characters.items) 65536) (list_all is_character characters.items) well).1)))
   whole_runs (VariableOf access type_id cells defined) indexes place base held s stands good well based deep =
       let wanted : TypeId → Bool = λ id. is_same id type_id && not (is_ordinal g.tree.types id) in
-      let parts = and_parts (leads_to_whole g.tree.variables.items g.tree.types (sites g) type_id access.root access.selectors.items
-      (length (expressions g indexes))) (is_value_of g.tree.variables.items g.tree.types (sites g) type_id cells && nat_lt defined (sites g)) well in
-      let parts' = and_parts (is_value_of g.tree.variables.items g.tree.types (sites g) type_id cells) (nat_lt defined (sites g)) parts.1 in
+      let parts = and_parts (leads_to_whole (outline g) g.number type_id access.root access.selectors.items
+      (length (expressions g indexes))) (is_value_of (outline g) g.number type_id cells && nat_lt defined (sites g)) well in
+      let parts' = and_parts (is_value_of (outline g) g.number type_id cells) (nat_lt defined (sites g)) parts.1 in
       let sizes = and_parts (nat_eq cells (cells_of g.tree.types type_id)) (nat_le cells 65536) parts'.0 in
       let many : cells ≡ cells_of g.tree.types type_id = eqb-true cells (cells_of g.tree.types type_id) sizes.0 in
       let few = leb-true cells 65536 sizes.1 in
       let same : row_length cells ≡ cells = omega arith in
       let more = start_within 1 (map (λ i. i + 1) (depths g indexes)) in
-      let far = g.far in
       let led_to = leads g wanted access.root access.selectors.items (length (expressions g indexes)) parts.0 in
       let its = same_type led_to.last type_id (and_parts (is_same led_to.last type_id) (not (is_ordinal g.tree.types led_to.last)) led_to.is_wanted).0 in
-      let start = begins g access wanted (length (expressions g indexes)) led_to in
-      let rest = behind_fields access.selectors.items in
+      let start = begins g access wanted (length (expressions g indexes)) (codes g indexes) led_to in
+      let counts = led_to.counts in
       let c = address_code g.scope access (codes g indexes) in
       let load = instr.LoadMany (row_length cells) ∷ instr.CheckDefined defined (row_length cells) ∷ [] in
       let loading = subst (λ n. Stands g.target (place + length c) (instr.LoadMany n ∷ instr.CheckDefined defined n ∷ [])) same
       (stands_back g.target place c load stands) in
       let e : place + length c + 1 + 1 ≡ place + length (c ++ load) = omega (arith, length-append c load) in
-      let next : Option Place → Action (List ℤ) = λ q. fetch_all q (components_of g.environment.types type_id) defined in
-      let next' : Option Place → Action (List ℤ) = λ q. fetch_all q (components_of g.tree.types type_id) defined in
-      let addressed = address_runs g rest indexes (access_offset g.scope access) start.there start.its led_to.last start.part start.ends start.well good
-      (led_to.counts ∙ sym start.counts) place base held (entered g access.number s) (stands_front g.target place c load stands)
-      (record { full = based.full; alike = based.alike }) (omega arith) in
-      subst (λ r. Pushes s.turns (on g (base ++ held) place s.output) held (place + length (c ++ load)) cells (effect.and_then r next))
-      (sym (start.meant (map value_of (expressions g indexes)) s))
-      (subst (λ types. Pushes s.turns (on g (base ++ held) place s.output) held (place + length (c ++ load)) cells
-      (effect.and_then (selected rest (map value_of (expressions g indexes)) g.environment (Some start.there) (entered g access.number s))
-      (λ q. fetch_all q (components_of types type_id) defined))) (sym g.types_are)
-      (subst (λ q. Pushes s.turns (on g (base ++ held) place s.output) held q cells
-      (effect.and_then (selected rest (map value_of (expressions g indexes)) g.environment (Some start.there) (entered g access.number s)) next')) e
-      (address_pushes s.turns _ held held (place + length c) (place + length c + 1 + 1) led_to.last cells
-      (selected rest (map value_of (expressions g indexes)) g.environment (Some start.there) (entered g access.number s)) next' addressed
+      let next : List Form → Option Place → Action (List ℤ) = λ types q. fetch_all q (components_of types type_id) defined in
+      let addressed = address_runs g access indexes led_to.last start good counts place base held (entered g access.number s)
+      (stands_front g.target place c load stands) based (omega arith) in
+      let from = place_found g access indexes led_to.last start good counts in
+      subst (λ action. Pushes (on g (base ++ held) place s.output) held (place + length (c ++ load)) cells (action >>= next g.environment.types) s)
+      (sym (start.meant (map value_of (expressions g indexes))))
+      (subst (λ types. Pushes (on g (base ++ held) place s.output) held (place + length (c ++ load)) cells (from >>= next types) (entered g access.number s))
+      (sym g.types_are)
+      (subst (λ q. Pushes (on g (base ++ held) place s.output) held q cells (from >>= next g.tree.types) (entered g access.number s)) e
+      (address_pushes _ held held (place + length c) (place + length c + 1 + 1) led_to.last cells from (next g.tree.types) (entered g access.number s)
+      (exact_found g access indexes led_to.last start good counts) addressed
       (λ base2 d p s2 based2 part2 room2.
       loaded_row p type_id cells d defined (place + length c) base2 held s2 (subst (λ t. PartAt g p t d) its part2) loading
       (ltb-true defined (sites g) parts'.1) (sym many) based2 (omega arith)))))

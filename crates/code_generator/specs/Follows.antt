@@ -1,7 +1,7 @@
 -- Code follows a program: on the machine it writes what the program writes and stops as the program ends, for every
--- input and every number of cells. There are no routines yet, so the only frame that may not fit is the program's own.
--- It does not say that a run ends, nor what happens where a reader or a writer fails.
-use Rattle.std.specs.Prelude.{◌≡◌, ℕ, ◌<◌, ◌⊎◌, List, [], ◌++◌, Some, slice_get}
+-- input and every number of cells that a machine may have. A store is full only where the activations that last then
+-- need more cells than it has. It does not say that a run ends, nor what happens where a reader or a writer fails.
+use Rattle.std.specs.Prelude.{◌≡◌, ℕ, ◌<◌, ◌≤◌, ◌⊎◌, List, [], ◌++◌, Some, slice_get}
 use Rattle.pcode_assembler.specs.declared.code.Code.{Code}
 use Rattle.typed_tree.specs.declared.tree.Tree.{Tree}
 use Rattle.typed_tree.specs.declared.site.Site.{Site}
@@ -10,13 +10,14 @@ use Rattle.meaning.specs.declared.outcome.Ending.{Ending}
 use Rattle.meaning.specs.declared.outcome.Ending.TheVariants as ending
 use Rattle.meaning.specs.declared.outcome.InputFault.{InputFault as FaultOfInput}
 use Rattle.meaning.specs.declared.outcome.InputFault.TheVariants as fault_of_input
-use Rattle.meaning.specs.Meaning.{Meaning, meaning}
+use Rattle.meaning.specs.Laws.{state_after}
+use Rattle.meaning.specs.Meaning.{Meaning, meaning, run as run_of}
 use Rattle.stack_machine.specs.declared.stop.Stop.{Stop}
 use Rattle.stack_machine.specs.declared.stop.Stop.TheVariants as stop
 use Rattle.stack_machine.specs.declared.stop.InputFault.{InputFault}
 use Rattle.stack_machine.specs.declared.stop.InputFault.TheVariants as input_fault
 use Rattle.stack_machine.specs.Run.{Outcome, machine}
-use Rattle.code_scheme.specs.Need.{program_need}
+use Rattle.code_scheme.specs.Need.{block_need, living_need}
 use Rattle.code_generator.specs.Tables.{in_plain_numbers, point_in_plain_numbers}
 
 -- a text begins with another
@@ -54,26 +55,40 @@ DoesAsMuch tree m run = elim m.ending [
   | ending.Input id fault ↦ DoesAll tree m run
 ]
 
+-- a run with this output had too few cells for the program's own activation, before any output
+abbrev pub IsFullAtStart : Tree → ℕ → Outcome → Type 0
+IsFullAtStart tree cells run = (run.output ≡ []) × (cells < block_need tree 0)
+
+-- a run had too few cells for an activation: with so many turns the program writes the same, and then there is no turn
+-- left for the activation of a routine; it and those that last then need together more than the given cells
+pub record IsFullAtCall (tree : Tree) (input : List ℕ) (cells turns : ℕ) (run : Outcome) : Type 0 where
+  pub writes : run.output ≡ (meaning tree input turns).output
+  pub starves : (meaning tree input turns).ending ≡ ending.More
+  pub needs : cells < living_need tree (state_after (run_of tree input turns)).starved
+
 -- What a run's stop says of the program, seen for each number of turns: no fault; a used up budget, with a beginning of
--- some meaning's output; a full store before any output, with fewer cells than the need; or an end of some meaning.
--- No reader or writer fails here.
-abbrev pub IsExplained : Tree → ℕ → (ℕ → Meaning) → Outcome → Stop → Type 0
-IsExplained tree cells means run (stop.Fault fault) = ⊥
-IsExplained tree cells means run stop.More = (turns : ℕ) × BeginsWith (means turns).output run.output
-IsExplained tree cells means run stop.StoreFull = (run.output ≡ []) × (cells < program_need tree)
-IsExplained tree cells means run stop.ReadFailed = ⊥
-IsExplained tree cells means run stop.WriteFailed = ⊥
-IsExplained tree cells means run stop.Finished = (turns : ℕ) × DoesAll tree (means turns) run
-IsExplained tree cells means run (stop.Error site) = (turns : ℕ) × DoesAll tree (means turns) run
-IsExplained tree cells means run (stop.Input point fault) = (turns : ℕ) × DoesAll tree (means turns) run
+-- some meaning's output; a full store, for want of cells; or an end of some meaning. No reader or writer fails here.
+abbrev pub IsExplained : Tree → List ℕ → ℕ → Outcome → Stop → Type 0
+IsExplained tree input cells run (stop.Fault fault) = ⊥
+IsExplained tree input cells run stop.More = (turns : ℕ) × BeginsWith (meaning tree input turns).output run.output
+IsExplained tree input cells run stop.StoreFull =
+    IsFullAtStart tree cells run ⊎ ((turns : ℕ) × IsFullAtCall tree input cells turns run)
+IsExplained tree input cells run stop.ReadFailed = ⊥
+IsExplained tree input cells run stop.WriteFailed = ⊥
+IsExplained tree input cells run stop.Finished = (turns : ℕ) × DoesAll tree (meaning tree input turns) run
+IsExplained tree input cells run (stop.Error site) = (turns : ℕ) × DoesAll tree (meaning tree input turns) run
+IsExplained tree input cells run (stop.Input point fault) = (turns : ℕ) × DoesAll tree (meaning tree input turns) run
+
+-- how many cells a machine has at most: the address of each is a number
+abbrev pub most_cells : ℕ
+most_cells = 16777216
 
 -- the code follows the program
 pub record Follows (code : Code) (tree : Tree) : Type 0 where
   -- no run is at fault, and each run has its reason in the program
-  pub sound : (input : List ℕ) (cells budget : ℕ)
-      → IsExplained tree cells (meaning tree input)
-      (machine code input cells budget) (machine code input cells budget).stop
+  pub sound : (input : List ℕ) (cells budget : ℕ) → cells ≤ most_cells
+      → IsExplained tree input cells (machine code input cells budget) (machine code input cells budget).stop
   -- what the program does is done by some run, unless the store was full
-  pub complete : (input : List ℕ) (cells turns : ℕ)
+  pub complete : (input : List ℕ) (cells turns : ℕ) → cells ≤ most_cells
       → ((budget : ℕ) × DoesAsMuch tree (meaning tree input turns) (machine code input cells budget))
       ⊎ ((budget : ℕ) × ((machine code input cells budget).stop ≡ stop.StoreFull))

@@ -9,8 +9,9 @@ use thiserror::Error;
 pub enum GenFault {
     #[error("no memory")]
     Memory,
-    /// G1: over 1,000,000 instructions, or a first frame of over 16,777,216 cells, which no program text has.
-    #[error("over 1000000 instructions")]
+    /// G1: over 1,000,000 instructions; a block whose frame has over 16,777,216 cells, which no program text has; or
+    /// one with over 65,536 cells of parameters.
+    #[error("code that is too large")]
     TooLarge,
 }
 

@@ -3,16 +3,14 @@ ghost use Rattle.std.specs.List.{list_all};
 ghost use Rattle.pcode_assembler.specs.Bounds.{in_bounds};
 ghost use Rattle.code_scheme.specs.Code.{program_code};
 ghost use Rattle.code_generator.specs.Follows.{Follows};
-ghost use Rattle.code_generator.specs.Large.{frame_cells, is_too_large};
+ghost use Rattle.code_generator.specs.Large.{is_too_large};
 ghost use Rattle.code_generator.specs.Tables.{point_table, site_table};
 ghost use Rattle.typed_tree.specs.WellFormed.{IsWellFormed};
 
 use crate::fault::GenFault;
+use crate::large::has_large_frame;
 use crate::tables::{points_of, sites_of};
 use code_emitter::program::instructions_of;
-use code_scheme::depth::needed_by;
-use code_scheme::frame::variable_count;
-use code_scheme::scope::{LINKS, MOST_CELLS};
 use pcode_assembler::code::Code;
 use std::alloc::Global;
 use typed_tree::tree::Tree;
@@ -22,13 +20,13 @@ use typed_tree::tree::Tree;
 /// program, if the tree is well formed.
 pub fn generate(alloc: Global, tree: &Tree) -> Result<Code, GenFault>
     ensures instructions { IfOk result (λ code. code.instructions.items ≡ program_code tree.now) }
-    ensures too_large { (result ≡ Err GenFault.TooLarge) ↔ (is_too_large (program_code tree.now) ≡ true) }
+    ensures too_large { (result ≡ Err GenFault.TooLarge) ↔ (is_too_large tree.now ≡ true) }
     ensures in_bounds { IfOk result (λ code. list_all in_bounds code.instructions.items ≡ true) }
     ensures sites { IfOk result (λ code. code.sites.items ≡ site_table tree.now.sites.items) }
     ensures points { IfOk result (λ code. code.points.items ≡ point_table tree.now.points.items) }
     ensures follows { IfOk result (λ code. IsWellFormed tree.now → Follows code tree.now) }
 {
-    if first_frame(tree) > MOST_CELLS {
+    if has_large_frame(tree) {
         return Err(GenFault::TooLarge);
     }
     let Some(instructions) = instructions_of(alloc, tree)? else {
@@ -39,15 +37,4 @@ pub fn generate(alloc: Global, tree: &Tree) -> Result<Code, GenFault>
         points: points_of(alloc, tree.points.as_slice())?,
         instructions,
     })
-}
-
-// How many cells the frame has that the code of the program opens first.
-fn first_frame(tree: &Tree) -> u32
-    ensures { result ≡ frame_cells (program_code tree.now) }
-{
-    let evaluation = match tree.blocks.first() {
-        Some(program) => needed_by(&program.body).min(MOST_CELLS),
-        None => 0,
-    };
-    LINKS + variable_count(tree) + evaluation
 }

@@ -6,13 +6,14 @@ pub fn stripped_follows()
     ensures { StrippedFollows }
 {}
 
-/// The first frame of code that follows a program takes no more cells than the program may need.
+/// The first frame of code that follows a program, which calls no routine without a turn, takes no more cells than the
+/// program's block may need.
 pub fn frames_fit()
     ensures { FramesFit }
 {}
 
 /// Where a program errs, a run of code that follows it writes the same and stops with the error of that site, if the
-/// machine has as many cells as the program may need.
+/// machine has enough cells for all activations that last together.
 pub fn errors_come()
     ensures { ErrorsCome }
 {}

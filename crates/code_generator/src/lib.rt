@@ -3,5 +3,6 @@
 
 pub mod fault;
 pub mod generate;
+mod large;
 pub mod laws;
 mod tables;

@@ -1,7 +1,8 @@
 -- Each instruction of a program's code is in bounds.
-use Rattle.std.proofs.Common.{◌≡◌, ℕ, ◌+◌, min, Bool, true, false, ◌&&◌, nat_le, List, [], ◌∷◌, ◌++◌, length, map, Option, Some, None, refl, ap, sym, subst}
+use Rattle.std.proofs.Common.{◌≡◌, ℕ, ◌+◌, ◌-◌, min, Bool, true, false, ◌&&◌, nat_le, List, [], ◌∷◌, ◌++◌, length, map, Option, Some, None}
+use Rattle.std.proofs.Common.{if◌then◌else◌, refl, ap, sym, subst}
 use Rattle.std.proofs.Common.{◌∙◌}
-use Rattle.std.specs.Prelude.{slice_get, pos, ℤ, zero, suc, sum}
+use Rattle.std.specs.Prelude.{slice_get, pos, ℤ, zero, suc}
 use Rattle.std.specs.Global.{Vec}
 use Rattle.std.specs.List.{list_all, flat_map}
 use Rattle.std.proofs.Math.Nat.{min-le_right}
@@ -9,7 +10,7 @@ use Rattle.std.proofs.lemmas.Bool.{le-leb}
 use Rattle.std.proofs.lemmas.List.Folds.{list_all-append}
 use Rattle.pcode_assembler.specs.declared.instr.Instr.{Instr}
 use Rattle.pcode_assembler.specs.declared.instr.Instr.TheVariants as instr
-use Rattle.pcode_assembler.specs.Bounds.{in_bounds}
+use Rattle.pcode_assembler.specs.Bounds.{in_bounds, is_level, is_offset}
 use Rattle.typed_tree.specs.declared.tree.Tree.{Tree}
 use Rattle.typed_tree.specs.declared.tree.Block.{Block}
 use Rattle.typed_tree.specs.declared.tree.Monadic.{Monadic}
@@ -33,24 +34,32 @@ use Rattle.typed_tree.specs.declared.tree.Whole.{Whole}
 use Rattle.typed_tree.specs.declared.tree.Whole.TheVariants.{Text, Variable as VariableOf}
 use Rattle.typed_tree.specs.declared.tree.Expr.{Expr}
 use Rattle.typed_tree.specs.declared.tree.Link.{Link}
-use Rattle.typed_tree.specs.declared.tree.Expr.TheOpen.{Expr-F, Link-F}
-use Rattle.typed_tree.specs.declared.tree.Expr.TheOpen.Expr-F.{Constant, Variable, Monadic as MonadicOf, Chain, Compare}
-use Rattle.typed_tree.specs.declared.tree.Expr.TheViews.{roll-Expr, roll-Link}
-use Rattle.typed_tree.specs.declared.tree.Expr.TheFolds.{map-Expr, map-Link, fold-roll-Expr, fold-roll-Link, ind-Expr}
+use Rattle.typed_tree.specs.declared.tree.Passed.{Passed}
+use Rattle.typed_tree.specs.declared.tree.Call.{Call}
+use Rattle.typed_tree.specs.declared.tree.FunctionResult.{FunctionResult}
+use Rattle.typed_tree.specs.declared.tree.Variable.{Variable as DeclaredVariable}
+use Rattle.typed_tree.specs.declared.tree.Expr.TheOpen.{Expr-F, Passed-F, Link-F}
+use Rattle.typed_tree.specs.declared.tree.Expr.TheOpen.Expr-F.{Constant, Variable, Monadic as MonadicOf, Chain, Compare, Call as CallOf}
+use Rattle.typed_tree.specs.declared.tree.Expr.TheOpen.Passed-F.{Value as PassedValue, Whole as PassedWhole, Reference}
+use Rattle.typed_tree.specs.declared.tree.Expr.TheViews.{roll-Expr, roll-Passed, roll-Link}
+use Rattle.typed_tree.specs.declared.tree.Expr.TheFolds.{map-Expr, map-Passed, map-Link, fold-roll-Expr, fold-roll-Passed, fold-roll-Link, ind-Expr}
+use Rattle.typed_tree.specs.declared.tree.Expr.TheFolds.{ind-Passed}
 use Rattle.typed_tree.specs.declared.tree.Stmt.{Stmt}
 use Rattle.typed_tree.specs.declared.tree.Stmt.TheOpen.{Stmt-F}
-use Rattle.typed_tree.specs.declared.tree.Stmt.TheOpen.Stmt-F.{Empty, Assign, Write, Compound, If, While, Repeat, For, Case, Copy}
+use Rattle.typed_tree.specs.declared.tree.Stmt.TheOpen.Stmt-F.{Empty, Assign, Write, Compound, If, While, Repeat, For, Case, Copy, Call as Calling}
 use Rattle.typed_tree.specs.declared.tree.Stmt.TheViews.{roll-Stmt}
 use Rattle.typed_tree.specs.declared.tree.Stmt.TheFolds.{map-Stmt, fold-roll-Stmt, ind-Stmt}
 use Rattle.typed_tree.specs.WellFormed.{length_of}
-use Rattle.code_scheme.specs.Scopes.{start_of, fields_offset, behind_fields, row_length, offset, variable_cells}
-use Rattle.code_scheme.specs.Code.{field_code, selectors_code, address_at, fetch_at, store_at, address_code, variable_code, index_codes, assign_code, copy_code}
-use Rattle.code_scheme.specs.Scopes.{Scope, count, holding, held_offset, variable_offset, program_scope}
+use Rattle.code_scheme.specs.declared.routine.Routine.{Routine}
+use Rattle.code_scheme.specs.Scopes.{Scope, access_offset, behind_fields, block_scope, called_routine, count, fields_offset, held_offset, holding, home_or_none}
+use Rattle.code_scheme.specs.Scopes.{homes_from, links_to, other_cells, row_length, start_of, variable_home}
+use Rattle.code_scheme.specs.Code.{At, By, Reached, address_of, reached, reached_from, fetch_code, store_code, call_code, passed_code, passed_step}
+use Rattle.code_scheme.specs.Code.{field_code, selectors_code, address_code, variable_code, index_codes, assign_code, copy_code, control_offset}
 use Rattle.code_scheme.specs.Code.{joined, placed, Placed, monadic_code, relation_instr, dyadic_code, expr_code, link_code, expr_step, link_step}
 use Rattle.code_scheme.specs.Code.{width_code, parameter_code, write_instr, line_end_code, stmt_code, stmt_step, range_check, order_instr, next_instr}
-use Rattle.code_scheme.specs.Code.{row_code, arms_code, for_entry, for_begin, for_next, for_end, body_code, program_code, compare_code, whole_code}
-use Rattle.code_scheme.specs.Code.{written_code}
-use Rattle.code_scheme.specs.Depth.{stmt_depth}
+use Rattle.code_scheme.specs.Code.{row_code, arms_code, for_entry, for_begin, for_next, for_end, program_code, compare_code, whole_code}
+use Rattle.code_scheme.specs.Code.{written_code, block_code, blocks_code, end_code, routines_of}
+use Rattle.code_scheme.specs.Depth.{block_depth}
 
 -- each instruction of some code is in bounds
 abbrev InBounds : List Instr → Type 0
@@ -61,7 +70,7 @@ abbrev Instrs : Type 0
 Instrs = (code : List Instr) × InBounds code
 
 append_in_bounds : (xs ys : List Instr) → InBounds xs → InBounds ys → InBounds (xs ++ ys)
-append_in_bounds xs ys first then = list_all-append in_bounds xs ys ∙ ap (λ b. b && list_all in_bounds ys) first ∙ then
+append_in_bounds xs ys first second = list_all-append in_bounds xs ys ∙ ap (λ b. b && list_all in_bounds ys) first ∙ second
 
 -- what is cut at a bound is in it
 cut_at : (n bound : ℕ) → nat_le (min n bound) bound ≡ true
@@ -125,27 +134,60 @@ selectors_in_bounds (Element fits cells ∷ selectors) (code ∷ codes) =
     append_in_bounds code.0 (range_check fits ∷ instr.IndexAddress fits.range.first (row_length cells) ∷ rest) code.1
     (ap (λ b. b && list_all in_bounds rest) (cut_at cells 65536) ∙ selectors_in_bounds selectors codes)
 
-address_in_bounds : (start : ℕ) (selectors : List Selector) (codes : List Instrs) → InBounds (address_at (offset start) selectors (map (λ p. p.0) codes))
-address_in_bounds start selectors codes =
-    ap (λ b. b && list_all in_bounds (selectors_code selectors (map (λ p. p.0) codes))) (cut_at start 16777215) ∙ selectors_in_bounds selectors codes
+-- two bounds are met
+both : (a b : Bool) → a ≡ true → b ≡ true → (a && b) ≡ true
+both a b first second = ap (λ x. x && b) first ∙ second
 
-fetch_in_bounds : (start : ℕ) (selectors : List Selector) (codes : List Instrs) → InBounds (fetch_at (offset start) selectors (map (λ p. p.0) codes))
-fetch_in_bounds start [] codes = ap (λ b. b && true) (cut_at start 16777215)
-fetch_in_bounds start (selector ∷ selectors) codes =
-    append_in_bounds (address_at (offset start) (selector ∷ selectors) (map (λ p. p.0) codes)) _ (address_in_bounds start (selector ∷ selectors) codes) refl
+-- what code reaches is in bounds
+abbrev ReachedIn : Reached → Type 0
+ReachedIn (At level start) = (is_level level ≡ true) × (is_offset start ≡ true)
+ReachedIn (By address) = InBounds address
 
-store_in_bounds : (start : ℕ) (selectors : List Selector) (codes : List Instrs) (value : List Instr) → InBounds value
-    → InBounds (store_at (offset start) selectors (map (λ p. p.0) codes) value)
-store_in_bounds start [] codes value valued = append_in_bounds value _ valued (ap (λ b. b && true) (cut_at start 16777215))
-store_in_bounds start (selector ∷ selectors) codes value valued =
-    append_in_bounds (address_at (offset start) (selector ∷ selectors) (map (λ p. p.0) codes)) _ (address_in_bounds start (selector ∷ selectors) codes)
-    (append_in_bounds value _ valued refl)
+address_in : (r : Reached) → ReachedIn r → InBounds (address_of r)
+address_in (At level start) h = (one_more (instr.LoadAddress level start) _ (both _ _ h.0 h.1) no_more).all
+address_in (By address) h = h
 
-whole_in_bounds : (scope : Scope) (value : Whole) (codes : List Instrs) → InBounds (whole_code scope value (map (λ p. p.0) codes))
-whole_in_bounds scope (Text number characters) codes = characters_in_bounds characters.items
-whole_in_bounds scope (VariableOf access type_id cells defined) codes =
-    append_in_bounds (address_code scope access (map (λ p. p.0) codes)) _
-    (address_in_bounds (variable_offset scope access.root + fields_offset access.selectors.items) (behind_fields access.selectors.items) codes)
+fetch_in : (r : Reached) → ReachedIn r → InBounds (fetch_code r)
+fetch_in (At level start) h = (one_more (instr.Load level start) _ (both _ _ h.0 h.1) no_more).all
+fetch_in (By address) h = append_in_bounds address _ h refl
+
+store_in : (value : List Instr) (r : Reached) → InBounds value → ReachedIn r → InBounds (store_code value r)
+store_in value (At level start) valued h =
+    append_in_bounds value _ valued (one_more (instr.Store level start) _ (both _ _ h.0 h.1) no_more).all
+store_in value (By address) valued h = append_in_bounds address _ h (append_in_bounds value _ valued refl)
+
+from_in : (level start : ℕ) (selectors : List Selector) (codes : List Instrs) → is_level level ≡ true → is_offset start ≡ true
+    → ReachedIn (reached_from level start selectors (map (λ p. p.0) codes))
+from_in level start [] codes near inside = (near, inside)
+from_in level start (selector ∷ selectors) codes near inside =
+    (one_more (instr.LoadAddress level start) (selectors_code (selector ∷ selectors) (map (λ p. p.0) codes)) (both _ _ near inside)
+    (record { all = selectors_in_bounds (selector ∷ selectors) codes })).all
+
+any_in : (refers : Bool) (level start place : ℕ) (selectors : List Selector) (codes : List Instrs) → is_level level ≡ true → is_offset start ≡ true
+    → is_offset place ≡ true → ReachedIn (if refers then By (instr.Load level start ∷ selectors_code selectors (map (λ p. p.0) codes)) else
+    reached_from level place (behind_fields selectors) (map (λ p. p.0) codes))
+any_in true level start place selectors codes near begins inside =
+    (one_more (instr.Load level start) (selectors_code selectors (map (λ p. p.0) codes)) (both _ _ near begins)
+    (record { all = selectors_in_bounds selectors codes })).all
+any_in false level start place selectors codes near begins inside = from_in level place (behind_fields selectors) codes near inside
+
+-- each variable begins at an offset
+abbrev HomesIn : Scope → Type 0
+HomesIn scope = (root : ℕ) → is_offset (variable_home scope root).start ≡ true
+
+links_in : (scope : Scope) (level : ℕ) → is_level (links_to scope level) ≡ true
+links_in scope level = cut_at (scope.level - level) 15
+
+reached_in : (scope : Scope) → HomesIn scope → (access : Access) (codes : List Instrs) → ReachedIn (reached scope access (map (λ p. p.0) codes))
+reached_in scope homes access codes =
+    let home = variable_home scope access.root in
+    any_in home.refers (links_to scope home.level) home.start (access_offset scope access) access.selectors.items codes (links_in scope home.level)
+    (homes access.root) (cut_at (home.start + fields_offset access.selectors.items) 16777215)
+
+whole_in_bounds : (scope : Scope) → HomesIn scope → (value : Whole) (codes : List Instrs) → InBounds (whole_code scope value (map (λ p. p.0) codes))
+whole_in_bounds scope homes (Text number characters) codes = characters_in_bounds characters.items
+whole_in_bounds scope homes (VariableOf access type_id cells defined) codes =
+    append_in_bounds (address_code scope access (map (λ p. p.0) codes)) _ (address_in _ (reached_in scope homes access codes))
     (one_more (instr.LoadMany (row_length cells)) _ (cut_at cells 65536)
     (one_more (instr.CheckDefined defined (row_length cells)) _ (cut_at cells 65536) no_more)).all
 
@@ -156,9 +198,12 @@ compare_in_bounds r components left right first second =
     (append_in_bounds right _ second
     (ap (λ b. b && list_all in_bounds (relation_instr r ∷ [])) (cut_at components 65536) ∙ relation_in_bounds r))
 
-module _ (scope : Scope) where
+module _ (scope : Scope) (homes : HomesIn scope) where
   abbrev ExprInBounds : Expr → Type 0
   ExprInBounds e = InBounds (expr_code scope e)
+
+  abbrev PassedInBounds : Passed → Type 0
+  PassedInBounds p = InBounds (passed_code scope p)
 
   abbrev LinkInBounds : Link → Type 0
   LinkInBounds l = InBounds (link_code scope l)
@@ -167,14 +212,20 @@ module _ (scope : Scope) where
   abbrev ProvedExpr : Type 0
   ProvedExpr = (e : Expr) × ExprInBounds e
 
+  abbrev ProvedPassed : Type 0
+  ProvedPassed = (p : Passed) × PassedInBounds p
+
   abbrev ProvedLink : Type 0
   ProvedLink = (l : Link) × LinkInBounds l
 
-  abbrev bare_expr : Expr-F ProvedExpr ProvedLink → Expr-F Expr Link
-  bare_expr = map-Expr ProvedExpr ProvedLink Expr Link (λ e. e.0) (λ l. l.0)
+  abbrev bare_expr : Expr-F ProvedExpr ProvedPassed ProvedLink → Expr-F Expr Passed Link
+  bare_expr = map-Expr ProvedExpr ProvedPassed ProvedLink Expr Passed Link (λ e. e.0) (λ p. p.0) (λ l. l.0)
 
-  abbrev bare_link : Link-F ProvedExpr ProvedLink → Link-F Expr Link
-  bare_link = map-Link ProvedExpr ProvedLink Expr Link (λ e. e.0) (λ l. l.0)
+  abbrev bare_passed : Passed-F ProvedExpr ProvedPassed ProvedLink → Passed-F Expr Passed Link
+  bare_passed = map-Passed ProvedExpr ProvedPassed ProvedLink Expr Passed Link (λ e. e.0) (λ p. p.0) (λ l. l.0)
+
+  abbrev bare_link : Link-F ProvedExpr ProvedPassed ProvedLink → Link-F Expr Passed Link
+  bare_link = map-Link ProvedExpr ProvedPassed ProvedLink Expr Passed Link (λ e. e.0) (λ p. p.0) (λ l. l.0)
 
   -- the codes of such index expressions
   abbrev coded : List ProvedExpr → List Instrs
@@ -189,23 +240,42 @@ module _ (scope : Scope) where
   links_in_bounds (link ∷ links) =
       append_in_bounds (link_code scope link.0) (joined (map (link_code scope) (map (λ l. l.0) links))) link.1 (links_in_bounds links)
 
-  rolled_expr : (x : Expr-F Expr Link) → InBounds (expr_step scope (map-Expr Expr Link (List Instr) (List Instr) (expr_code scope) (link_code scope) x))
+  actuals_in_bounds : (actuals : List ProvedPassed) → InBounds (joined (map (passed_code scope) (map (λ p. p.0) actuals)))
+  actuals_in_bounds [] = refl
+  actuals_in_bounds (p ∷ actuals) =
+      append_in_bounds (passed_code scope p.0) (joined (map (passed_code scope) (map (λ q. q.0) actuals))) p.1 (actuals_in_bounds actuals)
+
+  call_in_bounds : (call : Call) (pieces : List (List Instr)) → InBounds (joined pieces) → InBounds (call_code scope call pieces)
+  call_in_bounds call pieces inside =
+      let routine = called_routine scope call.block in
+      let jump = instr.CallProcedure (row_length routine.cells) routine.place ∷ [] in
+      (one_more (instr.MarkStack (links_to scope routine.level)) (joined pieces ++ jump) (links_in scope routine.level) (record {
+        all = append_in_bounds (joined pieces) jump inside
+            (one_more (instr.CallProcedure (row_length routine.cells) routine.place) [] (cut_at routine.cells 65536) no_more).all;
+      })).all
+
+  rolled_expr : (x : Expr-F Expr Passed Link)
+      → InBounds (expr_step scope (map-Expr Expr Passed Link (List Instr) (List Instr) (List Instr) (expr_code scope) (passed_code scope) (link_code scope) x))
       → ExprInBounds (roll-Expr x)
-  rolled_expr x = subst InBounds (sym (fold-roll-Expr (List Instr) (List Instr) (expr_step scope) link_step x))
+  rolled_expr x = subst InBounds (sym (fold-roll-Expr (List Instr) (List Instr) (List Instr) (expr_step scope) (passed_step scope) link_step x))
 
-  rolled_link : (x : Link-F Expr Link) → InBounds (link_step (map-Link Expr Link (List Instr) (List Instr) (expr_code scope) (link_code scope) x))
+  rolled_passed : (x : Passed-F Expr Passed Link)
+      → InBounds (passed_step scope (map-Passed Expr Passed Link (List Instr) (List Instr) (List Instr) (expr_code scope) (passed_code scope) (link_code scope)
+      x)) → PassedInBounds (roll-Passed x)
+  rolled_passed x = subst InBounds (sym (fold-roll-Passed (List Instr) (List Instr) (List Instr) (expr_step scope) (passed_step scope) link_step x))
+
+  rolled_link : (x : Link-F Expr Passed Link)
+      → InBounds (link_step (map-Link Expr Passed Link (List Instr) (List Instr) (List Instr) (expr_code scope) (passed_code scope) (link_code scope) x))
       → LinkInBounds (roll-Link x)
-  rolled_link x = subst InBounds (sym (fold-roll-Link (List Instr) (List Instr) (expr_step scope) link_step x))
+  rolled_link x = subst InBounds (sym (fold-roll-Link (List Instr) (List Instr) (List Instr) (expr_step scope) (passed_step scope) link_step x))
 
-  expr_layer : (y : Expr-F ProvedExpr ProvedLink) → ExprInBounds (roll-Expr (bare_expr y))
+  expr_layer : (y : Expr-F ProvedExpr ProvedPassed ProvedLink) → ExprInBounds (roll-Expr (bare_expr y))
   expr_layer (Constant number n) = rolled_expr (Constant number n) refl
   expr_layer (Variable access indexes defined) =
-      let start = variable_offset scope access.root + fields_offset access.selectors.items in
-      let selectors = behind_fields access.selectors.items in
       rolled_expr (bare_expr (Variable access indexes defined))
       (subst (λ codes. InBounds (variable_code scope access codes defined)) (bare_codes indexes.items)
-      (append_in_bounds (fetch_at (offset start) selectors (map (λ (p : Instrs). p.0) (coded indexes.items))) _
-      (fetch_in_bounds start selectors (coded indexes.items)) refl))
+      (append_in_bounds (fetch_code (reached scope access (map (λ (p : Instrs). p.0) (coded indexes.items)))) _
+      (fetch_in _ (reached_in scope homes access (coded indexes.items))) refl))
   expr_layer (MonadicOf number operation operand) =
       rolled_expr (bare_expr (MonadicOf number operation operand))
       (append_in_bounds (expr_code scope operand.value.0) (monadic_code operation) operand.value.1 (monadic_in_bounds operation))
@@ -216,18 +286,42 @@ module _ (scope : Scope) where
       rolled_expr (bare_expr (Compare number r left left_indexes right right_indexes))
       (compare_in_bounds r (length_of left) (whole_code scope left (map (expr_code scope) (map (λ (e : ProvedExpr). e.0) left_indexes.items)))
       (whole_code scope right (map (expr_code scope) (map (λ (e : ProvedExpr). e.0) right_indexes.items)))
-      (subst (λ codes. InBounds (whole_code scope left codes)) (bare_codes left_indexes.items) (whole_in_bounds scope left (coded left_indexes.items)))
-      (subst (λ codes. InBounds (whole_code scope right codes)) (bare_codes right_indexes.items) (whole_in_bounds scope right (coded right_indexes.items))))
+      (subst (λ codes. InBounds (whole_code scope left codes)) (bare_codes left_indexes.items) (whole_in_bounds scope homes left (coded left_indexes.items)))
+      (subst (λ codes. InBounds (whole_code scope right codes)) (bare_codes right_indexes.items)
+      (whole_in_bounds scope homes right (coded right_indexes.items))))
+  expr_layer (CallOf call actuals) =
+      rolled_expr (bare_expr (CallOf call actuals))
+      (call_in_bounds call (map (passed_code scope) (map (λ (p : ProvedPassed). p.0) actuals.items)) (actuals_in_bounds actuals.items))
 
-  link_layer : (y : Link-F ProvedExpr ProvedLink) → LinkInBounds (roll-Link (bare_link y))
+  passed_layer : (y : Passed-F ProvedExpr ProvedPassed ProvedLink) → PassedInBounds (roll-Passed (bare_passed y))
+  passed_layer (PassedValue value fits) =
+      rolled_passed (bare_passed (PassedValue value fits)) (append_in_bounds (expr_code scope value.0) (range_check fits ∷ []) value.1 refl)
+  passed_layer (PassedWhole type_id value indexes) =
+      rolled_passed (bare_passed (PassedWhole type_id value indexes))
+      (subst (λ codes. InBounds (whole_code scope value codes)) (bare_codes indexes.items) (whole_in_bounds scope homes value (coded indexes.items)))
+  passed_layer (Reference type_id access indexes) =
+      rolled_passed (bare_passed (Reference type_id access indexes))
+      (subst (λ codes. InBounds (address_code scope access codes)) (bare_codes indexes.items)
+      (address_in _ (reached_in scope homes access (coded indexes.items))))
+
+  link_layer : (y : Link-F ProvedExpr ProvedPassed ProvedLink) → LinkInBounds (roll-Link (bare_link y))
   link_layer y =
       rolled_link (bare_link y)
       (append_in_bounds (expr_code scope y.operand.0) (dyadic_code y.operation) y.operand.1 (dyadic_in_bounds y.operation))
 
   expr_in_bounds : (e : Expr) → ExprInBounds e
   expr_in_bounds =
-      ind-Expr ExprInBounds LinkInBounds (λ x y is. subst (λ z. ExprInBounds (roll-Expr z)) is (expr_layer y))
-      (λ x y is. subst (λ z. LinkInBounds (roll-Link z)) is (link_layer y))
+      ind-Expr ExprInBounds PassedInBounds LinkInBounds (λ x y is. subst (λ z. ExprInBounds (roll-Expr z)) is (expr_layer y))
+      (λ x y is. subst (λ z. PassedInBounds (roll-Passed z)) is (passed_layer y)) (λ x y is. subst (λ z. LinkInBounds (roll-Link z)) is (link_layer y))
+
+  passed_in_bounds : (p : Passed) → PassedInBounds p
+  passed_in_bounds =
+      ind-Passed ExprInBounds PassedInBounds LinkInBounds (λ x y is. subst (λ z. ExprInBounds (roll-Expr z)) is (expr_layer y))
+      (λ x y is. subst (λ z. PassedInBounds (roll-Passed z)) is (passed_layer y)) (λ x y is. subst (λ z. LinkInBounds (roll-Link z)) is (link_layer y))
+
+  all_passed : (actuals : List Passed) → InBounds (joined (map (passed_code scope) actuals))
+  all_passed [] = refl
+  all_passed (p ∷ actuals) = append_in_bounds (passed_code scope p) (joined (map (passed_code scope) actuals)) (passed_in_bounds p) (all_passed actuals)
 
   -- the codes of index expressions
   abbrev index_pieces : List Expr → List Instrs
@@ -239,23 +333,20 @@ module _ (scope : Scope) where
 
   value_in_bounds : (value : Whole) (indexes : List Expr) → InBounds (whole_code scope value (index_codes scope indexes))
   value_in_bounds value indexes =
-      subst (λ codes. InBounds (whole_code scope value codes)) (index_pieces_are indexes) (whole_in_bounds scope value (index_pieces indexes))
+      subst (λ codes. InBounds (whole_code scope value codes)) (index_pieces_are indexes) (whole_in_bounds scope homes value (index_pieces indexes))
 
   assign_in_bounds : (target : Access) (indexes : List Expr) (fits : RangeTest) (value : Expr) → InBounds (assign_code scope target indexes fits value)
   assign_in_bounds target indexes fits value =
-      let start = variable_offset scope target.root + fields_offset target.selectors.items in
       let checked = expr_code scope value ++ (range_check fits ∷ []) in
-      subst (λ codes. InBounds (store_at (offset start) (behind_fields target.selectors.items) codes checked)) (index_pieces_are indexes)
-      (store_in_bounds start (behind_fields target.selectors.items) (index_pieces indexes) checked
-      (append_in_bounds (expr_code scope value) _ (expr_in_bounds value) refl))
+      subst (λ codes. InBounds (store_code checked (reached scope target codes))) (index_pieces_are indexes)
+      (store_in checked _ (append_in_bounds (expr_code scope value) _ (expr_in_bounds value) refl) (reached_in scope homes target (index_pieces indexes)))
 
   copy_in_bounds : (target : Access) (indexes : List Expr) (value : Whole) (value_indexes : List Expr)
       → InBounds (copy_code scope target indexes value value_indexes)
   copy_in_bounds target indexes value value_indexes =
-      let start = variable_offset scope target.root + fields_offset target.selectors.items in
       append_in_bounds (address_code scope target (index_codes scope indexes)) _
-      (subst (λ codes. InBounds (address_at (offset start) (behind_fields target.selectors.items) codes)) (index_pieces_are indexes)
-      (address_in_bounds start (behind_fields target.selectors.items) (index_pieces indexes)))
+      (subst (λ codes. InBounds (address_code scope target codes)) (index_pieces_are indexes)
+      (address_in _ (reached_in scope homes target (index_pieces indexes))))
       (append_in_bounds (whole_code scope value (index_codes scope value_indexes)) _ (value_in_bounds value value_indexes)
       (ap (λ b. b && true) (cut_at (length_of value) 65536)))
 
@@ -288,7 +379,7 @@ line_end_in_bounds true = refl
 line_end_in_bounds false = refl
 
 abbrev StmtInBounds : Stmt → Type 0
-StmtInBounds s = (scope : Scope) (place : ℕ) → InBounds (stmt_code s scope place)
+StmtInBounds s = (scope : Scope) → HomesIn scope → (place : ℕ) → InBounds (stmt_code s scope place)
 
 abbrev ProvedStmt : Type 0
 ProvedStmt = (s : Stmt) × StmtInBounds s
@@ -296,18 +387,19 @@ ProvedStmt = (s : Stmt) × StmtInBounds s
 abbrev bare_stmt : Stmt-F ProvedStmt → Stmt-F Stmt
 bare_stmt = map-Stmt ProvedStmt Stmt (λ s. s.0)
 
-stmts_in_bounds : (scope : Scope) (statements : List ProvedStmt) (place : ℕ)
+stmts_in_bounds : (scope : Scope) → HomesIn scope → (statements : List ProvedStmt) (place : ℕ)
     → InBounds (placed (map (λ code. code scope) (map stmt_code (map (λ s. s.0) statements))) place)
-stmts_in_bounds scope [] place = refl
-stmts_in_bounds scope (s ∷ statements) place =
+stmts_in_bounds scope homes [] place = refl
+stmts_in_bounds scope homes (s ∷ statements) place =
     let code = stmt_code s.0 scope place in
     let next = place + length code in
-    append_in_bounds code (placed (map (λ c. c scope) (map stmt_code (map (λ s. s.0) statements))) next) (s.1 scope place)
-    (stmts_in_bounds scope statements next)
+    append_in_bounds code (placed (map (λ c. c scope) (map stmt_code (map (λ s. s.0) statements))) next) (s.1 scope homes place)
+    (stmts_in_bounds scope homes statements next)
 
-rolled_stmt : (x : Stmt-F Stmt) → ((scope : Scope) (place : ℕ) → InBounds (stmt_step (map-Stmt Stmt Placed stmt_code x) scope place))
+rolled_stmt : (x : Stmt-F Stmt) → ((scope : Scope) → HomesIn scope → (place : ℕ) → InBounds (stmt_step (map-Stmt Stmt Placed stmt_code x) scope place))
     → StmtInBounds (roll-Stmt x)
-rolled_stmt x in_bounds scope place = subst (λ code. InBounds (code scope place)) (sym (fold-roll-Stmt Placed stmt_step x)) (in_bounds scope place)
+rolled_stmt x in_bounds scope homes place =
+    subst (λ code. InBounds (code scope place)) (sym (fold-roll-Stmt Placed stmt_step x)) (in_bounds scope homes place)
 
 -- the instructions of a for statement
 way_in_bounds : (way : Direction) → (in_bounds (order_instr way) ≡ true) × (in_bounds (next_instr way) ≡ true)
@@ -316,9 +408,6 @@ way_in_bounds direction.DownTo = (refl, refl)
 
 held_in_bounds : (scope : Scope) (n : ℕ) → nat_le (held_offset scope n) 16777215 ≡ true
 held_in_bounds scope n = cut_at (scope.above + scope.height + n) 16777215
-
-variable_in_bounds : (scope : Scope) (root : ℕ) → nat_le (variable_offset scope root) 16777215 ≡ true
-variable_in_bounds scope root = cut_at (start_of (slice_get scope.starts root)) 16777215
 
 entry_in_bounds : (scope : Scope) (first_fits : RangeTest) (way : Direction) (last_fits : RangeTest) (out : ℕ)
     → InBounds (for_entry scope first_fits way last_fits out)
@@ -332,10 +421,10 @@ entry_in_bounds scope first_fits way last_fits out =
     (one_more (instr.Store 0 (held_offset scope 0)) _ (held_in_bounds scope 0)
     (one_more (range_check last_fits) _ refl no_more)))))))).all
 
-begin_in_bounds : (scope : Scope) (control : ℕ) → InBounds (for_begin scope control)
-begin_in_bounds scope control =
+begin_in_bounds : (scope : Scope) → HomesIn scope → (control : ℕ) → InBounds (for_begin scope control)
+begin_in_bounds scope homes control =
     (one_more (instr.Load 0 (held_offset scope 0)) _ (held_in_bounds scope 0)
-    (one_more (instr.Store 0 (variable_offset scope control)) _ (variable_in_bounds scope control) no_more)).all
+    (one_more (instr.Store 0 (control_offset scope control)) _ (homes control) no_more)).all
 
 next_in_bounds : (scope : Scope) (way : Direction) (head out : ℕ) → InBounds (for_next scope way head out)
 next_in_bounds scope way head out =
@@ -349,12 +438,12 @@ next_in_bounds scope way head out =
     (one_more (instr.Store 0 (held_offset scope 0)) _ (held_in_bounds scope 0)
     (one_more (instr.Jump head) _ refl no_more))))))))).all
 
-end_in_bounds : (scope : Scope) (control : ℕ) → InBounds (for_end scope control)
-end_in_bounds scope control =
-    (one_more (instr.Store 0 (variable_offset scope control)) _ (variable_in_bounds scope control)
-    (one_more (instr.Store 0 (variable_offset scope control)) _ (variable_in_bounds scope control)
-    (one_more (instr.Load 0 2) _ refl
-    (one_more (instr.Store 0 (variable_offset scope control)) _ (variable_in_bounds scope control) no_more)))).all
+end_in_bounds : (scope : Scope) → HomesIn scope → (control : ℕ) → InBounds (for_end scope control)
+end_in_bounds scope homes control =
+    (one_more (instr.Store 0 (control_offset scope control)) _ (homes control)
+    (one_more (instr.Store 0 (control_offset scope control)) _ (homes control)
+    (one_more (instr.Load (links_to scope 0) 2) _ (both _ _ (links_in scope 0) refl)
+    (one_more (instr.Store 0 (control_offset scope control)) _ (homes control) no_more)))).all
 
 -- the arms of a case statement
 row_in_bounds : (scope : Scope) (arm : ℕ) (row : List ℤ) → InBounds (row_code scope arm row)
@@ -364,72 +453,75 @@ row_in_bounds scope arm (constant ∷ row) =
     (one_more (instr.LoadConstant constant) _ refl (one_more (instr.Load 0 (held_offset scope 0)) _ (held_in_bounds scope 0)
     (one_more instr.NotEqual _ refl (one_more (instr.JumpIfFalse arm) _ refl no_more)))).all (row_in_bounds scope arm row)
 
-arms_in_bounds : (scope : Scope) (out : ℕ) (rows : List (Vec ℤ)) (arms : List ProvedStmt) (place : ℕ)
+arms_in_bounds : (scope : Scope) → HomesIn scope → (out : ℕ) (rows : List (Vec ℤ)) (arms : List ProvedStmt) (place : ℕ)
     → InBounds (arms_code scope out rows (map stmt_code (map (λ s. s.0) arms)) place)
-arms_in_bounds scope out [] arms place = refl
-arms_in_bounds scope out (row ∷ rows) [] place = refl
-arms_in_bounds scope out (row ∷ rows) (arm ∷ arms) place =
+arms_in_bounds scope homes out [] arms place = refl
+arms_in_bounds scope homes out (row ∷ rows) [] place = refl
+arms_in_bounds scope homes out (row ∷ rows) (arm ∷ arms) place =
     let inside = place + length (row_code scope 0 row.items) + 1 in
     let code = stmt_code arm.0 (holding 1 scope) inside in
     let next = inside + length code + 1 in
     let rest = arms_code scope out rows (map stmt_code (map (λ s. s.0) arms)) next in
     append_in_bounds (row_code scope inside row.items) (instr.Jump next ∷ (code ++ (instr.Jump out ∷ rest))) (row_in_bounds scope inside row.items)
-    (append_in_bounds code (instr.Jump out ∷ rest) (arm.1 (holding 1 scope) inside) (arms_in_bounds scope out rows arms next))
+    (append_in_bounds code (instr.Jump out ∷ rest) (arm.1 (holding 1 scope) homes inside) (arms_in_bounds scope homes out rows arms next))
 
 stmt_layer : (y : Stmt-F ProvedStmt) → StmtInBounds (roll-Stmt (bare_stmt y))
-stmt_layer (Empty number) = rolled_stmt (Empty number) (λ scope place. refl)
+stmt_layer (Empty number) = rolled_stmt (Empty number) (λ scope homes place. refl)
 stmt_layer (Assign number becomes target indexes fits value) =
-    rolled_stmt (Assign number becomes target indexes fits value) (λ scope place. assign_in_bounds scope target indexes.items fits value)
+    rolled_stmt (Assign number becomes target indexes fits value) (λ scope homes place. assign_in_bounds scope homes target indexes.items fits value)
 stmt_layer (Copy number becomes target indexes type_id value value_indexes) =
     rolled_stmt (Copy number becomes target indexes type_id value value_indexes)
-    (λ scope place. copy_in_bounds scope target indexes.items value value_indexes.items)
+    (λ scope homes place. copy_in_bounds scope homes target indexes.items value value_indexes.items)
 stmt_layer (Write number name parameters ends_line) =
-    rolled_stmt (Write number name parameters ends_line) (λ scope place.
+    rolled_stmt (Write number name parameters ends_line) (λ scope homes place.
     append_in_bounds (flat_map (parameter_code scope) parameters.items) (line_end_code ends_line)
-    (parameters_in_bounds scope parameters.items) (line_end_in_bounds ends_line))
+    (parameters_in_bounds scope homes parameters.items) (line_end_in_bounds ends_line))
+stmt_layer (Calling call actuals) =
+    rolled_stmt (Calling call actuals) (λ scope homes place.
+    call_in_bounds scope homes call (map (passed_code scope) actuals.items) (all_passed scope homes actuals.items))
 stmt_layer (Compound number statements) =
-    rolled_stmt (bare_stmt (Compound number statements)) (λ scope place. stmts_in_bounds scope statements.items place)
+    rolled_stmt (bare_stmt (Compound number statements)) (λ scope homes place. stmts_in_bounds scope homes statements.items place)
 stmt_layer (If number condition consequence None) =
-    rolled_stmt (bare_stmt (If number condition consequence None)) (λ scope place.
+    rolled_stmt (bare_stmt (If number condition consequence None)) (λ scope homes place.
     let yes = place + length (expr_code scope condition) + 1 in
-    append_in_bounds (expr_code scope condition) _ (expr_in_bounds scope condition) (consequence.value.1 scope yes))
+    append_in_bounds (expr_code scope condition) _ (expr_in_bounds scope homes condition) (consequence.value.1 scope homes yes))
 stmt_layer (If number condition consequence (Some alternative)) =
-    rolled_stmt (bare_stmt (If number condition consequence (Some alternative))) (λ scope place.
+    rolled_stmt (bare_stmt (If number condition consequence (Some alternative))) (λ scope homes place.
     let yes = place + length (expr_code scope condition) + 1 in
     let no = yes + length (stmt_code consequence.value.0 scope yes) + 1 in
-    append_in_bounds (expr_code scope condition) _ (expr_in_bounds scope condition)
-    (append_in_bounds (stmt_code consequence.value.0 scope yes) _ (consequence.value.1 scope yes) (alternative.value.1 scope no)))
+    append_in_bounds (expr_code scope condition) _ (expr_in_bounds scope homes condition)
+    (append_in_bounds (stmt_code consequence.value.0 scope yes) _ (consequence.value.1 scope homes yes) (alternative.value.1 scope homes no)))
 stmt_layer (While number loop_number word condition body) =
-    rolled_stmt (bare_stmt (While number loop_number word condition body)) (λ scope place.
+    rolled_stmt (bare_stmt (While number loop_number word condition body)) (λ scope homes place.
     let inside = place + length (expr_code scope condition) + 1 in
-    append_in_bounds (expr_code scope condition) _ (expr_in_bounds scope condition)
-    (append_in_bounds (stmt_code body.value.0 scope inside) (instr.Jump place ∷ []) (body.value.1 scope inside) refl))
+    append_in_bounds (expr_code scope condition) _ (expr_in_bounds scope homes condition)
+    (append_in_bounds (stmt_code body.value.0 scope inside) (instr.Jump place ∷ []) (body.value.1 scope homes inside) refl))
 stmt_layer (Repeat number loop_number word statements condition) =
-    rolled_stmt (bare_stmt (Repeat number loop_number word statements condition)) (λ scope place.
+    rolled_stmt (bare_stmt (Repeat number loop_number word statements condition)) (λ scope homes place.
     append_in_bounds (placed (map (λ c. c scope) (map stmt_code (map (λ s. s.0) statements.items))) place) _
-    (stmts_in_bounds scope statements.items place)
-    (append_in_bounds (expr_code scope condition) (instr.JumpIfFalse place ∷ []) (expr_in_bounds scope condition) refl))
+    (stmts_in_bounds scope homes statements.items place)
+    (append_in_bounds (expr_code scope condition) (instr.JumpIfFalse place ∷ []) (expr_in_bounds scope homes condition) refl))
 stmt_layer (For number loop_number word control first first_fits way last last_fits body) =
-    rolled_stmt (bare_stmt (For number loop_number word control first first_fits way last last_fits body)) (λ scope place.
+    rolled_stmt (bare_stmt (For number loop_number word control first first_fits way last last_fits body)) (λ scope homes place.
     let head = place + length (expr_code scope first) + length (expr_code scope last) + 8 in
     let inside = stmt_code body.value.0 (holding 2 scope) (head + 2) in
     let out = head + 2 + length inside + 9 in
     let behind = for_next scope way head out ++ for_end scope control in
     let round = for_begin scope control ++ (inside ++ behind) in
-    append_in_bounds (expr_code scope first) _ (expr_in_bounds scope first)
-    (append_in_bounds (expr_code scope last) _ (expr_in_bounds scope last)
+    append_in_bounds (expr_code scope first) _ (expr_in_bounds scope homes first)
+    (append_in_bounds (expr_code scope last) _ (expr_in_bounds scope homes last)
     (append_in_bounds (for_entry scope first_fits way last_fits out) round (entry_in_bounds scope first_fits way last_fits out)
-    (append_in_bounds (for_begin scope control) (inside ++ behind) (begin_in_bounds scope control)
-    (append_in_bounds inside behind (body.value.1 (holding 2 scope) (head + 2))
-    (append_in_bounds (for_next scope way head out) (for_end scope control) (next_in_bounds scope way head out) (end_in_bounds scope control)))))))
+    (append_in_bounds (for_begin scope control) (inside ++ behind) (begin_in_bounds scope homes control)
+    (append_in_bounds inside behind (body.value.1 (holding 2 scope) homes (head + 2))
+    (append_in_bounds (for_next scope way head out) (for_end scope control) (next_in_bounds scope way head out) (end_in_bounds scope homes control)))))))
 stmt_layer (Case number site index constants arms) =
-    rolled_stmt (bare_stmt (Case number site index constants arms)) (λ scope place.
+    rolled_stmt (bare_stmt (Case number site index constants arms)) (λ scope homes place.
     let codes = map stmt_code (map (λ (s : ProvedStmt). s.0) arms.items) in
     let first = place + length (expr_code scope index) in
     let out = first + length (arms_code scope 0 constants.items codes first) + 1 in
-    append_in_bounds (expr_code scope index) _ (expr_in_bounds scope index)
+    append_in_bounds (expr_code scope index) _ (expr_in_bounds scope homes index)
     (append_in_bounds (arms_code scope out constants.items codes first) (instr.Fail site ∷ instr.JumpIfFalse (out + 1) ∷ [])
-    (arms_in_bounds scope out constants.items arms.items first) refl))
+    (arms_in_bounds scope homes out constants.items arms.items first) refl))
 
 stmt_in_bounds : (s : Stmt) → StmtInBounds s
 stmt_in_bounds = ind-Stmt StmtInBounds (λ x y is. subst (λ z. StmtInBounds (roll-Stmt z)) is (stmt_layer y))
@@ -438,13 +530,39 @@ stmt_in_bounds = ind-Stmt StmtInBounds (λ x y is. subst (λ z. StmtInBounds (ro
 frame_in_bounds : (variables cells : ℕ) → in_bounds (instr.Enter (count variables) (count cells)) ≡ true
 frame_in_bounds variables cells = ap (λ b. b && nat_le (count cells) 16777216) (cut_at variables 16777216) ∙ cut_at cells 16777216
 
-body_in_bounds : (cells : List ℕ) (block : Option Block) → InBounds (body_code cells block)
-body_in_bounds cells None = ap (λ b. b && true) (frame_in_bounds (sum cells) 0)
-body_in_bounds cells (Some block) =
-    ap (λ b. b && list_all in_bounds (stmt_code block.body (program_scope cells) 1)) (frame_in_bounds (sum cells) (stmt_depth block.body))
-    ∙ stmt_in_bounds block.body (program_scope cells) 1
+-- each variable of a program begins at an offset
+homes_in : (tree : Tree) (start : ℕ) (variables : List DeclaredVariable) (root : ℕ)
+    → is_offset (home_or_none (slice_get (homes_from tree start variables) root)).start ≡ true
+homes_in tree start [] root = refl
+homes_in tree start (variable ∷ variables) zero = cut_at (start_of tree start variable) 16777215
+homes_in tree start (variable ∷ variables) (suc root) = homes_in tree (suc start) variables root
+
+end_in : (scope : Scope) → HomesIn scope → (number : ℕ) (result : Option FunctionResult) → InBounds (end_code scope number result)
+end_in scope homes zero result = refl
+end_in scope homes (suc number) None = refl
+end_in scope homes (suc number) (Some result) =
+    (one_more (instr.Load 0 (variable_home scope result.root).start) _ (homes result.root)
+    (one_more (instr.CheckDefined result.defined 1) _ refl (one_more (instr.Return 1) _ refl no_more))).all
+
+block_in_bounds : (tree : Tree) (routines : List Routine) (number : ℕ) (block : Block) (place : ℕ)
+    → InBounds (block_code tree number block (block_scope tree routines number) place)
+block_in_bounds tree routines number block place =
+    let scope = block_scope tree routines number in
+    let homes = homes_in tree 0 tree.variables.items in
+    let end = end_code scope number block.heading.result in
+    (one_more (instr.Enter (count (other_cells tree number)) (count (block_depth block))) (stmt_code block.body scope (place + 1) ++ end)
+    (frame_in_bounds (other_cells tree number) (block_depth block)) (record {
+      all = append_in_bounds (stmt_code block.body scope (place + 1)) end (stmt_in_bounds block.body scope homes (place + 1))
+          (end_in scope homes number block.heading.result);
+    })).all
+
+blocks_in_bounds : (tree : Tree) (routines : List Routine) (number : ℕ) (blocks : List Block) (place : ℕ)
+    → InBounds (blocks_code tree routines number blocks place)
+blocks_in_bounds tree routines number [] place = refl
+blocks_in_bounds tree routines number (block ∷ blocks) place =
+    let code = block_code tree number block (block_scope tree routines number) place in
+    append_in_bounds code (blocks_code tree routines (suc number) blocks (place + length code)) (block_in_bounds tree routines number block place)
+    (blocks_in_bounds tree routines (suc number) blocks (place + length code))
 
 pub program_in_bounds : (tree : Tree) → list_all in_bounds (program_code tree) ≡ true
-program_in_bounds tree =
-    let block = slice_get tree.blocks.items 0 in
-    append_in_bounds (body_code (variable_cells tree) block) (instr.Stop ∷ []) (body_in_bounds (variable_cells tree) block) refl
+program_in_bounds tree = blocks_in_bounds tree (routines_of tree) 0 tree.blocks.items 0

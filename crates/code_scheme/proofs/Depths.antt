@@ -1,11 +1,19 @@
 -- How many cells an evaluation needs at once is no more than the count that a full store is judged by.
-use Rattle.std.proofs.Common.{◌≡◌, ℕ, ◌+◌, ◌≤◌, max, List, [], ◌∷◌, map, Option, Some, None, refl, ap, sym, subst, arith}
-use Rattle.std.specs.Prelude.{ℤ, fold, sum, sum_by}
+use Rattle.std.proofs.Common.{◌≡◌, ℕ, ◌+◌, ◌≤◌, max, Bool, true, false, ◌&&◌, List, [], ◌∷◌, map, nat_eq, Option, Some, None, if◌then◌else◌, refl, ap}
+use Rattle.std.proofs.Common.{sym, subst, ◌∙◌, arith}
+use Rattle.std.specs.Prelude.{ℤ, filter, fold, not, slice_get, sum, sum_by}
 use Rattle.std.specs.Global.{Vec}
 use Rattle.std.proofs.lemmas.List.Sums.{sum_by-cons}
 use Rattle.typed_tree.specs.declared.tree.Monadic.{Monadic}
 use Rattle.typed_tree.specs.declared.tree.Monadic.TheVariants as monadic
-use Rattle.typed_tree.specs.declared.tree.Selector.{Selector}
+use Rattle.typed_tree.specs.declared.tree.Tree.{Tree}
+use Rattle.typed_tree.specs.declared.tree.Block.{Block}
+use Rattle.typed_tree.specs.declared.tree.FunctionResult.{FunctionResult}
+use Rattle.typed_tree.specs.declared.tree.Variable.{Variable as DeclaredVariable}
+use Rattle.typed_tree.specs.declared.tree.VariableKind.{VariableKind}
+use Rattle.typed_tree.specs.declared.tree.VariableKind.TheVariants as kind
+use Rattle.types.specs.Forms.{Form}
+use Rattle.types.specs.Types.{cells_of}
 use Rattle.typed_tree.specs.declared.tree.Width.{Width}
 use Rattle.typed_tree.specs.declared.tree.WriteParameter.{WriteParameter}
 use Rattle.typed_tree.specs.declared.tree.Written.{Written}
@@ -14,17 +22,22 @@ use Rattle.typed_tree.specs.declared.tree.Whole.{Whole}
 use Rattle.typed_tree.specs.declared.tree.Whole.TheVariants.{Text, Variable as VariableOf}
 use Rattle.typed_tree.specs.declared.tree.Expr.{Expr}
 use Rattle.typed_tree.specs.declared.tree.Link.{Link}
-use Rattle.typed_tree.specs.declared.tree.Expr.TheOpen.{Expr-F, Link-F}
-use Rattle.typed_tree.specs.declared.tree.Expr.TheOpen.Expr-F.{Constant, Variable, Monadic as MonadicOf, Chain, Compare}
-use Rattle.typed_tree.specs.declared.tree.Expr.TheViews.{roll-Expr, roll-Link}
-use Rattle.typed_tree.specs.declared.tree.Expr.TheFolds.{fold-Link, map-Expr, map-Link, fold-roll-Expr, fold-roll-Link, ind-Expr}
+use Rattle.typed_tree.specs.declared.tree.Passed.{Passed}
+use Rattle.typed_tree.specs.declared.tree.Expr.TheOpen.{Expr-F, Passed-F, Link-F}
+use Rattle.typed_tree.specs.declared.tree.Expr.TheOpen.Expr-F.{Constant, Variable, Monadic as MonadicOf, Chain, Compare, Call as CallOf}
+use Rattle.typed_tree.specs.declared.tree.Expr.TheOpen.Passed-F.{Value as PassedValue, Whole as PassedWhole, Reference}
+use Rattle.typed_tree.specs.declared.tree.Expr.TheViews.{roll-Expr, roll-Passed, roll-Link}
+use Rattle.typed_tree.specs.declared.tree.Expr.TheFolds.{fold-Link, map-Expr, map-Passed, map-Link, fold-roll-Expr, fold-roll-Passed, fold-roll-Link, ind-Expr}
+use Rattle.typed_tree.specs.declared.tree.Expr.TheFolds.{ind-Passed}
 use Rattle.typed_tree.specs.declared.tree.Stmt.{Stmt}
 use Rattle.typed_tree.specs.declared.tree.Stmt.TheOpen.{Stmt-F}
-use Rattle.typed_tree.specs.declared.tree.Stmt.TheOpen.Stmt-F.{Empty, Assign, Write, Compound, If, While, Repeat, For, Case, Copy}
+use Rattle.typed_tree.specs.declared.tree.Stmt.TheOpen.Stmt-F.{Empty, Assign, Write, Compound, If, While, Repeat, For, Case, Copy, Call as Calling}
 use Rattle.typed_tree.specs.declared.tree.Stmt.TheViews.{roll-Stmt}
 use Rattle.typed_tree.specs.declared.tree.Stmt.TheFolds.{map-Stmt, fold-roll-Stmt, ind-Stmt}
-use Rattle.typed_tree.specs.WellFormed.{length_of}
-use Rattle.code_scheme.specs.Scopes.{behind_fields}
+use Rattle.typed_tree.specs.WellFormed.{is_parameter_kind, is_variable_kind, length_of, variables_of}
+use Rattle.code_scheme.specs.Scopes.{cells_where, is_other_of, is_parameter_of, other_cells, parameter_cells, slot_cells}
+use Rattle.code_scheme.specs.Depth.{PassedDepth, actuals_depth, block_depth, passed_depth, passed_depth_step, result_depth}
+use Rattle.code_scheme.specs.Need.{access_need, block_need, body_need, passed_need, passed_need_step, variable_need}
 use Rattle.code_scheme.specs.Depth.{expr_depth, link_depth, expr_depth_step, link_depth_step, width_depth, parameter_depth, monadic_depth, access_depth}
 use Rattle.code_scheme.specs.Depth.{whole_depth, store_depth, index_depths, written_depth, written_cells, stmt_depth, stmt_depth_step, arms_depth}
 use Rattle.code_scheme.specs.Need.{expr_need, expr_need_step, link_need_step, whole_need, index_needs, width_need, written_need, parameter_need}
@@ -33,7 +46,7 @@ use Rattle.code_scheme.proofs.Pieces.{start_within}
 
 -- the need of an operator and its right operand
 abbrev link_need : Link → ℕ
-link_need = fold-Link ℕ ℕ expr_need_step link_need_step
+link_need = fold-Link ℕ ℕ ℕ expr_need_step passed_need_step link_need_step
 
 abbrev ExprWithin : Expr → Type 0
 ExprWithin e = expr_depth e ≤ expr_need e
@@ -41,8 +54,14 @@ ExprWithin e = expr_depth e ≤ expr_need e
 abbrev LinkWithin : Link → Type 0
 LinkWithin l = link_depth l ≤ link_need l
 
+abbrev PassedWithin : Passed → Type 0
+PassedWithin p = ((passed_depth p).depth ≤ passed_need p) × ((passed_depth p).cells ≤ passed_need p)
+
 abbrev HereWithin : Type 0
 HereWithin = (e : Expr) × ExprWithin e
+
+abbrev PassedHereWithin : Type 0
+PassedHereWithin = (p : Passed) × PassedWithin p
 
 abbrev LinkHereWithin : Type 0
 LinkHereWithin = (l : Link) × LinkWithin l
@@ -78,13 +97,17 @@ whole_within : (value : Whole) (indexes : List HereWithin)
 whole_within (Text number characters) indexes = omega arith
 whole_within (VariableOf access type_id cells defined) indexes = omega (arith, access_within indexes)
 
-rolled_expr : (x : Expr-F Expr Link) → expr_depth_step (map-Expr Expr Link ℕ ℕ expr_depth link_depth x) ≤ expr_need_step
-    (map-Expr Expr Link ℕ ℕ expr_need link_need x) → ExprWithin (roll-Expr x)
-rolled_expr x = same_within _ _ _ _ (fold-roll-Expr ℕ ℕ expr_depth_step link_depth_step x) (fold-roll-Expr ℕ ℕ expr_need_step link_need_step x)
+rolled_expr : (x : Expr-F Expr Passed Link) → expr_depth_step (map-Expr Expr Passed Link ℕ PassedDepth ℕ expr_depth passed_depth link_depth x) ≤ expr_need_step
+    (map-Expr Expr Passed Link ℕ ℕ ℕ expr_need passed_need link_need x) → ExprWithin (roll-Expr x)
+rolled_expr x =
+    same_within _ _ _ _ (fold-roll-Expr ℕ PassedDepth ℕ expr_depth_step passed_depth_step link_depth_step x)
+    (fold-roll-Expr ℕ ℕ ℕ expr_need_step passed_need_step link_need_step x)
 
-rolled_link : (x : Link-F Expr Link) → link_depth_step (map-Link Expr Link ℕ ℕ expr_depth link_depth x) ≤ link_need_step
-    (map-Link Expr Link ℕ ℕ expr_need link_need x) → LinkWithin (roll-Link x)
-rolled_link x = same_within _ _ _ _ (fold-roll-Link ℕ ℕ expr_depth_step link_depth_step x) (fold-roll-Link ℕ ℕ expr_need_step link_need_step x)
+rolled_link : (x : Link-F Expr Passed Link) → link_depth_step (map-Link Expr Passed Link ℕ PassedDepth ℕ expr_depth passed_depth link_depth x) ≤ link_need_step
+    (map-Link Expr Passed Link ℕ ℕ ℕ expr_need passed_need link_need x) → LinkWithin (roll-Link x)
+rolled_link x =
+    same_within _ _ _ _ (fold-roll-Link ℕ PassedDepth ℕ expr_depth_step passed_depth_step link_depth_step x)
+    (fold-roll-Link ℕ ℕ ℕ expr_need_step passed_need_step link_need_step x)
 
 -- an operation on one operand needs two cells at most
 monadic_within : (operation : Monadic) → monadic_depth operation ≤ 2
@@ -112,13 +135,23 @@ HereNeedsOne = (e : Expr) × NeedsOne e
 abbrev LinkHere : Type 0
 LinkHere = (l : Link) × LinkNeedsOne l
 
-abbrev bare_one : Expr-F HereNeedsOne LinkHere → Expr-F Expr Link
-bare_one = map-Expr HereNeedsOne LinkHere Expr Link (λ e. e.0) (λ l. l.0)
+-- of an actual parameter nothing is said here
+abbrev PassedHere : Type 0
+PassedHere = (p : Passed) × Unit {0}
 
-one_of : (x : Expr-F Expr Link) → 1 ≤ expr_depth_step (map-Expr Expr Link ℕ ℕ expr_depth link_depth x) → NeedsOne (roll-Expr x)
-one_of x h = subst (λ n. 1 ≤ n) (sym (fold-roll-Expr ℕ ℕ expr_depth_step link_depth_step x)) h
+abbrev bare_one : Expr-F HereNeedsOne PassedHere LinkHere → Expr-F Expr Passed Link
+bare_one = map-Expr HereNeedsOne PassedHere LinkHere Expr Passed Link (λ e. e.0) (λ p. p.0) (λ l. l.0)
 
-one_layer : (y : Expr-F HereNeedsOne LinkHere) → NeedsOne (roll-Expr (bare_one y))
+-- actual parameters need no less than what is there already
+held_within : (held : ℕ) (depths : List PassedDepth) → held ≤ actuals_depth held depths
+held_within held [] = omega arith
+held_within held (d ∷ depths) = omega (arith, held_within (held + d.cells) depths)
+
+one_of : (x : Expr-F Expr Passed Link) → 1 ≤ expr_depth_step (map-Expr Expr Passed Link ℕ PassedDepth ℕ expr_depth passed_depth link_depth x)
+    → NeedsOne (roll-Expr x)
+one_of x h = subst (λ n. 1 ≤ n) (sym (fold-roll-Expr ℕ PassedDepth ℕ expr_depth_step passed_depth_step link_depth_step x)) h
+
+one_layer : (y : Expr-F HereNeedsOne PassedHere LinkHere) → NeedsOne (roll-Expr (bare_one y))
 one_layer (Constant number n) = one_of (Constant number n) (omega arith)
 one_layer (Variable access indexes defined) =
     one_of (bare_one (Variable access indexes defined))
@@ -129,21 +162,62 @@ one_layer (Chain first rest) =
     (omega (arith, first.value.1, start_within (expr_depth first.value.0) (map link_depth (map (λ (l : LinkHere). l.0) rest.items))))
 one_layer (Compare number r left left_indexes right right_indexes) =
     one_of (bare_one (Compare number r left left_indexes right right_indexes)) (omega arith)
+one_layer (CallOf call actuals) =
+    one_of (bare_one (CallOf call actuals))
+    (omega (arith, held_within 4 (map passed_depth (map (λ (p : PassedHere). p.0) actuals.items))))
 
-link_one : (y : Link-F HereNeedsOne LinkHere) → LinkNeedsOne (roll-Link (map-Link HereNeedsOne LinkHere Expr Link (λ e. e.0) (λ l. l.0) y))
+link_one : (y : Link-F HereNeedsOne PassedHere LinkHere)
+    → LinkNeedsOne (roll-Link (map-Link HereNeedsOne PassedHere LinkHere Expr Passed Link (λ e. e.0) (λ p. p.0) (λ l. l.0) y))
 link_one y =
     subst (λ n. 1 ≤ n)
-    (sym (fold-roll-Link ℕ ℕ expr_depth_step link_depth_step (map-Link HereNeedsOne LinkHere Expr Link (λ e. e.0) (λ l. l.0) y))) (omega arith)
+    (sym (fold-roll-Link ℕ PassedDepth ℕ expr_depth_step passed_depth_step link_depth_step
+    (map-Link HereNeedsOne PassedHere LinkHere Expr Passed Link (λ e. e.0) (λ p. p.0) (λ l. l.0) y))) (omega arith)
 
 needs_one : (e : Expr) → NeedsOne e
 needs_one =
-    ind-Expr NeedsOne LinkNeedsOne (λ x y is. subst (λ z. NeedsOne (roll-Expr z)) is (one_layer y))
+    ind-Expr NeedsOne (λ p. Unit {0}) LinkNeedsOne (λ x y is. subst (λ z. NeedsOne (roll-Expr z)) is (one_layer y)) (λ x y is. tt)
     (λ x y is. subst (λ z. LinkNeedsOne (roll-Link z)) is (link_one y))
 
-abbrev bare_expr : Expr-F HereWithin LinkHereWithin → Expr-F Expr Link
-bare_expr = map-Expr HereWithin LinkHereWithin Expr Link (λ e. e.0) (λ l. l.0)
+abbrev bare_expr : Expr-F HereWithin PassedHereWithin LinkHereWithin → Expr-F Expr Passed Link
+bare_expr = map-Expr HereWithin PassedHereWithin LinkHereWithin Expr Passed Link (λ e. e.0) (λ p. p.0) (λ l. l.0)
 
-expr_layer : (y : Expr-F HereWithin LinkHereWithin) → ExprWithin (roll-Expr (bare_expr y))
+abbrev bare_passed : Passed-F HereWithin PassedHereWithin LinkHereWithin → Passed-F Expr Passed Link
+bare_passed = map-Passed HereWithin PassedHereWithin LinkHereWithin Expr Passed Link (λ e. e.0) (λ p. p.0) (λ l. l.0)
+
+-- actual parameters, one after another
+actuals_within : (held : ℕ) (actuals : List PassedHereWithin)
+    → actuals_depth held (map passed_depth (map (λ p. p.0) actuals)) ≤ held + sum (map passed_need (map (λ p. p.0) actuals))
+actuals_within held [] = omega arith
+actuals_within held (p ∷ actuals) =
+    let rest = actuals_within (held + (passed_depth p.0).cells) actuals in
+    omega (arith, p.1.0, p.1.1, rest, sum-cons (passed_need p.0) (map passed_need (map (λ q. q.0) actuals)))
+
+rolled_passed : (x : Passed-F Expr Passed Link) (d : PassedDepth) (n : ℕ)
+    → passed_depth_step (map-Passed Expr Passed Link ℕ PassedDepth ℕ expr_depth passed_depth link_depth x) ≡ d
+    → passed_need_step (map-Passed Expr Passed Link ℕ ℕ ℕ expr_need passed_need link_need x) ≡ n → d.depth ≤ n → d.cells ≤ n → PassedWithin (roll-Passed x)
+rolled_passed x d n deep much depth cells =
+    let is = fold-roll-Passed ℕ PassedDepth ℕ expr_depth_step passed_depth_step link_depth_step x ∙ deep in
+    let needs = fold-roll-Passed ℕ ℕ ℕ expr_need_step passed_need_step link_need_step x ∙ much in (
+      omega (arith, ap (λ (e : PassedDepth). e.depth) is, needs, depth),
+      omega (arith, ap (λ (e : PassedDepth). e.cells) is, needs, cells),
+    )
+
+passed_layer : (y : Passed-F HereWithin PassedHereWithin LinkHereWithin) → PassedWithin (roll-Passed (bare_passed y))
+passed_layer (PassedValue value fits) =
+    rolled_passed (bare_passed (PassedValue value fits)) (record { depth = expr_depth value.0; cells = 1 }) (expr_need value.0) refl refl value.1
+    (omega (arith, value.1, needs_one value.0))
+passed_layer (PassedWhole type_id value indexes) =
+    let depths = map expr_depth (map (λ (e : HereWithin). e.0) indexes.items) in
+    let needs = map expr_need (map (λ (e : HereWithin). e.0) indexes.items) in
+    rolled_passed (bare_passed (PassedWhole type_id value indexes)) (record { depth = whole_depth value depths; cells = length_of value })
+    (whole_need value needs) refl refl (omega (arith, whole_within value indexes.items)) (omega arith)
+passed_layer (Reference type_id access indexes) =
+    let depths = map expr_depth (map (λ (e : HereWithin). e.0) indexes.items) in
+    let needs = map expr_need (map (λ (e : HereWithin). e.0) indexes.items) in
+    rolled_passed (bare_passed (Reference type_id access indexes)) (record { depth = access_depth depths; cells = 1 }) (access_need needs) refl refl
+    (omega (arith, access_within indexes.items)) (omega arith)
+
+expr_layer : (y : Expr-F HereWithin PassedHereWithin LinkHereWithin) → ExprWithin (roll-Expr (bare_expr y))
 expr_layer (Constant number n) = rolled_expr (Constant number n) (omega arith)
 expr_layer (Variable access indexes defined) =
     rolled_expr (bare_expr (Variable access indexes defined)) (omega (arith, access_within indexes.items))
@@ -155,15 +229,30 @@ expr_layer (Chain first rest) =
 expr_layer (Compare number r left left_indexes right right_indexes) =
     rolled_expr (bare_expr (Compare number r left left_indexes right right_indexes))
     (omega (arith, whole_within left left_indexes.items, whole_within right right_indexes.items))
+expr_layer (CallOf call actuals) =
+    rolled_expr (bare_expr (CallOf call actuals)) (omega (arith, actuals_within 4 actuals.items))
 
-link_layer : (y : Link-F HereWithin LinkHereWithin)
-    → LinkWithin (roll-Link (map-Link HereWithin LinkHereWithin Expr Link (λ e. e.0) (λ l. l.0) y))
-link_layer y = rolled_link (map-Link HereWithin LinkHereWithin Expr Link (λ e. e.0) (λ l. l.0) y) (omega (arith, y.operand.1))
+link_layer : (y : Link-F HereWithin PassedHereWithin LinkHereWithin)
+    → LinkWithin (roll-Link (map-Link HereWithin PassedHereWithin LinkHereWithin Expr Passed Link (λ e. e.0) (λ p. p.0) (λ l. l.0) y))
+link_layer y =
+    rolled_link (map-Link HereWithin PassedHereWithin LinkHereWithin Expr Passed Link (λ e. e.0) (λ p. p.0) (λ l. l.0) y) (omega (arith, y.operand.1))
 
 pub expr_within : (e : Expr) → expr_depth e ≤ expr_need e
 expr_within =
-    ind-Expr ExprWithin LinkWithin (λ x y is. subst (λ z. ExprWithin (roll-Expr z)) is (expr_layer y))
-    (λ x y is. subst (λ z. LinkWithin (roll-Link z)) is (link_layer y))
+    ind-Expr ExprWithin PassedWithin LinkWithin (λ x y is. subst (λ z. ExprWithin (roll-Expr z)) is (expr_layer y))
+    (λ x y is. subst (λ z. PassedWithin (roll-Passed z)) is (passed_layer y)) (λ x y is. subst (λ z. LinkWithin (roll-Link z)) is (link_layer y))
+
+passed_within : (p : Passed) → PassedWithin p
+passed_within =
+    ind-Passed ExprWithin PassedWithin LinkWithin (λ x y is. subst (λ z. ExprWithin (roll-Expr z)) is (expr_layer y))
+    (λ x y is. subst (λ z. PassedWithin (roll-Passed z)) is (passed_layer y)) (λ x y is. subst (λ z. LinkWithin (roll-Link z)) is (link_layer y))
+
+-- the actual parameters of a statement
+calling_within : (held : ℕ) (actuals : List Passed) → actuals_depth held (map passed_depth actuals) ≤ held + sum_by passed_need actuals
+calling_within held [] = omega arith
+calling_within held (p ∷ actuals) =
+    let rest = calling_within (held + (passed_depth p).cells) actuals in
+    omega (arith, (passed_within p).0, (passed_within p).1, rest, sum_by-cons passed_need p actuals)
 
 -- index expressions, each of which is within
 abbrev with_proofs : List Expr → List HereWithin
@@ -186,10 +275,9 @@ cells_within : (value : Whole) (depths : List ℕ) → length_of value ≤ whole
 cells_within (Text number characters) depths = omega arith
 cells_within (VariableOf access type_id cells defined) depths = omega arith
 
-store_within : (selectors : List Selector) (indexes : List Expr) (value : Expr)
-    → store_depth selectors (index_depths indexes) (expr_depth value) ≤ 2 + sum (index_needs indexes) + expr_need value
-store_within [] indexes value = omega (arith, expr_within value)
-store_within (selector ∷ selectors) indexes value = omega (arith, expr_within value, address_within indexes)
+store_within : (indexes : List Expr) (value : Expr)
+    → store_depth (index_depths indexes) (expr_depth value) ≤ 2 + sum (index_needs indexes) + expr_need value
+store_within indexes value = omega (arith, expr_within value, address_within indexes)
 
 -- a width, beside the value that is written in it
 width_within : (width : Option Width) → width_depth width ≤ width_need width + 1
@@ -240,12 +328,13 @@ stmt_layer : (y : Stmt-F StmtHere) → StmtWithin (roll-Stmt (bare_stmt y))
 stmt_layer (Empty number) = rolled_stmt (Empty number) (omega arith)
 stmt_layer (Assign number becomes target indexes fits value) =
     rolled_stmt (Assign number becomes target indexes fits value)
-    (omega (arith, store_within (behind_fields target.selectors.items) indexes.items value))
+    (omega (arith, store_within indexes.items value))
 stmt_layer (Copy number becomes target indexes type_id value value_indexes) =
     rolled_stmt (Copy number becomes target indexes type_id value value_indexes)
     (omega (arith, address_within indexes.items, value_within value value_indexes.items))
 stmt_layer (Write number name parameters ends_line) =
     rolled_stmt (Write number name parameters ends_line) (parameters_within parameters.items 0 8 (omega arith) (omega arith))
+stmt_layer (Calling call actuals) = rolled_stmt (Calling call actuals) (omega (arith, calling_within 4 actuals.items))
 stmt_layer (Compound number statements) =
     rolled_stmt (bare_stmt (Compound number statements)) (row_within stmt_depth stmt_need statements.items 0 8 (omega arith))
 stmt_layer (If number condition consequence None) =
@@ -268,3 +357,57 @@ stmt_layer (Case number site index constants arms) =
 -- the same of a statement
 pub stmt_within : (s : Stmt) → stmt_depth s ≤ stmt_need s
 stmt_within = ind-Stmt StmtWithin (λ x y is. subst (λ z. StmtWithin (roll-Stmt z)) is (stmt_layer y))
+
+sum_if : {X : Type 0} (f : X → ℕ) (b : Bool) (x : X) (xs : List X) → sum_by f (if b then x ∷ xs else xs) ≡ (if b then f x else 0) + sum_by f xs
+sum_if f true x xs = sum_by-cons f x xs
+sum_if f false x xs = omega arith
+
+split_within : (own kind : Bool) (slot need : ℕ) → slot ≤ need
+    → (if own && kind then slot else 0) + (if own && not kind then slot else 0) ≤ (if own then need else 0)
+split_within true true slot need h = omega (arith, h)
+split_within true false slot need h = omega (arith, h)
+split_within false kind slot need h = omega arith
+
+kind_within : (k : VariableKind) (cells : ℕ) → (if is_variable_kind k then 1 else cells) ≤ (if is_parameter_kind k then 1 + cells else cells)
+kind_within kind.Local cells = omega arith
+kind_within kind.ValueParameter cells = omega arith
+kind_within kind.VariableParameter cells = omega arith
+kind_within kind.Result cells = omega arith
+
+-- a variable takes no more cells than it may need
+slot_within : (types : List Form) (variable : DeclaredVariable) → slot_cells types variable ≤ variable_need types variable
+slot_within types variable = kind_within variable.kind (cells_of types variable.type_id)
+
+-- the parameters and the other variables of a block
+frame_within : (types : List Form) (number : ℕ) (variables : List DeclaredVariable)
+    → cells_where types (is_parameter_of number) variables + cells_where types (is_other_of number) variables ≤ sum_by (variable_need types)
+    (variables_of number variables)
+frame_within types number [] = omega arith
+frame_within types number (variable ∷ variables) =
+    let own = nat_eq variable.block number in
+    let kind = is_parameter_kind variable.kind in
+    let slot = slot_cells types variable in
+    omega (
+      arith,
+      sum_if (slot_cells types) (own && kind) variable (filter (is_parameter_of number) variables),
+      sum_if (slot_cells types) (own && not kind) variable (filter (is_other_of number) variables),
+      sum_if (variable_need types) own variable (variables_of number variables),
+      split_within own kind slot (variable_need types variable) (slot_within types variable),
+      frame_within types number variables,
+    )
+
+result_within : (result : Option FunctionResult) → result_depth result ≤ 1
+result_within None = omega arith
+result_within (Some result) = omega arith
+
+-- the frame of a block takes no more cells than an activation of it may need
+pub block_within : (tree : Tree) (number : ℕ) (block : Block) → slice_get tree.blocks.items number ≡ Some block
+    → 4 + parameter_cells tree number + other_cells tree number + block_depth block ≤ block_need tree number
+block_within tree number block is =
+    omega (
+      arith,
+      ap body_need is,
+      stmt_within block.body,
+      result_within block.heading.result,
+      frame_within tree.types number tree.variables.items,
+    )

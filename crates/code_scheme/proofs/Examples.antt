@@ -1,91 +1,48 @@
--- Well formed expressions, the code of a program and what it needs, computed from their definitions.
-use Rattle.std.proofs.Common.{◌≡◌, ℕ, ◌+◌, max, Bool, true, false, ◌&&◌, nat_lt, negsuc, pos, List, [], ◌∷◌, ◌++◌, Some, None, map, refl, ap, ◌∙◌}
-use Rattle.std.specs.Prelude.{slice_get, sum, sum_by, length}
-use Rattle.std.specs.Global.{Vec}
+-- The code of programs and what it needs, worked out by hand.
+use Rattle.std.proofs.Common.{◌≡◌, ℕ, ◌+◌, ◌<◌, ◌^◌, true, false, Bool, ℤ, pos, negsuc, List, [], ◌∷◌, ◌++◌, length, Option, Some, None, Vec, Global, arith}
+use Rattle.std.proofs.Common.{refl, ap, ◌∙◌}
 use Rattle.pcode_assembler.specs.declared.instr.Instr.{Instr}
 use Rattle.pcode_assembler.specs.declared.instr.Instr.TheVariants as instr
-use Rattle.place.specs.declared.Place.{Place}
+use Rattle.types.specs.Types.{integer, required_forms}
 use Rattle.typed_tree.specs.declared.tree.Tree.{Tree}
-use Rattle.typed_tree.specs.declared.tree.Variable.{Variable as Declared}
+use Rattle.typed_tree.specs.declared.tree.Block.{Block}
+use Rattle.typed_tree.specs.declared.tree.Heading.{Heading}
+use Rattle.typed_tree.specs.declared.tree.FunctionResult.{FunctionResult}
+use Rattle.typed_tree.specs.declared.tree.Call.{Call}
+use Rattle.typed_tree.specs.declared.tree.Access.{Access}
+use Rattle.typed_tree.specs.declared.tree.Selector.TheVariants.{Element, Field}
+use Rattle.typed_tree.specs.declared.tree.RangeTest.{RangeTest}
+use Rattle.typed_tree.specs.declared.tree.Variable.{Variable as DeclaredVariable}
+use Rattle.typed_tree.specs.declared.tree.VariableKind.{VariableKind}
+use Rattle.typed_tree.specs.declared.tree.VariableKind.TheVariants as kind
+use Rattle.typed_tree.specs.declared.tree.Relation.TheVariants as relation
 use Rattle.typed_tree.specs.declared.tree.Representation.TheVariants as representation
 use Rattle.typed_tree.specs.declared.tree.WriteParameter.{WriteParameter}
 use Rattle.typed_tree.specs.declared.tree.Written.TheVariants.{Ordinal, String}
 use Rattle.typed_tree.specs.declared.tree.Whole.{Whole}
 use Rattle.typed_tree.specs.declared.tree.Whole.TheVariants.{Text}
-use Rattle.typed_tree.specs.declared.tree.Relation.TheVariants as relation
 use Rattle.typed_tree.specs.declared.tree.Expr.{Expr}
-use Rattle.typed_tree.specs.declared.tree.Expr.TheOpen.{Expr-F}
-use Rattle.typed_tree.specs.declared.tree.Expr.TheOpen.Expr-F.{Constant, Variable, Compare}
+use Rattle.typed_tree.specs.declared.tree.Passed.{Passed}
 use Rattle.typed_tree.specs.declared.tree.Link.{Link}
-use Rattle.typed_tree.specs.declared.tree.Expr.TheViews.{roll-Expr}
-use Rattle.typed_tree.specs.declared.tree.Expr.TheFolds.{fold-roll-Expr, map-Expr}
 use Rattle.typed_tree.specs.declared.tree.Stmt.{Stmt}
+use Rattle.typed_tree.specs.declared.tree.Expr.TheOpen.{Expr-F, Passed-F}
+use Rattle.typed_tree.specs.declared.tree.Expr.TheOpen.Expr-F.{Constant, Variable, Compare, Call as CallOf}
+use Rattle.typed_tree.specs.declared.tree.Expr.TheOpen.Passed-F.{Value as PassedValue, Reference}
+use Rattle.typed_tree.specs.declared.tree.Expr.TheViews.{roll-Expr, roll-Passed}
+use Rattle.typed_tree.specs.declared.tree.Expr.TheFolds.{fold-Link, map-Expr, map-Passed, fold-roll-Expr, fold-roll-Passed}
 use Rattle.typed_tree.specs.declared.tree.Stmt.TheOpen.{Stmt-F}
-use Rattle.typed_tree.specs.declared.tree.Stmt.TheOpen.Stmt-F.{Assign, Write, Compound}
+use Rattle.typed_tree.specs.declared.tree.Stmt.TheOpen.Stmt-F.{Assign, Write, Compound, Call as Calling}
 use Rattle.typed_tree.specs.declared.tree.Stmt.TheViews.{roll-Stmt}
-use Rattle.typed_tree.specs.declared.tree.Stmt.TheFolds.{fold-roll-Stmt}
-use Rattle.types.specs.Types.{integer, required_forms}
-use Rattle.typed_tree.specs.declared.tree.Selector.{Selector}
-use Rattle.typed_tree.specs.declared.tree.Selector.TheVariants.{Element, Field}
-use Rattle.typed_tree.specs.WellFormed.{is_well_formed_expr, is_well_formed_link, expr_is_well_formed, link_is_well_formed, all_hold, leads_to_ordinal}
-use Rattle.code_scheme.specs.Scopes.{offset, variable_offset, fields_offset, behind_fields, variable_cells}
-use Rattle.code_scheme.specs.Code.{fetch_at, store_at}
-use Rattle.code_scheme.specs.Depth.{access_depth, store_depth}
-use Rattle.code_scheme.specs.Need.{access_need}
-use Rattle.code_scheme.specs.Scopes.{Scope, count, program_scope, row_length}
-use Rattle.code_scheme.specs.Code.{placed, Placed, check_positive, expr_code, expr_step, link_step, write_code, stmt_code, stmt_step, body_code}
-use Rattle.code_scheme.specs.Code.{program_code, parameter_code}
-use Rattle.code_scheme.specs.Depth.{expr_depth, expr_depth_step, link_depth_step, parameter_depth, stmt_depth, stmt_depth_step, greatest}
-use Rattle.code_scheme.specs.Need.{expr_need, expr_need_step, link_need_step, parameter_need, stmt_need, stmt_need_step, body_need, program_need}
-
--- with two variables of type integer and one site
-abbrev declared : Declared
-declared = record { block = 0; type_id = integer }
-
-abbrev is_well_formed : Expr-F Expr Link → Bool
-is_well_formed e = is_well_formed_expr (declared ∷ declared ∷ []) required_forms 1 (roll-Expr e)
-
-abbrev computed : Expr-F Expr Link → Bool
-computed e =
-    expr_is_well_formed (declared ∷ declared ∷ []) required_forms 1
-    (map-Expr Expr Link Bool Bool (is_well_formed_expr (declared ∷ declared ∷ []) required_forms 1)
-    (is_well_formed_link (declared ∷ declared ∷ []) required_forms 1) e)
-
-is_computed : (e : Expr-F Expr Link) → is_well_formed e ≡ computed e
-is_computed e =
-    fold-roll-Expr Bool Bool (expr_is_well_formed (declared ∷ declared ∷ []) required_forms 1)
-    (link_is_well_formed (declared ∷ declared ∷ []) required_forms 1) e
-
--- whatever vectors hold no selectors and no index expressions
-module _ (plain : Vec Selector) (none : plain.items ≡ []) (bare : Vec Expr) (empty : bare.items ≡ []) where
-  abbrev formed : ℕ → ℕ → List Selector → List Expr → Bool
-  formed root defined selectors indexes =
-      all_hold (map (is_well_formed_expr (declared ∷ declared ∷ []) required_forms 1) indexes)
-      && (leads_to_ordinal (declared ∷ declared ∷ []) required_forms 1 root selectors
-      (length (map (is_well_formed_expr (declared ∷ declared ∷ []) required_forms 1) indexes))
-      && nat_lt defined 1)
-
-  plainly : (root defined : ℕ) → is_well_formed (Variable (record { number = 7; root = root; selectors = plain }) bare defined) ≡ formed root defined [] []
-  plainly root defined =
-      is_computed (Variable (record { number = 7; root = root; selectors = plain }) bare defined)
-      ∙ ap (λ ss. formed root defined ss bare.items) none ∙ ap (formed root defined []) empty
-
-  -- the second variable, tested at the first site; there is no third variable, nor is there a second site
-  second : is_well_formed (Variable (record { number = 7; root = 1; selectors = plain }) bare 0) ≡ true
-  second = plainly 1 0
-
-  third : is_well_formed (Variable (record { number = 7; root = 2; selectors = plain }) bare 0) ≡ false
-  third = plainly 2 0
-
-  no_site : is_well_formed (Variable (record { number = 7; root = 1; selectors = plain }) bare 1) ≡ false
-  no_site = plainly 1 1
-
--- the least integer, and the number below it
-least : is_well_formed (Constant 7 (negsuc 2147483646)) ≡ true
-least = is_computed (Constant 7 (negsuc 2147483646))
-
-below_least : is_well_formed (Constant 7 (negsuc 2147483647)) ≡ false
-below_least = is_computed (Constant 7 (negsuc 2147483647))
+use Rattle.typed_tree.specs.declared.tree.Stmt.TheFolds.{map-Stmt, fold-roll-Stmt}
+use Rattle.code_scheme.specs.Scopes.{Scope, homes_of}
+use Rattle.code_scheme.specs.Code.{Placed, expr_code, expr_step, link_code, link_step, parameter_code, passed_code, passed_step, placed, program_code}
+use Rattle.code_scheme.specs.Code.{stmt_code, stmt_step}
+use Rattle.code_scheme.specs.Depth.{PassedDepth, expr_depth, expr_depth_step, link_depth, link_depth_step, parameter_depth, passed_depth, passed_depth_step}
+use Rattle.code_scheme.specs.Depth.{stmt_depth, stmt_depth_step}
+use Rattle.code_scheme.specs.Need.{block_need, expr_need, expr_need_step, link_need_step, living_need, parameter_need, passed_need, passed_need_step}
+use Rattle.code_scheme.specs.Need.{stmt_need, stmt_need_step}
+use Rattle.typed_tree.specs.WellFormed.{Outline, expr_is_well_formed, is_well_formed_expr, is_well_formed_link, is_well_formed_passed, link_is_well_formed}
+use Rattle.typed_tree.specs.WellFormed.{passed_is_well_formed}
 
 -- an instruction that tells its place
 abbrev here : ℕ → Instr
@@ -95,231 +52,306 @@ here place = instr.Jump place
 pieces : placed ((λ n. here n ∷ []) ∷ (λ n. here n ∷ here (n + 1) ∷ []) ∷ (λ n. []) ∷ (λ n. here n ∷ []) ∷ []) 7 ≡ here 7 ∷ here 8 ∷ here 9 ∷ here 10 ∷ []
 pieces = refl
 
--- that of a program with two variables, and another one
-abbrev two : Scope
-two = program_scope (1 ∷ 1 ∷ [])
+-- a layer has the code of its parts, needs the cells of its parts
+expr_makes : (scope : Scope) (x : Expr-F Expr Passed Link)
+    → expr_code scope (roll-Expr x) ≡ expr_step scope
+    (map-Expr Expr Passed Link (List Instr) (List Instr) (List Instr) (expr_code scope) (passed_code scope) (link_code scope) x)
+expr_makes scope x = fold-roll-Expr (List Instr) (List Instr) (List Instr) (expr_step scope) (passed_step scope) link_step x
 
-abbrev inner : Scope
-inner = record { starts = 9 ∷ 10 ∷ []; above = 12; height = 2 }
+passed_makes : (scope : Scope) (x : Passed-F Expr Passed Link)
+    → passed_code scope (roll-Passed x) ≡ passed_step scope
+    (map-Passed Expr Passed Link (List Instr) (List Instr) (List Instr) (expr_code scope) (passed_code scope) (link_code scope) x)
+passed_makes scope x = fold-roll-Passed (List Instr) (List Instr) (List Instr) (expr_step scope) (passed_step scope) link_step x
 
--- the number 7, and the second variable
-abbrev seven : Expr
-seven = roll-Expr (Constant 4 (pos 7))
+stmt_makes : (x : Stmt-F Stmt) (scope : Scope) (place : ℕ)
+    → stmt_code (roll-Stmt x) scope place ≡ stmt_step (map-Stmt Stmt Placed stmt_code x) scope place
+stmt_makes x scope place = ap (λ code. code scope place) (fold-roll-Stmt Placed stmt_step x)
 
-seven_code : (scope : Scope) → expr_code scope seven ≡ instr.LoadConstant (pos 7) ∷ []
-seven_code scope = fold-roll-Expr (List Instr) (List Instr) (expr_step scope) link_step (Constant 4 (pos 7))
+expr_deep : (x : Expr-F Expr Passed Link)
+    → expr_depth (roll-Expr x) ≡ expr_depth_step (map-Expr Expr Passed Link ℕ PassedDepth ℕ expr_depth passed_depth link_depth x)
+expr_deep x = fold-roll-Expr ℕ PassedDepth ℕ expr_depth_step passed_depth_step link_depth_step x
 
-seven_depth : expr_depth seven ≡ 1
-seven_depth = fold-roll-Expr ℕ ℕ expr_depth_step link_depth_step (Constant 4 (pos 7))
+passed_deep : (x : Passed-F Expr Passed Link)
+    → passed_depth (roll-Passed x) ≡ passed_depth_step (map-Passed Expr Passed Link ℕ PassedDepth ℕ expr_depth passed_depth link_depth x)
+passed_deep x = fold-roll-Passed ℕ PassedDepth ℕ expr_depth_step passed_depth_step link_depth_step x
 
-seven_need : expr_need seven ≡ 9
-seven_need = fold-roll-Expr ℕ ℕ expr_need_step link_need_step (Constant 4 (pos 7))
+stmt_deep : (x : Stmt-F Stmt) → stmt_depth (roll-Stmt x) ≡ stmt_depth_step (map-Stmt Stmt ℕ stmt_depth x)
+stmt_deep x = fold-roll-Stmt ℕ stmt_depth_step x
 
-module _ (plain : Vec Selector) (none : plain.items ≡ []) (bare : Vec Expr) (empty : bare.items ≡ []) where
-  abbrev b_layer : Expr-F Expr Link
-  b_layer = Variable (record { number = 6; root = 1; selectors = plain }) bare 1
+abbrev link_need : Link → ℕ
+link_need = fold-Link ℕ ℕ ℕ expr_need_step passed_need_step link_need_step
 
-  abbrev b : Expr
-  b = roll-Expr b_layer
+expr_needs : (x : Expr-F Expr Passed Link)
+    → expr_need (roll-Expr x) ≡ expr_need_step (map-Expr Expr Passed Link ℕ ℕ ℕ expr_need passed_need link_need x)
+expr_needs x = fold-roll-Expr ℕ ℕ ℕ expr_need_step passed_need_step link_need_step x
 
-  abbrev fetched : Scope → List Selector → List Instr
-  fetched scope selectors =
-      fetch_at (offset (variable_offset scope 1 + fields_offset selectors)) (behind_fields selectors) (map (expr_code scope) bare.items)
-      ++ (instr.CheckDefined 1 1 ∷ [])
+passed_needs : (x : Passed-F Expr Passed Link)
+    → passed_need (roll-Passed x) ≡ passed_need_step (map-Passed Expr Passed Link ℕ ℕ ℕ expr_need passed_need link_need x)
+passed_needs x = fold-roll-Passed ℕ ℕ ℕ expr_need_step passed_need_step link_need_step x
 
-  b_code : expr_code two b ≡ instr.Load 0 5 ∷ instr.CheckDefined 1 1 ∷ []
-  b_code = fold-roll-Expr (List Instr) (List Instr) (expr_step two) link_step b_layer ∙ ap (fetched two) none
+stmt_needs : (x : Stmt-F Stmt) → stmt_need (roll-Stmt x) ≡ stmt_need_step (map-Stmt Stmt ℕ stmt_need x)
+stmt_needs x = fold-roll-Stmt ℕ stmt_need_step x
 
-  inner_b_code : expr_code inner b ≡ instr.Load 0 10 ∷ instr.CheckDefined 1 1 ∷ []
-  inner_b_code = fold-roll-Expr (List Instr) (List Instr) (expr_step inner) link_step b_layer ∙ ap (fetched inner) none
+ruleset makes = (expr_makes, passed_makes, stmt_makes, expr_deep, passed_deep, stmt_deep)
 
-  b_depth : expr_depth b ≡ 1
-  b_depth = fold-roll-Expr ℕ ℕ expr_depth_step link_depth_step b_layer ∙ ap (λ es. access_depth (map expr_depth es)) empty
+ruleset needs = (expr_needs, passed_needs, stmt_needs)
 
-  b_need : expr_need b ≡ 9
-  b_need = fold-roll-Expr ℕ ℕ expr_need_step link_need_step b_layer ∙ ap (λ es. access_need (map expr_need es)) empty
+-- with two variables of type integer of the program's block and one site
+abbrev outline : Heading → Outline
+outline heading = record {
+  variables = record { block = 0; type_id = integer; kind = kind.Local } ∷ record { block = 0; type_id = integer; kind = kind.Local } ∷ [];
+  types = required_forms;
+  sites = 1;
+  headings = heading ∷ [];
+}
 
-  -- the value that is written by b : 7
+expr_forms : (heading : Heading) (x : Expr-F Expr Passed Link)
+    → is_well_formed_expr (outline heading) 0 (roll-Expr x) ≡ expr_is_well_formed (outline heading) 0
+    (map-Expr Expr Passed Link Bool (ℕ → ℕ → Bool) Bool (is_well_formed_expr (outline heading) 0) (is_well_formed_passed (outline heading) 0)
+    (is_well_formed_link (outline heading) 0) x)
+expr_forms heading x =
+    fold-roll-Expr Bool (ℕ → ℕ → Bool) Bool (expr_is_well_formed (outline heading) 0) (passed_is_well_formed (outline heading) 0)
+    (link_is_well_formed (outline heading) 0) x
+
+-- the least integer, and the number below it
+least : (heading : Heading) → is_well_formed_expr (outline heading) 0 (roll-Expr (Constant 7 (negsuc 2147483646))) ≡ true
+least heading = expr_forms heading (Constant 7 (negsuc 2147483646))
+
+below_least : (heading : Heading) → is_well_formed_expr (outline heading) 0 (roll-Expr (Constant 7 (negsuc 2147483647))) ≡ false
+below_least heading = expr_forms heading (Constant 7 (negsuc 2147483647))
+
+-- trees over whatever heap and whatever places
+module _ (heap : Vec ℕ Global) (some_call : Call) where
+  abbrev vec : {A : Type 0} (items : List A) → length items < 2 ^ 63 → Vec A Global
+  vec items small = record {
+    ptr = heap.ptr;
+    len = length items;
+    cap = length items;
+    alloc = heap.alloc;
+    items = items;
+    ok = (refl, omega arith);
+    small = small;
+  }
+
+  abbrev constant : ℕ → ℤ → Expr
+  constant number value = roll-Expr (Constant number value)
+
+  abbrev access : ℕ → ℕ → Access
+  access number root = record { number = number; root = root; selectors = vec [] (omega arith) }
+
+  abbrev variable : ℕ → ℕ → ℕ → Expr
+  variable number root site = roll-Expr (Variable (access number root) (vec [] (omega arith)) site)
+
+  abbrev test : ℕ → RangeTest
+  test site = record { site = site; range = record { first = negsuc 0; last = pos 8 } }
+
+  abbrev by_value : Expr → ℕ → Passed
+  by_value value site = roll-Passed (PassedValue value (test site))
+
+  abbrev by_reference : ℕ → ℕ → Passed
+  by_reference number root = roll-Passed (Reference integer (access number root) (vec [] (omega arith)))
+
+  abbrev call : ℕ → ℕ → Call
+  call number block = record { number = number; name = some_call.name; block = block }
+
+  abbrev compound : ℕ → (statements : List Stmt) → length statements < 2 ^ 63 → Stmt
+  compound number statements small = roll-Stmt (Compound number (vec statements small))
+
+  abbrev assign : ℕ → ℕ → ℕ → ℕ → Expr → Stmt
+  assign number access_number root site value =
+      roll-Stmt (Assign number some_call.name (access access_number root) (vec [] (omega arith)) (test site) value)
+
+  abbrev calls : ℕ → ℕ → Passed → Stmt
+  calls number block actual = roll-Stmt (Calling (call number block) (vec (actual ∷ []) (omega arith)))
+
+  abbrev calling : ℕ → ℕ → Passed → Expr
+  calling number block actual = roll-Expr (CallOf (call number block) (vec (actual ∷ []) (omega arith)))
+
+  abbrev heading : (around parameters : List ℕ) → Option FunctionResult → length around < 2 ^ 63 → length parameters < 2 ^ 63 → Heading
+  heading around parameters result few small = record { around = vec around few; parameters = vec parameters small; result = result }
+
+  abbrev block : Heading → Stmt → Block
+  block heading body = record { heading = heading; body = body; end = some_call.name }
+
+  abbrev declared : ℕ → VariableKind → DeclaredVariable
+  declared block how = record { block = block; type_id = integer; kind = how }
+
+  abbrev program : (blocks : List Block) (variables : List DeclaredVariable) → length blocks < 2 ^ 63 → length variables < 2 ^ 63 → Tree
+  program blocks variables few small = record {
+    blocks = vec blocks few;
+    bodies = vec [] (omega arith);
+    variables = vec variables small;
+    sites = vec [] (omega arith);
+    points = vec [] (omega arith);
+    loops = vec [] (omega arith);
+    types = required_forms;
+  }
+
+  -- procedure p(var a: integer);
+  --   procedure q(b: integer); begin a := b; p(a) end;
+  -- begin q(7) end;
+  -- function f(n: integer): integer; begin f := n end;
+  -- begin p(x); x := f(x) end.
+  abbrev routines : Tree
+  routines =
+      program
+      (block (heading [] [] None (omega arith) (omega arith))
+      (compound 14 (calls 15 1 (by_reference 16 0) ∷ assign 17 18 0 3 (calling 19 3 (by_value (variable 20 0 1) 2)) ∷ []) (omega arith))
+      ∷ block (heading (0 ∷ []) (1 ∷ []) None (omega arith) (omega arith)) (compound 6 (calls 7 2 (by_value (constant 8 (pos 7)) 4) ∷ []) (omega arith))
+      ∷ block (heading (0 ∷ 1 ∷ []) (2 ∷ []) None (omega arith) (omega arith))
+      (compound 0 (assign 1 2 1 6 (variable 3 2 5) ∷ calls 4 1 (by_reference 5 1) ∷ []) (omega arith))
+      ∷ block (heading (0 ∷ []) (3 ∷ []) (Some (record { root = 4; defined = 9 })) (omega arith) (omega arith))
+      (compound 9 (assign 10 11 4 8 (variable 12 3 7) ∷ []) (omega arith))
+      ∷ [])
+      (declared 0 kind.Local
+      ∷ declared 1 kind.VariableParameter
+      ∷ declared 2 kind.ValueParameter
+      ∷ declared 3 kind.ValueParameter
+      ∷ declared 3 kind.Result
+      ∷ [])
+      (omega arith) (omega arith)
+
+  routines_lie : homes_of routines ≡ record { level = 0; start = 4; refers = false } ∷ record { level = 1; start = 4; refers = true }
+      ∷ record { level = 2; start = 4; refers = false } ∷ record { level = 1; start = 4; refers = false } ∷ record { level = 1; start = 5; refers = false } ∷ []
+  routines_lie = refl
+
+  -- an actual variable parameter is an address; what a variable parameter stands for is reached by the address in its
+  -- cell; a frame further out is as many static links away as levels lie between
+  routines_code : program_code routines ≡
+      instr.Enter 1 6
+      ∷ instr.MarkStack 0 ∷ instr.LoadAddress 0 4 ∷ instr.CallProcedure 1 12
+      ∷ instr.MarkStack 0 ∷ instr.Load 0 4 ∷ instr.CheckDefined 1 1 ∷ instr.CheckRange 2 (negsuc 0) (pos 8) ∷ instr.CallProcedure 1 28
+      ∷ instr.CheckRange 3 (negsuc 0) (pos 8) ∷ instr.Store 0 4 ∷ instr.Stop
+      ∷ instr.Enter 0 5
+      ∷ instr.MarkStack 0 ∷ instr.LoadConstant (pos 7) ∷ instr.CheckRange 4 (negsuc 0) (pos 8) ∷ instr.CallProcedure 1 18 ∷ instr.Return 0
+      ∷ instr.Enter 0 5
+      ∷ instr.Load 1 4 ∷ instr.Load 0 4 ∷ instr.CheckDefined 5 1 ∷ instr.CheckRange 6 (negsuc 0) (pos 8) ∷ instr.StoreIndirect
+      ∷ instr.MarkStack 2 ∷ instr.Load 1 4 ∷ instr.CallProcedure 1 12 ∷ instr.Return 0
+      ∷ instr.Enter 1 2
+      ∷ instr.Load 0 4 ∷ instr.CheckDefined 7 1 ∷ instr.CheckRange 8 (negsuc 0) (pos 8) ∷ instr.Store 0 5
+      ∷ instr.Load 0 5 ∷ instr.CheckDefined 9 1 ∷ instr.Return 1 ∷ []
+  routines_code = simp makes
+
+  -- 8 for the block, for each statement and for each expression; a cell for each variable and each value, and one more
+  -- for a parameter
+  routines_need : (block_need routines 0 ≡ 69) × (block_need routines 1 ≡ 35) × (block_need routines 2 ≡ 61) × (block_need routines 3 ≡ 45)
+  routines_need = (simp needs, simp needs, simp needs, simp needs)
+
+  -- where p stands in q, in p, in the program
+  routines_living : living_need routines (1 ∷ 2 ∷ 1 ∷ 0 ∷ []) ≡ 200
+  routines_living = simp needs
+
+  abbrev of_integers : Heading
+  of_integers = heading [] [] None (omega arith) (omega arith)
+
+  -- the second variable, tested at the first site; there is no third variable, nor is there a second site
+  second : is_well_formed_expr (outline of_integers) 0 (variable 7 1 0) ≡ true
+  second = expr_forms of_integers (Variable (access 7 1) (vec [] (omega arith)) 0)
+
+  third : is_well_formed_expr (outline of_integers) 0 (variable 7 2 0) ≡ false
+  third = expr_forms of_integers (Variable (access 7 2) (vec [] (omega arith)) 0)
+
+  no_site : is_well_formed_expr (outline of_integers) 0 (variable 7 1 1) ≡ false
+  no_site = expr_forms of_integers (Variable (access 7 1) (vec [] (omega arith)) 1)
+
+  -- begin a := 7; writeln(b : 7) end
   abbrev b_in_seven : WriteParameter
-  b_in_seven = record { value = Ordinal b representation.Integer; width = Some (record { value = seven; site = 2 }) }
+  b_in_seven = record { value = Ordinal (variable 6 1 1) representation.Integer; width = Some (record { value = constant 4 (pos 7); site = 2 }) }
 
--- b.f[7].g, where two cells lie before f and one before g: whatever vectors hold the selectors and the index
-module _ (selectors : Vec Selector) (indexes : Vec Expr)
-    (selects : selectors.items ≡ Field 1 2 ∷ Element (record { site = 3; range = record { first = pos 5; last = pos 9 } }) 4 ∷ Field 1 1 ∷ [])
-    (are : indexes.items ≡ seven ∷ []) where
-  abbrev part_layer : Expr-F Expr Link
-  part_layer = Variable (record { number = 6; root = 1; selectors = selectors }) indexes 1
+  abbrev plain : Tree
+  plain =
+      program
+      (block of_integers
+      (compound 1
+      (assign 2 3 0 0 (constant 4 (pos 7)) ∷ roll-Stmt (Write 5 some_call.name (vec (b_in_seven ∷ []) (omega arith)) true) ∷ []) (omega arith))
+      ∷ [])
+      (declared 0 kind.Local ∷ declared 0 kind.Local ∷ []) (omega arith) (omega arith)
 
-  abbrev part_code : List Selector → List (List Instr) → List Instr
-  part_code ss codes = fetch_at (offset (5 + fields_offset ss)) (behind_fields ss) codes ++ (instr.CheckDefined 1 1 ∷ [])
+  plain_code : program_code plain ≡
+      instr.Enter 2 2
+      ∷ instr.LoadConstant (pos 7) ∷ instr.CheckRange 0 (negsuc 0) (pos 8) ∷ instr.Store 0 4
+      ∷ instr.Load 0 5 ∷ instr.CheckDefined 1 1 ∷ instr.LoadConstant (pos 7) ∷ instr.CheckRange 2 (pos 1) (pos 2147483647)
+      ∷ instr.WriteInteger ∷ instr.WriteLine ∷ instr.Stop ∷ []
+  plain_code = simp makes
 
-  part_code_is : expr_code two (roll-Expr part_layer) ≡ instr.LoadAddress 0 7 ∷ instr.LoadConstant (pos 7) ∷ instr.CheckRange 3 (pos 5) (pos 9)
+  plain_need : block_need plain 0 ≡ 70
+  plain_need = simp needs
+
+  -- b.f[7].g, where two cells lie before f and one before g
+  abbrev part_layer : Expr-F Expr Passed Link
+  part_layer =
+      Variable (record {
+        number = 6;
+        root = 1;
+        selectors = vec (Field 1 2 ∷ Element (record { site = 3; range = record { first = pos 5; last = pos 9 } }) 4 ∷ Field 1 1 ∷ []) (omega arith);
+      }) (vec (constant 4 (pos 7) ∷ []) (omega arith)) 1
+
+  abbrev part : Expr
+  part = roll-Expr part_layer
+
+  -- a scope with b in the block's own frame, and one where b is a variable parameter of the block round it
+  abbrev own : Scope
+  own = record {
+    homes = record { level = 0; start = 4; refers = false } ∷ record { level = 0; start = 5; refers = false } ∷ [];
+    routines = [];
+    level = 0;
+    above = 12;
+    height = 2;
+  }
+
+  abbrev inner : Scope
+  inner = record {
+    homes = record { level = 0; start = 4; refers = false } ∷ record { level = 1; start = 5; refers = true } ∷ [];
+    routines = [];
+    level = 2;
+    above = 12;
+    height = 2;
+  }
+
+  part_code : expr_code own part ≡ instr.LoadAddress 0 7 ∷ instr.LoadConstant (pos 7) ∷ instr.CheckRange 3 (pos 5) (pos 9) ∷ instr.IndexAddress (pos 5) 4
+      ∷ instr.Increase 1 ∷ instr.LoadIndirect 0 ∷ instr.CheckDefined 1 1 ∷ []
+  part_code = simp makes
+
+  inner_part_code : expr_code inner part ≡ instr.Load 1 5 ∷ instr.Increase 2 ∷ instr.LoadConstant (pos 7) ∷ instr.CheckRange 3 (pos 5) (pos 9)
       ∷ instr.IndexAddress (pos 5) 4 ∷ instr.Increase 1 ∷ instr.LoadIndirect 0 ∷ instr.CheckDefined 1 1 ∷ []
-  part_code_is =
-      fold-roll-Expr (List Instr) (List Instr) (expr_step two) link_step part_layer
-      ∙ ap (λ ss. part_code ss (map (expr_code two) indexes.items)) selects
-      ∙ ap (λ es. part_code (Field 1 2 ∷ Element (record { site = 3; range = record { first = pos 5; last = pos 9 } }) 4 ∷ Field 1 1 ∷ [])
-      (map (expr_code two) es)) are
-      ∙ ap (λ code. part_code (Field 1 2 ∷ Element (record { site = 3; range = record { first = pos 5; last = pos 9 } }) 4 ∷ Field 1 1 ∷ []) (code ∷ []))
-      (seven_code two)
+  inner_part_code =
+      expr_makes inner part_layer
+      ∙ ap (λ index. ((instr.Load 1 5 ∷ instr.Increase 2 ∷ (index ++ (instr.CheckRange 3 (pos 5) (pos 9) ∷ instr.IndexAddress (pos 5) 4
+      ∷ instr.Increase 1 ∷ []))) ++ (instr.LoadIndirect 0 ∷ [])) ++ (instr.CheckDefined 1 1 ∷ [])) (expr_makes inner (Constant 4 (pos 7)))
 
-  part_depth : expr_depth (roll-Expr part_layer) ≡ 2
-  part_depth =
-      fold-roll-Expr ℕ ℕ expr_depth_step link_depth_step part_layer ∙ ap (λ es. access_depth (map expr_depth es)) are
-      ∙ ap (λ n. access_depth (n ∷ [])) seven_depth
+  part_depth : expr_depth part ≡ 2
+  part_depth = simp makes
 
-  part_need : expr_need (roll-Expr part_layer) ≡ 18
-  part_need =
-      fold-roll-Expr ℕ ℕ expr_need_step link_need_step part_layer ∙ ap (λ es. access_need (map expr_need es)) are
-      ∙ ap (λ n. access_need (n ∷ [])) seven_need
+  part_need : expr_need part ≡ 18
+  part_need = simp needs
 
--- where variables of 1, 30 and 2 cells begin
-starts : (program_scope (1 ∷ 30 ∷ 2 ∷ [])).starts ≡ 4 ∷ 5 ∷ 35 ∷ []
-starts = refl
-
--- the strings 'ab' and 'b!', whatever vectors hold their characters
-module _ (first other : Vec ℕ) (ab : first.items ≡ 97 ∷ 98 ∷ []) (bs : other.items ≡ 98 ∷ 33 ∷ []) (bare : Vec Expr) where
-  abbrev left : Whole
-  left = Text 1 first
-
-  abbrev right : Whole
-  right = Text 3 other
-
-  abbrev compared : List ℕ → List ℕ → List Instr
-  compared cs ds =
-      map (λ c. instr.LoadConstant (pos c)) cs
-      ++ (map (λ c. instr.LoadConstant (pos c)) ds ++ (instr.Compare (row_length (length cs)) ∷ instr.LoadConstant (pos 0) ∷ instr.Less ∷ []))
+  -- the strings 'ab' and 'b!'
+  abbrev ab : Whole
+  ab = Text 1 (vec (97 ∷ 98 ∷ []) (omega arith))
 
   -- 'ab' < 'b!'
-  abbrev less : Expr-F Expr Link
-  less = Compare 2 relation.Less left bare right bare
+  abbrev less : Expr
+  less = roll-Expr (Compare 2 relation.Less ab (vec [] (omega arith)) (Text 3 (vec (98 ∷ 33 ∷ []) (omega arith))) (vec [] (omega arith)))
 
-  less_code : (scope : Scope) → expr_code scope (roll-Expr less) ≡ instr.LoadConstant (pos 97) ∷ instr.LoadConstant (pos 98) ∷ instr.LoadConstant (pos 98)
+  less_code : expr_code own less ≡ instr.LoadConstant (pos 97) ∷ instr.LoadConstant (pos 98) ∷ instr.LoadConstant (pos 98)
       ∷ instr.LoadConstant (pos 33) ∷ instr.Compare 2 ∷ instr.LoadConstant (pos 0) ∷ instr.Less ∷ []
-  less_code scope =
-      fold-roll-Expr (List Instr) (List Instr) (expr_step scope) link_step less ∙ ap (λ cs. compared cs other.items) ab ∙ ap (compared (97 ∷ 98 ∷ [])) bs
+  less_code = simp makes
 
-  less_depth : expr_depth (roll-Expr less) ≡ 4
-  less_depth =
-      fold-roll-Expr ℕ ℕ expr_depth_step link_depth_step less ∙ ap (λ cs. max (length cs) (max (length other.items + length cs) 2)) ab
-      ∙ ap (λ cs. max 2 (max (length cs + 2) 2)) bs
+  less_depth : expr_depth less ≡ 4
+  less_depth = simp makes
 
-  less_need : expr_need (roll-Expr less) ≡ 29
-  less_need =
-      fold-roll-Expr ℕ ℕ expr_need_step link_need_step less ∙ ap (λ cs. 8 + length cs + 0 + 9 + (8 + length other.items + 0)) ab
-      ∙ ap (λ cs. 19 + (8 + length cs + 0)) bs
+  less_need : expr_need less ≡ 29
+  less_need = simp needs
 
   -- written without a width
   abbrev ab_alone : WriteParameter
-  ab_alone = record { value = String left bare; width = None }
+  ab_alone = record { value = String ab (vec [] (omega arith)); width = None }
 
-  ab_code : (scope : Scope) → parameter_code scope ab_alone ≡ instr.LoadConstant (pos 97) ∷ instr.LoadConstant (pos 98) ∷ instr.LoadConstant (pos 2)
-      ∷ instr.WriteString 2 ∷ []
-  ab_code scope =
-      ap (λ cs. map (λ c. instr.LoadConstant (pos c)) cs ++ (instr.LoadConstant (pos (row_length (length cs))) ∷ instr.WriteString (row_length (length cs)) ∷
-      [])) ab
+  ab_code : parameter_code own ab_alone ≡ instr.LoadConstant (pos 97) ∷ instr.LoadConstant (pos 98) ∷ instr.LoadConstant (pos 2) ∷ instr.WriteString 2 ∷ []
+  ab_code = refl
 
   ab_depth : parameter_depth ab_alone ≡ 3
-  ab_depth = ap (λ cs. max (length cs) (1 + length cs)) ab
+  ab_depth = refl
 
   ab_need : parameter_need ab_alone ≡ 10
-  ab_need = ap (λ cs. 8 + length cs + 0 + 0) ab
-
--- begin a := 7; writeln(b : 7) end, whatever vectors hold the statements and the value
-module _ (becomes name : Place) (plain : Vec Selector) (none : plain.items ≡ []) (bare : Vec Expr) (empty : bare.items ≡ [])
-    (parameters : Vec WriteParameter) (writes : parameters.items ≡ b_in_seven plain none bare empty ∷ []) where
-  abbrev assign_layer : Stmt-F Stmt
-  assign_layer =
-      Assign 2 becomes (record { number = 3; root = 0; selectors = plain }) bare (record { site = 0; range = record { first = negsuc 0; last = pos 8 } }) seven
-
-  abbrev write_layer : Stmt-F Stmt
-  write_layer = Write 5 name parameters true
-
-  abbrev assign : Stmt
-  assign = roll-Stmt assign_layer
-
-  abbrev write : Stmt
-  write = roll-Stmt write_layer
-
-  abbrev assigned : List Instr
-  assigned = instr.LoadConstant (pos 7) ∷ instr.CheckRange 0 (negsuc 0) (pos 8) ∷ instr.Store 0 4 ∷ []
-
-  abbrev written : List Instr
-  written =
-      instr.Load 0 5 ∷ instr.CheckDefined 1 1 ∷ instr.LoadConstant (pos 7) ∷ instr.CheckRange 2 (pos 1) (pos 2147483647)
-      ∷ instr.WriteInteger ∷ instr.WriteLine ∷ []
-
-  assign_code_is : (place : ℕ) → stmt_code assign two place ≡ assigned
-  assign_code_is place =
-      ap (λ code. code two place) (fold-roll-Stmt Placed stmt_step assign_layer)
-      ∙ ap (λ ss. store_at (offset (4 + fields_offset ss)) (behind_fields ss) (map (expr_code two) bare.items)
-      (expr_code two seven ++ (instr.CheckRange 0 (negsuc 0) (pos 8) ∷ []))) none
-      ∙ ap (λ value. (value ++ (instr.CheckRange 0 (negsuc 0) (pos 8) ∷ [])) ++ (instr.Store 0 4 ∷ [])) (seven_code two)
-
-  -- of the codes of its value and of its width
-  abbrev made : List Instr → List Instr → List Instr
-  made value width = ((value ++ ((width ++ (check_positive 2 ∷ [])) ++ (instr.WriteInteger ∷ []))) ++ []) ++ (instr.WriteLine ∷ [])
-
-  write_code_is : (place : ℕ) → stmt_code write two place ≡ written
-  write_code_is place =
-      ap (λ code. code two place) (fold-roll-Stmt Placed stmt_step write_layer)
-      ∙ ap (λ ps. write_code two ps true) writes
-      ∙ ap (λ value. made value (expr_code two seven)) (b_code plain none bare empty)
-      ∙ ap (made (instr.Load 0 5 ∷ instr.CheckDefined 1 1 ∷ [])) (seven_code two)
-
-  assign_depth : stmt_depth assign ≡ 1
-  assign_depth =
-      fold-roll-Stmt ℕ stmt_depth_step assign_layer
-      ∙ ap (λ ss. store_depth (behind_fields ss) (map expr_depth bare.items) (expr_depth seven)) none ∙ seven_depth
-
-  write_depth : stmt_depth write ≡ 2
-  write_depth =
-      fold-roll-Stmt ℕ stmt_depth_step write_layer ∙ ap (λ ps. greatest (map parameter_depth ps)) writes
-      ∙ ap (λ n. greatest (max n (expr_depth seven + 1) ∷ [])) (b_depth plain none bare empty) ∙ ap (λ n. greatest (max 1 (n + 1) ∷ [])) seven_depth
-
-  assign_need : stmt_need assign ≡ 26
-  assign_need =
-      fold-roll-Stmt ℕ stmt_need_step assign_layer
-      ∙ ap (λ es. 8 + access_need (map expr_need es) + expr_need seven) empty ∙ ap (λ n. 17 + n) seven_need
-
-  write_need : stmt_need write ≡ 26
-  write_need =
-      fold-roll-Stmt ℕ stmt_need_step write_layer ∙ ap (λ ps. 8 + sum_by parameter_need ps) writes
-      ∙ ap (λ n. 8 + sum ((n + expr_need seven) ∷ [])) (b_need plain none bare empty) ∙ ap (λ n. 8 + sum ((9 + n) ∷ [])) seven_need
-
-  module _ (statements : Vec Stmt) (are : statements.items ≡ assign ∷ write ∷ []) where
-    abbrev body : Stmt
-    body = roll-Stmt (Compound 1 statements)
-
-    -- wherever it stands
-    body_code_is : (place : ℕ) → stmt_code body two place ≡ assigned ++ written
-    body_code_is place =
-        ap (λ code. code two place) (fold-roll-Stmt Placed stmt_step (Compound 1 statements))
-        ∙ ap (λ ss. placed (map (λ code. code two) (map stmt_code ss)) place) are
-        ∙ ap (λ first. first ++ placed ((λ n. stmt_code write two n) ∷ []) (place + length first)) (assign_code_is place)
-        ∙ ap (λ last. assigned ++ (last ++ [])) (write_code_is (place + 3))
-
-    body_depth : stmt_depth body ≡ 2
-    body_depth =
-        fold-roll-Stmt ℕ stmt_depth_step (Compound 1 statements) ∙ ap (λ ss. greatest (map stmt_depth ss)) are
-        ∙ ap (λ n. greatest (n ∷ stmt_depth write ∷ [])) assign_depth ∙ ap (λ n. greatest (1 ∷ n ∷ [])) write_depth
-
-    body_need_is : stmt_need body ≡ 60
-    body_need_is =
-        fold-roll-Stmt ℕ stmt_need_step (Compound 1 statements) ∙ ap (λ ss. 8 + sum (map stmt_need ss)) are
-        ∙ ap (λ n. 8 + sum (n ∷ stmt_need write ∷ [])) assign_need ∙ ap (λ n. 8 + sum (26 ∷ n ∷ [])) write_need
-
-    -- a program with two variables of one cell each
-    module _ (tree : Tree) (declares : variable_cells tree ≡ 1 ∷ 1 ∷ []) (end : Place)
-        (does : tree.blocks.items ≡ record { body = body; end = end } ∷ []) where
-      program_code_is : program_code tree ≡ instr.Enter 2 2 ∷ (assigned ++ (written ++ (instr.Stop ∷ [])))
-      program_code_is =
-          ap (λ cells. body_code cells (slice_get tree.blocks.items 0) ++ (instr.Stop ∷ [])) declares
-          ∙ ap (λ bs. body_code (1 ∷ 1 ∷ []) (slice_get bs 0) ++ (instr.Stop ∷ [])) does
-          ∙ ap (λ n. instr.Enter 2 (count n) ∷ (stmt_code body two 1 ++ (instr.Stop ∷ []))) body_depth
-          ∙ ap (λ code. instr.Enter 2 2 ∷ (code ++ (instr.Stop ∷ []))) (body_code_is 1)
-
-      program_need_is : program_need tree ≡ 70
-      program_need_is =
-          ap (λ cells. 8 + sum cells + body_need (slice_get tree.blocks.items 0)) declares
-          ∙ ap (λ bs. 10 + body_need (slice_get bs 0)) does ∙ ap (λ n. 10 + n) body_need_is
+  ab_need = refl

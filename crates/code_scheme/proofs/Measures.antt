@@ -1,7 +1,7 @@
 -- What is told of a statement is how many instructions it has.
 use Rattle.std.proofs.Common.{◌≡◌, ℕ, ◌+◌, ◌<◌, List, [], ◌∷◌, ◌++◌, length, map, take, get_or, Some, None, refl, ap, sym, subst, ◌∙◌, arith}
 use Rattle.std.proofs.Common.{length-append}
-use Rattle.std.specs.Prelude.{ℤ, ◌*◌, slice_set}
+use Rattle.std.specs.Prelude.{ℤ, ◌*◌, slice_get, slice_set, suc, zero}
 use Rattle.std.specs.Global.{Vec, Box}
 use Rattle.std.proofs.lemmas.List.{map_more, flat_map_more}
 use Rattle.std.proofs.lemmas.Simd.{map-map}
@@ -13,17 +13,27 @@ use Rattle.typed_tree.specs.declared.tree.Direction.{Direction}
 use Rattle.typed_tree.specs.declared.tree.RangeTest.{RangeTest}
 use Rattle.typed_tree.specs.declared.tree.Whole.{Whole}
 use Rattle.typed_tree.specs.declared.tree.Expr.{Expr}
+use Rattle.typed_tree.specs.declared.tree.Call.{Call}
+use Rattle.typed_tree.specs.declared.tree.Passed.{Passed}
+use Rattle.typed_tree.specs.declared.tree.Block.{Block}
+use Rattle.typed_tree.specs.declared.tree.Tree.{Tree}
+use Rattle.typed_tree.specs.declared.tree.Variable.{Variable}
+use Rattle.typed_tree.specs.WellFormed.{is_variable_kind}
 use Rattle.typed_tree.specs.declared.tree.Stmt.TheVariants as stmt
 use Rattle.pcode_assembler.specs.declared.instr.Instr.TheVariants as instr
 use Rattle.std.proofs.lemmas.List.Sums.{sum_by-cons}
 use Rattle.typed_tree.specs.declared.tree.Stmt.{Stmt}
 use Rattle.typed_tree.specs.declared.tree.Stmt.TheOpen.{Stmt-F}
-use Rattle.typed_tree.specs.declared.tree.Stmt.TheOpen.Stmt-F.{Empty, Assign, Write, Compound, If, While, Repeat, For, Case, Copy}
+use Rattle.typed_tree.specs.declared.tree.Stmt.TheOpen.Stmt-F.{Empty, Assign, Write, Compound, If, While, Repeat, For, Case, Copy, Call as Calling}
 use Rattle.typed_tree.specs.declared.tree.Stmt.TheViews.{roll-Stmt}
 use Rattle.typed_tree.specs.declared.tree.Stmt.TheFolds.{map-Stmt, fold-roll-Stmt, ind-Stmt}
-use Rattle.code_scheme.specs.Scopes.{Scope, holding}
+use Rattle.code_scheme.specs.Scopes.{Scope, block_scope, holding, home_or_none, homes_from}
 use Rattle.code_scheme.specs.Code.{Placed, placed, row_code, arms_code, expr_code, stmt_code, stmt_step}
-use Rattle.code_scheme.specs.Code.{assign_code, copy_code}
+use Rattle.code_scheme.specs.Code.{block_code, end_code}
+use Rattle.code_scheme.specs.Code.{assign_code, call_code, copy_code, passed_code}
+use Rattle.code_scheme.specs.declared.home.Home.{Home}
+use Rattle.code_scheme.specs.declared.routine.Routine.{Routine}
+use Rattle.code_scheme.specs.Sizes.{IsScopeOf, refers}
 use Rattle.code_scheme.specs.Sizes.{Measured, measured, measured_step, table_of, all_sizes, all_tables, arms_size, arms_table}
 use Rattle.code_scheme.proofs.Pieces.{length-If, length-If-else, length-While, length-Repeat, length-For}
 
@@ -88,6 +98,7 @@ layer (Assign number becomes target indexes fits value) = rolled (Assign number 
 layer (Copy number becomes target indexes type_id value value_indexes) =
     rolled (Copy number becomes target indexes type_id value value_indexes) (λ scope place. refl)
 layer (Write number name parameters ends_line) = rolled (Write number name parameters ends_line) (λ scope place. refl)
+layer (Calling call actuals) = rolled (Calling call actuals) (λ scope place. refl)
 layer (Compound number statements) =
     rolled (bare (Compound number statements)) (λ scope place. all_measured scope statements.items place)
 layer (If number condition consequence None) =
@@ -238,6 +249,12 @@ measured-Copy scope number becomes target indexes type_id value value_indexes =
     ap (λ s. measured s scope) (sym (stmt.rolls-Copy number becomes target indexes type_id value value_indexes))
     ∙ ap (λ m. m scope) (fold-roll-Stmt (Scope → Measured) measured_step (Copy number becomes target indexes type_id value value_indexes))
 
+pub measured-Call : (scope : Scope) (call : Call) (actuals : Vec Passed)
+    → measured (stmt.Call call actuals) scope ≡ record { size = length (call_code scope call (map (passed_code scope) actuals.items)); inner = [] }
+measured-Call scope call actuals =
+    ap (λ s. measured s scope) (sym (stmt.rolls-Call call actuals))
+    ∙ ap (λ m. m scope) (fold-roll-Stmt (Scope → Measured) measured_step (Calling call actuals))
+
 -- what is told of the first statements, and of one more
 all_sizes-push : (ms : List Measured) (m : Measured) → all_sizes (ms ++ m ∷ []) ≡ all_sizes ms + m.size
 all_sizes-push [] m = sum_by-cons (λ (x : Measured). x.size) m [] ∙ omega arith
@@ -273,3 +290,32 @@ arms_table-none (row ∷ rows) = refl
 pub set_at_seam : (before inner : List ℕ) (a b : ℕ) → slice_set (before ++ a ∷ inner) (length before) b ≡ before ++ b ∷ inner
 set_at_seam [] inner a b = refl
 set_at_seam (x ∷ before) inner a b = ap (λ l. x ∷ l) (set_at_seam before inner a b)
+
+-- some scope of these variables
+abbrev plain_homes : List Variable → List Home
+plain_homes = map (λ variable. record { level = 0; start = 0; refers = is_variable_kind variable.kind })
+
+abbrev pub plain_scope : List Variable → Scope
+plain_scope variables = record { homes = plain_homes variables; routines = []; level = 0; above = 0; height = 0 }
+
+pub plainly : (variables : List Variable) → IsScopeOf variables (plain_scope variables)
+plainly [] root = refl
+plainly (variable ∷ variables) zero = refl
+plainly (variable ∷ variables) (suc root) = plainly variables root
+
+-- the scope of a block has the variables of its tree, and stays such a scope while more is held
+homes_refer : (tree : Tree) (start : ℕ) (variables : List Variable) (root : ℕ)
+    → (home_or_none (slice_get (homes_from tree start variables) root)).refers ≡ refers (slice_get variables root)
+homes_refer tree start [] root = refl
+homes_refer tree start (variable ∷ variables) zero = refl
+homes_refer tree start (variable ∷ variables) (suc root) = homes_refer tree (suc start) variables root
+
+pub in_block : (tree : Tree) (routines : List Routine) (number : ℕ) → IsScopeOf tree.variables.items (block_scope tree routines number)
+in_block tree routines number = homes_refer tree 0 tree.variables.items
+
+-- how many instructions a block has
+pub length-block : (tree : Tree) (number : ℕ) (block : Block) (scope : Scope) (place : ℕ)
+    → length (block_code tree number block scope place) ≡ 1 + length (stmt_code block.body scope (place + 1)) + length
+    (end_code scope number block.heading.result)
+length-block tree number block scope place =
+    omega (arith, length-append (stmt_code block.body scope (place + 1)) (end_code scope number block.heading.result))

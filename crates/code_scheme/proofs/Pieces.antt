@@ -19,29 +19,35 @@ use Rattle.typed_tree.specs.declared.tree.Whole.{Whole}
 use Rattle.types.specs.declared.form.TypeId.{TypeId}
 use Rattle.typed_tree.specs.declared.tree.Expr.{Expr}
 use Rattle.typed_tree.specs.declared.tree.Link.{Link}
+use Rattle.typed_tree.specs.declared.tree.Call.{Call}
+use Rattle.typed_tree.specs.declared.tree.Passed.{Passed}
+use Rattle.typed_tree.specs.declared.tree.Passed.TheVariants as actual
 use Rattle.typed_tree.specs.declared.tree.Expr.TheVariants.{Variable, rolls-Variable, Chain, rolls-Chain, Monadic as MonadicOf, rolls-Monadic}
-use Rattle.typed_tree.specs.declared.tree.Expr.TheVariants.{Compare, rolls-Compare}
+use Rattle.typed_tree.specs.declared.tree.Expr.TheVariants.{Compare, rolls-Compare, Call as CallOf, rolls-Call as rolls-CallOf}
 use Rattle.typed_tree.specs.declared.tree.Monadic.{Monadic}
 use Rattle.typed_tree.specs.declared.tree.Relation.{Relation}
 use Rattle.typed_tree.specs.declared.tree.Expr.TheOpen.Expr-F.{Variable as Variable-layer, Chain as Chain-layer, Monadic as Monadic-layer}
-use Rattle.typed_tree.specs.declared.tree.Expr.TheOpen.Expr-F.{Compare as Compare-layer}
-use Rattle.typed_tree.specs.declared.tree.Expr.TheFolds.{fold-roll-Expr, fold_out-Link}
+use Rattle.typed_tree.specs.declared.tree.Expr.TheOpen.Expr-F.{Compare as Compare-layer, Call as CallOf-layer}
+use Rattle.typed_tree.specs.declared.tree.Expr.TheOpen.Passed-F.{Value as Value-layer, Whole as Whole-layer, Reference as Reference-layer}
+use Rattle.typed_tree.specs.declared.tree.Expr.TheFolds.{fold-roll-Expr, fold-roll-Passed, fold_out-Link}
 use Rattle.typed_tree.specs.declared.tree.Stmt.{Stmt}
 use Rattle.typed_tree.specs.declared.tree.Stmt.TheVariants.{Empty, rolls-Empty, Assign, rolls-Assign, Write, rolls-Write, Compound, rolls-Compound, If}
 use Rattle.typed_tree.specs.declared.tree.Stmt.TheVariants.{rolls-If, While, rolls-While, Repeat, rolls-Repeat, For, rolls-For, Case, rolls-Case}
-use Rattle.typed_tree.specs.declared.tree.Stmt.TheVariants.{Copy, rolls-Copy}
+use Rattle.typed_tree.specs.declared.tree.Stmt.TheVariants.{Copy, rolls-Copy, Call as Calling, rolls-Call}
 use Rattle.typed_tree.specs.declared.tree.Stmt.TheOpen.Stmt-F.{Empty as Empty-layer, Assign as Assign-layer, Write as Write-layer, Compound as Compound-layer}
 use Rattle.typed_tree.specs.declared.tree.Stmt.TheOpen.Stmt-F.{If as If-layer, While as While-layer, Repeat as Repeat-layer, For as For-layer}
-use Rattle.typed_tree.specs.declared.tree.Stmt.TheOpen.Stmt-F.{Case as Case-layer, Copy as Copy-layer}
+use Rattle.typed_tree.specs.declared.tree.Stmt.TheOpen.Stmt-F.{Case as Case-layer, Copy as Copy-layer, Call as Call-layer}
 use Rattle.typed_tree.specs.declared.tree.Stmt.TheFolds.{fold-roll-Stmt}
 use Rattle.typed_tree.specs.WellFormed.{length_of}
-use Rattle.code_scheme.specs.Scopes.{Scope, behind_fields, holding}
+use Rattle.code_scheme.specs.Scopes.{Scope, called_routine, holding, row_length}
 use Rattle.code_scheme.specs.Code.{joined, placed, Placed, if_code, if_else_code, while_code, repeat_code, for_code, for_entry, for_begin, for_next}
 use Rattle.code_scheme.specs.Code.{for_end, case_code, dyadic_code, monadic_code, expr_step, link_step, expr_code, link_code, variable_code, assign_code}
 use Rattle.code_scheme.specs.Code.{write_code, parameter_code, line_end_code, stmt_step, stmt_code, compare_code, whole_code}
-use Rattle.code_scheme.specs.Code.{copy_code, index_codes, statements_code}
+use Rattle.code_scheme.specs.Code.{address_code, call_code, copy_code, index_codes, passed_code, passed_step, range_check, statements_code}
 use Rattle.code_scheme.specs.Depth.{greatest, arms_depth, expr_depth, parameter_depth, stmt_depth, stmt_depth_step}
-use Rattle.code_scheme.specs.Depth.{access_depth, expr_depth_step, index_depths, link_depth_step, store_depth, whole_depth}
+use Rattle.code_scheme.specs.Depth.{access_depth, call_depth, expr_depth_step, index_depths, link_depth_step, passed_depth, passed_depth_step, store_depth}
+use Rattle.code_scheme.specs.Depth.{PassedDepth, actuals_depth, whole_depth}
+use Rattle.code_scheme.specs.Sizes.{capped}
 
 -- the pieces of a list, one for each element
 pub joined-map : {X : Type 0} (piece_of : X → List Instr) (xs : List X) → joined (map piece_of xs) ≡ flat_map piece_of xs
@@ -52,7 +58,8 @@ joined-map piece_of (x ∷ xs) = ap (λ rest. piece_of x ++ rest) (joined-map pi
 pub expr_code-Chain : (scope : Scope) (first : Box Expr) (rest : Vec Link)
     → expr_code scope (Chain first rest) ≡ expr_code scope first.value ++ flat_map (link_code scope) rest.items
 expr_code-Chain scope first rest =
-    ap (expr_code scope) (sym (rolls-Chain first rest)) ∙ fold-roll-Expr (List Instr) (List Instr) (expr_step scope) link_step (Chain-layer first rest)
+    ap (expr_code scope) (sym (rolls-Chain first rest))
+    ∙ fold-roll-Expr (List Instr) (List Instr) (List Instr) (expr_step scope) (passed_step scope) link_step (Chain-layer first rest)
     ∙ ap (λ p. expr_code scope first.value ++ p) (joined-map (link_code scope) rest.items)
 
 -- the value of a variable or of a component
@@ -60,7 +67,7 @@ pub expr_code-Variable : (scope : Scope) (access : Access) (indexes : Vec Expr) 
     → expr_code scope (Variable access indexes defined) ≡ variable_code scope access (index_codes scope indexes.items) defined
 expr_code-Variable scope access indexes defined =
     ap (expr_code scope) (sym (rolls-Variable access indexes defined))
-    ∙ fold-roll-Expr (List Instr) (List Instr) (expr_step scope) link_step (Variable-layer access indexes defined)
+    ∙ fold-roll-Expr (List Instr) (List Instr) (List Instr) (expr_step scope) (passed_step scope) link_step (Variable-layer access indexes defined)
 
 -- a relation of two whole values
 pub expr_code-Compare : (scope : Scope) (number : ℕ) (r : Relation) (left : Whole) (left_indexes : Vec Expr) (right : Whole) (right_indexes : Vec Expr)
@@ -68,7 +75,34 @@ pub expr_code-Compare : (scope : Scope) (number : ℕ) (r : Relation) (left : Wh
     (whole_code scope left (index_codes scope left_indexes.items)) (whole_code scope right (index_codes scope right_indexes.items))
 expr_code-Compare scope number r left left_indexes right right_indexes =
     ap (expr_code scope) (sym (rolls-Compare number r left left_indexes right right_indexes))
-    ∙ fold-roll-Expr (List Instr) (List Instr) (expr_step scope) link_step (Compare-layer number r left left_indexes right right_indexes)
+    ∙ fold-roll-Expr (List Instr) (List Instr) (List Instr) (expr_step scope) (passed_step scope) link_step
+    (Compare-layer number r left left_indexes right right_indexes)
+
+-- a call of a function
+pub expr_code-Call : (scope : Scope) (call : Call) (actuals : Vec Passed)
+    → expr_code scope (CallOf call actuals) ≡ call_code scope call (map (passed_code scope) actuals.items)
+expr_code-Call scope call actuals =
+    ap (expr_code scope) (sym (rolls-CallOf call actuals))
+    ∙ fold-roll-Expr (List Instr) (List Instr) (List Instr) (expr_step scope) (passed_step scope) link_step (CallOf-layer call actuals)
+
+-- what is passed: a value, a copy, a variable
+pub passed_code-Value : (scope : Scope) (value : Expr) (fits : RangeTest)
+    → passed_code scope (actual.Value value fits) ≡ expr_code scope value ++ (range_check fits ∷ [])
+passed_code-Value scope value fits =
+    ap (passed_code scope) (sym (actual.rolls-Value value fits))
+    ∙ fold-roll-Passed (List Instr) (List Instr) (List Instr) (expr_step scope) (passed_step scope) link_step (Value-layer value fits)
+
+pub passed_code-Whole : (scope : Scope) (type_id : TypeId) (value : Whole) (indexes : Vec Expr)
+    → passed_code scope (actual.Whole type_id value indexes) ≡ whole_code scope value (index_codes scope indexes.items)
+passed_code-Whole scope type_id value indexes =
+    ap (passed_code scope) (sym (actual.rolls-Whole type_id value indexes))
+    ∙ fold-roll-Passed (List Instr) (List Instr) (List Instr) (expr_step scope) (passed_step scope) link_step (Whole-layer type_id value indexes)
+
+pub passed_code-Reference : (scope : Scope) (type_id : TypeId) (access : Access) (indexes : Vec Expr)
+    → passed_code scope (actual.Reference type_id access indexes) ≡ address_code scope access (index_codes scope indexes.items)
+passed_code-Reference scope type_id access indexes =
+    ap (passed_code scope) (sym (actual.rolls-Reference type_id access indexes))
+    ∙ fold-roll-Passed (List Instr) (List Instr) (List Instr) (expr_step scope) (passed_step scope) link_step (Reference-layer type_id access indexes)
 
 -- the greatest of some numbers is no less than the one that they begin with
 pub start_within : (d : ℕ) (ds : List ℕ) → d ≤ fold max d ds
@@ -105,6 +139,12 @@ pub stmt_code-Write : (scope : Scope) (place number : ℕ) (name : SourcePlace) 
 stmt_code-Write scope place number name parameters ends_line =
     ap (λ s. stmt_code s scope place) (sym (rolls-Write number name parameters ends_line))
     ∙ ap (λ code. code scope place) (fold-roll-Stmt Placed stmt_step (Write-layer number name parameters ends_line))
+
+pub stmt_code-Call : (scope : Scope) (place : ℕ) (call : Call) (actuals : Vec Passed)
+    → stmt_code (Calling call actuals) scope place ≡ call_code scope call (map (passed_code scope) actuals.items)
+stmt_code-Call scope place call actuals =
+    ap (λ s. stmt_code s scope place) (sym (rolls-Call call actuals))
+    ∙ ap (λ code. code scope place) (fold-roll-Stmt Placed stmt_step (Call-layer call actuals))
 
 -- an if statement without `else`, and one with it
 pub stmt_code-If : (scope : Scope) (place number : ℕ) (condition : Expr) (consequence : Box Stmt)
@@ -223,18 +263,42 @@ length-Write scope place number name parameters ends_line =
 pub expr_depth-Variable : (access : Access) (indexes : Vec Expr) (defined : ℕ)
     → expr_depth (Variable access indexes defined) ≡ access_depth (index_depths indexes.items)
 expr_depth-Variable access indexes defined =
-    ap expr_depth (sym (rolls-Variable access indexes defined)) ∙ fold-roll-Expr ℕ ℕ expr_depth_step link_depth_step (Variable-layer access indexes defined)
+    ap expr_depth (sym (rolls-Variable access indexes defined))
+    ∙ fold-roll-Expr ℕ PassedDepth ℕ expr_depth_step passed_depth_step link_depth_step (Variable-layer access indexes defined)
 
 pub expr_depth-Compare : (number : ℕ) (r : Relation) (left : Whole) (left_indexes : Vec Expr) (right : Whole) (right_indexes : Vec Expr)
     → expr_depth (Compare number r left left_indexes right right_indexes) ≡ max (whole_depth left (index_depths left_indexes.items))
     (max (whole_depth right (index_depths right_indexes.items) + length_of left) 2)
 expr_depth-Compare number r left left_indexes right right_indexes =
     ap expr_depth (sym (rolls-Compare number r left left_indexes right right_indexes))
-    ∙ fold-roll-Expr ℕ ℕ expr_depth_step link_depth_step (Compare-layer number r left left_indexes right right_indexes)
+    ∙ fold-roll-Expr ℕ PassedDepth ℕ expr_depth_step passed_depth_step link_depth_step (Compare-layer number r left left_indexes right right_indexes)
+
+-- a call of a function, and what is passed
+pub expr_depth-Call : (call : Call) (actuals : Vec Passed) → expr_depth (CallOf call actuals) ≡ call_depth (map passed_depth actuals.items)
+expr_depth-Call call actuals =
+    ap expr_depth (sym (rolls-CallOf call actuals))
+    ∙ fold-roll-Expr ℕ PassedDepth ℕ expr_depth_step passed_depth_step link_depth_step (CallOf-layer call actuals)
+
+pub passed_depth-Value : (value : Expr) (fits : RangeTest) → passed_depth (actual.Value value fits) ≡ record { depth = expr_depth value; cells = 1 }
+passed_depth-Value value fits =
+    ap passed_depth (sym (actual.rolls-Value value fits))
+    ∙ fold-roll-Passed ℕ PassedDepth ℕ expr_depth_step passed_depth_step link_depth_step (Value-layer value fits)
+
+pub passed_depth-Whole : (type_id : TypeId) (value : Whole) (indexes : Vec Expr)
+    → passed_depth (actual.Whole type_id value indexes) ≡ record { depth = whole_depth value (index_depths indexes.items); cells = length_of value }
+passed_depth-Whole type_id value indexes =
+    ap passed_depth (sym (actual.rolls-Whole type_id value indexes))
+    ∙ fold-roll-Passed ℕ PassedDepth ℕ expr_depth_step passed_depth_step link_depth_step (Whole-layer type_id value indexes)
+
+pub passed_depth-Reference : (type_id : TypeId) (access : Access) (indexes : Vec Expr)
+    → passed_depth (actual.Reference type_id access indexes) ≡ record { depth = access_depth (index_depths indexes.items); cells = 1 }
+passed_depth-Reference type_id access indexes =
+    ap passed_depth (sym (actual.rolls-Reference type_id access indexes))
+    ∙ fold-roll-Passed ℕ PassedDepth ℕ expr_depth_step passed_depth_step link_depth_step (Reference-layer type_id access indexes)
 
 -- how many cells an assignment needs, a write, and a compound statement
 pub stmt_depth-Assign : (number : ℕ) (becomes : SourcePlace) (target : Access) (indexes : Vec Expr) (fits : RangeTest) (value : Expr)
-    → stmt_depth (Assign number becomes target indexes fits value) ≡ store_depth (behind_fields target.selectors.items) (index_depths indexes.items)
+    → stmt_depth (Assign number becomes target indexes fits value) ≡ store_depth (index_depths indexes.items)
     (expr_depth value)
 stmt_depth-Assign number becomes target indexes fits value =
     ap stmt_depth (sym (rolls-Assign number becomes target indexes fits value))
@@ -251,6 +315,9 @@ pub stmt_depth-Write : (number : ℕ) (name : SourcePlace) (parameters : Vec Wri
     → stmt_depth (Write number name parameters ends_line) ≡ greatest (map parameter_depth parameters.items)
 stmt_depth-Write number name parameters ends_line =
     ap stmt_depth (sym (rolls-Write number name parameters ends_line)) ∙ fold-roll-Stmt ℕ stmt_depth_step (Write-layer number name parameters ends_line)
+
+pub stmt_depth-Call : (call : Call) (actuals : Vec Passed) → stmt_depth (Calling call actuals) ≡ call_depth (map passed_depth actuals.items)
+stmt_depth-Call call actuals = ap stmt_depth (sym (rolls-Call call actuals)) ∙ fold-roll-Stmt ℕ stmt_depth_step (Call-layer call actuals)
 
 pub stmt_depth-Compound : (number : ℕ) (statements : Vec Stmt) → stmt_depth (Compound number statements) ≡ greatest (map stmt_depth statements.items)
 stmt_depth-Compound number statements =
@@ -356,14 +423,14 @@ all_stmts scope place statements others i h same = ap (λ ss. statements_code sc
 
 -- a link: its operand, and its operation
 pub link_code-is : (scope : Scope) (link : Link) → link_code scope link ≡ expr_code scope link.operand ++ dyadic_code link.operation
-link_code-is scope link = fold_out-Link (List Instr) (List Instr) (expr_step scope) link_step link
+link_code-is scope link = fold_out-Link (List Instr) (List Instr) (List Instr) (expr_step scope) (passed_step scope) link_step link
 
 -- an operation on one operand
 pub expr_code-Monadic : (scope : Scope) (number : ℕ) (operation : Monadic) (operand : Box Expr)
     → expr_code scope (MonadicOf number operation operand) ≡ expr_code scope operand.value ++ monadic_code operation
 expr_code-Monadic scope number operation operand =
     ap (expr_code scope) (sym (rolls-Monadic number operation operand))
-    ∙ fold-roll-Expr (List Instr) (List Instr) (expr_step scope) link_step (Monadic-layer number operation operand)
+    ∙ fold-roll-Expr (List Instr) (List Instr) (List Instr) (expr_step scope) (passed_step scope) link_step (Monadic-layer number operation operand)
 
 pub length-link_code : (scope : Scope) (link : Link) → length (link_code scope link) ≡ length (expr_code scope link.operand) + length
     (dyadic_code link.operation)
@@ -381,3 +448,23 @@ length-links_more scope links i link h here =
 pub all_pieces : {X : Type 0} (piece_of : X → List Instr) (xs ys : List X) (i : ℕ) → length xs ≤ i → xs ≡ ys
     → flat_map piece_of (take i xs) ≡ flat_map piece_of ys
 all_pieces piece_of xs ys i h same = ap (flat_map piece_of) (take_all i xs h ∙ same)
+
+-- how many instructions a call has
+pub length-Call : (scope : Scope) (call : Call) (actuals : List Passed)
+    → length (call_code scope call (map (passed_code scope) actuals)) ≡ 2 + length (flat_map (passed_code scope) actuals)
+length-Call scope call actuals =
+    let pieces = joined (map (passed_code scope) actuals) in
+    let routine = called_routine scope call.block in
+    omega (
+      arith,
+      length-append pieces (instr.CallProcedure (row_length routine.cells) routine.place ∷ []),
+      ap length (joined-map (passed_code scope) actuals),
+    )
+
+-- actual parameters need as much behind counts of cells that are the same in 32 bits
+pub depth_alike : (held other : ℕ) (depths : List PassedDepth) → capped held ≡ capped other
+    → capped (actuals_depth held depths) ≡ capped (actuals_depth other depths)
+depth_alike held other [] same = same
+depth_alike held other (d ∷ depths) same =
+    let rest = depth_alike (held + d.cells) (other + d.cells) depths (omega (arith, same)) in
+    omega (arith, same, rest)

@@ -1,18 +1,18 @@
 -- The code of selectors, of what they select, and how many instructions it has, as loops over them go on.
-use Rattle.std.proofs.Common.{◌≡◌, ℕ, ◌+◌, ◌<◌, max, true, false, List, [], ◌∷◌, ◌++◌, drop, get_or, length, length-append, refl, sym, ap, ◌∙◌}
+use Rattle.std.proofs.Common.{◌≡◌, ℕ, ◌+◌, ◌<◌, Bool, true, false, if◌then◌else◌, List, [], ◌∷◌, ◌++◌, drop, get_or, length, length-append, refl, sym, ap, ◌∙◌}
 use Rattle.std.proofs.Common.{append_assoc, arith}
-use Rattle.std.specs.Bool.{◌==◌}
-use Rattle.std.proofs.lemmas.Bool.{eqb-true}
-use Rattle.std.proofs.lemmas.List.{drop_more, nil_from_length}
+use Rattle.std.proofs.lemmas.List.{drop_more}
 use Rattle.pcode_assembler.specs.declared.instr.Instr.{Instr}
 use Rattle.pcode_assembler.specs.declared.instr.Instr.TheVariants as instr
+use Rattle.typed_tree.specs.declared.tree.Access.{Access}
 use Rattle.typed_tree.specs.declared.tree.RangeTest.{RangeTest}
 use Rattle.typed_tree.specs.declared.tree.Selector.{Selector}
 use Rattle.typed_tree.specs.declared.tree.Selector.TheVariants.{Element, Field}
 use Rattle.typed_tree.specs.declared.tree.Expr.{Expr}
-use Rattle.code_scheme.specs.Scopes.{Scope, row_length}
-use Rattle.code_scheme.specs.Code.{address_at, expr_code, fetch_at, field_code, index_codes, range_check, selectors_code, store_at}
-use Rattle.code_scheme.specs.Depth.{access_depth, store_depth}
+use Rattle.code_scheme.specs.Scopes.{Scope, access_offset, behind_fields, links_to, row_length, selectors_from, variable_home}
+use Rattle.code_scheme.specs.Code.{At, By, Reached, address_code, address_of, expr_code, fetch_code, field_code, index_codes, range_check, reached_from}
+use Rattle.code_scheme.specs.Code.{selectors_code, store_code}
+use Rattle.code_scheme.specs.Sizes.{is_at}
 
 -- the element at a place of a list, and those behind it
 pub at_place : {X : Type 0} (xs : List X) (i : ℕ) (d x : X) → i < length xs → get_or xs i d ≡ x → drop i xs ≡ x ∷ drop (i + 1) xs
@@ -60,48 +60,41 @@ length-element scope selectors others fits cells indexes left index is there =
     ∙ length-append (expr_code scope index) (range_check fits ∷ instr.IndexAddress fits.range.first (row_length cells) ∷ rest) in
     omega (arith, all)
 
-no_selectors : (selectors : List Selector) → true ≡ (length selectors == 0) → selectors ≡ []
-no_selectors selectors none = nil_from_length selectors (eqb-true (length selectors) 0 (sym none))
+-- how many instructions push an address
+length_from : (level start : ℕ) (selectors : List Selector) (codes : List (List Instr))
+    → length (address_of (reached_from level start selectors codes)) ≡ length (selectors_code selectors codes) + 1
+length_from level start [] codes = refl
+length_from level start (selector ∷ selectors) codes = omega arith
 
--- what is selected by fields alone is fetched and stored where it lies
-pub fetch-plain : (start : ℕ) (selectors : List Selector) (codes : List (List Instr)) → true ≡ (length selectors == 0)
-    → fetch_at start selectors codes ≡ instr.Load 0 start ∷ []
-fetch-plain start selectors codes none = ap (λ ss. fetch_at start ss codes) (no_selectors selectors none)
+length_reached : (refers : Bool) (level start place : ℕ) (selectors : List Selector) (codes : List (List Instr))
+    → length (address_of (if refers then By (instr.Load level start ∷ selectors_code selectors codes) else
+    reached_from level place (behind_fields selectors) codes)) ≡ length (selectors_code (selectors_from refers selectors) codes) + 1
+length_reached true level start place selectors codes = omega arith
+length_reached false level start place selectors codes = length_from level place (behind_fields selectors) codes
 
-pub store-plain : (start : ℕ) (selectors : List Selector) (codes : List (List Instr)) (value : List Instr) → true ≡ (length selectors == 0)
-    → store_at start selectors codes value ≡ value ++ (instr.Store 0 start ∷ [])
-store-plain start selectors codes value none = ap (λ ss. store_at start ss codes value) (no_selectors selectors none)
+pub length-address : (scope : Scope) (access : Access) (codes : List (List Instr)) (refers : Bool) (selectors : List Selector)
+    → (variable_home scope access.root).refers ≡ refers → selectors ≡ selectors_from refers access.selectors.items
+    → length (address_code scope access codes) ≡ length (selectors_code selectors codes) + 1
+length-address scope access codes refers selectors same from =
+    let home = variable_home scope access.root in
+    length_reached home.refers (links_to scope home.level) home.start (access_offset scope access) access.selectors.items codes
+    ∙ ap (λ r. length (selectors_code (selectors_from r access.selectors.items) codes) + 1) same
+    ∙ sym (ap (λ ss. length (selectors_code ss codes) + 1) from)
 
-pub depth-plain : (selectors : List Selector) (depths : List ℕ) (value : ℕ) → true ≡ (length selectors == 0) → store_depth selectors depths value ≡ value
-depth-plain selectors depths value none = ap (λ ss. store_depth ss depths value) (no_selectors selectors none)
+-- what lies at an offset in a frame is fetched and stored there, else at its address
+pub length-fetch-at : (r : Reached) → true ≡ is_at r → length (fetch_code r) ≡ 1
+length-fetch-at (At level start) at = refl
+length-fetch-at (By address) at = absurd (cc)
 
--- what is selected behind an index is fetched and stored at its address
-pub fetch-indexed : (start : ℕ) (selectors : List Selector) (codes : List (List Instr)) → false ≡ (length selectors == 0)
-    → fetch_at start selectors codes ≡ address_at start selectors codes ++ (instr.LoadIndirect 0 ∷ [])
-fetch-indexed start [] codes some = absurd (cc)
-fetch-indexed start (selector ∷ selectors) codes some = refl
+pub length-fetch-by : (r : Reached) → false ≡ is_at r → length (fetch_code r) ≡ length (address_of r) + 1
+length-fetch-by (At level start) by = absurd (cc)
+length-fetch-by (By address) by = length-append address (instr.LoadIndirect 0 ∷ [])
 
-pub store-indexed : (start : ℕ) (selectors : List Selector) (codes : List (List Instr)) (value : List Instr) → false ≡ (length selectors == 0)
-    → store_at start selectors codes value ≡ address_at start selectors codes ++ (value ++ (instr.StoreIndirect ∷ []))
-store-indexed start [] codes value some = absurd (cc)
-store-indexed start (selector ∷ selectors) codes value some = refl
+pub length-store-at : (value : List Instr) (r : Reached) → true ≡ is_at r → length (store_code value r) ≡ length value + 1
+length-store-at value (At level start) at = length-append value (instr.Store level start ∷ [])
+length-store-at value (By address) at = absurd (cc)
 
-pub depth-indexed : (selectors : List Selector) (depths : List ℕ) (value : ℕ) → false ≡ (length selectors == 0)
-    → store_depth selectors depths value ≡ max (access_depth depths) (value + 1)
-depth-indexed [] depths value some = absurd (cc)
-depth-indexed (selector ∷ selectors) depths value some = refl
-
-pub length-fetch : (start : ℕ) (selectors : List Selector) (codes : List (List Instr)) (defined : ℕ) → false ≡ (length selectors == 0)
-    → length (fetch_at start selectors codes ++ (instr.CheckDefined defined 1 ∷ [])) ≡ length (selectors_code selectors codes) + 3
-length-fetch start selectors codes defined some =
-    let address = address_at start selectors codes in
-    let all = length-append (fetch_at start selectors codes) (instr.CheckDefined defined 1 ∷ []) in
-    let inner = ap length (fetch-indexed start selectors codes some) ∙ length-append address (instr.LoadIndirect 0 ∷ []) in
-    omega (arith, all, inner)
-
-pub length-store : (start : ℕ) (selectors : List Selector) (codes : List (List Instr)) (value : List Instr) → false ≡ (length selectors == 0)
-    → length (store_at start selectors codes value) ≡ length (selectors_code selectors codes) + 1 + (length value + 1)
-length-store start selectors codes value some =
-    let address = address_at start selectors codes in
-    let all = ap length (store-indexed start selectors codes value some) ∙ length-append address (value ++ (instr.StoreIndirect ∷ [])) in
-    omega (arith, all, length-append value (instr.StoreIndirect ∷ []))
+pub length-store-by : (value : List Instr) (r : Reached) → false ≡ is_at r → length (store_code value r) ≡ length (address_of r) + (length value + 1)
+length-store-by value (At level start) by = absurd (cc)
+length-store-by value (By address) by =
+    omega (arith, length-append address (value ++ (instr.StoreIndirect ∷ [])), length-append value (instr.StoreIndirect ∷ []))

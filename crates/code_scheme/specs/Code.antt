@@ -1,14 +1,16 @@
 -- The code of a typed tree: of an expression (ISO 7185:1990, 6.7), of a statement (6.8) and of a program (6.10), as
 -- functions of the tree, of where in a frame its variables lie and, for a statement, of its place in the code. It does
 -- not say what the code does: that is for the machine to say.
-use Rattle.std.specs.Prelude.{ℕ, zero, suc, ℤ, pos, neg_ℤ, ◌+◌, Bool, true, false, List, [], ◌∷◌, ◌++◌, Option, Some}
-use Rattle.std.specs.Prelude.{None, length, map, slice_get, sum}
+use Rattle.std.specs.Prelude.{ℕ, zero, suc, ℤ, pos, neg_ℤ, ◌+◌, ◌-◌, Bool, true, false, List, [], ◌∷◌, ◌++◌}
+use Rattle.std.specs.Prelude.{Option, Some, None, if◌then◌else◌, length, map}
 use Rattle.std.specs.Global.{Vec}
 use Rattle.std.specs.List.{flat_map}
 use Rattle.pcode_assembler.specs.declared.instr.Instr.{Instr}
 use Rattle.pcode_assembler.specs.declared.instr.Instr.TheVariants as instr
 use Rattle.typed_tree.specs.declared.tree.Tree.{Tree}
 use Rattle.typed_tree.specs.declared.tree.Block.{Block}
+use Rattle.typed_tree.specs.declared.tree.FunctionResult.{FunctionResult}
+use Rattle.typed_tree.specs.declared.tree.Call.{Call}
 use Rattle.typed_tree.specs.declared.tree.Access.{Access}
 use Rattle.typed_tree.specs.declared.tree.Selector.{Selector}
 use Rattle.typed_tree.specs.declared.tree.Selector.TheVariants.{Element, Field}
@@ -31,19 +33,23 @@ use Rattle.typed_tree.specs.declared.tree.Whole.{Whole}
 use Rattle.typed_tree.specs.declared.tree.Whole.TheVariants.{Text, Variable as VariableOf}
 use Rattle.typed_tree.specs.declared.tree.Expr.{Expr}
 use Rattle.typed_tree.specs.declared.tree.Link.{Link}
-use Rattle.typed_tree.specs.declared.tree.Expr.TheOpen.{Expr-F, Link-F}
+use Rattle.typed_tree.specs.declared.tree.Passed.{Passed}
+use Rattle.typed_tree.specs.declared.tree.Expr.TheOpen.{Expr-F, Passed-F, Link-F}
 use Rattle.typed_tree.specs.declared.tree.Expr.TheOpen.Expr-F.{Constant, Variable, Monadic as MonadicOf, Chain}
-use Rattle.typed_tree.specs.declared.tree.Expr.TheOpen.Expr-F.{Compare}
-use Rattle.typed_tree.specs.declared.tree.Expr.TheFolds.{fold-Expr, fold-Link}
+use Rattle.typed_tree.specs.declared.tree.Expr.TheOpen.Expr-F.{Compare, Call as CallOf}
+use Rattle.typed_tree.specs.declared.tree.Expr.TheOpen.Passed-F.{Value as PassedValue, Whole as PassedWhole, Reference}
+use Rattle.typed_tree.specs.declared.tree.Expr.TheFolds.{fold-Expr, fold-Passed, fold-Link}
 use Rattle.typed_tree.specs.declared.tree.Stmt.{Stmt}
 use Rattle.typed_tree.specs.declared.tree.Stmt.TheOpen.{Stmt-F}
 use Rattle.typed_tree.specs.declared.tree.Stmt.TheOpen.Stmt-F.{Empty, Assign, Write, Compound, If, While, Repeat, For}
-use Rattle.typed_tree.specs.declared.tree.Stmt.TheOpen.Stmt-F.{Case, Copy}
+use Rattle.typed_tree.specs.declared.tree.Stmt.TheOpen.Stmt-F.{Case, Copy, Call as Calling}
 use Rattle.typed_tree.specs.declared.tree.Stmt.TheFolds.{fold-Stmt}
 use Rattle.typed_tree.specs.WellFormed.{length_of}
-use Rattle.code_scheme.specs.Scopes.{Scope, offset, count, row_length, variable_offset, held_offset, holding}
-use Rattle.code_scheme.specs.Scopes.{access_offset, behind_fields, program_scope, variable_cells}
-use Rattle.code_scheme.specs.Depth.{stmt_depth}
+use Rattle.code_scheme.specs.declared.routine.Routine.{Routine}
+use Rattle.code_scheme.specs.Scopes.{Scope, offset, count, row_length, held_offset, holding, links_to}
+use Rattle.code_scheme.specs.Scopes.{access_offset, behind_fields, block_level, block_scope, called_routine}
+use Rattle.code_scheme.specs.Scopes.{other_cells, parameter_cells, variable_home}
+use Rattle.code_scheme.specs.Depth.{block_depth}
 
 -- the pieces one after another
 abbrev pub joined : List (List Instr) → List Instr
@@ -113,27 +119,49 @@ selectors_code (Element fits cells ∷ selectors) (index ∷ indexes) =
     index
     ++ (range_check fits ∷ instr.IndexAddress fits.range.first (row_length cells) ∷ selectors_code selectors indexes)
 
--- the code of an address: that of the component at an offset, and what is selected from it
-abbrev pub address_at : ℕ → List Selector → List (List Instr) → List Instr
-address_at start selectors indexes = instr.LoadAddress 0 start ∷ selectors_code selectors indexes
+-- what is accessed, as code reaches it: a cell at an offset in a frame behind so many static links; or code pushes its
+-- address
+pub data Reached : Type 0 where
+  At : ℕ → ℕ → Reached
+  By : List Instr → Reached
 
--- the code of the address of what is accessed (6.5.1)
+-- what selectors lead to from a component in a frame
+abbrev pub reached_from : ℕ → ℕ → List Selector → List (List Instr) → Reached
+reached_from level start [] indexes = At level start
+reached_from level start (selector ∷ selectors) indexes =
+    By (instr.LoadAddress level start ∷ selectors_code (selector ∷ selectors) indexes)
+
+-- what is accessed (6.5.1): that of a variable parameter by the address in its cell
+abbrev pub reached : Scope → Access → List (List Instr) → Reached
+reached scope access indexes =
+    let home = variable_home scope access.root in
+    let level = links_to scope home.level in
+    if home.refers then By (instr.Load level home.start ∷ selectors_code access.selectors.items indexes)
+    else reached_from level (access_offset scope access) (behind_fields access.selectors.items) indexes
+
+-- the code that pushes its address
+abbrev pub address_of : Reached → List Instr
+address_of (At level start) = instr.LoadAddress level start ∷ []
+address_of (By address) = address
+
+-- the code that pushes the ordinal there
+abbrev pub fetch_code : Reached → List Instr
+fetch_code (At level start) = instr.Load level start ∷ []
+fetch_code (By address) = address ++ (instr.LoadIndirect 0 ∷ [])
+
+-- the code that stores an ordinal there, which this code pushes
+abbrev pub store_code : List Instr → Reached → List Instr
+store_code value (At level start) = value ++ (instr.Store level start ∷ [])
+store_code value (By address) = address ++ (value ++ (instr.StoreIndirect ∷ []))
+
+-- the code of the address of what is accessed
 abbrev pub address_code : Scope → Access → List (List Instr) → List Instr
-address_code scope access indexes =
-    address_at (access_offset scope access) (behind_fields access.selectors.items) indexes
-
--- the code that pushes the ordinal that is selected from the component at an offset: that itself, or behind an index
--- what stands at its address
-abbrev pub fetch_at : ℕ → List Selector → List (List Instr) → List Instr
-fetch_at start [] indexes = instr.Load 0 start ∷ []
-fetch_at start (selector ∷ selectors) indexes =
-    address_at start (selector ∷ selectors) indexes ++ (instr.LoadIndirect 0 ∷ [])
+address_code scope access indexes = address_of (reached scope access indexes)
 
 -- the value of what is accessed, an ordinal, checked
 abbrev pub variable_code : Scope → Access → List (List Instr) → ℕ → List Instr
 variable_code scope access indexes defined =
-    fetch_at (access_offset scope access) (behind_fields access.selectors.items) indexes
-    ++ (instr.CheckDefined defined 1 ∷ [])
+    fetch_code (reached scope access indexes) ++ (instr.CheckDefined defined 1 ∷ [])
 
 -- the code of a whole value, which pushes its components, the first one first: those of a variable stand from its
 -- address on, and all are checked
@@ -149,7 +177,21 @@ compare_code r components left right =
     left
     ++ (right ++ (instr.Compare (row_length components) ∷ instr.LoadConstant (pos 0) ∷ relation_instr r ∷ []))
 
-abbrev pub expr_step : Scope → Expr-F (List Instr) (List Instr) → List Instr
+-- the code of an actual parameter, which pushes a value, checked, the components of a copy, or an address
+abbrev pub passed_step : Scope → Passed-F (List Instr) (List Instr) (List Instr) → List Instr
+passed_step scope (PassedValue value fits) = value ++ (range_check fits ∷ [])
+passed_step scope (PassedWhole type_id value indexes) = whole_code scope value indexes.items
+passed_step scope (Reference type_id access indexes) = address_code scope access indexes.items
+
+-- the code of a call: the links of a new frame, whose static link is the frame of the block that declares the routine;
+-- behind them the actual parameters; and the jump to the routine's code (6.7.3, 6.8.2.3)
+abbrev pub call_code : Scope → Call → List (List Instr) → List Instr
+call_code scope call actuals =
+    let routine = called_routine scope call.block in
+    instr.MarkStack (links_to scope routine.level)
+    ∷ (joined actuals ++ (instr.CallProcedure (row_length routine.cells) routine.place ∷ []))
+
+abbrev pub expr_step : Scope → Expr-F (List Instr) (List Instr) (List Instr) → List Instr
 expr_step scope (Constant number value) = instr.LoadConstant value ∷ []
 expr_step scope (Variable access indexes defined) = variable_code scope access indexes.items defined
 expr_step scope (MonadicOf number operation operand) = operand.value ++ monadic_code operation
@@ -157,34 +199,33 @@ expr_step scope (Chain first rest) = first.value ++ joined rest.items
 expr_step scope (Compare number relation left left_indexes right right_indexes) =
     compare_code relation (length_of left) (whole_code scope left left_indexes.items)
     (whole_code scope right right_indexes.items)
+expr_step scope (CallOf call actuals) = call_code scope call actuals.items
 
-abbrev pub link_step : Link-F (List Instr) (List Instr) → List Instr
+abbrev pub link_step : Link-F (List Instr) (List Instr) (List Instr) → List Instr
 link_step link = link.operand ++ dyadic_code link.operation
 
 -- the code of an expression, which pushes its value
 abbrev pub expr_code : Scope → Expr → List Instr
-expr_code scope = fold-Expr (List Instr) (List Instr) (expr_step scope) link_step
+expr_code scope = fold-Expr (List Instr) (List Instr) (List Instr) (expr_step scope) (passed_step scope) link_step
+
+-- the code of an actual parameter
+abbrev pub passed_code : Scope → Passed → List Instr
+passed_code scope = fold-Passed (List Instr) (List Instr) (List Instr) (expr_step scope) (passed_step scope) link_step
 
 -- the code of an operator and its right operand
 abbrev pub link_code : Scope → Link → List Instr
-link_code scope = fold-Link (List Instr) (List Instr) (expr_step scope) link_step
+link_code scope = fold-Link (List Instr) (List Instr) (List Instr) (expr_step scope) (passed_step scope) link_step
 
 -- the code of each index expression of an access
 abbrev pub index_codes : Scope → List Expr → List (List Instr)
 index_codes scope = map (expr_code scope)
 
--- the code that stores into an ordinal that is selected from the component at an offset: behind an index its address
--- comes before the value
-abbrev pub store_at : ℕ → List Selector → List (List Instr) → List Instr → List Instr
-store_at start [] indexes value = value ++ (instr.Store 0 start ∷ [])
-store_at start (selector ∷ selectors) indexes value =
-    address_at start (selector ∷ selectors) indexes ++ (value ++ (instr.StoreIndirect ∷ []))
-
--- the code of an assignment (6.8.2.2): the target's address, if an index leads to it; the value, its check, its store
+-- the code of an assignment (6.8.2.2): the target's address, if it is no cell of a frame; the value, its check, its
+-- store
 abbrev pub assign_code : Scope → Access → List Expr → RangeTest → Expr → List Instr
 assign_code scope target indexes fits value =
-    store_at (access_offset scope target) (behind_fields target.selectors.items) (index_codes scope indexes)
-    (expr_code scope value ++ (range_check fits ∷ []))
+    store_code (expr_code scope value ++ (range_check fits ∷ []))
+    (reached scope target (index_codes scope indexes))
 
 -- the code of an assignment of a whole value: the target's address, the components of the value, and their store
 abbrev pub copy_code : Scope → Access → List Expr → Whole → List Expr → List Instr
@@ -287,10 +328,14 @@ for_entry scope first_fits way last_fits out =
     ∷ instr.Load 0 (held_offset scope 0) ∷ range_check first_fits ∷ instr.Store 0 (held_offset scope 0)
     ∷ range_check last_fits ∷ []
 
+-- where a control variable begins, which the block declares whose statement the for statement is in
+abbrev pub control_offset : Scope → ℕ → ℕ
+control_offset scope control = (variable_home scope control).start
+
 -- at the head of a round the control variable gets the value that is held
 abbrev pub for_begin : Scope → ℕ → List Instr
 for_begin scope control =
-    instr.Load 0 (held_offset scope 0) ∷ instr.Store 0 (variable_offset scope control) ∷ []
+    instr.Load 0 (held_offset scope 0) ∷ instr.Store 0 (control_offset scope control) ∷ []
 
 -- behind the body: out of the loop with the last value, or else to the head with the next one
 abbrev pub for_next : Scope → Direction → ℕ → ℕ → List Instr
@@ -299,12 +344,12 @@ for_next scope way head out =
     ∷ instr.Load 0 (held_offset scope 0) ∷ instr.LoadConstant (pos 1) ∷ next_instr way
     ∷ instr.Store 0 (held_offset scope 0) ∷ instr.Jump head ∷ []
 
--- Behind the loop nothing more is held, and the control variable is undefined. The program's frame has no return, so
--- its third cell never gets a value.
+-- Behind the loop nothing more is held, and the control variable is undefined. The program's frame, to which the static
+-- links lead, has no return, so its third cell never gets a value.
 abbrev pub for_end : Scope → ℕ → List Instr
 for_end scope control =
-    instr.Store 0 (variable_offset scope control) ∷ instr.Store 0 (variable_offset scope control)
-    ∷ instr.Load 0 2 ∷ instr.Store 0 (variable_offset scope control) ∷ []
+    instr.Store 0 (control_offset scope control) ∷ instr.Store 0 (control_offset scope control)
+    ∷ instr.Load (links_to scope 0) 2 ∷ instr.Store 0 (control_offset scope control) ∷ []
 
 -- the code of a for statement (6.8.3.9)
 abbrev pub for_code : ℕ → List Instr → RangeTest → Direction → List Instr → RangeTest → Placed → Placed
@@ -349,6 +394,7 @@ stmt_step (Assign number becomes target indexes fits value) scope place =
 stmt_step (Copy number becomes target indexes type_id value value_indexes) scope place =
     copy_code scope target indexes.items value value_indexes.items
 stmt_step (Write number name parameters ends_line) scope place = write_code scope parameters.items ends_line
+stmt_step (Calling call actuals) scope place = call_code scope call (map (passed_code scope) actuals.items)
 stmt_step (Compound number statements) scope place = placed (map (λ code. code scope) statements.items) place
 stmt_step (If number condition consequence None) scope place =
     if_code (expr_code scope condition) consequence.value scope place
@@ -371,16 +417,47 @@ stmt_code = fold-Stmt Placed stmt_step
 abbrev pub statements_code : Scope → List Stmt → ℕ → List Instr
 statements_code scope statements place = placed (map (λ s. stmt_code s scope) statements) place
 
--- the code of a block with so many cells of variables, at a place
-abbrev pub block_code : ℕ → Stmt → Placed
-block_code variables body scope place =
-    instr.Enter variables (count (stmt_depth body)) ∷ stmt_code body scope (place + 1)
+-- the code at the end of a routine: a function's result is pushed, checked, and taken along (6.7.3)
+abbrev pub return_code : Scope → Option FunctionResult → List Instr
+return_code scope None = instr.Return 0 ∷ []
+return_code scope (Some result) =
+    instr.Load 0 (variable_home scope result.root).start ∷ instr.CheckDefined result.defined 1 ∷ instr.Return 1 ∷ []
 
--- the code of the program's block, whose variables take so many cells; a tree that has none does nothing
-abbrev pub body_code : List ℕ → Option Block → List Instr
-body_code cells None = instr.Enter (count (sum cells)) 0 ∷ []
-body_code cells (Some block) = block_code (count (sum cells)) block.body (program_scope cells) 0
+-- the code at the end of a block of a number: at that of the program's the run ends
+abbrev pub end_code : Scope → ℕ → Option FunctionResult → List Instr
+end_code scope zero result = instr.Stop ∷ []
+end_code scope (suc number) result = return_code scope result
 
--- the code of a program: its block, and the end of the run
+-- the code of a block of a number, at a place: its variables, its statement and its end
+abbrev pub block_code : Tree → ℕ → Block → Placed
+block_code tree number block scope place =
+    instr.Enter (count (other_cells tree number)) (count (block_depth block))
+    ∷ (stmt_code block.body scope (place + 1) ++ end_code scope number block.heading.result)
+
+-- the code of these blocks, of which the first has this number, one after another from this place on
+abbrev pub blocks_code : Tree → List Routine → ℕ → List Block → ℕ → List Instr
+blocks_code tree routines number [] place = []
+blocks_code tree routines number (block ∷ blocks) place =
+    let code = block_code tree number block (block_scope tree routines number) place in
+    code ++ blocks_code tree routines (suc number) blocks (place + length code)
+
+-- a routine whose code begins at a place, by the number of its block: how long a call is does not rest on the place
+abbrev pub routine_at : Tree → ℕ → ℕ → Routine
+routine_at tree number place =
+    record { level = block_level tree number - 1; cells = count (parameter_cells tree number); place = place }
+
+-- these blocks as routines, one after another from this place on; as long as with these routines for their calls
+abbrev pub routines_from : Tree → List Routine → ℕ → List Block → ℕ → List Routine
+routines_from tree routines number [] place = []
+routines_from tree routines number (block ∷ blocks) place =
+    routine_at tree number place
+    ∷ routines_from tree routines (suc number) blocks
+    (place + length (block_code tree number block (block_scope tree routines number) place))
+
+-- the blocks of a program as routines: the code of the program's block comes first
+abbrev pub routines_of : Tree → List Routine
+routines_of tree = routines_from tree [] 0 tree.blocks.items 0
+
+-- the code of a program: its blocks, by number
 abbrev pub program_code : Tree → List Instr
-program_code tree = body_code (variable_cells tree) (slice_get tree.blocks.items 0) ++ (instr.Stop ∷ [])
+program_code tree = blocks_code tree (routines_of tree) 0 tree.blocks.items 0

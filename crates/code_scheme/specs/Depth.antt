@@ -4,7 +4,6 @@ use Rattle.std.specs.Prelude.{ℕ, ℤ, ◌+◌, max, List, [], ◌∷◌, Optio
 use Rattle.std.specs.Global.{Vec}
 use Rattle.std.specs.declared.alloc.Global.{Global}
 use Rattle.std.specs.declared.boxed.Box.{Box}
-use Rattle.typed_tree.specs.declared.tree.Selector.{Selector}
 use Rattle.typed_tree.specs.declared.tree.Monadic.{Monadic}
 use Rattle.typed_tree.specs.declared.tree.Monadic.TheVariants as monadic
 use Rattle.typed_tree.specs.declared.tree.Width.{Width}
@@ -15,17 +14,20 @@ use Rattle.typed_tree.specs.declared.tree.Whole.{Whole}
 use Rattle.typed_tree.specs.declared.tree.Whole.TheVariants.{Text, Variable as VariableOf}
 use Rattle.typed_tree.specs.declared.tree.Expr.{Expr}
 use Rattle.typed_tree.specs.declared.tree.Link.{Link}
-use Rattle.typed_tree.specs.declared.tree.Expr.TheOpen.{Expr-F, Link-F}
+use Rattle.typed_tree.specs.declared.tree.Passed.{Passed}
+use Rattle.typed_tree.specs.declared.tree.FunctionResult.{FunctionResult}
+use Rattle.typed_tree.specs.declared.tree.Block.{Block}
+use Rattle.typed_tree.specs.declared.tree.Expr.TheOpen.{Expr-F, Passed-F, Link-F}
 use Rattle.typed_tree.specs.declared.tree.Expr.TheOpen.Expr-F.{Constant, Variable, Monadic as MonadicOf, Chain}
-use Rattle.typed_tree.specs.declared.tree.Expr.TheOpen.Expr-F.{Compare}
-use Rattle.typed_tree.specs.declared.tree.Expr.TheFolds.{fold-Expr, fold-Link}
+use Rattle.typed_tree.specs.declared.tree.Expr.TheOpen.Expr-F.{Compare, Call as CallOf}
+use Rattle.typed_tree.specs.declared.tree.Expr.TheOpen.Passed-F.{Value as PassedValue, Whole as PassedWhole, Reference}
+use Rattle.typed_tree.specs.declared.tree.Expr.TheFolds.{fold-Expr, fold-Passed, fold-Link}
 use Rattle.typed_tree.specs.declared.tree.Stmt.{Stmt}
 use Rattle.typed_tree.specs.declared.tree.Stmt.TheOpen.{Stmt-F}
 use Rattle.typed_tree.specs.declared.tree.Stmt.TheOpen.Stmt-F.{Empty, Assign, Write, Compound, If, While, Repeat, For}
-use Rattle.typed_tree.specs.declared.tree.Stmt.TheOpen.Stmt-F.{Case, Copy}
+use Rattle.typed_tree.specs.declared.tree.Stmt.TheOpen.Stmt-F.{Case, Copy, Call as Calling}
 use Rattle.typed_tree.specs.declared.tree.Stmt.TheFolds.{fold-Stmt}
 use Rattle.typed_tree.specs.WellFormed.{length_of}
-use Rattle.code_scheme.specs.Scopes.{behind_fields}
 
 -- the greatest of some numbers, or 0
 abbrev pub greatest : List ℕ → ℕ
@@ -46,24 +48,49 @@ abbrev pub whole_depth : Whole → List ℕ → ℕ
 whole_depth (Text number characters) indexes = length characters.items
 whole_depth (VariableOf access type_id cells defined) indexes = max (access_depth indexes) cells
 
-abbrev pub expr_depth_step : Expr-F ℕ ℕ → ℕ
+-- an actual parameter: how many cells its evaluation needs at once, and how many it leaves
+pub record PassedDepth : Type 0 where
+  pub depth : ℕ
+  pub cells : ℕ
+
+abbrev pub passed_depth_step : Passed-F ℕ PassedDepth ℕ → PassedDepth
+passed_depth_step (PassedValue value fits) = record { depth = value; cells = 1 }
+passed_depth_step (PassedWhole type_id value indexes) =
+    record { depth = whole_depth value indexes.items; cells = length_of value }
+passed_depth_step (Reference type_id access indexes) = record { depth = access_depth indexes.items; cells = 1 }
+
+-- how many cells actual parameters need at once, one after another, where so many cells are there already
+abbrev pub actuals_depth : ℕ → List PassedDepth → ℕ
+actuals_depth held [] = held
+actuals_depth held (actual ∷ actuals) = max (held + actual.depth) (actuals_depth (held + actual.cells) actuals)
+
+-- a call: its actual parameters stand behind the four links of a frame, in whose place its value comes
+abbrev pub call_depth : List PassedDepth → ℕ
+call_depth actuals = actuals_depth 4 actuals
+
+abbrev pub expr_depth_step : Expr-F ℕ PassedDepth ℕ → ℕ
 expr_depth_step (Constant number value) = 1
 expr_depth_step (Variable access indexes defined) = access_depth indexes.items
 expr_depth_step (MonadicOf number operation operand) = max operand.value (monadic_depth operation)
 expr_depth_step (Chain first rest) = fold max first.value rest.items
 expr_depth_step (Compare number relation left left_indexes right right_indexes) =
     max (whole_depth left left_indexes.items) (max (whole_depth right right_indexes.items + length_of left) 2)
+expr_depth_step (CallOf call actuals) = call_depth actuals.items
 
-abbrev pub link_depth_step : Link-F ℕ ℕ → ℕ
+abbrev pub link_depth_step : Link-F ℕ PassedDepth ℕ → ℕ
 link_depth_step link = link.operand + 1
 
 -- how many cells the evaluation of an expression needs at once
 abbrev pub expr_depth : Expr → ℕ
-expr_depth = fold-Expr ℕ ℕ expr_depth_step link_depth_step
+expr_depth = fold-Expr ℕ PassedDepth ℕ expr_depth_step passed_depth_step link_depth_step
+
+-- the same of an actual parameter
+abbrev pub passed_depth : Passed → PassedDepth
+passed_depth = fold-Passed ℕ PassedDepth ℕ expr_depth_step passed_depth_step link_depth_step
 
 -- the same of a right operand, beside the value to its left
 abbrev pub link_depth : Link → ℕ
-link_depth = fold-Link ℕ ℕ expr_depth_step link_depth_step
+link_depth = fold-Link ℕ PassedDepth ℕ expr_depth_step passed_depth_step link_depth_step
 
 -- the same of the index expressions of an access
 abbrev pub index_depths : List Expr → List ℕ
@@ -89,10 +116,9 @@ abbrev pub parameter_depth : WriteParameter → ℕ
 parameter_depth parameter =
     max (written_depth parameter.value) (width_depth parameter.width + written_cells parameter.value)
 
--- the same of an assignment to what such selectors select: behind an index its address lies below the value
-abbrev pub store_depth : List Selector → List ℕ → ℕ → ℕ
-store_depth [] indexes value = value
-store_depth (selector ∷ selectors) indexes value = max (access_depth indexes) (value + 1)
+-- the same of an assignment: the address of the target, where it is pushed, lies below the value
+abbrev pub store_depth : List ℕ → ℕ → ℕ
+store_depth indexes value = max (access_depth indexes) (value + 1)
 
 -- the same of what may be there
 abbrev pub alternative_depth : Option (Box ℕ Global) → ℕ
@@ -108,10 +134,11 @@ arms_depth (row ∷ rows) (depth ∷ depths) = max depth (arms_depth rows depths
 abbrev pub stmt_depth_step : Stmt-F ℕ → ℕ
 stmt_depth_step (Empty number) = 0
 stmt_depth_step (Assign number becomes target indexes fits value) =
-    store_depth (behind_fields target.selectors.items) (index_depths indexes.items) (expr_depth value)
+    store_depth (index_depths indexes.items) (expr_depth value)
 stmt_depth_step (Copy number becomes target indexes type_id value value_indexes) =
     max (access_depth (index_depths indexes.items)) (whole_depth value (index_depths value_indexes.items) + 1)
 stmt_depth_step (Write number name parameters ends_line) = greatest (map parameter_depth parameters.items)
+stmt_depth_step (Calling call actuals) = call_depth (map passed_depth actuals.items)
 stmt_depth_step (Compound number statements) = greatest statements.items
 stmt_depth_step (If number condition consequence alternative) =
     max (expr_depth condition) (max consequence.value (alternative_depth alternative))
@@ -126,3 +153,12 @@ stmt_depth_step (Case number site index constants arms) =
 -- how many cells the evaluation of a statement needs at once
 abbrev pub stmt_depth : Stmt → ℕ
 stmt_depth = fold-Stmt ℕ stmt_depth_step
+
+-- the same of what stands at the end of a routine: its result is pushed
+abbrev pub result_depth : Option FunctionResult → ℕ
+result_depth None = 0
+result_depth (Some result) = 1
+
+-- the same of a block
+abbrev pub block_depth : Block → ℕ
+block_depth block = max (stmt_depth block.body) (result_depth block.heading.result)

@@ -1,5 +1,6 @@
 pub mod Code
 pub mod Depth
+pub mod Frames
 pub mod Need
 pub mod Scopes
 pub mod Sizes

@@ -1,7 +1,8 @@
--- How many cells a block may need at most; a store with as many is never full: 8 for an activation, the cells of its
--- variables, and 8 and the cells of its value for each statement and each expression of the block. It does not say how
--- many a frame takes, which is no more.
-use Rattle.std.specs.Prelude.{ℕ, ◌+◌, List, Option, Some, None, map, sum, sum_by, slice_get}
+-- How many cells an activation of a block may need at most; a store with as many as those together that last is never
+-- full: 8, the cells of its variables and its result, 1 and the cells of each parameter, and 8 and the cells of its
+-- value for each statement and each expression of the block. It does not say how many a frame takes, which is no more.
+use Rattle.std.specs.Prelude.{ℕ, ◌+◌, List, Option, Some, None, if◌then◌else◌, map, sum, sum_by}
+use Rattle.std.specs.Prelude.{slice_get}
 use Rattle.std.specs.declared.alloc.Global.{Global}
 use Rattle.std.specs.declared.boxed.Box.{Box}
 use Rattle.typed_tree.specs.declared.tree.Tree.{Tree}
@@ -11,18 +12,22 @@ use Rattle.typed_tree.specs.declared.tree.WriteParameter.{WriteParameter}
 use Rattle.typed_tree.specs.declared.tree.Written.{Written}
 use Rattle.typed_tree.specs.declared.tree.Written.TheVariants.{Ordinal, String}
 use Rattle.typed_tree.specs.declared.tree.Whole.{Whole}
+use Rattle.typed_tree.specs.declared.tree.Variable.{Variable as DeclaredVariable}
 use Rattle.typed_tree.specs.declared.tree.Expr.{Expr}
-use Rattle.typed_tree.specs.declared.tree.Expr.TheOpen.{Expr-F, Link-F}
+use Rattle.typed_tree.specs.declared.tree.Passed.{Passed}
+use Rattle.typed_tree.specs.declared.tree.Expr.TheOpen.{Expr-F, Passed-F, Link-F}
 use Rattle.typed_tree.specs.declared.tree.Expr.TheOpen.Expr-F.{Constant, Variable, Monadic as MonadicOf, Chain}
-use Rattle.typed_tree.specs.declared.tree.Expr.TheOpen.Expr-F.{Compare}
-use Rattle.typed_tree.specs.declared.tree.Expr.TheFolds.{fold-Expr}
+use Rattle.typed_tree.specs.declared.tree.Expr.TheOpen.Expr-F.{Compare, Call as CallOf}
+use Rattle.typed_tree.specs.declared.tree.Expr.TheOpen.Passed-F.{Value as PassedValue, Whole as PassedWhole, Reference}
+use Rattle.typed_tree.specs.declared.tree.Expr.TheFolds.{fold-Expr, fold-Passed}
 use Rattle.typed_tree.specs.declared.tree.Stmt.{Stmt}
 use Rattle.typed_tree.specs.declared.tree.Stmt.TheOpen.{Stmt-F}
 use Rattle.typed_tree.specs.declared.tree.Stmt.TheOpen.Stmt-F.{Empty, Assign, Write, Compound, If, While, Repeat, For}
-use Rattle.typed_tree.specs.declared.tree.Stmt.TheOpen.Stmt-F.{Case, Copy}
+use Rattle.typed_tree.specs.declared.tree.Stmt.TheOpen.Stmt-F.{Case, Copy, Call as Calling}
 use Rattle.typed_tree.specs.declared.tree.Stmt.TheFolds.{fold-Stmt}
-use Rattle.typed_tree.specs.WellFormed.{length_of, whole_indexes}
-use Rattle.code_scheme.specs.Scopes.{variable_cells}
+use Rattle.types.specs.Forms.{Form}
+use Rattle.types.specs.Types.{cells_of}
+use Rattle.typed_tree.specs.WellFormed.{is_parameter_kind, length_of, variables_of, whole_indexes}
 
 -- an expression whose value is an ordinal, which has one cell
 abbrev pub one_value : ℕ
@@ -36,21 +41,32 @@ access_need indexes = one_value + sum indexes
 abbrev pub whole_need : Whole → List ℕ → ℕ
 whole_need value indexes = 8 + length_of value + sum (whole_indexes value indexes)
 
+-- an actual parameter is an expression, or a variable that is accessed
+abbrev pub passed_need_step : Passed-F ℕ ℕ ℕ → ℕ
+passed_need_step (PassedValue value fits) = value
+passed_need_step (PassedWhole type_id value indexes) = whole_need value indexes.items
+passed_need_step (Reference type_id access indexes) = access_need indexes.items
+
 -- a factor, a sign, or an operator, and what is in it
-abbrev pub expr_need_step : Expr-F ℕ ℕ → ℕ
+abbrev pub expr_need_step : Expr-F ℕ ℕ ℕ → ℕ
 expr_need_step (Constant number value) = one_value
 expr_need_step (Variable access indexes defined) = access_need indexes.items
 expr_need_step (MonadicOf number operation operand) = one_value + operand.value
 expr_need_step (Chain first rest) = first.value + sum rest.items
 expr_need_step (Compare number relation left left_indexes right right_indexes) =
     whole_need left left_indexes.items + one_value + whole_need right right_indexes.items
+expr_need_step (CallOf call actuals) = one_value + sum actuals.items
 
-abbrev pub link_need_step : Link-F ℕ ℕ → ℕ
+abbrev pub link_need_step : Link-F ℕ ℕ ℕ → ℕ
 link_need_step link = one_value + link.operand
 
 -- the cells that an expression may need
 abbrev pub expr_need : Expr → ℕ
-expr_need = fold-Expr ℕ ℕ expr_need_step link_need_step
+expr_need = fold-Expr ℕ ℕ ℕ expr_need_step passed_need_step link_need_step
+
+-- the same of an actual parameter
+abbrev pub passed_need : Passed → ℕ
+passed_need = fold-Passed ℕ ℕ ℕ expr_need_step passed_need_step link_need_step
 
 -- the same of the index expressions of an access
 abbrev pub index_needs : List Expr → List ℕ
@@ -81,6 +97,7 @@ stmt_need_step (Assign number becomes target indexes fits value) =
 stmt_need_step (Copy number becomes target indexes type_id value value_indexes) =
     8 + access_need (index_needs indexes.items) + whole_need value (index_needs value_indexes.items)
 stmt_need_step (Write number name parameters ends_line) = 8 + sum_by parameter_need parameters.items
+stmt_need_step (Calling call actuals) = 8 + sum_by passed_need actuals.items
 stmt_need_step (Compound number statements) = 8 + sum statements.items
 stmt_need_step (If number condition consequence alternative) =
     8 + expr_need condition + consequence.value + alternative_need alternative
@@ -93,10 +110,21 @@ stmt_need_step (Case number site index constants arms) = 8 + expr_need index + s
 abbrev pub stmt_need : Stmt → ℕ
 stmt_need = fold-Stmt ℕ stmt_need_step
 
+-- a variable of a block, or its result; a parameter needs 1 more
+abbrev pub variable_need : List Form → DeclaredVariable → ℕ
+variable_need types variable =
+    if is_parameter_kind variable.kind then 1 + cells_of types variable.type_id else cells_of types variable.type_id
+
 abbrev pub body_need : Option Block → ℕ
 body_need None = 0
 body_need (Some block) = stmt_need block.body
 
--- the program's block, and the cells of its variables
-abbrev pub program_need : Tree → ℕ
-program_need tree = 8 + sum (variable_cells tree) + body_need (slice_get tree.blocks.items 0)
+-- an activation of a block, by its number
+abbrev pub block_need : Tree → ℕ → ℕ
+block_need tree number =
+    8 + sum_by (variable_need tree.types) (variables_of number tree.variables.items)
+    + body_need (slice_get tree.blocks.items number)
+
+-- activations of some blocks together
+abbrev pub living_need : Tree → List ℕ → ℕ
+living_need tree blocks = sum_by (block_need tree) blocks

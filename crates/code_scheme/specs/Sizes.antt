@@ -1,21 +1,39 @@
 -- Numbers as the compiler counts them, in 32 bits; and how many instructions each statement has, in the order in which
 -- the statements of a program begin. It does not say what they are.
 use Rattle.std.specs.Prelude.{◌≡◌, ℕ, ℤ, ◌+◌, ◌*◌, Result, IfOk, List, [], ◌∷◌, ◌++◌, Some, None, length, map, min}
-use Rattle.std.specs.Prelude.{sum_by}
+use Rattle.std.specs.Prelude.{Bool, true, false, Option, slice_get, sum_by}
 use Rattle.std.specs.Global.{Vec}
 use Rattle.std.specs.List.{flat_map}
 use Rattle.std.specs.declared.alloc.AllocError.{AllocError}
 use Rattle.typed_tree.specs.declared.tree.Stmt.{Stmt}
 use Rattle.typed_tree.specs.declared.tree.Stmt.TheOpen.{Stmt-F}
 use Rattle.typed_tree.specs.declared.tree.Stmt.TheOpen.Stmt-F.{Empty, Assign, Write, Compound, If, While, Repeat, For}
-use Rattle.typed_tree.specs.declared.tree.Stmt.TheOpen.Stmt-F.{Case, Copy}
+use Rattle.typed_tree.specs.declared.tree.Stmt.TheOpen.Stmt-F.{Case, Copy, Call}
 use Rattle.typed_tree.specs.declared.tree.Stmt.TheFolds.{fold-Stmt}
-use Rattle.code_scheme.specs.Scopes.{Scope, holding}
-use Rattle.code_scheme.specs.Code.{assign_code, copy_code, expr_code, write_code}
+use Rattle.typed_tree.specs.declared.tree.Variable.{Variable}
+use Rattle.typed_tree.specs.WellFormed.{is_variable_kind}
+use Rattle.code_scheme.specs.Scopes.{Scope, holding, variable_home}
+use Rattle.code_scheme.specs.Code.{At, By, Reached}
+use Rattle.code_scheme.specs.Code.{assign_code, call_code, copy_code, expr_code, passed_code, write_code}
 
 -- a number, or the greatest number of 32 bits
 abbrev pub capped : ℕ → ℕ
 capped n = min n 4294967295
+
+-- a variable is a variable parameter
+abbrev pub refers : Option Variable → Bool
+refers None = false
+refers (Some variable) = is_variable_kind variable.kind
+
+-- In a scope these variables lie, by root, wherever that is: how long code is rests on no more than which of them are
+-- variable parameters.
+abbrev pub IsScopeOf : List Variable → Scope → Type 0
+IsScopeOf variables scope = (root : ℕ) → (variable_home scope root).refers ≡ refers (slice_get variables root)
+
+-- code reaches it at an offset in a frame, and pushes no address
+abbrev pub is_at : Reached → Bool
+is_at (At level start) = true
+is_at (By address) = false
 
 -- the first of some sizes, or 0
 abbrev pub first_of : List ℕ → ℕ
@@ -64,6 +82,8 @@ measured_step (Copy number becomes target indexes type_id value value_indexes) s
     record { size = length (copy_code scope target indexes.items value value_indexes.items); inner = [] }
 measured_step (Write number name parameters ends_line) scope =
     record { size = length (write_code scope parameters.items ends_line); inner = [] }
+measured_step (Call call actuals) scope =
+    record { size = length (call_code scope call (map (passed_code scope) actuals.items)); inner = [] }
 measured_step (Compound number statements) scope =
     let parts = map (λ (measure : Scope → Measured). measure scope) statements.items in
     record { size = all_sizes parts; inner = all_tables parts }

@@ -1,27 +1,38 @@
 ghost use Rattle.std.specs.Prelude.{◌≡◌, map};
-ghost use Rattle.code_scheme.specs.Depth.{access_depth, arms_depth, expr_depth, greatest, index_depths, monadic_depth};
-ghost use Rattle.code_scheme.specs.Depth.{parameter_depth, stmt_depth, store_depth, whole_depth, width_depth};
-ghost use Rattle.code_scheme.specs.Depth.{written_cells, written_depth};
-ghost use Rattle.code_scheme.specs.Scopes.{behind_fields as behind};
+ghost use Rattle.code_scheme.specs.Depth.{access_depth, arms_depth, block_depth, call_depth, expr_depth, greatest};
+ghost use Rattle.code_scheme.specs.Depth.{index_depths, monadic_depth, parameter_depth, passed_depth, result_depth};
+ghost use Rattle.code_scheme.specs.Depth.{stmt_depth, store_depth, whole_depth, width_depth, written_cells};
+ghost use Rattle.code_scheme.specs.Depth.{written_depth};
 ghost use Rattle.code_scheme.specs.Sizes.{capped};
 ghost use Rattle.typed_tree.specs.WellFormed.{length_of};
 
-use crate::scope::behind_fields;
-use typed_tree::tree::{Access, Expr, Monadic, Stmt, Whole, WriteParameter, Written};
+use crate::scope::LINKS;
+use typed_tree::tree::{
+    Block, Expr, FunctionResult, Monadic, Passed, Stmt, Whole, WriteParameter, Written,
+};
+
+/// How many cells the evaluation of the block needs at once, or the greatest number of 32 bits.
+pub fn needed_by_block(block: &Block) -> u32
+    ensures { result ≡ capped (block_depth block.now) }
+{
+    needed_by(&block.body).max(needed_by_result(block.heading.result))
+}
+
+/// The same of what stands at the end of a routine: the result of a function is pushed.
+fn needed_by_result(value: Option<FunctionResult>) -> u32
+    ensures { result ≡ result_depth value }
+{
+    u32::from(value.is_some())
+}
 
 /// How many cells the evaluation of the statement needs at once, or the greatest number of 32 bits.
 #[cycle(needed_by)]
-pub fn needed_by(stmt: &Stmt) -> u32
+fn needed_by(stmt: &Stmt) -> u32
     ensures { result ≡ capped (stmt_depth stmt.now) }
 {
     match stmt {
         Stmt::Empty { .. } => 0,
-        Stmt::Assign {
-            target,
-            indexes,
-            value,
-            ..
-        } => needed_by_assign(target, indexes.as_slice(), value),
+        Stmt::Assign { indexes, value, .. } => needed_by_assign(indexes.as_slice(), value),
         Stmt::Copy {
             indexes,
             value,
@@ -32,6 +43,7 @@ pub fn needed_by(stmt: &Stmt) -> u32
             value_indexes.as_slice(),
         ).saturating_add(1)),
         Stmt::Write { parameters, .. } => needed_by_parameters(parameters.as_slice()),
+        Stmt::Call { actuals, .. } => needed_by_call(actuals.as_slice()),
         Stmt::Compound { statements, .. } => needed_by_statements(statements),
         Stmt::If {
             condition,
@@ -101,16 +113,11 @@ fn needed_by_arms(constants: &Vec<Vec<i32>>, arms: &Vec<Stmt>) -> u32
     depth
 }
 
-/// The same of an assignment: behind an index the target's address lies below the value.
-fn needed_by_assign(target: &Access, indexes: &[Expr], value: &Expr) -> u32
-    ensures { result ≡ capped (store_depth (behind target.now.selectors.items) (index_depths indexes.now)
-        (expr_depth value.now)) }
+/// The same of an assignment: the target's address, where it is pushed, lies below the value.
+fn needed_by_assign(indexes: &[Expr], value: &Expr) -> u32
+    ensures { result ≡ capped (store_depth (index_depths indexes.now) (expr_depth value.now)) }
 {
-    let depth = needed_by_expr(value);
-    if behind_fields(target.selectors.as_slice()).is_empty() {
-        return depth;
-    }
-    needed_by_access(indexes).max(depth.saturating_add(1))
+    needed_by_access(indexes).max(needed_by_expr(value).saturating_add(1))
 }
 
 /// The same of the values of a write or writeln.
@@ -204,6 +211,33 @@ fn needed_by_expr(expr: &Expr) -> u32
             );
             needed_by_whole(left, left_indexes.as_slice()).max(beside.max(2))
         }
+        Expr::Call { actuals, .. } => needed_by_call(actuals.as_slice()),
+    }
+}
+
+/// The same of a call: its actual parameters stand behind the links of a frame.
+#[cycle(needed_by_expr)]
+fn needed_by_call(actuals: &[Passed]) -> u32
+    ensures { result ≡ capped (call_depth (map passed_depth actuals.now)) }
+{
+    let mut held = LINKS;
+    let mut depth = 0;
+    for actual in actuals {
+        depth = depth.max(held.saturating_add(needed_by_passed(actual)));
+        held = held.saturating_add(cells_of_passed(actual));
+    }
+    depth.max(held)
+}
+
+/// The same of an actual parameter.
+#[cycle(needed_by_expr)]
+fn needed_by_passed(actual: &Passed) -> u32
+    ensures { result ≡ capped (passed_depth actual.now).depth }
+{
+    match actual {
+        Passed::Value { value, .. } => needed_by_expr(value),
+        Passed::Whole { value, indexes, .. } => needed_by_whole(value, indexes.as_slice()),
+        Passed::Reference { indexes, .. } => needed_by_access(indexes.as_slice()),
     }
 }
 
@@ -228,6 +262,16 @@ fn needed_by_access(indexes: &[Expr]) -> u32
         depth = depth.max(needed_by_expr(index).saturating_add(1));
     }
     depth
+}
+
+/// How many cells an actual parameter leaves: that of a value or of an address, or one for each component of a copy.
+fn cells_of_passed(actual: &Passed) -> u32
+    ensures { result ≡ capped (passed_depth actual.now).cells }
+{
+    match actual {
+        Passed::Whole { value, .. } => cells_of_whole(value),
+        Passed::Value { .. } | Passed::Reference { .. } => 1,
+    }
 }
 
 /// The same of an operation on one operand.

@@ -4,5 +4,7 @@
 
 pub mod depth;
 pub mod frame;
+pub mod home;
+pub mod routine;
 pub mod scope;
 pub mod size;

@@ -1,7 +1,10 @@
 ghost use Rattle.std.specs.Prelude.{◌≡◌, ◌≤◌, ◌+◌};
 ghost use Rattle.code_scheme.specs.Scopes.{behind_fields as behind, fields_offset as offset_of_fields};
+ghost use Rattle.code_scheme.specs.Scopes.{selectors_from as from};
 ghost use Rattle.code_scheme.specs.Sizes.{capped};
 
+use crate::home::Home;
+use crate::routine::Routine;
 use std::marker::Model;
 use typed_tree::tree::{Access, Selector};
 
@@ -11,15 +14,22 @@ pub const MOST_CELLS: u32 = 16777216;
 /// The greatest offset that an instruction may have.
 pub const GREATEST_OFFSET: u32 = 16777215;
 
+/// The most static links that an instruction may follow.
+pub const MOST_LINKS: u8 = 15;
+
 /// How many cells a frame has before its variables.
 pub const LINKS: u32 = 4;
 
 /// Where the code of a statement or an expression runs.
 #[derive(Drop)]
 pub struct Scope<'s> {
-    // Where in the block's frame each of its variables begins, in cells, by root number.
-    starts: &'s [u32],
-    // Where the cells that are held above them begin.
+    // Where the variables lie, by root number.
+    homes: &'s [Home],
+    // The routines, by the number of their block.
+    routines: &'s [Routine],
+    // The level of the block.
+    level: usize,
+    // Where in its frame the cells begin that are held above its variables.
     above: u32,
     // How many cells are held above them while it runs.
     height: u32,
@@ -30,41 +40,88 @@ impl<'s> Model for Scope<'s> {
 
     ghost Value = { Scope };
 
-    ghost view = { λ s. record { starts = s.starts.now; above = s.above; height = s.height } };
+    ghost view = { λ s. record {
+      homes = s.homes.now;
+      routines = s.routines.now;
+      level = s.level;
+      above = s.above;
+      height = s.height;
+    } };
 }
 
 impl<'s> Scope<'s> {
-    ghost use Rattle.code_scheme.specs.Scopes.{access_offset, held_offset, holding, variable_offset};
+    ghost use Rattle.code_scheme.specs.Scopes.{access_offset, called_routine, held_offset, holding, links_to};
+    ghost use Rattle.code_scheme.specs.Scopes.{variable_home};
 
-    /// The scope of the program's block, whose variables begin at these offsets, by root, and take so many cells
-    /// together.
-    pub fn of_program(starts: &'s [u32], cells: u32) -> Scope<'s>
-        requires { cells ≤ 16777216 }
-        ensures { result ≡ record { starts = starts.now; above = 4 + cells; height = 0 } }
+    /// The scope of a block at a level, whose variables take so many cells together.
+    pub fn of_block(
+        homes: &'s [Home],
+        routines: &'s [Routine],
+        level: usize,
+        cells: u32,
+    ) -> Scope<'s>
+        requires { cells ≤ 33554432 }
+        ensures { result ≡ record {
+          homes = homes.now;
+          routines = routines.now;
+          level = level;
+          above = 4 + cells;
+          height = 0;
+        } }
     {
         Scope {
-            starts,
+            homes,
+            routines,
+            level,
             above: LINKS + cells,
             height: 0,
         }
     }
 
-    /// Where the variable begins, or the greatest offset.
-    pub fn variable_offset(&self, root: u32) -> u32
-        ensures { result ≡ variable_offset self.now root }
+    /// Where the variable lies.
+    pub fn home(&self, root: u32) -> Home
+        ensures { result ≡ variable_home self.now root }
     {
-        match self.starts.get(root as usize) {
-            None => 0,
-            Some(start) => (*start).min(GREATEST_OFFSET),
+        match self.homes.get(root as usize) {
+            None => Home {
+                level: 0,
+                start: 0,
+                refers: false,
+            },
+            Some(home) => *home,
         }
     }
 
-    /// Where the component begins that the fields before the first index select.
+    /// The routine whose block has this number.
+    pub fn routine(&self, block: u32) -> Routine
+        ensures { result ≡ called_routine self.now block }
+    {
+        match self.routines.get(block as usize) {
+            None => Routine {
+                level: 0,
+                cells: 0,
+                place: 0,
+            },
+            Some(routine) => *routine,
+        }
+    }
+
+    /// How many static links lead to the frame of a block of this level, or the most.
+    pub fn links_to(&self, level: usize) -> u8
+        ensures { result ≡ links_to self.now level }
+    {
+        let links = self.level.saturating_sub(level);
+        u8::try_from(links).unwrap_or(MOST_LINKS).min(MOST_LINKS)
+    }
+
+    /// Where the component begins that the fields before the first index select, if the variable is no variable
+    /// parameter.
     pub fn access_offset(&self, access: &Access) -> u32
         ensures { result ≡ access_offset self.now access.now }
     {
         let offset = self
-            .variable_offset(access.root)
+            .home(access.root)
+            .start
             .saturating_add(fields_offset(access.selectors.as_slice()));
         offset.min(GREATEST_OFFSET)
     }
@@ -82,7 +139,9 @@ impl<'s> Scope<'s> {
         ensures { result ≡ holding cells self.now }
     {
         Scope {
-            starts: self.starts,
+            homes: self.homes,
+            routines: self.routines,
+            level: self.level,
             above: self.above,
             height: self.height.saturating_add(cells).min(MOST_CELLS),
         }
@@ -112,4 +171,15 @@ pub fn behind_fields<'t>(selectors: &'t [Selector]) -> &'t [Selector]
         rest = others;
     }
     rest
+}
+
+/// The selectors from which code goes on over an address: from that of a variable parameter's actual one all of them,
+/// else those from the first index on.
+pub fn selectors_from<'t>(refers: bool, selectors: &'t [Selector]) -> &'t [Selector]
+    ensures { result.now ≡ from refers selectors.now }
+{
+    if refers {
+        return selectors;
+    }
+    behind_fields(selectors)
 }

@@ -1,34 +1,63 @@
-ghost use Rattle.std.specs.Prelude.{◌≡◌, ◌+◌, ◌*◌, ℕ, length, map};
+ghost use Rattle.std.specs.Prelude.{◌≡◌, ◌+◌, ◌*◌, ℕ, List, length, map, slice_get};
 ghost use Rattle.std.specs.List.{flat_map};
+ghost use Rattle.pcode_assembler.specs.declared.instr.Instr.{Instr};
 ghost use Rattle.code_scheme.specs.Scopes.{Scope};
-ghost use Rattle.code_scheme.specs.Code.{assign_code, address_code, copy_code, dyadic_code, expr_code, field_code};
-ghost use Rattle.code_scheme.specs.Code.{index_codes, line_end_code, monadic_code, parameter_code, program_code};
-ghost use Rattle.code_scheme.specs.Code.{selectors_code, statements_code, stmt_code, width_code, write_code};
-ghost use Rattle.code_scheme.specs.Code.{variable_code, whole_code, written_code};
-ghost use Rattle.code_scheme.specs.Sizes.{arms_size as size_of_arms, capped, measured, table_of, AreTold};
-ghost use Rattle.code_scheme.specs.Sizes.{ArmsAreTold, IsTold};
+ghost use Rattle.code_scheme.specs.Code.{assign_code, address_code, block_code, call_code, copy_code, dyadic_code};
+ghost use Rattle.code_scheme.specs.Code.{end_code, expr_code, field_code, index_codes, line_end_code, monadic_code};
+ghost use Rattle.code_scheme.specs.Code.{parameter_code, passed_code, program_code, reached, selectors_code};
+ghost use Rattle.code_scheme.specs.Code.{statements_code, stmt_code, variable_code, whole_code, width_code, write_code};
+ghost use Rattle.code_scheme.specs.Code.{written_code};
+ghost use Rattle.code_scheme.specs.Sizes.{arms_size as size_of_arms, capped, is_at, measured, refers as is_reference};
+ghost use Rattle.code_scheme.specs.Sizes.{table_of, AreTold, ArmsAreTold, IsScopeOf, IsTold};
+ghost use Rattle.typed_tree.specs.declared.tree.Call.{Call};
 ghost use Rattle.typed_tree.specs.declared.tree.RangeTest.{RangeTest};
+ghost use Rattle.typed_tree.specs.declared.tree.Tree.{Tree};
 
-use crate::scope::behind_fields;
+use crate::scope::{behind_fields, selectors_from};
 use std::alloc::AllocError;
 use typed_tree::tree::{
-    Access, Dyadic, Expr, Monadic, Selector, Stmt, Tree, Whole, WriteParameter, Written,
+    Access, Block, Dyadic, Expr, FunctionResult, Monadic, Passed, Selector, Stmt, Tree, Variable,
+    VariableKind, Whole, WriteParameter, Written,
 };
 
 /// How many instructions the program has, or the greatest number of 32 bits.
 pub fn program_size(tree: &Tree) -> u32
     ensures { result ≡ capped (length (program_code tree.now)) }
 {
-    match tree.blocks.first() {
-        Some(program) => stmt_size(&program.body).saturating_add(2),
-        None => 2,
+    let variables = tree.variables.as_slice();
+    let mut size = 0u32;
+    let mut number = 0;
+    for block in &tree.blocks {
+        size = size.saturating_add(block_size(variables, number, block));
+        number += 1;
     }
+    size
+}
+
+/// The same of a block of a number.
+pub fn block_size(variables: &[Variable], number: usize, block: &Block) -> u32
+    ensures { (tree : Tree) (scope : Scope) (place : ℕ) → IsScopeOf variables.now scope →
+        result ≡ capped (length (block_code tree number block.now scope place)) }
+{
+    let size = stmt_size(variables, &block.body).saturating_add(1);
+    size.saturating_add(end_size(number, block.heading.result))
+}
+
+/// How many instructions the end of a block has: that of the program's, of a procedure's, and of a function's.
+fn end_size(number: usize, value: Option<FunctionResult>) -> u32
+    ensures { (scope : Scope) → result ≡ length (end_code scope number value) }
+{
+    if number == 0 || value.is_none() {
+        return 1;
+    }
+    3
 }
 
 /// How many instructions the statement has, or the greatest number of 32 bits.
 #[cycle(stmt_size)]
-fn stmt_size(stmt: &Stmt) -> u32
-    ensures { (scope : Scope) (place : ℕ) → result ≡ capped (length (stmt_code stmt.now scope place)) }
+fn stmt_size(variables: &[Variable], stmt: &Stmt) -> u32
+    ensures { (scope : Scope) (place : ℕ) → IsScopeOf variables.now scope →
+        result ≡ capped (length (stmt_code stmt.now scope place)) }
 {
     match stmt {
         Stmt::Empty { .. } => 0,
@@ -37,81 +66,88 @@ fn stmt_size(stmt: &Stmt) -> u32
             indexes,
             value,
             ..
-        } => assign_size(target, indexes.as_slice(), value),
+        } => assign_size(variables, target, indexes.as_slice(), value),
         Stmt::Copy {
             target,
             indexes,
             value,
             value_indexes,
             ..
-        } => copy_size(target, indexes.as_slice(), value, value_indexes.as_slice()),
+        } => copy_size(
+            variables,
+            target,
+            indexes.as_slice(),
+            value,
+            value_indexes.as_slice(),
+        ),
         Stmt::Write {
             parameters,
             ends_line,
             ..
-        } => write_size(parameters.as_slice(), *ends_line),
-        Stmt::Compound { statements, .. } => statements_size(statements),
+        } => write_size(variables, parameters.as_slice(), *ends_line),
+        Stmt::Call { actuals, .. } => call_size(variables, actuals.as_slice()),
+        Stmt::Compound { statements, .. } => statements_size(variables, statements),
         Stmt::If {
             condition,
             consequence,
             alternative,
             ..
         } => {
-            let size = if_size(condition, stmt_size(consequence));
+            let size = if_size(variables, condition, stmt_size(variables, consequence));
             match alternative {
                 None => size,
-                Some(alternative) => with_else(size, stmt_size(alternative)),
+                Some(alternative) => with_else(size, stmt_size(variables, alternative)),
             }
         }
         Stmt::While {
             condition,
             body,
             ..
-        } => while_size(condition, stmt_size(body)),
+        } => while_size(variables, condition, stmt_size(variables, body)),
         Stmt::Repeat {
             statements,
             condition,
             ..
-        } => repeat_size(statements_size(statements), condition),
+        } => repeat_size(variables, statements_size(variables, statements), condition),
         Stmt::For {
             first,
             last,
             body,
             ..
-        } => for_size(first, last, stmt_size(body)),
+        } => for_size(variables, first, last, stmt_size(variables, body)),
         Stmt::Case {
             index,
             constants,
             arms,
             ..
-        } => case_size(index, arms_size(constants, arms)),
+        } => case_size(variables, index, arms_size(variables, constants, arms)),
     }
 }
 
 /// The same of some statements together.
 #[cycle(stmt_size)]
-fn statements_size(statements: &Vec<Stmt>) -> u32
-    ensures { (scope : Scope) (place : ℕ) →
+fn statements_size(variables: &[Variable], statements: &Vec<Stmt>) -> u32
+    ensures { (scope : Scope) (place : ℕ) → IsScopeOf variables.now scope →
         result ≡ capped (length (statements_code scope statements.now.items place)) }
 {
     let mut size = 0u32;
     for statement in statements {
-        size = size.saturating_add(stmt_size(statement));
+        size = size.saturating_add(stmt_size(variables, statement));
     }
     size
 }
 
 /// The same of the arms of a case statement behind their rows of constants.
 #[cycle(stmt_size)]
-fn arms_size(constants: &Vec<Vec<i32>>, arms: &Vec<Stmt>) -> u32
-    ensures { (scope : Scope) → result ≡ capped
+fn arms_size(variables: &[Variable], constants: &Vec<Vec<i32>>, arms: &Vec<Stmt>) -> u32
+    ensures { (scope : Scope) → IsScopeOf variables.now scope → result ≡ capped
         (size_of_arms constants.now.items (map (λ s. measured s scope) arms.now.items)) }
 {
     let mut rows = constants.as_slice();
     let mut size = 0u32;
     for arm in arms {
         if let Some((row, others)) = rows.split_first() {
-            size = size.saturating_add(arm_size(row.as_slice(), stmt_size(arm)));
+            size = size.saturating_add(arm_size(row.as_slice(), stmt_size(variables, arm)));
             rows = others;
         }
     }
@@ -120,21 +156,25 @@ fn arms_size(constants: &Vec<Vec<i32>>, arms: &Vec<Stmt>) -> u32
 
 /// Puts the sizes of the statement and of those in it behind the sizes of what begins before it, and answers its own.
 #[cycle(measure)]
-pub fn measure(sizes: &mut Vec<u32>, stmt: &Stmt) -> Result<u32, AllocError>
-    ensures { (scope : Scope) →
+pub fn measure(sizes: &mut Vec<u32>, variables: &[Variable], stmt: &Stmt) -> Result<u32, AllocError>
+    ensures { (scope : Scope) → IsScopeOf variables.now scope →
         IsTold result sizes.old.items sizes.new.items (measured stmt.now scope) (table_of (measured stmt.now scope)) }
 {
     let place = sizes.len();
     sizes.push(0)?;
-    let size = measure_parts(sizes, stmt)?;
+    let size = measure_parts(sizes, variables, stmt)?;
     sizes[place] = size;
     Ok(size)
 }
 
 /// The same of the statements in it alone.
 #[cycle(measure)]
-fn measure_parts(sizes: &mut Vec<u32>, stmt: &Stmt) -> Result<u32, AllocError>
-    ensures { (scope : Scope) →
+fn measure_parts(
+    sizes: &mut Vec<u32>,
+    variables: &[Variable],
+    stmt: &Stmt,
+) -> Result<u32, AllocError>
+    ensures { (scope : Scope) → IsScopeOf variables.now scope →
         IsTold result sizes.old.items sizes.new.items (measured stmt.now scope) (measured stmt.now scope).inner }
 {
     match stmt {
@@ -144,66 +184,89 @@ fn measure_parts(sizes: &mut Vec<u32>, stmt: &Stmt) -> Result<u32, AllocError>
             indexes,
             value,
             ..
-        } => Ok(assign_size(target, indexes.as_slice(), value)),
+        } => Ok(assign_size(variables, target, indexes.as_slice(), value)),
         Stmt::Copy {
             target,
             indexes,
             value,
             value_indexes,
             ..
-        } => Ok(copy_size(target, indexes.as_slice(), value, value_indexes.as_slice())),
+        } => Ok(copy_size(
+            variables,
+            target,
+            indexes.as_slice(),
+            value,
+            value_indexes.as_slice(),
+        )),
         Stmt::Write {
             parameters,
             ends_line,
             ..
-        } => Ok(write_size(parameters.as_slice(), *ends_line)),
-        Stmt::Compound { statements, .. } => measure_statements(sizes, statements),
+        } => Ok(write_size(variables, parameters.as_slice(), *ends_line)),
+        Stmt::Call { actuals, .. } => Ok(call_size(variables, actuals.as_slice())),
+        Stmt::Compound { statements, .. } => measure_statements(sizes, variables, statements),
         Stmt::If {
             condition,
             consequence,
             alternative,
             ..
         } => {
-            let size = if_size(condition, measure(sizes, consequence)?);
+            let size = if_size(
+                variables,
+                condition,
+                measure(sizes, variables, consequence)?,
+            );
             match alternative {
                 None => Ok(size),
-                Some(alternative) => Ok(with_else(size, measure(sizes, alternative)?)),
+                Some(alternative) => Ok(with_else(size, measure(sizes, variables, alternative)?)),
             }
         }
         Stmt::While {
             condition,
             body,
             ..
-        } => Ok(while_size(condition, measure(sizes, body)?)),
+        } => Ok(while_size(variables, condition, measure(sizes, variables, body)?)),
         Stmt::Repeat {
             statements,
             condition,
             ..
-        } => Ok(repeat_size(measure_statements(sizes, statements)?, condition)),
+        } => Ok(repeat_size(
+            variables,
+            measure_statements(sizes, variables, statements)?,
+            condition,
+        )),
         Stmt::For {
             first,
             last,
             body,
             ..
-        } => Ok(for_size(first, last, measure(sizes, body)?)),
+        } => Ok(for_size(variables, first, last, measure(sizes, variables, body)?)),
         Stmt::Case {
             index,
             constants,
             arms,
             ..
-        } => Ok(case_size(index, measure_arms(sizes, constants, arms)?)),
+        } => Ok(case_size(
+            variables,
+            index,
+            measure_arms(sizes, variables, constants, arms)?,
+        )),
     }
 }
 
 /// The same of some statements, and answers their sizes together.
 #[cycle(measure)]
-fn measure_statements(sizes: &mut Vec<u32>, statements: &Vec<Stmt>) -> Result<u32, AllocError>
-    ensures { (scope : Scope) → AreTold result sizes.old.items sizes.new.items
+fn measure_statements(
+    sizes: &mut Vec<u32>,
+    variables: &[Variable],
+    statements: &Vec<Stmt>,
+) -> Result<u32, AllocError>
+    ensures { (scope : Scope) → IsScopeOf variables.now scope → AreTold result sizes.old.items sizes.new.items
         (map (λ s. measured s scope) statements.now.items) }
 {
     let mut size = 0u32;
     for statement in statements {
-        size = size.saturating_add(measure(sizes, statement)?);
+        size = size.saturating_add(measure(sizes, variables, statement)?);
     }
     Ok(size)
 }
@@ -212,17 +275,19 @@ fn measure_statements(sizes: &mut Vec<u32>, statements: &Vec<Stmt>) -> Result<u3
 #[cycle(measure)]
 fn measure_arms(
     sizes: &mut Vec<u32>,
+    variables: &[Variable],
     constants: &Vec<Vec<i32>>,
     arms: &Vec<Stmt>,
 ) -> Result<u32, AllocError>
-    ensures { (scope : Scope) → ArmsAreTold result sizes.old.items sizes.new.items constants.now.items
+    ensures { (scope : Scope) → IsScopeOf variables.now scope →
+        ArmsAreTold result sizes.old.items sizes.new.items constants.now.items
         (map (λ s. measured s scope) arms.now.items) }
 {
     let mut rows = constants.as_slice();
     let mut size = 0u32;
     for arm in arms {
         if let Some((row, others)) = rows.split_first() {
-            size = size.saturating_add(arm_size(row.as_slice(), measure(sizes, arm)?));
+            size = size.saturating_add(arm_size(row.as_slice(), measure(sizes, variables, arm)?));
             rows = others;
         }
     }
@@ -230,42 +295,47 @@ fn measure_arms(
 }
 
 /// How many instructions an assignment has, or the greatest number of 32 bits.
-fn assign_size(target: &Access, indexes: &[Expr], value: &Expr) -> u32
-    ensures { (scope : Scope) (fits : RangeTest) →
+fn assign_size(variables: &[Variable], target: &Access, indexes: &[Expr], value: &Expr) -> u32
+    ensures { (scope : Scope) (fits : RangeTest) → IsScopeOf variables.now scope →
         result ≡ capped (length (assign_code scope target.now indexes.now fits value.now)) }
 {
-    let size = expr_size(value).saturating_add(2);
-    let selectors = behind_fields(target.selectors.as_slice());
-    if selectors.is_empty() {
+    let size = expr_size(variables, value).saturating_add(2);
+    if lies_in_frame(variables, target) {
         return size;
     }
-    selectors_size(selectors, indexes)
-        .saturating_add(1)
-        .saturating_add(size)
+    address_size(variables, target, indexes).saturating_add(size)
 }
 
 /// The same of an assignment of a whole value.
-fn copy_size(target: &Access, indexes: &[Expr], value: &Whole, value_indexes: &[Expr]) -> u32
-    ensures { (scope : Scope) →
+fn copy_size(
+    variables: &[Variable],
+    target: &Access,
+    indexes: &[Expr],
+    value: &Whole,
+    value_indexes: &[Expr],
+) -> u32
+    ensures { (scope : Scope) → IsScopeOf variables.now scope →
         result ≡ capped (length (copy_code scope target.now indexes.now value.now value_indexes.now)) }
 {
-    address_size(target, indexes)
-        .saturating_add(whole_size(value, value_indexes))
+    address_size(variables, target, indexes)
+        .saturating_add(whole_size(variables, value, value_indexes))
         .saturating_add(1)
 }
 
 /// The same of a write or writeln.
-fn write_size(parameters: &[WriteParameter], ends_line: bool) -> u32
-    ensures { (scope : Scope) → result ≡ capped (length (write_code scope parameters.now ends_line)) }
+fn write_size(variables: &[Variable], parameters: &[WriteParameter], ends_line: bool) -> u32
+    ensures { (scope : Scope) → IsScopeOf variables.now scope →
+        result ≡ capped (length (write_code scope parameters.now ends_line)) }
 {
-    parameters_size(parameters).saturating_add(line_end_size(ends_line))
+    parameters_size(variables, parameters).saturating_add(line_end_size(ends_line))
 }
 
 /// The same of an if statement without `else`, whose consequence has so many.
-fn if_size(condition: &Expr, consequence: u32) -> u32
-    ensures { (scope : Scope) → result ≡ capped (length (expr_code scope condition.now) + 1 + consequence) }
+fn if_size(variables: &[Variable], condition: &Expr, consequence: u32) -> u32
+    ensures { (scope : Scope) → IsScopeOf variables.now scope →
+        result ≡ capped (length (expr_code scope condition.now) + 1 + consequence) }
 {
-    expr_size(condition)
+    expr_size(variables, condition)
         .saturating_add(1)
         .saturating_add(consequence)
 }
@@ -278,36 +348,41 @@ fn with_else(size: u32, alternative: u32) -> u32
 }
 
 /// The same of a while statement, whose body has so many.
-fn while_size(condition: &Expr, body: u32) -> u32
-    ensures { (scope : Scope) → result ≡ capped (length (expr_code scope condition.now) + 1 + body + 1) }
+fn while_size(variables: &[Variable], condition: &Expr, body: u32) -> u32
+    ensures { (scope : Scope) → IsScopeOf variables.now scope →
+        result ≡ capped (length (expr_code scope condition.now) + 1 + body + 1) }
 {
-    if_size(condition, body).saturating_add(1)
+    if_size(variables, condition, body).saturating_add(1)
 }
 
 /// The same of a repeat statement, whose statements have so many.
-fn repeat_size(statements: u32, condition: &Expr) -> u32
-    ensures { (scope : Scope) → result ≡ capped (statements + (length (expr_code scope condition.now) + 1)) }
+fn repeat_size(variables: &[Variable], statements: u32, condition: &Expr) -> u32
+    ensures { (scope : Scope) → IsScopeOf variables.now scope →
+        result ≡ capped (statements + (length (expr_code scope condition.now) + 1)) }
 {
-    statements.saturating_add(expr_size(condition).saturating_add(1))
+    statements.saturating_add(expr_size(variables, condition).saturating_add(1))
 }
 
 /// The same of a for statement, whose body has so many.
-fn for_size(first: &Expr, last: &Expr, body: u32) -> u32
-    ensures { (scope : Scope) →
+fn for_size(variables: &[Variable], first: &Expr, last: &Expr, body: u32) -> u32
+    ensures { (scope : Scope) → IsScopeOf variables.now scope →
         result ≡ capped (length (expr_code scope first.now) + length (expr_code scope last.now) + 10 + body + 13) }
 {
-    expr_size(first)
-        .saturating_add(expr_size(last))
+    expr_size(variables, first)
+        .saturating_add(expr_size(variables, last))
         .saturating_add(10)
         .saturating_add(body)
         .saturating_add(13)
 }
 
 /// The same of a case statement, whose arms have so many with their rows of constants.
-fn case_size(index: &Expr, arms: u32) -> u32
-    ensures { (scope : Scope) → result ≡ capped (length (expr_code scope index.now) + arms + 2) }
+fn case_size(variables: &[Variable], index: &Expr, arms: u32) -> u32
+    ensures { (scope : Scope) → IsScopeOf variables.now scope →
+        result ≡ capped (length (expr_code scope index.now) + arms + 2) }
 {
-    expr_size(index).saturating_add(arms).saturating_add(2)
+    expr_size(variables, index)
+        .saturating_add(arms)
+        .saturating_add(2)
 }
 
 /// The same of an arm of one behind its row of constants, which has so many by itself.
@@ -329,43 +404,46 @@ pub fn row_size(row: &[i32]) -> u32
 }
 
 /// The same of the values of a write or writeln.
-fn parameters_size(parameters: &[WriteParameter]) -> u32
-    ensures { (scope : Scope) → result ≡ capped (length (flat_map (parameter_code scope) parameters.now)) }
+fn parameters_size(variables: &[Variable], parameters: &[WriteParameter]) -> u32
+    ensures { (scope : Scope) → IsScopeOf variables.now scope →
+        result ≡ capped (length (flat_map (parameter_code scope) parameters.now)) }
 {
     let mut size = 0u32;
     for parameter in parameters {
-        size = size.saturating_add(parameter_size(parameter));
+        size = size.saturating_add(parameter_size(variables, parameter));
     }
     size
 }
 
 /// The same of a value that is written, and its width.
-fn parameter_size(parameter: &WriteParameter) -> u32
-    ensures { (scope : Scope) → result ≡ capped (length (parameter_code scope parameter.now)) }
+fn parameter_size(variables: &[Variable], parameter: &WriteParameter) -> u32
+    ensures { (scope : Scope) → IsScopeOf variables.now scope →
+        result ≡ capped (length (parameter_code scope parameter.now)) }
 {
-    written_size(&parameter.value)
-        .saturating_add(width_size(parameter))
+    written_size(variables, &parameter.value)
+        .saturating_add(width_size(variables, parameter))
         .saturating_add(1)
 }
 
 /// The same of the value alone.
-fn written_size(value: &Written) -> u32
-    ensures { (scope : Scope) → result ≡ capped (length (written_code scope value.now)) }
+fn written_size(variables: &[Variable], value: &Written) -> u32
+    ensures { (scope : Scope) → IsScopeOf variables.now scope →
+        result ≡ capped (length (written_code scope value.now)) }
 {
     match value {
-        Written::Ordinal { value, .. } => expr_size(value),
-        Written::String { value, indexes } => whole_size(value, indexes.as_slice()),
+        Written::Ordinal { value, .. } => expr_size(variables, value),
+        Written::String { value, indexes } => whole_size(variables, value, indexes.as_slice()),
     }
 }
 
 /// The same of the width alone.
-fn width_size(parameter: &WriteParameter) -> u32
-    ensures { (scope : Scope) →
+fn width_size(variables: &[Variable], parameter: &WriteParameter) -> u32
+    ensures { (scope : Scope) → IsScopeOf variables.now scope →
         result ≡ capped (length (width_code scope parameter.now.width parameter.now.value)) }
 {
     match &parameter.width {
         None => 1,
-        Some(width) => expr_size(&width.value).saturating_add(1),
+        Some(width) => expr_size(variables, &width.value).saturating_add(1),
     }
 }
 
@@ -378,8 +456,8 @@ fn line_end_size(ends_line: bool) -> u32
 
 /// How many instructions the expression has, or the greatest number of 32 bits.
 #[cycle(expr_size)]
-fn expr_size(expr: &Expr) -> u32
-    ensures { (scope : Scope) → result ≡ capped (length (expr_code scope expr.now)) }
+fn expr_size(variables: &[Variable], expr: &Expr) -> u32
+    ensures { (scope : Scope) → IsScopeOf variables.now scope → result ≡ capped (length (expr_code scope expr.now)) }
 {
     match expr {
         Expr::Constant { .. } => 1,
@@ -387,16 +465,16 @@ fn expr_size(expr: &Expr) -> u32
             access,
             indexes,
             ..
-        } => variable_size(access, indexes.as_slice()),
+        } => variable_size(variables, access, indexes.as_slice()),
         Expr::Monadic {
             operation,
             operand,
             ..
-        } => expr_size(operand).saturating_add(monadic_size(*operation)),
+        } => expr_size(variables, operand).saturating_add(monadic_size(*operation)),
         Expr::Chain { first, rest } => {
-            let mut size = expr_size(first);
+            let mut size = expr_size(variables, first);
             for link in rest {
-                let operand = expr_size(&link.operand);
+                let operand = expr_size(variables, &link.operand);
                 size = size.saturating_add(operand.saturating_add(dyadic_size(link.operation)));
             }
             size
@@ -407,51 +485,84 @@ fn expr_size(expr: &Expr) -> u32
             right,
             right_indexes,
             ..
-        } => whole_size(left, left_indexes.as_slice())
-            .saturating_add(whole_size(right, right_indexes.as_slice()))
+        } => whole_size(variables, left, left_indexes.as_slice())
+            .saturating_add(whole_size(variables, right, right_indexes.as_slice()))
             .saturating_add(3),
+        Expr::Call { actuals, .. } => call_size(variables, actuals.as_slice()),
+    }
+}
+
+/// The same of a call.
+#[cycle(expr_size)]
+fn call_size(variables: &[Variable], actuals: &[Passed]) -> u32
+    ensures { (scope : Scope) (call : Call) → IsScopeOf variables.now scope →
+        result ≡ capped (length (call_code scope call (map (passed_code scope) actuals.now))) }
+{
+    let mut size = 2u32;
+    for actual in actuals {
+        size = size.saturating_add(passed_size(variables, actual));
+    }
+    size
+}
+
+/// The same of an actual parameter.
+#[cycle(expr_size)]
+fn passed_size(variables: &[Variable], actual: &Passed) -> u32
+    ensures { (scope : Scope) → IsScopeOf variables.now scope →
+        result ≡ capped (length (passed_code scope actual.now)) }
+{
+    match actual {
+        Passed::Value { value, .. } => expr_size(variables, value).saturating_add(1),
+        Passed::Whole { value, indexes, .. } => whole_size(variables, value, indexes.as_slice()),
+        Passed::Reference {
+            access,
+            indexes,
+            ..
+        } => address_size(variables, access, indexes.as_slice()),
     }
 }
 
 /// The same of the value of a variable or a component, an ordinal.
 #[cycle(expr_size)]
-fn variable_size(access: &Access, indexes: &[Expr]) -> u32
-    ensures { (scope : Scope) (defined : ℕ) →
+fn variable_size(variables: &[Variable], access: &Access, indexes: &[Expr]) -> u32
+    ensures { (scope : Scope) (defined : ℕ) → IsScopeOf variables.now scope →
         result ≡ capped (length (variable_code scope access.now (index_codes scope indexes.now) defined)) }
 {
-    let selectors = behind_fields(access.selectors.as_slice());
-    if selectors.is_empty() {
+    if lies_in_frame(variables, access) {
         return 2;
     }
-    selectors_size(selectors, indexes).saturating_add(3)
+    address_size(variables, access, indexes).saturating_add(2)
 }
 
 /// The same of a whole value.
 #[cycle(expr_size)]
-fn whole_size(value: &Whole, indexes: &[Expr]) -> u32
-    ensures { (scope : Scope) →
+fn whole_size(variables: &[Variable], value: &Whole, indexes: &[Expr]) -> u32
+    ensures { (scope : Scope) → IsScopeOf variables.now scope →
         result ≡ capped (length (whole_code scope value.now (index_codes scope indexes.now))) }
 {
     match value {
         Whole::Text { characters, .. } => u32::try_from(characters.len()).unwrap_or(u32::MAX),
-        Whole::Variable { access, .. } => address_size(access, indexes).saturating_add(2),
+        Whole::Variable { access, .. } => address_size(variables, access, indexes).saturating_add(
+            2,
+        ),
     }
 }
 
 /// The same of the address of what is accessed.
 #[cycle(expr_size)]
-fn address_size(access: &Access, indexes: &[Expr]) -> u32
-    ensures { (scope : Scope) →
+fn address_size(variables: &[Variable], access: &Access, indexes: &[Expr]) -> u32
+    ensures { (scope : Scope) → IsScopeOf variables.now scope →
         result ≡ capped (length (address_code scope access.now (index_codes scope indexes.now))) }
 {
-    let selectors = behind_fields(access.selectors.as_slice());
-    selectors_size(selectors, indexes).saturating_add(1)
+    let refers = refers(variables, access.root);
+    let selectors = selectors_from(refers, access.selectors.as_slice());
+    selectors_size(variables, selectors, indexes).saturating_add(1)
 }
 
 /// The same of selectors.
 #[cycle(expr_size)]
-fn selectors_size(selectors: &[Selector], indexes: &[Expr]) -> u32
-    ensures { (scope : Scope) →
+fn selectors_size(variables: &[Variable], selectors: &[Selector], indexes: &[Expr]) -> u32
+    ensures { (scope : Scope) → IsScopeOf variables.now scope →
         result ≡ capped (length (selectors_code selectors.now (index_codes scope indexes.now))) }
 {
     let mut next = 0;
@@ -461,13 +572,31 @@ fn selectors_size(selectors: &[Selector], indexes: &[Expr]) -> u32
             Selector::Field { offset, .. } => size = size.saturating_add(field_size(*offset)),
             Selector::Element { .. } => {
                 if let Some(index) = indexes.get(next) {
-                    size = size.saturating_add(expr_size(index).saturating_add(2));
+                    size = size.saturating_add(expr_size(variables, index).saturating_add(2));
                     next += 1;
                 }
             }
         }
     }
     size
+}
+
+/// Whether what is accessed lies at an offset in a frame: fields alone select it, and from no variable parameter.
+fn lies_in_frame(variables: &[Variable], access: &Access) -> bool
+    ensures { (scope : Scope) (codes : List (List Instr)) → IsScopeOf variables.now scope →
+        result ≡ is_at (reached scope access.now codes) }
+{
+    !refers(variables, access.root) && behind_fields(access.selectors.as_slice()).is_empty()
+}
+
+/// Whether the variable is a variable parameter.
+fn refers(variables: &[Variable], root: u32) -> bool
+    ensures { result ≡ is_reference (slice_get variables.now root) }
+{
+    match variables.get(root as usize) {
+        None => false,
+        Some(variable) => matches!(variable.kind, VariableKind::VariableParameter),
+    }
 }
 
 /// How many instructions a field has behind so many cells of its record.

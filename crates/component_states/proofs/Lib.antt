@@ -8,3 +8,4 @@ pub mod Looped
 pub mod Stored
 pub mod KeptRows
 pub mod KeptStretches
+mod JoinedRows

@@ -1,7 +1,7 @@
 -- What is known of components at the head of a loop holds after any turns.
-use Rattle.std.proofs.Common.{arith, ◌≡◌, ⊎_elim, ◌∙◌, sym, ap, refl, subst, ℕ, ℤ, ◌<◌, ◌≤◌, Bool, true, false, nat_eq, List, [], ◌∷◌, get_or}
+use Rattle.std.proofs.Common.{arith, ◌≡◌, ⊎_elim, ◌∙◌, sym, ap, refl, subst, ℕ, ℤ, ◌<◌, ◌≤◌, true, false, nat_eq, List, [], ◌∷◌, get_or}
 use Rattle.std.proofs.Common.{length, Option, Some, None}
-use Rattle.std.specs.List.{All, Contains, list_any}
+use Rattle.std.specs.List.{All, Contains}
 use Rattle.std.proofs.lemmas.Bool.{both_ways, cases_Bool, cases_eq, eq-eqb, ne_eqb, or_from}
 use Rattle.std.proofs.lemmas.List.{length-set}
 use Rattle.std.proofs.lemmas.List.Elements.{All-contains, All-contains_itself, All-head, All-tail, All-weaker}
@@ -18,9 +18,9 @@ use Rattle.component_states.specs.Components.{ComponentFact, Components, Defined
 use Rattle.component_states.specs.Components.{changed_bound}
 use Rattle.component_states.specs.Components.{no_row, row_at, with_bounds, with_claim, with_claims, with_range, with_touched}
 use Rattle.component_states.specs.Holds.{ComponentsHold, Holds, IsOfRow, StretchHolds}
-use Rattle.component_states.specs.Laws.{AreEntire, AreTouched, HeadsHold, InLimits}
+use Rattle.component_states.specs.Laws.{AreEntire, AreTouched, HeadsHold, InLimits, bound_rests}
 use Rattle.component_states.proofs.Bounds.{unless-if}
-use Rattle.component_states.proofs.Changed.{StaysDefined, with_bounds-holds}
+use Rattle.component_states.proofs.Changed.{Any_bound, StaysDefined, with_bounds-holds}
 use Rattle.component_states.proofs.Listed.{changed-all, each-of, none-of, with_stretch-all}
 use Rattle.component_states.proofs.Rows.{of_row-within, set-other, set-same, with_defined-holds, with_range-defined, with_range-holds, with_range-index}
 
@@ -58,11 +58,11 @@ all_changed-rows : (roots : List ℕ) (known : Components) → (all_changed root
 all_changed-rows [] known = refl
 all_changed-rows (root ∷ roots) known = all_changed-rows roots (changed root None known)
 
-unchanged : (root : ℕ) (bound moved : Bound) → changed_bound root None bound ≡ Some moved → (bound_rests_on root bound ≡ false) × (bound ≡ moved)
+pub unchanged : (root : ℕ) (bound moved : Bound) → changed_bound root None bound ≡ Some moved → (bound_rests_on root bound ≡ false) × (bound ≡ moved)
 unchanged root (Number m) moved is = (refl, cc)
 unchanged root (Plus a m) moved is = unless-if (nat_eq root a) (Plus a m) moved is
 
-between-some : (row : ℕ) (first last : Option Bound) (stretch : Stretch) → between row first last ≡ Some stretch
+pub between-some : (row : ℕ) (first last : Option Bound) (stretch : Stretch) → between row first last ≡ Some stretch
     → (first ≡ Some stretch.first) × (last ≡ Some stretch.last)
 between-some row None last stretch is = absurd (cc)
 between-some row (Some first) None stretch is = absurd (cc)
@@ -70,10 +70,6 @@ between-some row (Some first) (Some last) stretch is =
     let new : Stretch = record { row = row; first = first; last = last } in
     let same : new ≡ stretch = cc in
     (ap (λ (one : Stretch). Some one.first) same, ap (λ (one : Stretch). Some one.last) same)
-
--- a bound rests on one of some variables
-abbrev bound_rests : List ℕ → Bound → Bool
-bound_rests roots bound = list_any (λ root. bound_rests_on root bound) roots
 
 module _ (rows : List Parts) (m : Moment) where
   -- a stretch holds, unless it rests on variables that are still to be changed
@@ -91,8 +87,8 @@ module _ (rows : List Parts) (m : Moment) where
       (subst (λ (bound : Bound). bound_rests roots bound ≡ false) (sym first.1) first_free) in
       let last_left = or_from (bound_rests_on root before.last) (bound_rests roots before.last) last.0
       (subst (λ (bound : Bound). bound_rests roots bound ≡ false) (sym last.1) last_free) in
-      with_bounds-holds rows m m (λ row steps of_row has. has) change
-      (λ bound moved n became at. subst (λ (b : Bound). IsBound m b n) (unchanged root bound moved became).1 at) before after is
+      with_bounds-holds rows m m (λ row steps of_row has. has) Any_bound change
+      (λ bound moved n any became at. subst (λ (b : Bound). IsBound m b n) (unchanged root bound moved became).1 at) before after tt tt is
       (left first_left last_left)
 
   all_changed-left : (roots : List ℕ) (known : Components) → All (StretchLeft roots) known.stretches

@@ -2,7 +2,7 @@
 -- of each row of components a range, whether all of it is defined, and of which first indexes it is. It does not say
 -- what that means for a run.
 use Rattle.std.specs.Prelude.{ℕ, ℤ, pos, neg_ℤ, ◌+ℤ◌, Bool, true, false, not, ◌&&◌, ◌||◌, List, [], ◌∷◌, ◌++◌, Option}
-use Rattle.std.specs.Prelude.{Some, None, if◌then◌else◌, filter, map, nat_eq, slice_index_or, slice_set}
+use Rattle.std.specs.Prelude.{Some, None, if◌then◌else◌, filter, nat_eq, replicate, slice_index_or, slice_set}
 use Rattle.std.specs.List.{filter_map, list_any}
 use Rattle.std.specs.Ordering.{int_eq}
 use Rattle.types.specs.declared.form.OrdinalRange.{OrdinalRange}
@@ -36,16 +36,13 @@ pub data ComponentFact : Type 0 where
   Defined : (row : ℕ) → ComponentFact
   Stretched : Stretch → ComponentFact
 
--- a row of which no component has a value, by the values of its first index
-abbrev pub undefined_row : Option OrdinalRange → RowState
-undefined_row index = record { range = vacant; is_defined = false; index = index }
-
+-- a row of which no component has a value, and whose first indexes may lie anywhere
 abbrev pub no_row : RowState
-no_row = undefined_row None
+no_row = record { range = vacant; is_defined = false; index = None }
 
--- rows none of which has a value, by the values of their first indexes
-abbrev pub no_values : List (Option OrdinalRange) → Components
-no_values indexes = record { rows = map undefined_row indexes; stretches = [] }
+-- so many rows, none of which has a value
+abbrev pub no_values : ℕ → Components
+no_values count = record { rows = replicate count no_row; stretches = [] }
 
 abbrev pub row_at : Components → ℕ → RowState
 row_at known row = slice_index_or known.rows row no_row

@@ -1,22 +1,23 @@
 -- What holds of the components at the moments of a run: where a state holds, those hold that follow from it, over a
 -- change of a variable, stores of components, the turns of a loop, and where two ways meet (ISO 7185:1990, 6.5.1, 6.8).
 -- They do not say that a state which follows is the best that could be known.
-use Rattle.std.specs.Prelude.{◌≡◌, ℕ, ℤ, ◌<◌, ◌⊎◌, true, false, List, [], Option, Some, None, length}
+use Rattle.std.specs.Prelude.{◌≡◌, ℕ, ℤ, ◌<◌, ◌⊎◌, Bool, true, false, List, [], Option, Some, None, length}
 use Rattle.std.specs.Prelude.{Contains, slice_index_or}
-use Rattle.std.specs.List.{All}
+use Rattle.std.specs.List.{All, list_any}
 use Rattle.types.specs.declared.form.Step.{Step}
 use Rattle.meaning.specs.declared.store.Value.{Value}
 use Rattle.meaning.specs.Store.{Environment, Store}
 use Rattle.domain.specs.Interval.{Interval}
 use Rattle.domain.specs.Facts.{Bound}
 use Rattle.abstract_state.specs.State as variables
+use Rattle.abstract_state.specs.Changes.{bound_rests_on}
 use Rattle.abstract_state.specs.Holds.{HasNumber, HasValue, IsBound, IsIn, value_at}
 use Rattle.abstract_state.specs.Knows as entire
 use Rattle.abstract_state.specs.Knows.{IsKept, IsOfForm, moment}
 use Rattle.abstract_state.specs.Loops.{is_among}
 use Rattle.leaf_rows.specs.Rows.{Parts, first_index, no_parts}
-use Rattle.component_states.specs.Components.{At, ComponentFact, Components, Entire, Index, Inside, Reach, all_stored}
-use Rattle.component_states.specs.Components.{changed, head, replaced}
+use Rattle.component_states.specs.Components.{At, ComponentFact, Components, Entire, Index, Inside, Reach, Stretch}
+use Rattle.component_states.specs.Components.{all_stored, changed, head, replaced, row_at}
 use Rattle.component_states.specs.Holds.{ComponentsHold, HasComponent, Holds, IsOfRow, Knows, component_at}
 use Rattle.component_states.specs.States.{State, gives_component, joined_states}
 
@@ -33,10 +34,29 @@ GivenHolds =
     (rows : List Parts) (roots : ℕ) (env : Environment) (state : State) (store : Store) (fact : ComponentFact)
     → Knows rows roots env state store → gives_component state fact ≡ true → Holds rows fact (moment env store)
 
--- a variable may have another number, and all else of a store is as it was
-pub record OneChanges (env : Environment) (root : ℕ) (before after : Store) : Type 0 where
-  pub others : (other : ℕ) (steps : List Step) → (other ≡ root → steps ≡ [] → ⊥)
+-- a variable may have another number, and so may its aliases and parts of these; all else of a store is as it was, and
+-- what was defined still is
+pub record OneChanges (env : Environment) (root : ℕ) (aliases : List ℕ) (before after : Store) : Type 0 where
+  pub others : (other : ℕ) (steps : List Step) → (other ≡ root → steps ≡ [] → ⊥) → is_among other aliases ≡ false
       → value_at (moment env after) other steps ≡ value_at (moment env before) other steps
+  pub defined : (other : ℕ) (steps : List Step) → (other ≡ root → steps ≡ [] → ⊥)
+      → HasValue (moment env before) other steps → HasValue (moment env after) other steps
+
+-- a bound rests on the value of one of some variables
+abbrev pub bound_rests : List ℕ → Bound → Bool
+bound_rests roots bound = list_any (λ root. bound_rests_on root bound) roots
+
+abbrev pub IsStretchApart : List ℕ → Stretch → Type 0
+IsStretchApart aliases stretch =
+    (bound_rests aliases stretch.first ≡ false) × (bound_rests aliases stretch.last ≡ false)
+
+-- no stretch rests on some variables, and the components that these have in a later store lie where their rows say
+pub record AreLoose (rows : List Parts) (env : Environment) (aliases : List ℕ) (known : Components) (after : Store)
+    : Type 0 where
+  pub stretches : (stretch : Stretch) → Contains known.stretches stretch → IsStretchApart aliases stretch
+  pub ranges : (row : ℕ) (steps : List Step) (v : Value)
+      → is_among (slice_index_or rows row no_parts).root aliases ≡ true → IsOfRow rows row steps
+      → component_at rows (moment env after) row steps ≡ Some v → IsIn (row_at known row).range v
 
 -- the number of a variable after it got the value of a form
 abbrev pub IsNumberOf : Environment → ℕ → Option Bound → (before after : Store) → Type 0
@@ -52,8 +72,10 @@ AreComponents rows = (row : ℕ) (steps : List Step) → IsOfRow rows row steps 
 abbrev pub ChangesHold : Type 0
 ChangesHold =
     (rows : List Parts) → AreComponents rows
-    → (env : Environment) (root : ℕ) (form : Option Bound) (known : Components) (before after : Store)
-    → OneChanges env root before after → IsNumberOf env root form before after
+    → (env : Environment) (root : ℕ) (aliases : List ℕ) (form : Option Bound) (known : Components)
+    (before after : Store)
+    → OneChanges env root aliases before after → IsNumberOf env root form before after
+    → AreLoose rows env aliases known after
     → ComponentsHold rows known (moment env before) → ComponentsHold rows (changed root form known) (moment env after)
 
 -- behind a loop whose control variable is its bound
@@ -104,11 +126,17 @@ IsReached env store (At index) steps =
     (number : ℤ) × IsIndex env store index number × (first_index steps ≡ Some number)
 IsReached env store (Inside index) steps = ⊥
 
--- values were stored to components of rows, each row with the range of its values
-pub record AreStored (rows : List Parts) (env : Environment) (reach : Reach) (stores : List (ℕ × Interval))
-    (before after : Store) : Type 0 where
+-- the form of an index rests on none of some variables
+abbrev pub IsReachApart : List ℕ → Reach → Type 0
+IsReachApart aliases Entire = Unit {0}
+IsReachApart aliases (At index) = (b : Bound) → index.form ≡ Some b → bound_rests aliases b ≡ false
+IsReachApart aliases (Inside index) = Unit {0}
+
+-- values were stored to components of rows, each row with the range of its values; aliases may have them too
+pub record AreStored (rows : List Parts) (env : Environment) (aliases : List ℕ) (reach : Reach)
+    (stores : List (ℕ × Interval)) (before after : Store) : Type 0 where
   -- what lies in no such row is as it was
-  pub others : (root : ℕ) (steps : List Step)
+  pub others : (root : ℕ) (steps : List Step) → is_among root aliases ≡ false
       → ((one : ℕ × Interval) → Contains stores one → IsOfRow rows one.0 steps
       → (slice_index_or rows (one.0) no_parts).root ≡ root → ⊥)
       → value_at (moment env after) root steps ≡ value_at (moment env before) root steps
@@ -141,9 +169,9 @@ IsReach env store (Inside index) = Unit {0}
 abbrev pub StoresHold : Type 0
 StoresHold =
     (rows : List Parts) → AreComponents rows → AreApart rows
-    → (roots : ℕ) (env : Environment) (state : variables.State) (known : Components) (reach : Reach)
+    → (roots : ℕ) (env : Environment) (aliases : List ℕ) (state : variables.State) (known : Components) (reach : Reach)
     (stores : List (ℕ × Interval)) (before after : Store)
-    → entire.Knows roots env state before → IsReach env before reach
-    → AreStored rows env reach stores before after
+    → entire.Knows roots env state before → IsReach env before reach → IsReachApart aliases reach
+    → AreStored rows env aliases reach stores before after → AreLoose rows env aliases known after
     → ComponentsHold rows known (moment env before)
     → ComponentsHold rows (all_stored state reach stores known) (moment env after)

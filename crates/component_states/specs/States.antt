@@ -1,6 +1,6 @@
 -- What a checker knows at a point of a program: of the variables, and of the components of those that are structured
 -- (ISO 7185:1990, 6.5.1). It does not say how that comes about, nor what it means for a run.
-use Rattle.std.specs.Prelude.{ℕ, Bool, false, ◌&&◌, ◌||◌, List, [], Option, Some, None, if◌then◌else◌, filter, length}
+use Rattle.std.specs.Prelude.{ℕ, Bool, false, ◌&&◌, ◌||◌, List, Option, Some, None, if◌then◌else◌, filter, length}
 use Rattle.std.specs.Prelude.{map, max}
 use Rattle.std.specs.List.{list_all, range_with_len}
 use Rattle.std.specs.Int.{int_max, int_min}
@@ -21,11 +21,11 @@ pub record State : Type 0 where
 
 -- no run comes here
 abbrev pub dead : State
-dead = record { variables = Dead; components = no_values [] }
+dead = record { variables = Dead; components = no_values 0 }
 
--- the start of a block of so many variables, and of rows by the values of their first indexes: none has a value
-abbrev pub start : (roots : ℕ) → (indexes : List (Option OrdinalRange)) → State
-start roots indexes = record { variables = variables.start roots; components = no_values indexes }
+-- the start of a block of so many variables, and of so many rows: none has a value
+abbrev pub start : (roots rows : ℕ) → State
+start roots rows = record { variables = variables.start roots; components = no_values rows }
 
 abbrev pub is_dead : State → Bool
 is_dead state = variables.is_dead state.variables

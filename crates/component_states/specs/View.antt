@@ -1,5 +1,8 @@
 -- The states of the program as the definitions see them. It does not say what a state means.
-use Rattle.std.specs.Prelude.{◌≡◌, ℕ, suc, List, Option, Some, None, map, slice_set}
+use Rattle.std.specs.Prelude.{◌≡◌, ◌⊎◌, ◌<◌, ℕ, suc, false, List, Option, Some, None, length, map, max}
+use Rattle.std.specs.Prelude.{slice_index_or, slice_set}
+use Rattle.std.specs.List.{Contains}
+use Rattle.sparse_list.specs.Sparse.{Sparse}
 use Rattle.abstract_state.specs.View as variables
 use Rattle.abstract_state.specs.View.{said_form}
 use Rattle.domain.specs.Facts.{said_bound}
@@ -62,3 +65,16 @@ viewed state = record {
 abbrev pub IsKept : Option KeptStretch → List KeptStretch → ℕ → List KeptStretch → ℕ → Type 0
 IsKept None old kept new count = (new ≡ old) × (count ≡ kept)
 IsKept (Some stretch) old kept new count = (new ≡ slice_set old kept stretch) × (count ≡ suc kept)
+
+-- the rows of a number are usual ones, of which none is defined
+pub record AreUsual (rows others : Sparse Row) (none : Row) (number : ℕ) : Type 0 where
+  pub first : slice_index_or rows.items number none ≡ rows.usual
+  pub second : slice_index_or others.items number none ≡ others.usual
+  pub first_undefined : rows.usual.is_defined ≡ false
+  pub second_undefined : others.usual.is_defined ≡ false
+
+-- each number of a row is among these, or its rows are usual ones, of which none is defined
+abbrev pub AreToJoin : Sparse Row → Sparse Row → List ℕ → Type 0
+AreToJoin rows others numbers =
+    (number : ℕ) (none : Row) → number < max (length rows.items) (length others.items)
+    → Contains numbers number ⊎ AreUsual rows others none number

@@ -31,7 +31,7 @@ fn of_variable(root: u32, number: i64) -> Option<Bound>
 }
 
 /// A bound plus a number, which is far from the greatest and the least.
-fn moved(bound: Bound, by: i64) -> Option<Bound>
+pub fn moved(bound: Bound, by: i64) -> Option<Bound>
     requires { IsFar by }
     ensures { said_form result ≡ moved_bound by (said_bound bound) }
 {
@@ -105,7 +105,7 @@ pub(crate) fn is_same(left: Bound, right: Bound) -> bool
 }
 
 /// Whether the variable of a bound, if it has one, is known to be defined.
-pub(crate) fn has_value(state: &State, bound: Bound) -> bool
+pub fn has_value(state: &State, bound: Bound) -> bool
     ensures { result ≡ has_value (viewed state.now) (said_bound bound) }
 {
     match bound {

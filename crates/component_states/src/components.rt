@@ -8,70 +8,66 @@ ghost use Rattle.component_states.specs.View.{said_component, said_reach, said_r
 
 use crate::facts::{ComponentFact, Reach, Stretch};
 use crate::row_list::Row;
-use crate::{bound_rules, row_list, stretches};
+use crate::{bound_rules, stretches};
 use abstract_state::State;
 use domain::Domain;
 use domain::facts::Bound;
 use domain::interval::Interval;
+use sparse_list::SparseList;
 use std::alloc::{AllocError, Global};
-use types::OrdinalRange;
 
 /// What is known of the components of structured variables.
 #[derive(Drop)]
 pub(crate) struct Components {
-    /// What is known of each row, by its number.
-    pub(crate) rows: Vec<Row>,
+    /// What is known of each row, by its number; of most of them that none has a value.
+    pub(crate) rows: SparseList<Row>,
     /// Those that are defined, each once.
     pub(crate) stretches: Vec<Stretch>,
 }
 
 impl Components {
-    /// Rows none of which has a value, by the values of their first indexes.
-    pub(crate) fn undefined(
-        alloc: Global,
-        indexes: &[Option<OrdinalRange>],
-    ) -> Result<Components, AllocError>
-        ensures { IfOk result (λ known. viewed_components known ≡ no_values indexes.now) }
+    /// So many rows, none of which has a value.
+    pub(crate) fn undefined(alloc: Global, count: usize) -> Components
+        ensures { viewed_components result ≡ no_values count }
     {
-        let mut rows = Vec::with_capacity(alloc, indexes.len())?;
-        for index in indexes {
-            rows.push(Row::undefined(*index))?;
-        }
-        Ok(Components {
-            rows,
+        Components {
+            rows: SparseList::new(alloc, count, Row::NONE),
             stretches: Vec::new(alloc),
-        })
+        }
     }
 
     /// What is known of a row.
     pub(crate) fn row(&self, row: u32) -> Row
         ensures { said_row result ≡ row_at (viewed_components self.now) row }
     {
-        row_list::row_at(&self.rows, row as usize)
+        self.rows.get_or(row as usize, Row::NONE)
     }
 
-    fn set_row(&mut self, row: u32, state: Row)
-        ensures { viewed_components self.new ≡ with_row row (said_row state) (viewed_components self.old) }
+    /// What is known of a row from here on, if it is there.
+    pub(crate) fn set_row(&mut self, row: u32, state: Row) -> Result<(), AllocError>
+        ensures { IfOk result
+            (λ _. viewed_components self.new ≡ with_row row (said_row state) (viewed_components self.old)) }
     {
-        row_list::set(&mut self.rows, row as usize, state);
+        self.rows.set(row as usize, state)
     }
 
     /// The values of a row lie in a range from here on.
-    pub(crate) fn set_range(&mut self, row: u32, range: Interval)
-        ensures { viewed_components self.new ≡ with_range row range (viewed_components self.old) }
+    pub(crate) fn set_range(&mut self, row: u32, range: Interval) -> Result<(), AllocError>
+        ensures { IfOk result
+            (λ _. viewed_components self.new ≡ with_range row range (viewed_components self.old)) }
     {
         let mut state = self.row(row);
         state.range = range;
-        self.set_row(row, state);
+        self.set_row(row, state)
     }
 
     /// Each component of a row is defined from here on.
-    pub(crate) fn define(&mut self, row: u32)
-        ensures { viewed_components self.new ≡ with_defined row (viewed_components self.old) }
+    pub(crate) fn define(&mut self, row: u32) -> Result<(), AllocError>
+        ensures { IfOk result (λ _. viewed_components self.new ≡ with_defined row (viewed_components self.old)) }
     {
         let mut state = self.row(row);
         state.is_defined = true;
-        self.set_row(row, state);
+        self.set_row(row, state)
     }
 
     /// What is left after a variable got a value, perhaps of a bound form.
@@ -112,13 +108,9 @@ impl Components {
         match fact {
             ComponentFact::Range { row, range } => {
                 let both = self.row(*row).range.meet(range);
-                self.set_range(*row, both);
-                Ok(())
+                self.set_range(*row, both)
             }
-            ComponentFact::Defined { row } => {
-                self.define(*row);
-                Ok(())
-            }
+            ComponentFact::Defined { row } => self.define(*row),
             ComponentFact::Stretched(stretch) => stretches::insert(&mut self.stretches, *stretch),
         }
     }
@@ -189,7 +181,7 @@ impl Components {
         ensures { IfOk result (λ known. viewed_components known ≡ viewed_components self.now) }
     {
         Ok(Components {
-            rows: Vec::from_slice(alloc, &self.rows)?,
+            rows: self.rows.copied(alloc)?,
             stretches: Vec::from_slice(alloc, &self.stretches)?,
         })
     }
@@ -208,27 +200,24 @@ impl Components {
     {
         match reach {
             Reach::Entire => {
-                self.set_range(row, range);
-                self.define(row);
-                Ok(())
+                self.set_range(row, range)?;
+                self.define(row)
             }
             Reach::At(index) => {
-                self.widen(row, range);
+                self.widen(row, range)?;
                 self.define_some(alloc, state, row, index.form)
             }
-            Reach::Inside(_) => {
-                self.widen(row, range);
-                Ok(())
-            }
+            Reach::Inside(_) => self.widen(row, range),
         }
     }
 
     /// Components of a row may have a value of a range from here on.
-    fn widen(&mut self, row: u32, range: Interval)
-        ensures { viewed_components self.new ≡ with_joined row range (viewed_components self.old) }
+    fn widen(&mut self, row: u32, range: Interval) -> Result<(), AllocError>
+        ensures { IfOk result
+            (λ _. viewed_components self.new ≡ with_joined row range (viewed_components self.old)) }
     {
         let both = self.row(row).range.join(&range);
-        self.set_range(row, both);
+        self.set_range(row, both)
     }
 
     /// The components of an index are defined from here on, if it is a bound.

@@ -9,5 +9,6 @@ mod row_list;
 mod state;
 mod stretches;
 
+pub use bound_rules::{has_value, moved};
 pub use facts::{ComponentFact, Index, Reach, Stretch};
 pub use state::{State, all_of_row};

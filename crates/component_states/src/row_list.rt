@@ -1,9 +1,12 @@
-ghost use Rattle.std.specs.Prelude.{◌≡◌, IfOk, length, map, max, slice_index_or, slice_set};
-ghost use Rattle.component_states.specs.Components.{no_row, undefined_row};
+ghost use Rattle.std.specs.Prelude.{◌≡◌, IfOk};
+ghost use Rattle.std.specs.List.{range_with_len};
+ghost use Rattle.domain.specs.Interval.{joined};
 ghost use Rattle.component_states.specs.States.{joined_index};
-ghost use Rattle.component_states.specs.View.{said_row};
+ghost use Rattle.component_states.specs.View.{AreToJoin};
 
+use domain::Domain;
 use domain::interval::Interval;
+use sparse_list::{SparseList, unusual_of_either};
 use std::alloc::{AllocError, Global};
 use types::OrdinalRange;
 
@@ -19,46 +22,25 @@ pub(crate) struct Row {
 }
 
 impl Row {
-    /// That of a row of which no component has a value, by the values of its first index.
-    pub(crate) fn undefined(index: Option<OrdinalRange>) -> Row
-        ensures { said_row result ≡ undefined_row index }
+    /// That of a row of which no component has a value.
+    pub(crate) const NONE: Row = Row {
+        range: Interval::EMPTY,
+        is_defined: false,
+        index: None,
+    };
+
+    /// What is known of a row behind two ways, where this says whether each component is defined.
+    pub(crate) fn joined(self, other: Row, is_defined: bool) -> Row
+        ensures range { result.range ≡ joined self.range other.range }
+        ensures is_defined { result.is_defined ≡ is_defined }
+        ensures index { result.index ≡ joined_index self.index other.index }
     {
         Row {
-            range: Interval::EMPTY,
-            is_defined: false,
-            index,
+            range: self.range.join(&other.range),
+            is_defined,
+            index: joined_index(self.index, other.index),
         }
     }
-}
-
-/// What is known of a row; one that isn't there has no value.
-pub(crate) fn row_at(rows: &[Row], row: usize) -> Row
-    ensures { said_row result ≡ slice_index_or (map said_row rows.now) row no_row }
-{
-    match rows.get(row) {
-        Some(state) => *state,
-        None => Row::undefined(None),
-    }
-}
-
-/// What is known of a row from here on, if it is there.
-pub(crate) fn set(rows: &mut Vec<Row>, row: usize, state: Row)
-    ensures { map said_row rows.new.items ≡ slice_set (map said_row rows.old.items) row (said_row state) }
-{
-    if row < rows.len() {
-        rows[row] = state;
-    }
-}
-
-/// How many rows the longer of two lists has, if 32 bits hold their number: more fit no memory.
-pub(crate) fn longer(rows: &[Row], others: &[Row]) -> Result<u32, AllocError>
-    ensures { IfOk result (λ count. count ≡ max (length (map said_row rows.now)) (length (map said_row others.now))) }
-{
-    let count = rows.len().max(others.len());
-    if count > u32::MAX as usize {
-        return Err(AllocError);
-    }
-    Ok(count as u32)
 }
 
 /// The values of an index by two ways.
@@ -73,4 +55,40 @@ pub(crate) fn joined_index(
         first: one.first.min(other.first),
         last: one.last.max(other.last),
     })
+}
+
+/// The rows of two lists that aren't joined as the usual ones are: those that may be unusual ones, and each row where a
+/// usual one is defined, since stretches then tell whether the other is.
+pub(crate) fn to_join(
+    alloc: Global,
+    rows: &SparseList<Row>,
+    others: &SparseList<Row>,
+) -> Result<Vec<usize>, AllocError>
+    ensures { IfOk result (λ numbers. AreToJoin rows.now others.now numbers.items) }
+{
+    if rows.usual().is_defined || others.usual().is_defined {
+        return numbers_below(alloc, rows.len().max(others.len()));
+    }
+    unusual_of_either(alloc, rows, others)
+}
+
+/// The numbers below a count.
+fn numbers_below(alloc: Global, count: usize) -> Result<Vec<usize>, AllocError>
+    ensures { IfOk result (λ numbers. numbers.items ≡ range_with_len 0 count) }
+{
+    let mut numbers = Vec::with_capacity(alloc, count)?;
+    for number in 0..count {
+        numbers.push(number)?;
+    }
+    Ok(numbers)
+}
+
+/// The number of a row, if 32 bits hold it: a program has no more rows.
+pub(crate) fn number_of(row: usize) -> Result<u32, AllocError>
+    ensures { IfOk result (λ number. number ≡ row) }
+{
+    if row > u32::MAX as usize {
+        return Err(AllocError);
+    }
+    Ok(row as u32)
 }

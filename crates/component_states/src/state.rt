@@ -3,13 +3,13 @@ ghost use Rattle.abstract_state.specs.Changes.{assigned};
 ghost use Rattle.abstract_state.specs.Loops.{replaced as replaced_variable, with_undefined};
 ghost use Rattle.abstract_state.specs.View.{said_form};
 ghost use Rattle.component_states.specs.Components.{all_changed, changed, is_whole, row_at, stored, with_claims};
-ghost use Rattle.component_states.specs.Components.{with_defined, with_range};
+ghost use Rattle.component_states.specs.Components.{with_defined, with_range, with_row};
 ghost use Rattle.component_states.specs.States.{all_of_row, dead, gives_component, gives_form, gives_index};
 ghost use Rattle.component_states.specs.States.{gives_reached, gives_some, is_dead, joined_components, joined_row};
 ghost use Rattle.component_states.specs.States.{joined_rows, joined_states, over_bound, over_change, over_components};
 ghost use Rattle.component_states.specs.States.{range_stretch, start};
-ghost use Rattle.component_states.specs.View.{said_component, said_index, said_reach, said_row, said_some, viewed};
-ghost use Rattle.component_states.specs.View.{viewed_components};
+ghost use Rattle.component_states.specs.View.{said_component, said_index, said_reach, said_row, said_some};
+ghost use Rattle.component_states.specs.View.{said_stretch, viewed, viewed_components};
 
 use crate::components::Components;
 use crate::facts::{ComponentFact, Index, Reach, Stretch};
@@ -19,6 +19,7 @@ use abstract_state::State as Variables;
 use domain::Domain;
 use domain::facts::Bound;
 use domain::interval::Interval;
+use sparse_list::SparseList;
 use std::alloc::{AllocError, Global};
 use types::OrdinalRange;
 
@@ -32,21 +33,14 @@ pub struct State {
 }
 
 impl State {
-    /// The start of a block with so many variables, and with rows by the values of their first indexes: each is
-    /// undefined.
-    pub fn undefined(
-        alloc: Global,
-        roots: usize,
-        indexes: &[Option<OrdinalRange>],
-    ) -> Result<State, AllocError>
-        ensures { IfOk result (λ state. viewed state ≡ start roots indexes.now) }
+    /// The start of a block with so many variables and so many rows: each is undefined.
+    pub fn undefined(alloc: Global, roots: usize, rows: usize) -> State
+        ensures { viewed result ≡ start roots rows }
     {
-        let variables = Variables::undefined(alloc, roots)?;
-        let components = Components::undefined(alloc, indexes)?;
-        Ok(State {
-            variables,
-            components,
-        })
+        State {
+            variables: Variables::undefined(alloc, roots),
+            components: Components::undefined(alloc, rows),
+        }
     }
 
     /// No run comes here.
@@ -55,10 +49,7 @@ impl State {
     {
         State {
             variables: Variables::Dead,
-            components: Components {
-                rows: Vec::new(alloc),
-                stretches: Vec::new(alloc),
-            },
+            components: Components::undefined(alloc, 0),
         }
     }
 
@@ -91,11 +82,12 @@ impl State {
     }
 
     /// A variable is undefined from here on.
-    pub fn undefine(&mut self, root: u32)
-        ensures { viewed self.new ≡ over_change root None (with_undefined root) (viewed self.old) }
+    pub fn undefine(&mut self, root: u32) -> Result<(), AllocError>
+        ensures { IfOk result
+            (λ _. viewed self.new ≡ over_change root None (with_undefined root) (viewed self.old)) }
     {
         self.components.change(root, None);
-        self.variables.undefine(root);
+        self.variables.undefine(root)
     }
 
     /// What is known of a variable is known of its bound too, if it has one.
@@ -120,17 +112,38 @@ impl State {
     }
 
     /// The values of a row lie in a range from here on.
-    pub fn touch_row(&mut self, row: u32, range: Interval)
-        ensures { viewed self.new ≡ over_components (λ _. with_range row range) (viewed self.old) }
+    pub fn touch_row(&mut self, row: u32, range: Interval) -> Result<(), AllocError>
+        ensures { IfOk result
+            (λ _. viewed self.new ≡ over_components (λ _. with_range row range) (viewed self.old)) }
     {
-        self.components.set_range(row, range);
+        self.components.set_range(row, range)
+    }
+
+    /// The values of a row lie in a range from here on, each component is defined, or perhaps none, and the first
+    /// index has these values, if there is one.
+    pub fn begin_row(
+        &mut self,
+        row: u32,
+        range: Interval,
+        is_defined: bool,
+        index: Option<OrdinalRange>,
+    ) -> Result<(), AllocError>
+        ensures { IfOk result (λ _. viewed self.new ≡ over_components (λ _. with_row row
+            (record { range = range; is_defined = is_defined; index = index })) (viewed self.old)) }
+    {
+        let state = Row {
+            range,
+            is_defined,
+            index,
+        };
+        self.components.set_row(row, state)
     }
 
     /// Each component of a row is defined from here on.
-    pub fn define_row(&mut self, row: u32)
-        ensures { viewed self.new ≡ over_components (λ _. with_defined row) (viewed self.old) }
+    pub fn define_row(&mut self, row: u32) -> Result<(), AllocError>
+        ensures { IfOk result (λ _. viewed self.new ≡ over_components (λ _. with_defined row) (viewed self.old)) }
     {
-        self.components.define(row);
+        self.components.define(row)
     }
 
     /// Claims are known from here on; a range beside that which is known.
@@ -189,6 +202,13 @@ impl State {
         ensures { result ≡ (row_at (viewed self.now).components row).range }
     {
         self.components.row(row).range
+    }
+
+    /// The stretches that are known to be defined.
+    pub fn stretches(&self) -> &[Stretch]
+        ensures { map said_stretch result.now ≡ (viewed self.now).components.stretches }
+    {
+        self.components.stretches.as_slice()
     }
 
     /// Values of a range were stored to what an access reaches in a row.
@@ -250,13 +270,16 @@ impl State {
     }
 
     /// What is known of each row behind this way and another.
-    fn joined_rows(&self, alloc: Global, other: &State) -> Result<Vec<Row>, AllocError>
+    fn joined_rows(&self, alloc: Global, other: &State) -> Result<SparseList<Row>, AllocError>
         ensures { IfOk result (λ rows. map said_row rows.items ≡ joined_rows (viewed self.now) (viewed other.now)) }
     {
-        let count = row_list::longer(&self.components.rows, &other.components.rows)?;
-        let mut rows = Vec::with_capacity(alloc, count as usize)?;
-        for row in 0..count {
-            rows.push(self.joined_row(other, row))?;
+        let one = &self.components.rows;
+        let another = &other.components.rows;
+        let usual = one.usual().joined(another.usual(), false);
+        let mut rows = SparseList::new(alloc, one.len().max(another.len()), usual);
+        for &row in &row_list::to_join(alloc, one, another)? {
+            let state = self.joined_row(other, row_list::number_of(row)?);
+            rows.set(row, state)?;
         }
         Ok(rows)
     }
@@ -267,12 +290,9 @@ impl State {
     {
         let one = self.components.row(row);
         let another = other.components.row(row);
-        Row {
-            range: one.range.join(&another.range),
-            is_defined: one.is_defined && other.is_whole(row)
-                || another.is_defined && self.is_whole(row),
-            index: row_list::joined_index(one.index, another.index),
-        }
+        let is_defined = one.is_defined && other.is_whole(row)
+            || another.is_defined && self.is_whole(row);
+        one.joined(another, is_defined)
     }
 
     /// Whether each component of a row is known to be defined.

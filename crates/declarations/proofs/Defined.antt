@@ -1,12 +1,21 @@
 -- The names that denoters define, one denoter after another.
-use Rattle.std.proofs.Common.{◌≡◌, ℕ, ◌+◌, ◌<◌, ◌≤◌, List, [], ◌∷◌, ◌++◌, Vec, length, drop, get_or, refl, sym, ap, ap₂, ◌∙◌}
+use Rattle.std.proofs.Common.{◌≡◌, ℕ, ◌+◌, ◌<◌, ◌≤◌, List, [], ◌∷◌, ◌++◌, Vec, length, drop, get_or, map, flat_map, take, refl, sym, ap, ap₂, ◌∙◌}
 use Rattle.std.proofs.Common.{append_assoc, append-nil, min, inl, inr, ◌⊎◌}
 use Rattle.std.specs.declared.alloc.Global.{Global}
-use Rattle.std.proofs.lemmas.List.{map-append, drop_more, at_drop_all}
+use Rattle.std.proofs.lemmas.List.{map-append, drop_more, at_drop_all, take_all}
+use Rattle.syntax_tree.specs.declared.Routine.{Routine}
+use Rattle.syntax_tree.specs.declared.TypeDefinition.{TypeDefinition}
+use Rattle.syntax_tree.specs.declared.VariableGroup.{VariableGroup}
 use Rattle.syntax_tree.specs.declared.Name.{Name}
 use Rattle.syntax_tree.specs.declared.TypeDenoter.{TypeDenoter}
-use Rattle.typing.specs.Names.{folded, all_folded, denoter_names}
+use Rattle.syntax_tree.specs.declared.Block.{Block}
+use Rattle.syntax_tree.specs.declared.Block.TheViews.{out-Block}
+use Rattle.syntax_tree.specs.declared.ConstantDefinition.{ConstantDefinition}
+use Rattle.typing.specs.Names.{folded, all_folded, denoter_names, group_names, type_names}
+use Rattle.typing.specs.Routines.{typed_block}
+use Rattle.typing.proofs.Written.{block_names_are}
 use Rattle.typing.proofs.DenoterRows.{past_one}
+use Rattle.declarations.specs.Parts.{routine_names}
 use Rattle.declarations.specs.Known.{names_in, names_in_groups}
 
 folded_both : (before : List (List ℕ)) (names more : List Name) → before ++ all_folded (names ++ more) ≡ (before ++ all_folded names) ++ all_folded more
@@ -80,3 +89,42 @@ module _ (rows : List (Vec Name Global)) (denoters : List TypeDenoter) where
     pub groups_end : (i : ℕ) (keys : List (List ℕ)) → i ≡ min (length rows) (length denoters) → AreGroupNamesFrom i keys
         → before ++ all_folded (names_in_groups rows denoters) ≡ keys
     groups_end i keys all left = left ∙ ap (λ l. keys ++ all_folded l) (no_groups i all) ∙ append-nil keys
+
+-- ---- a block
+
+-- the names of a block, and others before them
+pub names_of_block : (before : List Name) (b : Block)
+    → all_folded (before ++ (typed_block b).names)
+    ≡ (((all_folded (before ++ map (λ d. d.name) (out-Block b).constants.items) ++ all_folded (flat_map type_names (out-Block b).types.items))
+    ++ all_folded (flat_map group_names (out-Block b).variables.items)) ++ all_folded (routine_names (out-Block b).routines.items))
+names_of_block before b =
+    let block = out-Block b in
+    let constants = map (λ (d : ConstantDefinition). d.name) block.constants.items in
+    let types = flat_map type_names block.types.items in
+    let variables = flat_map group_names block.variables.items in
+    let routines = routine_names block.routines.items in
+    ap (λ l. all_folded (before ++ l)) (block_names_are b)
+    ∙ ap all_folded (sym (append_assoc before constants (types ++ (variables ++ routines))))
+    ∙ map-append (λ (name : Name). folded name.text.now) (before ++ constants) (types ++ (variables ++ routines))
+    ∙ folded_both (all_folded (before ++ constants)) types (variables ++ routines)
+    ∙ folded_both (all_folded (before ++ constants) ++ all_folded types) variables routines
+
+-- they are gathered one part after another
+pub names_gathered : (before : List Name) (b : Block) (i : ℕ) (types : List TypeDefinition) (variables : List VariableGroup) (routines : List Routine)
+    (k0 k1 k2 k3 : List (List ℕ)) → length (out-Block b).constants.items ≤ i → types ≡ (out-Block b).types.items → variables ≡ (out-Block b).variables.items
+    → routines ≡ (out-Block b).routines.items
+    → k0 ≡ all_folded (before ++ map (λ d. d.name) (take i (out-Block b).constants.items)) → k1 ≡ k0 ++ all_folded (flat_map type_names types)
+    → k2 ≡ k1 ++ all_folded (flat_map group_names variables) → k3 ≡ k2 ++ all_folded (routine_names routines)
+    → k3 ≡ all_folded (before ++ (typed_block b).names)
+names_gathered before b i types variables routines k0 k1 k2 k3 past types_are variables_are routines_are first second third fourth =
+    let constants = (out-Block b).constants.items in
+    fourth
+    ∙ ap₂ (λ k rs. k ++ all_folded (routine_names rs))
+    (third
+    ∙ ap₂ (λ k vs. k ++ all_folded (flat_map group_names vs))
+    (second
+    ∙ ap₂ (λ k ts. k ++ all_folded (flat_map type_names ts))
+    (first ∙ ap (λ l. all_folded (before ++ map (λ (d : ConstantDefinition). d.name) l)) (take_all i constants past)) types_are)
+    variables_are)
+    routines_are
+    ∙ sym (names_of_block before b)

@@ -1,15 +1,15 @@
--- A name that is known stays known while declarations are passed.
-use Rattle.std.proofs.Common.{◌≡◌, ℕ, ◌+◌, ◌-◌, ℤ, pos, nat_le, length, Bool, true, false, if◌then◌else◌, List, [], ◌∷◌, ◌++◌, slice_index_or, Result, Ok, Err}
-use Rattle.std.proofs.Common.{IfOk, codes, nat_eq, nat_lt, map, Vec, refl, sym, ap, subst}
+-- What stays while declarations are passed: a name that is known stays known, and so does the block round the place.
+use Rattle.std.proofs.Common.{◌≡◌, ℕ, ◌+◌, ◌-◌, ℤ, length, Bool, true, false, if◌then◌else◌, List, [], ◌∷◌, ◌++◌, slice_index_or, Option, Some, None, Result}
+use Rattle.std.proofs.Common.{Ok, Err, IfOk}
+use Rattle.std.proofs.Common.{codes, nat_eq, map, Vec, refl, sym, ap, subst}
 use Rattle.std.specs.declared.alloc.Global.{Global}
 use Rattle.std.specs.Cmp.Lexicographic.{pointwise}
 use Rattle.std.proofs.lemmas.Result.{IfOk-at_ok}
 use Rattle.place.specs.declared.Place.{Place}
 use Rattle.syntax_tree.specs.declared.Name.{Name}
 use Rattle.syntax_tree.specs.declared.Constant.{Constant}
+use Rattle.syntax_tree.specs.declared.FormalGroup.{FormalGroup}
 use Rattle.syntax_tree.specs.declared.ConstantDefinition.{ConstantDefinition}
-use Rattle.syntax_tree.specs.declared.ConstantValue.{ConstantValue}
-use Rattle.syntax_tree.specs.declared.ConstantValue.TheVariants as written
 use Rattle.syntax_tree.specs.declared.TypeDefinition.{TypeDefinition}
 use Rattle.syntax_tree.specs.declared.TypeDenoter.{TypeDenoter}
 use Rattle.syntax_tree.specs.declared.TypeDenoter.TheOpen.{TypeDenoter-F}
@@ -18,197 +18,79 @@ use Rattle.syntax_tree.specs.declared.TypeDenoter.TheViews.{roll-TypeDenoter}
 use Rattle.syntax_tree.specs.declared.TypeDenoter.TheFolds.{map-TypeDenoter, fold-roll-TypeDenoter, ind-TypeDenoter}
 use Rattle.syntax_tree.specs.Places.{fields_of}
 use Rattle.syntax_tree.specs.declared.VariableGroup.{VariableGroup}
-use Rattle.types.specs.Forms.{Form}
-use Rattle.types.specs.Forms.{FieldForm, Enumeration, Subrange, Array, Record}
+use Rattle.types.specs.Forms.{FieldForm, Enumeration, Array, Record}
 use Rattle.types.specs.declared.form.TypeId.{TypeId}
-use Rattle.types.specs.Types.{integer, char, admitted, cells_of, is_ordinal, most_cells}
-use Rattle.scopes.specs.Scopes.{Region, Knows, found, define}
-use Rattle.scopes.specs.declared.denotation.Denotation.{Denotation}
+use Rattle.types.specs.Types.{is_ordinal}
+use Rattle.scopes.specs.Scopes.{Knows, found}
 use Rattle.scopes.specs.declared.denotation.Denotation.TheVariants as denotes
-use Rattle.scopes.specs.declared.fault.ScopeFault.{ScopeFault}
-use Rattle.scopes.proofs.Known.{define_keeps}
+use Rattle.typed_tree.specs.declared.fault.TypeFault.{TypeFault}
 use Rattle.typed_tree.specs.declared.fault.TypeFault.TheVariants as fault
+use Rattle.typed_tree.specs.declared.tree.VariableKind.{VariableKind}
+use Rattle.typed_tree.specs.declared.tree.VariableKind.TheVariants as variable
 use Rattle.typed_tree.specs.Look.{Look}
-use Rattle.typed_tree.specs.WellFormed.{most_variables}
 use Rattle.typing.specs.Names.{folded, group_names, type_names}
-use Rattle.typing.specs.Passing.{Passed, Checked, After, Passing, after, and_then, behind_marks, given, pure, each, ◌>>=◌, ◌>>◌, ◌>>?◌}
-use Rattle.typing.specs.Steps.{told, fits, value_of, pass, find, declare, added, add_type, keep_text, latest, give_output, next_root, reserve}
-use Rattle.typing.specs.Strings.{string_characters, string_type, string_constant}
-use Rattle.typing.specs.Constants.{as_constant, as_ordinal, behind_sign, unsigned_constant, constant, ordinal_constant}
+use Rattle.typing.specs.Passing.{Passed, Checked, Passing, after, and_then, fail, given, pure, ◌>>=◌, ◌>>◌}
+use Rattle.typing.specs.Steps.{fits, value_of, pass, declare, add_type, latest, give_output}
 use Rattle.typing.specs.Denoters.{named_type, type_of_name, constants_from, enumeration, between, subrange, denoted_type}
 use Rattle.typing.specs.Denoters.{WrittenDenoter, written_denoter, denoter_step, index_type, index_types, arrays, array}
 use Rattle.typing.specs.Denoters.{named_fields, grouped_fields, record_type}
-use Rattle.typing.specs.Typing.{definition, type_definition, parameter_of_program, variable, group}
+use Rattle.typing.specs.Outcomes.{Takes}
+use Rattle.typing.specs.Routines.{declared, definition, type_definition, group, local, parameter_kind, parameters, parameters_named, result, waiting_for}
+use Rattle.typing.specs.Typing.{parameter_of_program}
+use Rattle.typing.proofs.Stays.{Leaves, keeps_then, keeps_test, pure_keeps, fail_keeps, given_keeps, quiet}
+use Rattle.typing.proofs.Stays.{enclosing_now_keeps, give_output_keeps, latest_keeps, next_root_keeps, reserve_keeps}
+pub use Rattle.typing.proofs.Stays.{Stays, Keeps, each_keeps, pass_keeps, add_type_keeps, declare_keeps}
+use Rattle.typing.proofs.StayingForms.{ordinal_constant_keeps}
+pub use Rattle.typing.proofs.StayingForms.{constant_keeps}
 use Rattle.declarations.specs.Known.{AreKnown, AreKnownDefinitions, AreKnownTypes, AreKnownGroups}
 
--- what an outcome leaves knows a name
-abbrev pub Leaves : {A : Type 0} → List ℕ → Checked (After A) → Type 0
-Leaves name outcome = IfOk outcome (λ a. Knows a.passed.regions name)
-
--- a step, behind which each name is known that was known before
-abbrev pub Keeps : {A : Type 0} → Passing A → Type 0
-Keeps step = (old : Passed) (name : List ℕ) → Knows old.regions name → Leaves name (step old)
-
-behind_leaves : {A : Type 0} (look : Look) (name : List ℕ) (outcome : Checked (After A))
-    → Leaves name outcome → Leaves name (behind_marks look outcome)
-behind_leaves look name (Ok a) known = known
-behind_leaves look name (Err why) known = tt
-
-behind_leaves_too : {A B : Type 0} (name : List ℕ) (outcome : Checked (After A)) (second : A → Passing B)
-    → ((a : A) → Keeps (second a)) → Leaves name outcome → Leaves name (and_then outcome (λ a. behind_marks a.look (second a.answer a.passed)))
-behind_leaves_too name (Ok a) second keeps known = behind_leaves a.look name (second a.answer a.passed) (keeps a.answer a.passed name known)
-behind_leaves_too name (Err why) second keeps known = tt
-
 then_keeps : {A B : Type 0} (first : Passing A) (second : A → Passing B) → Keeps first → ((a : A) → Keeps (second a)) → Keeps (first >>= second)
-then_keeps first second first_keeps second_keeps old name known = behind_leaves_too name (first old) second second_keeps (first_keeps old name known)
-
-pub each_keeps : {A : Type 0} (step : A → Passing (Unit {0})) (forms : List A) → ((a : A) → Keeps (step a)) → Keeps (each step forms)
-each_keeps step [] keeps = λ old name known. known
-each_keeps step (form ∷ forms) keeps = then_keeps (step form) (λ _. each step forms) (keeps form) (λ _. each_keeps step forms keeps)
-
-pub declare_keeps : (name : Name) (denotation : Denotation) → Keeps (declare name denotation)
-unfolding declare
-declare_keeps name denotation old other known =
-    by (define (folded name.text.now) denotation old.regions) (define_keeps old.regions (folded name.text.now) denotation other known)
-  where
-    by : (outcome : Result (List Region) ScopeFault) → IfOk outcome (λ regions. Knows regions other)
-        → Leaves {A = Unit {0}} other (and_then (told name.place outcome) (λ regions. Ok (after tt [] (record old { regions = regions }))))
-    by (Ok regions) known = known
-    by (Err why) known = tt
-
-checks_keep : {A B : Type 0} (form : Passing A) (test : List Form → A → Checked B) → Keeps form → Keeps (form >>? test)
-checks_keep {A} {B} form test keeps old name known = by (form old) (keeps old name known)
-  where
-    tested : (a : After A) (outcome : Checked B) → Knows a.passed.regions name → Leaves name (and_then outcome (λ b. Ok (after b a.look a.passed)))
-    tested a (Ok b) known = known
-    tested a (Err why) known = tt
-
-    by : (outcome : Checked (After A)) → Leaves name outcome
-        → Leaves name (and_then outcome (λ a. and_then (test a.passed.types a.answer) (λ b. Ok (after b a.look a.passed))))
-    by (Ok a) known = tested a (test a.passed.types a.answer) known
-    by (Err why) known = tt
-
-find_keeps : (name : Name) → Keeps (find name)
-unfolding find
-find_keeps name old other known = by (told name.place (found old.regions (folded name.text.now)))
-  where
-    by : (outcome : Checked Denotation) → Leaves other (and_then outcome (λ denotation. Ok (after denotation [] (record old { latest = name.place }))))
-    by (Ok denotation) = known
-    by (Err why) = tt
-
-given_keeps : {A : Type 0} (checked : Checked A) → Keeps (given checked)
-given_keeps (Ok answer) old name known = known
-given_keeps (Err why) old name known = tt
-
-pub add_type_keeps : (place : Place) (form : Form) → Keeps (add_type place form)
-unfolding add_type
-add_type_keeps place form old name known = by (added place (admitted old.types form))
-  where
-    by : (outcome : Checked TypeId) → Leaves name (and_then outcome (λ id. Ok (after id [] (record old { types = old.types ++ form ∷ [] }))))
-    by (Ok id) = known
-    by (Err why) = tt
-
-string_type_keeps : (place : Place) (n : ℕ) → Keeps (string_type place n)
-unfolding string_type
-string_type_keeps place n =
-    then_keeps (given (value_of n place)) (λ last. add_type place (Subrange integer (pos 1) last) >>= (λ index. add_type place (Array true index char)))
-    (given_keeps (value_of n place)) λ last.
-    then_keeps (add_type place (Subrange integer (pos 1) last)) (λ index. add_type place (Array true index char))
-    (add_type_keeps place (Subrange integer (pos 1) last)) λ index.
-    add_type_keeps place (Array true index char)
-
--- two or more characters
-text_keeps : (place : Place) (cs : List ℕ)
-    → Keeps (string_type place (length cs) >>= (λ type_id. keep_text cs >>= (λ number. pure (denotes.Text number type_id))))
-unfolding keep_text
-text_keeps place cs =
-    then_keeps (string_type place (length cs)) (λ type_id. keep_text cs >>= (λ number. pure (denotes.Text number type_id)))
-    (string_type_keeps place (length cs)) λ type_id.
-    then_keeps (keep_text cs) (λ number. pure (denotes.Text number type_id)) (λ old name known. known) (λ number old name known. known)
-
-string_constant_keeps : (place : Place) (cs : List ℕ) → Keeps (string_constant place cs)
-unfolding string_constant
-string_constant_keeps place [] = text_keeps place []
-string_constant_keeps place (c ∷ []) = λ old name known. known
-string_constant_keeps place (c ∷ d ∷ cs) = text_keeps place (c ∷ d ∷ cs)
-
-unsigned_keeps : (value : ConstantValue) → Keeps (unsigned_constant value)
-unfolding unsigned_constant pass
-unsigned_keeps (written.Number value place) =
-    checks_keep (pass place) (λ _ _. fits (nat_le value 2147483647) place (denotes.Constant (pos value) integer)) (λ old name known. known)
-unsigned_keeps (written.String text place) =
-    then_keeps (pass place >> given (string_characters place text.now)) (string_constant place)
-    (then_keeps (pass place) (λ _. given (string_characters place text.now)) (λ old name known. known) (λ _. given_keeps (string_characters place text.now)))
-    (string_constant_keeps place)
-unsigned_keeps (written.Name name) = checks_keep (find name) (λ _ d. as_constant name.place d) (find_keeps name)
-
-pub constant_keeps : (c : Constant) → Keeps (constant c)
-unfolding constant
-constant_keeps c = checks_keep (unsigned_constant c.value) (λ _ unsigned. behind_sign c.sign unsigned) (unsigned_keeps c.value)
-
-ordinal_keeps : (c : Constant) → Keeps (ordinal_constant c)
-unfolding ordinal_constant
-ordinal_keeps c = checks_keep (constant c) (λ _ d. Ok (as_ordinal d)) (constant_keeps c)
+then_keeps first second first_keeps second_keeps = keeps_then first_keeps second_keeps
 
 pub definition_keeps : (d : ConstantDefinition) → Keeps (definition d)
 unfolding definition
-definition_keeps d =
-    then_keeps (constant d.value) (λ c. declare d.name c) (constant_keeps d.value) (λ c. declare_keeps d.name c)
-
-reserve_keeps : (place : Place) (type_id : TypeId) → Keeps (reserve place type_id)
-unfolding reserve
-reserve_keeps place type_id old name known = by (nat_lt most_cells (old.cells + cells_of old.types type_id))
-  where
-    by : (b : Bool) → Leaves {A = Unit {0}} name (if b then Err (fault.TooManyCells place) else Ok (after tt [] (record old {
-      variables = old.variables ++ record { block = 0; type_id = type_id } ∷ [];
-      cells = old.cells + cells_of old.types type_id;
-    })))
-    by true = tt
-    by false = known
-
-next_root_keeps : (place : Place) → Keeps (next_root place)
-unfolding next_root
-next_root_keeps place old name known = by (nat_le most_variables (length old.variables))
-  where
-    by : (b : Bool) → Leaves {A = ℕ} name (if b then Err (fault.TooMany place) else Ok (after (length old.variables) [] old))
-    by true = tt
-    by false = known
+definition_keeps d = keeps_then (constant_keeps d.value) (λ c. declare_keeps d.name c)
 
 pub parameter_keeps : (name : Name) → Keeps (parameter_of_program name)
-unfolding parameter_of_program give_output
+unfolding parameter_of_program
 parameter_keeps name = by (pointwise nat_eq (folded name.text.now) (codes "output"))
   where
-    by : (b : Bool) → Keeps (if b then declare name denotes.Output >> give_output else (λ s. Err (fault.NotProgramParameter name.place)))
-    by true = then_keeps (declare name denotes.Output) (λ _. give_output) (declare_keeps name denotes.Output) (λ _ old other known. known)
-    by false = λ old other known. tt
+    by : (b : Bool) → Keeps (if b then declare name denotes.Output >> give_output else fail (fault.NotProgramParameter name.place))
+    by true = keeps_then (declare_keeps name denotes.Output) (λ _. give_output_keeps)
+    by false = fail_keeps (fault.NotProgramParameter name.place)
 
-pub variable_keeps : (type_id : TypeId) (name : Name) → Keeps (variable type_id name)
-unfolding variable
-variable_keeps type_id name =
-    then_keeps (next_root name.place) (λ root. declare name (denotes.Variable root type_id) >> reserve name.place type_id) (next_root_keeps name.place)
-    (λ root. then_keeps (declare name (denotes.Variable root type_id)) (λ _. reserve name.place type_id)
-    (declare_keeps name (denotes.Variable root type_id)) (λ _. reserve_keeps name.place type_id))
+pub declared_keeps : (block : ℕ) (kind : VariableKind) (type_id : TypeId) (name : Name) → Keeps (declared block kind type_id name)
+unfolding declared
+declared_keeps block kind type_id name =
+    keeps_then (next_root_keeps name.place) λ root.
+    keeps_then (declare_keeps name (denotes.Variable root type_id)) λ _.
+    keeps_then (reserve_keeps name.place block kind type_id) λ _.
+    pure_keeps root
 
-type_of_name_keeps : (names : List Name) (name : Name) → Keeps (type_of_name names name)
+pub local_keeps : (type_id : TypeId) (name : Name) → Keeps (local type_id name)
+unfolding local
+local_keeps type_id name =
+    keeps_then enclosing_now_keeps λ enclosing.
+    keeps_then (declared_keeps enclosing.block variable.Local type_id name) λ _.
+    pure_keeps tt
+
+pub type_of_name_keeps : (names : List Name) (name : Name) → Keeps (type_of_name names name)
 unfolding type_of_name
-type_of_name_keeps names name old other known = by (named_type names name (found old.regions (folded name.text.now)))
+type_of_name_keeps names name = record { keeps = λ old. by old (named_type names name (found old.regions (folded name.text.now))) }
   where
-    by : (outcome : Checked TypeId) → Leaves other (and_then outcome (λ type_id. Ok (after type_id [] (record old { latest = name.place }))))
-    by (Ok type_id) = known
-    by (Err why) = tt
+    by : (old : Passed) (outcome : Checked TypeId)
+        → Leaves old (and_then outcome (λ type_id. Ok (after type_id [] (record old { latest = name.place }))))
+    by old (Ok type_id) = quiet refl refl
+    by old (Err why) = tt
 
 constants_from_keeps : (type_id : TypeId) (number : ℕ) (names : List Name) → Keeps (constants_from type_id number names)
-constants_from_keeps type_id number [] = λ old other known. known
+constants_from_keeps type_id number [] = pure_keeps tt
 constants_from_keeps type_id number (name ∷ names) =
     then_keeps (given (value_of number name.place)) (λ value. declare name (denotes.Constant value type_id) >> constants_from type_id (number + 1) names)
     (given_keeps (value_of number name.place)) λ value.
     then_keeps (declare name (denotes.Constant value type_id)) (λ _. constants_from type_id (number + 1) names)
     (declare_keeps name (denotes.Constant value type_id)) λ _.
     constants_from_keeps type_id (number + 1) names
-
-latest_keeps : Keeps latest
-unfolding latest
-latest_keeps old name known = known
 
 abbrev last_value : List Name → Place → Passing ℤ
 last_value names place = given (value_of (length names - 1) place)
@@ -225,20 +107,14 @@ enumeration_keeps names =
     then_keeps latest (λ place. last_value names place >>= added_type names place) latest_keeps λ place.
     then_keeps (last_value names place) (added_type names place) (given_keeps (value_of (length names - 1) place)) λ last.
     then_keeps (add_type place (Enumeration last)) (with_constants names) (add_type_keeps place (Enumeration last)) λ type_id.
-    then_keeps (constants_from type_id 0 names) (λ _. pure type_id) (constants_from_keeps type_id 0 names) (λ _ old other known. known)
+    then_keeps (constants_from type_id 0 names) (λ _. pure type_id) (constants_from_keeps type_id 0 names) (λ _. pure_keeps type_id)
 
 subrange_keeps : (first : Constant) (place : Place) (last : Constant) → Keeps (subrange first place last)
 unfolding subrange
 subrange_keeps first place last =
-    then_keeps (ordinal_constant first) (λ f. (ordinal_constant last >>? (λ types l. between types place f l)) >>= (λ form. add_type place form))
-    (ordinal_keeps first) λ f.
-    then_keeps (ordinal_constant last >>? (λ types l. between types place f l)) (λ form. add_type place form)
-    (checks_keep (ordinal_constant last) (λ types l. between types place f l) (ordinal_keeps last)) λ form.
+    keeps_then (ordinal_constant_keeps first) λ f.
+    keeps_then (keeps_test (λ types l. between types place f l) (ordinal_constant_keeps last)) λ form.
     add_type_keeps place form
-
-pub pass_keeps : (place : Place) → Keeps (pass place)
-unfolding pass
-pass_keeps place old name known = known
 
 -- ---- denoters, by induction over their form
 
@@ -256,17 +132,17 @@ all_written ds = map written_denoter (map (λ (d : KeptDenoter). d.0) ds)
 
 index_type_keeps : (names : List Name) (place : Place) (d : KeptDenoter) → Keeps (index_type names place (written_denoter d.0))
 unfolding index_type
-index_type_keeps names place d = checks_keep (written_denoter d.0 names) (λ types id. fits (is_ordinal types id) place id) (d.1 names)
+index_type_keeps names place d = keeps_test (λ types id. fits (is_ordinal types id) place id) (d.1 names)
 
 index_types_keep : (names : List Name) (place : Place) (ds : List KeptDenoter) → Keeps (index_types names place (all_written ds))
-index_types_keep names place [] = λ old name known. known
+index_types_keep names place [] = pure_keeps []
 index_types_keep names place (d ∷ ds) =
     then_keeps (index_type names place (written_denoter d.0)) (λ id. index_types names place (all_written ds) >>= (λ ids. pure (id ∷ ids)))
     (index_type_keeps names place d) λ id.
-    then_keeps (index_types names place (all_written ds)) (λ ids. pure (id ∷ ids)) (index_types_keep names place ds) (λ ids old name known. known)
+    then_keeps (index_types names place (all_written ds)) (λ ids. pure (id ∷ ids)) (index_types_keep names place ds) (λ ids. pure_keeps (id ∷ ids))
 
 arrays_keep : (packed : Bool) (place : Place) (ids : List TypeId) (element : TypeId) → Keeps (arrays packed place ids element)
-arrays_keep packed place [] element = λ old name known. known
+arrays_keep packed place [] element = pure_keeps element
 arrays_keep packed place (id ∷ ids) element =
     then_keeps (arrays packed place ids element) (λ inner. add_type place (Array packed id inner)) (arrays_keep packed place ids element)
     (λ inner. add_type_keeps place (Array packed id inner))
@@ -284,8 +160,8 @@ array_keeps names packed place indexes element =
 
 groups_keep : (names : List Name) (fields : List FieldForm) (rows : List (Vec Name Global)) (ds : List KeptDenoter)
     → Keeps (grouped_fields names fields (fields_of rows (all_written ds)))
-groups_keep names fields [] ds = λ old name known. known
-groups_keep names fields (row ∷ rows) [] = λ old name known. known
+groups_keep names fields [] ds = pure_keeps fields
+groups_keep names fields (row ∷ rows) [] = pure_keeps fields
 groups_keep names fields (row ∷ rows) (d ∷ ds) =
     then_keeps (written_denoter d.0 names)
     (λ id. given (named_fields fields id row.items) >>= (λ more. grouped_fields names more (fields_of rows (all_written ds)))) (d.1 names) λ id.
@@ -343,14 +219,54 @@ type_definition_keeps d =
 pub group_keeps : (g : VariableGroup) → Keeps (group g)
 unfolding group
 group_keeps g =
-    then_keeps (denoted_type g.names.items g.denoter) (λ type_id. each (variable type_id) g.names.items)
-    (denoted_type_keeps g.names.items g.denoter) (λ type_id. each_keeps (variable type_id) g.names.items (variable_keeps type_id))
+    keeps_then (denoted_type_keeps g.names.items g.denoter) (λ type_id. each_keeps (local type_id) g.names.items (local_keeps type_id))
+
+pub result_keeps : (block : ℕ) (place : Place) (type_id : Option TypeId) → Keeps (result block place type_id)
+unfolding result
+result_keeps block place None = pure_keeps None
+result_keeps block place (Some type_id) =
+    keeps_then (next_root_keeps place) λ root.
+    keeps_then (reserve_keeps place block variable.Result type_id) λ _.
+    pure_keeps (Some root)
+
+named_keep : (block : ℕ) (kind : VariableKind) (type_id : TypeId) (names : List Name) → Keeps (parameters_named block kind type_id names)
+named_keep block kind type_id [] = pure_keeps []
+named_keep block kind type_id (name ∷ names) =
+    keeps_then (declared_keeps block kind type_id name) λ root.
+    keeps_then (named_keep block kind type_id names) λ roots.
+    pure_keeps (root ∷ roots)
+
+pub parameters_named_keep : (block : ℕ) (kind : VariableKind) (type_id : TypeId) (names : List Name) → Keeps (parameters_named block kind type_id names)
+parameters_named_keep = named_keep
+
+pub parameters_keep : (block : ℕ) (groups : List FormalGroup) (types : List TypeId) → Keeps (parameters block groups types)
+parameters_keep block [] types = pure_keeps []
+parameters_keep block (g ∷ groups) [] = pure_keeps []
+parameters_keep block (g ∷ groups) (type_id ∷ types) =
+    keeps_then (named_keep block (parameter_kind g.by) type_id g.names.items) λ roots.
+    keeps_then (parameters_keep block groups types) λ others.
+    pure_keeps (roots ++ others)
+
+pub waiting_for_keeps : (is_function : Bool) (name : Name) → Keeps (waiting_for is_function name)
+unfolding waiting_for
+waiting_for_keeps is_function name = record { keeps = λ old. quiet refl refl }
+
+-- names stay known behind a step, if it passes
+pub known_behind : {A : Type 0} (step : Passing A) → Keeps step → (old new : Passed) (answer : Result A TypeFault) → Takes (step old) answer new
+    → (names : List Name) → AreKnown names old.regions → IfOk answer (λ _. AreKnown names new.regions)
+known_behind step keeps old new (Err why) takes names known = tt
+known_behind step keeps old new (Ok answer) takes names known =
+    λ k d within. (IfOk-at_ok (λ a. Stays old a.passed) takes (keeps.keeps old)).known (folded (slice_index_or names k d).text.now) (known k d within)
 
 -- behind a step that passes
 module _ {A : Type 0} (step : Passing A) (keeps : Keeps step) (answer : A) (look : Look) (old new : Passed)
     (passes : step old ≡ Ok (after answer look new)) where
+  -- regions and the block round the place stay
+  pub stays : Stays old new
+  stays = IfOk-at_ok (λ a. Stays old a.passed) passes (keeps.keeps old)
+
   pub still_known : (name : List ℕ) → Knows old.regions name → Knows new.regions name
-  still_known name known = IfOk-at_ok (λ a. Knows a.passed.regions name) passes (keeps old name known)
+  still_known name known = stays.known name known
 
   -- names stay known
   pub names_stay : (names : List Name) → AreKnown names old.regions → AreKnown names new.regions

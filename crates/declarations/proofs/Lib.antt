@@ -1,4 +1,6 @@
 mod Defined
-mod Kept
-mod Opened
+mod HeadingForms
+pub mod Kept
+pub mod KeptBlocks
+pub mod Opened
 mod Parts

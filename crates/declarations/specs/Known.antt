@@ -9,7 +9,9 @@ use Rattle.syntax_tree.specs.declared.TypeDenoter.{TypeDenoter}
 use Rattle.syntax_tree.specs.declared.VariableGroup.{VariableGroup}
 use Rattle.syntax_tree.specs.Places.{fields_of}
 use Rattle.scopes.specs.Scopes.{Region, Knows}
-use Rattle.typing.specs.Names.{folded, denoter_names, group_names, type_names}
+use Rattle.syntax_tree.specs.declared.Routine.{Routine}
+use Rattle.syntax_tree.specs.declared.Block.TheViews.{out-Routine}
+use Rattle.typing.specs.Names.{folded, denoter_names, group_names, heading_names, type_names}
 
 -- the innermost region lists each of these names
 abbrev pub AreKnown : List Name → List Region → Type 0
@@ -26,6 +28,10 @@ AreKnownTypes definitions regions = All (λ d. AreKnown (type_names d) regions) 
 -- the innermost region lists each name of these groups
 abbrev pub AreKnownGroups : List VariableGroup → List Region → Type 0
 AreKnownGroups groups regions = All (λ group. AreKnown (group_names group) regions) groups
+
+-- the innermost region lists the name of each of these routines that is declared first
+abbrev pub AreKnownRoutines : List Routine → List Region → Type 0
+AreKnownRoutines routines regions = All (λ r. AreKnown (heading_names (out-Routine r).heading) regions) routines
 
 -- the names that denoters define
 abbrev pub names_in : List TypeDenoter → List Name

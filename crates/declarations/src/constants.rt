@@ -2,7 +2,7 @@ ghost use Rattle.scopes.specs.Scopes.{Knows};
 ghost use Rattle.typing.specs.Names.{folded};
 ghost use Rattle.typing.specs.Outcomes.{Takes};
 ghost use Rattle.typing.specs.Passing.{each};
-ghost use Rattle.typing.specs.Typing as spec;
+ghost use Rattle.typing.specs.Routines as spec;
 ghost use Rattle.declarations.specs.Known.{AreKnownDefinitions};
 
 use syntax_tree::ConstantDefinition;
@@ -24,7 +24,7 @@ pub(crate) fn declare_constants(
 }
 
 // A constant: its value (S2 where that names the constant), and then its name (S1 where it comes twice).
-#[tactic(auto, unfolding(typing::specs::Typing::definition))]
+#[tactic(auto, unfolding(typing::specs::Routines::definition))]
 fn declare_constant(typer: &mut Typer, definition: &ConstantDefinition) -> Result<(), TypeFault>
     requires known { Knows typer.old.regions (folded definition.now.name.text.now) }
     ensures { Takes (spec.definition definition.now typer.old) result typer.new }

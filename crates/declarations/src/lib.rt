@@ -1,14 +1,16 @@
-//! The declarations of a program (ISO 7185:1990, 6.2.2, 6.3, 6.4, 6.5.1, 6.10): its parameters, its constants, its
-//! types and its variables, in the order of the text, with the required identifiers round them.
+//! The declarations of a block (ISO 7185:1990, 6.2.2, 6.3, 6.4, 6.5.1, 6.6, 6.10): the parameters of a program, with
+//! the required identifiers round them, constants, types, variables, and the headings of procedures and functions, in
+//! the order of the text.
 #![tactic(auto)]
 
 mod constants;
 mod denoters;
+mod headings;
 mod names;
 mod parameters;
 mod program;
-mod routines;
 mod type_definitions;
 mod variables;
 
-pub use program::declare_program;
+pub use headings::{BegunRoutine, begin_routine};
+pub use program::{begin_block, begin_program, declare};

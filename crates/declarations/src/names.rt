@@ -1,26 +1,48 @@
 ghost use Rattle.std.specs.Prelude.{◌≡◌, ◌++◌, OnOk, IfOk, flat_map, map};
 ghost use Rattle.typing.specs.Names.{all_folded};
 ghost use Rattle.typing.specs.Names as spec;
-ghost use Rattle.declarations.specs.Declared.{texts};
+ghost use Rattle.typing.specs.Routines.{typed_block};
+ghost use Rattle.declarations.specs.Parts.{routine_names, texts};
 ghost use Rattle.declarations.specs.Known.{names_in, names_in_groups};
 
 use std::alloc::{AllocError, Global};
-use syntax_tree::{Name, Program, Routine, TypeDefinition, TypeDenoter, VariableGroup};
-use typing::{folded, heading_name};
+use syntax_tree::{
+    Block, FormalGroup, Heading, Name, Routine, TypeDefinition, TypeDenoter, VariableGroup,
+};
+use typing::folded;
 
-/// The names that the program's block defines, in small letters: its parameters, its constants, its types, its
-/// variables, and its procedures and functions.
-pub(crate) fn defined_names(alloc: Global, program: &Program) -> Result<Vec<Vec<u8>>, AllocError>
-    ensures { IfOk result (λ keys. texts keys.items ≡ all_folded (spec.defined_names program.now)) }
+/// The names that a block defines, in small letters: some parameters, its constants, its types, its variables, and its
+/// procedures and functions.
+#[tactic(auto, using(crate::proofs::Defined::names_of_block))]
+pub(crate) fn defined_names(
+    alloc: Global,
+    parameters: &[Name],
+    block: &Block,
+) -> Result<Vec<Vec<u8>>, AllocError>
+    ensures { IfOk result (λ keys. texts keys.items ≡ all_folded (parameters.now ++ (typed_block block.now).names)) }
 {
     let mut keys = Vec::new(alloc);
-    fold_names(alloc, &program.parameters, &mut keys)?;
-    for definition in &program.block.constants {
+    fold_names(alloc, parameters, &mut keys)?;
+    for definition in &block.constants {
         keys.push(folded(alloc, definition.name.text)?)?;
     }
-    fold_types(alloc, &program.block.types, &mut keys)?;
-    fold_groups(alloc, &program.block.variables, &mut keys)?;
-    fold_routines(alloc, &program.block.routines, &mut keys)?;
+    fold_types(alloc, &block.types, &mut keys)?;
+    fold_groups(alloc, &block.variables, &mut keys)?;
+    fold_routines(alloc, &block.routines, &mut keys)?;
+    Ok(keys)
+}
+
+/// The names of formal parameters, in small letters.
+pub(crate) fn formal_names(
+    alloc: Global,
+    groups: &[FormalGroup],
+) -> Result<Vec<Vec<u8>>, AllocError>
+    ensures { IfOk result (λ keys. texts keys.items ≡ all_folded (flat_map spec.formal_names groups.now)) }
+{
+    let mut keys = Vec::new(alloc);
+    for group in groups {
+        fold_names(alloc, &group.names, &mut keys)?;
+    }
     Ok(keys)
 }
 
@@ -56,19 +78,33 @@ fn fold_groups(
     Ok(())
 }
 
-// Those of these procedures and functions.
+// Those of these procedures and functions, where they are declared first.
 fn fold_routines(
     alloc: Global,
     routines: &[Routine],
     keys: &mut Vec<Vec<u8>>,
 ) -> Result<(), AllocError>
     ensures { OnOk result
-        (texts keys.new.items ≡ texts keys.old.items ++ all_folded (map spec.routine_name routines.now)) }
+        (texts keys.new.items ≡ texts keys.old.items ++ all_folded (routine_names routines.now)) }
 {
     for routine in routines {
-        keys.push(folded(alloc, heading_name(&routine.heading).text)?)?;
+        fold_heading(alloc, &routine.heading, keys)?;
     }
     Ok(())
+}
+
+// That of a heading, if it is the first.
+fn fold_heading(alloc: Global, heading: &Heading, keys: &mut Vec<Vec<u8>>) -> Result<(), AllocError>
+    ensures { OnOk result
+        (texts keys.new.items ≡ texts keys.old.items ++ all_folded (spec.heading_names heading.now)) }
+{
+    match heading {
+        Heading::Procedure { name, .. } | Heading::Function { name, .. } => {
+            keys.push(folded(alloc, name.text)?)?;
+            Ok(())
+        }
+        Heading::Resumed { .. } => Ok(()),
+    }
 }
 
 // Those that a denoter defines.

@@ -1,42 +1,65 @@
-ghost use Rattle.std.specs.Prelude.{◌≡◌, [], Ok, IfOk, IfErr};
+ghost use Rattle.std.specs.Prelude.{◌≡◌, [], ◌++◌, Ok, IfOk, IfErr, MatchResult};
+ghost use Rattle.typing.specs.Blocks.{BeginsBlock, block_begins};
+ghost use Rattle.typing.specs.Names.{all_folded};
 ghost use Rattle.typing.specs.Outcomes.{Takes, IsFault};
 ghost use Rattle.typing.specs.Passing.{after};
-ghost use Rattle.typing.specs.Typing.{declarations};
-ghost use Rattle.declarations.specs.Declared.{declared};
+ghost use Rattle.typing.specs.Routines.{typed_block};
+ghost use Rattle.typing.specs.Typing.{parameters_of_program};
+ghost use Rattle.declarations.specs.Parts.{block_declarations, declared};
+ghost use Rattle.declarations.specs.Known.{AreKnown};
 
 use crate::constants::declare_constants;
 use crate::names::defined_names;
 use crate::parameters::declare_parameters;
-use crate::routines::declare_routines;
 use crate::type_definitions::declare_types;
 use crate::variables::declare_groups;
 use std::alloc::Global;
-use syntax_tree::Program;
+use syntax_tree::{Block, Program};
 use typed_tree::fault::TypeFault;
-use typing::Typer;
+use typing::{BegunBlock, Typer};
 
-/// What is known behind the declarations of a program, or the first rule that they break, with its place
-/// (S1 to S4, K1, K8, Y1, Y2).
-pub fn declare_program(alloc: Global, program: &Program) -> Result<Typer, TypeFault>
+/// What is known behind the parameters of a program, where its block begins, or the first rule that they break, with
+/// its place (S1, K8). Its region knows the names that its block defines.
+pub fn begin_program(alloc: Global, program: &Program) -> Result<Typer, TypeFault>
     ensures passed { IfOk result (λ typer. declared program.now ≡ Ok (after tt [] typer)) }
+    ensures known { IfOk result (λ typer. AreKnown (typed_block program.now.block).names typer.regions) }
     ensures refused { IfErr result (λ why. IsFault (declared program.now) why) }
 {
     let mut typer = Typer::new(alloc, program.name.place)?;
-    declare(&mut typer, program)?;
+    begin(&mut typer, program)?;
     Ok(typer)
 }
 
-// Passes the declarations, with the region of the required identifiers round them.
-#[tactic(auto, unfolding(typing::specs::Typing::declarations))]
-fn declare(typer: &mut Typer, program: &Program) -> Result<(), TypeFault>
-    ensures { Takes (declarations program.now typer.old) result typer.new }
+// Passes the parameters, with the region of the required identifiers round them.
+#[tactic(auto, unfolding(typing::specs::Typing::parameters_of_program))]
+fn begin(typer: &mut Typer, program: &Program) -> Result<(), TypeFault>
+    ensures passed { Takes (parameters_of_program program.now (typed_block program.now.block) typer.old)
+        result typer.new }
+    ensures known { IfOk result (λ _. AreKnown (typed_block program.now.block).names typer.new.regions) }
 {
     typer.open_required()?;
-    let names = defined_names(typer.alloc, program)?;
+    let names = defined_names(typer.alloc, &program.parameters, &program.block)?;
     typer.open_block(&names)?;
-    declare_parameters(typer, &program.parameters)?;
-    declare_constants(typer, &program.block.constants)?;
-    declare_types(typer, &program.block.types)?;
-    declare_groups(typer, &program.block.variables)?;
-    declare_routines(typer, &program.block.routines)
+    declare_parameters(typer, &program.parameters)
+}
+
+/// Begins the block of a routine, behind its heading; its region knows the names that it defines.
+pub fn begin_block(typer: &mut Typer, number: u32, block: &Block) -> Result<BegunBlock, TypeFault>
+    ensures begun { BeginsBlock (block_begins number (all_folded (typed_block block.now).names) typer.old) result
+        typer.new }
+    ensures known { IfOk result (λ _. AreKnown (typed_block block.now).names typer.new.regions) }
+{
+    let names = defined_names(typer.alloc, &[], block)?;
+    typer.begin_block(number, &names)
+}
+
+/// Passes the constants, the types and the variables of a block, in the order of the text, or tells the first rule that
+/// they break, with its place (S1 to S3, K1, Y1, Y2).
+pub fn declare(typer: &mut Typer, block: &Block) -> Result<(), TypeFault>
+    requires known { AreKnown (typed_block block.now).names typer.old.regions }
+    ensures { Takes (block_declarations block.now typer.old) result typer.new }
+{
+    declare_constants(typer, &block.constants)?;
+    declare_types(typer, &block.types)?;
+    declare_groups(typer, &block.variables)
 }

@@ -1,7 +1,7 @@
 ghost use Rattle.typing.specs.Names.{type_names};
 ghost use Rattle.typing.specs.Outcomes.{Takes};
 ghost use Rattle.typing.specs.Passing.{each};
-ghost use Rattle.typing.specs.Typing as spec;
+ghost use Rattle.typing.specs.Routines as spec;
 ghost use Rattle.declarations.specs.Known.{AreKnown, AreKnownTypes};
 
 use crate::denoters::denoted_type;
@@ -25,7 +25,7 @@ pub(crate) fn declare_types(
 }
 
 // A type: its denoter (S2 where that names the type), and then its name (S1 where it comes twice).
-#[tactic(auto, unfolding(typing::specs::Typing::type_definition))]
+#[tactic(auto, unfolding(typing::specs::Routines::type_definition))]
 fn declare_type(typer: &mut Typer, definition: &TypeDefinition) -> Result<(), TypeFault>
     requires known { AreKnown (type_names definition.now) typer.old.regions }
     ensures { Takes (spec.type_definition definition.now typer.old) result typer.new }

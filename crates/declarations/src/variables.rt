@@ -2,7 +2,7 @@ ghost use Rattle.std.specs.Prelude.{◌≡◌};
 ghost use Rattle.typing.specs.Names.{group_names};
 ghost use Rattle.typing.specs.Outcomes.{Takes};
 ghost use Rattle.typing.specs.Passing.{each};
-ghost use Rattle.typing.specs.Typing as spec;
+ghost use Rattle.typing.specs.Routines as spec;
 ghost use Rattle.declarations.specs.Known.{AreKnown, AreKnownGroups};
 
 use crate::denoters::denoted_type;
@@ -23,7 +23,7 @@ pub(crate) fn declare_groups(typer: &mut Typer, groups: &[VariableGroup]) -> Res
 }
 
 // Variables that are declared together: first their type.
-#[tactic(auto, unfolding(typing::specs::Typing::group))]
+#[tactic(auto, unfolding(typing::specs::Routines::group))]
 fn declare_group(typer: &mut Typer, group: &VariableGroup) -> Result<(), TypeFault>
     requires known { AreKnown (group_names group.now) typer.old.regions }
     ensures { Takes (spec.group group.now typer.old) result typer.new }
@@ -35,10 +35,10 @@ fn declare_group(typer: &mut Typer, group: &VariableGroup) -> Result<(), TypeFau
 // Variables of a type.
 fn declare_variables(typer: &mut Typer, type_id: TypeId, names: &[Name]) -> Result<(), TypeFault>
     requires known { AreKnown names.now typer.old.regions }
-    ensures { Takes (each (spec.variable type_id) names.now typer.old) result typer.new }
+    ensures { Takes (each (spec.local type_id) names.now typer.old) result typer.new }
 {
     for name in names {
-        typer.variable(type_id, name)?;
+        typer.local(type_id, name)?;
     }
     Ok(())
 }

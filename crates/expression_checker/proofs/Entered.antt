@@ -16,19 +16,26 @@ use Rattle.typed_tree.specs.declared.tree.RangeTest.{RangeTest}
 use Rattle.typed_tree.specs.declared.tree.Selector.{Selector}
 use Rattle.typed_tree.specs.declared.tree.Expr.{Expr}
 use Rattle.typed_tree.specs.declared.tree.Link.{Link}
-use Rattle.typed_tree.specs.declared.tree.Expr.TheOpen.{Expr-F, Link-F}
-use Rattle.typed_tree.specs.declared.tree.Expr.TheOpen.Expr-F.{Constant, Variable, Monadic as MonadicOf, Chain, Compare}
-use Rattle.typed_tree.specs.declared.tree.Expr.TheFolds.{fold-Link, map-Expr, map-Link, fold-roll-Expr, fold-roll-Link, ind-Expr}
+use Rattle.typed_tree.specs.declared.tree.Expr.TheOpen.{Expr-F, Link-F, Passed-F}
+use Rattle.typed_tree.specs.declared.tree.Expr.TheOpen.Expr-F.{Constant, Variable, Monadic as MonadicOf, Chain, Compare, Call as CallOf}
+use Rattle.typed_tree.specs.declared.tree.Expr.TheOpen.Passed-F.{Value as PassedValue, Whole as PassedWhole, Reference}
+use Rattle.typed_tree.specs.declared.tree.Expr.TheViews.{roll-Expr, roll-Link, roll-Passed}
+use Rattle.typed_tree.specs.declared.tree.Call.{Call}
+use Rattle.typed_tree.specs.declared.tree.FunctionResult.{FunctionResult}
+use Rattle.typed_tree.specs.declared.tree.Passed.{Passed}
+use Rattle.typed_tree.specs.declared.tree.Expr.TheFolds.{fold-Link, map-Expr, map-Link, map-Passed, fold-roll-Expr, fold-roll-Link, fold-roll-Passed, ind-Expr}
+use Rattle.typed_tree.specs.declared.tree.Expr.TheFolds.{ind-Passed}
 use Rattle.typed_tree.specs.Entries.{joined, expression_entries, link_entries, entries_of_expression, entries_of_width, entries_of_parameter, access_entries}
-use Rattle.typed_tree.specs.Entries.{whole_entries}
+use Rattle.typed_tree.specs.Entries.{call_entries, entries_of_passed, passed_entries, whole_entries}
 use Rattle.typed_tree.specs.Entries.{entries_of_written, index_entries}
 use Rattle.abstract_state.specs.declared.known.Known.{Known}
 use Rattle.abstract_state.specs.declared.known.Known.TheVariants.{Ordinal}
 use Rattle.expression_checker.specs.Visits.{Visits, all_counted, counted}
 use Rattle.component_states.specs.Components.{Reach, Entire}
 use Rattle.component_states.specs.States.{State}
-use Rattle.abstract_state.specs.Forms.{bound_of}
 use Rattle.expression_checker.specs.Walk.{Context, Joint, Linked, Piece, Walking, Combination, numbers_of, operated, combined, width_test}
+use Rattle.expression_checker.specs.Walk.{PassedPiece, actuals_walk, call_walk, called_block, fitting, form_before, passed_piece_of, passed_step, result_of}
+use Rattle.expression_checker.specs.Walk.{result_walk}
 use Rattle.expression_checker.specs.Walk.{piece_step, link_step, piece_of, joint_of, value_walk}
 use Rattle.expression_checker.specs.Walk.{access_walk, behind_next, deeper, index_test, index_pieces, indexes_walk, link_walk, next_test, value_use, whole_walk}
 use Rattle.expression_checker.specs.Walk.{width_walk}
@@ -42,10 +49,13 @@ abbrev EntersFrom : Combination → List ℕ → Type 0
 EntersFrom walk numbers = (left : Known) → Enters (walk left) numbers
 
 abbrev entries_of_link : Link → List ℕ
-entries_of_link = fold-Link (List ℕ) (List ℕ) expression_entries link_entries
+entries_of_link = fold-Link (List ℕ) (List ℕ) (List ℕ) expression_entries passed_entries link_entries
 
 abbrev EnteredExpr : Type 0
 EnteredExpr = (e : Expr) × Enters (value_walk e) (entries_of_expression e)
+
+abbrev EnteredPassed : Type 0
+EnteredPassed = (p : Passed) × Enters (passed_piece_of p).walk (entries_of_passed p)
 
 abbrev EnteredLink : Type 0
 EnteredLink = (l : Link) × EntersFrom (link_walk l) (entries_of_link l)
@@ -108,7 +118,7 @@ indexes-entered selectors [] reach [] all context state = refl
 indexes-entered selectors (piece ∷ pieces) reach (numbers ∷ rows) all context state =
     let first = piece.walk context state in
     let test = index_test (next_test selectors) first.value context first.after in
-    let next = deeper (record { form = bound_of piece.form; range = test.value }) reach in
+    let next = deeper (record { form = form_before piece.form pieces; range = test.value }) reach in
     let rest = indexes_walk (behind_next selectors) pieces next context test.after in
     and_then first.linked (test.linked ++ rest.linked) numbers (joined rows) (all.0 context state)
     (and_then test.linked rest.linked [] (joined rows) (tested-silent (next_test selectors) first.value context first.after)
@@ -136,11 +146,49 @@ all-entered : (parts : List EnteredExpr) → AllEnter (index_pieces (map (λ e. 
 all-entered [] = tt
 all-entered (one ∷ parts) = (one.1, all-entered parts)
 
-value-parts : (y : Expr-F EnteredExpr EnteredLink)
+-- ---- calls
+
+abbrev AllPass : List PassedPiece → List (List ℕ) → Type 0
+AllPass [] [] = Unit {0}
+AllPass (piece ∷ pieces) (numbers ∷ rows) = Enters piece.walk numbers × AllPass pieces rows
+AllPass pieces rows = ⊥
+
+passed-entered : (parts : List EnteredPassed) → AllPass (map passed_piece_of (map (λ p. p.0) parts)) (map entries_of_passed (map (λ p. p.0) parts))
+passed-entered [] = tt
+passed-entered (one ∷ parts) = (one.1, passed-entered parts)
+
+actuals-entered : (pieces : List PassedPiece) (rows : List (List ℕ)) → AllPass pieces rows → Enters (actuals_walk pieces) (joined rows)
+actuals-entered [] [] all context state = refl
+actuals-entered [] (numbers ∷ rows) all context state = absurd all
+actuals-entered (piece ∷ pieces) [] all context state = absurd all
+actuals-entered (piece ∷ pieces) (numbers ∷ rows) all context state =
+    let first = piece.walk context state in
+    let rest = actuals_walk pieces context first.after in
+    and_then first.linked (rest.linked ++ []) numbers (joined rows) (all.0 context state)
+    (and_no_more rest.linked [] (joined rows) (actuals-entered pieces rows all.1 context first.after) refl)
+
+-- the call itself enters nothing more, nor does its value
+called-entered : (call : Call) (pieces : List PassedPiece) (rows : List (List ℕ)) → AllPass pieces rows
+    → Enters (call_walk call pieces) (call_entries call rows)
+called-entered call pieces rows all context state =
+    ap (λ (numbers : List ℕ). call.number ∷ numbers)
+    (and_no_more (actuals_walk pieces context state).linked [] (joined rows) (actuals-entered pieces rows all context state) refl)
+
+result-silent : (call : Call) (context : Context) (state : State) (result : Option FunctionResult)
+    → numbers_of (result_walk call result context state).linked ≡ []
+result-silent call context state None = refl
+result-silent call context state (Some result) = refl
+
+fitting-silent : (fits : RangeTest) (known : Known) → Enters (fitting fits known) []
+fitting-silent fits (Ordinal range) context state = refl
+
+value-parts : (y : Expr-F EnteredExpr EnteredPassed EnteredLink)
     → Enters (piece_step
-    (map-Expr Expr Link Piece Joint piece_of joint_of (map-Expr EnteredExpr EnteredLink Expr Link (λ e. e.0) (λ l. l.0) y))).walk
+    (map-Expr Expr Passed Link Piece PassedPiece Joint piece_of passed_piece_of joint_of
+    (map-Expr EnteredExpr EnteredPassed EnteredLink Expr Passed Link (λ e. e.0) (λ p. p.0) (λ l. l.0) y))).walk
     (expression_entries
-    (map-Expr Expr Link (List ℕ) (List ℕ) entries_of_expression entries_of_link (map-Expr EnteredExpr EnteredLink Expr Link (λ e. e.0) (λ l. l.0) y)))
+    (map-Expr Expr Passed Link (List ℕ) (List ℕ) (List ℕ) entries_of_expression entries_of_passed entries_of_link
+    (map-Expr EnteredExpr EnteredPassed EnteredLink Expr Passed Link (λ e. e.0) (λ p. p.0) (λ l. l.0) y)))
 value-parts (Constant number value) context state = refl
 value-parts (Variable access indexes defined) context state =
     let pieces = index_pieces (map (λ (e : EnteredExpr). e.0) indexes.items) in
@@ -169,35 +217,103 @@ value-parts (Compare number relation left left_indexes right right_indexes) cont
     (number ∷ whole_entries right right_rows) (whole-of left pieces rows (all-entered left_indexes.items) context state)
     (ap (λ (numbers : List ℕ). number ∷ numbers) (and_no_more end.linked [] (whole_entries right right_rows)
     (whole-of right right_pieces right_rows (all-entered right_indexes.items) context begun.after) refl))
+value-parts (CallOf call actuals) context state =
+    let passed = map (λ (p : EnteredPassed). p.0) actuals.items in
+    let begun = call_walk call (map passed_piece_of passed) context state in
+    let result = result_of (called_block context call) in
+    and_no_more begun.linked (result_walk call result context begun.after).linked (call_entries call (map entries_of_passed passed))
+    (called-entered call (map passed_piece_of passed) (map entries_of_passed passed) (passed-entered actuals.items) context state)
+    (result-silent call context begun.after result)
 
-link-parts : (y : Link-F EnteredExpr EnteredLink)
+passed-parts : (y : Passed-F EnteredExpr EnteredPassed EnteredLink)
+    → Enters (passed_step
+    (map-Passed Expr Passed Link Piece PassedPiece Joint piece_of passed_piece_of joint_of
+    (map-Passed EnteredExpr EnteredPassed EnteredLink Expr Passed Link (λ e. e.0) (λ p. p.0) (λ l. l.0) y))).walk
+    (passed_entries
+    (map-Passed Expr Passed Link (List ℕ) (List ℕ) (List ℕ) entries_of_expression entries_of_passed entries_of_link
+    (map-Passed EnteredExpr EnteredPassed EnteredLink Expr Passed Link (λ e. e.0) (λ p. p.0) (λ l. l.0) y)))
+passed-parts (PassedValue value fits) context state =
+    let begun = value_walk value.0 context state in
+    let tested = fitting fits begun.value context begun.after in
+    and_no_more begun.linked (tested.linked ++ []) (entries_of_expression value.0) (value.1 context state)
+    (and_no_more tested.linked [] [] (fitting-silent fits begun.value context begun.after) refl)
+passed-parts (PassedWhole type_id value indexes) context state =
+    let pieces = index_pieces (map (λ (e : EnteredExpr). e.0) indexes.items) in
+    let rows = map entries_of_expression (map (λ (e : EnteredExpr). e.0) indexes.items) in
+    and_no_more (whole_walk value pieces context state).linked [] (whole_entries value rows)
+    (whole-of value pieces rows (all-entered indexes.items) context state) refl
+passed-parts (Reference type_id access indexes) context state =
+    let pieces = index_pieces (map (λ (e : EnteredExpr). e.0) indexes.items) in
+    let rows = map entries_of_expression (map (λ (e : EnteredExpr). e.0) indexes.items) in
+    and_no_more (access_walk access pieces context state).linked [] (access_entries access rows)
+    (access-of access pieces rows (all-entered indexes.items) context state) refl
+
+link-parts : (y : Link-F EnteredExpr EnteredPassed EnteredLink)
     → EntersFrom
-    (link_step (map-Link Expr Link Piece Joint piece_of joint_of (map-Link EnteredExpr EnteredLink Expr Link (λ e. e.0) (λ l. l.0) y))).combination
+    (link_step (map-Link Expr Passed Link Piece PassedPiece Joint piece_of passed_piece_of joint_of
+    (map-Link EnteredExpr EnteredPassed EnteredLink Expr Passed Link (λ e. e.0) (λ p. p.0) (λ l. l.0) y))).combination
     (link_entries
-    (map-Link Expr Link (List ℕ) (List ℕ) entries_of_expression entries_of_link (map-Link EnteredExpr EnteredLink Expr Link (λ e. e.0) (λ l. l.0) y)))
+    (map-Link Expr Passed Link (List ℕ) (List ℕ) (List ℕ) entries_of_expression entries_of_passed entries_of_link
+    (map-Link EnteredExpr EnteredPassed EnteredLink Expr Passed Link (λ e. e.0) (λ p. p.0) (λ l. l.0) y)))
 link-parts y left context state =
     let begun = value_walk y.operand.0 context state in
     let after = combined y.operation left begun.value context begun.after in
     ap (λ numbers. y.number ∷ numbers) (and_no_more begun.linked after.linked _ (y.operand.1 context state)
     (combined-silent y.operation left begun.value context begun.after))
 
+-- the layers of the three, from their folds
+value-layer : (x : Expr-F Expr Passed Link) (y : Expr-F EnteredExpr EnteredPassed EnteredLink)
+    → map-Expr EnteredExpr EnteredPassed EnteredLink Expr Passed Link (λ e. e.0) (λ p. p.0) (λ l. l.0) y ≡ x
+    → Enters (value_walk (roll-Expr x)) (entries_of_expression (roll-Expr x))
+value-layer x y is context state =
+    ap (λ (piece : Piece). numbers_of (piece.walk context state).linked)
+    (fold-roll-Expr Piece PassedPiece Joint piece_step passed_step link_step x
+    ∙ ap (λ z. piece_step (map-Expr Expr Passed Link Piece PassedPiece Joint piece_of passed_piece_of joint_of z)) (sym is))
+    ∙ value-parts y context state
+    ∙ ap (λ z. expression_entries (map-Expr Expr Passed Link (List ℕ) (List ℕ) (List ℕ) entries_of_expression entries_of_passed entries_of_link z)) is
+    ∙ sym (fold-roll-Expr (List ℕ) (List ℕ) (List ℕ) expression_entries passed_entries link_entries x)
+
+passed-layer : (x : Passed-F Expr Passed Link) (y : Passed-F EnteredExpr EnteredPassed EnteredLink)
+    → map-Passed EnteredExpr EnteredPassed EnteredLink Expr Passed Link (λ e. e.0) (λ p. p.0) (λ l. l.0) y ≡ x
+    → Enters (passed_piece_of (roll-Passed x)).walk (entries_of_passed (roll-Passed x))
+passed-layer x y is context state =
+    ap (λ (piece : PassedPiece). numbers_of (piece.walk context state).linked)
+    (fold-roll-Passed Piece PassedPiece Joint piece_step passed_step link_step x
+    ∙ ap (λ z. passed_step (map-Passed Expr Passed Link Piece PassedPiece Joint piece_of passed_piece_of joint_of z)) (sym is))
+    ∙ passed-parts y context state
+    ∙ ap (λ z. passed_entries (map-Passed Expr Passed Link (List ℕ) (List ℕ) (List ℕ) entries_of_expression entries_of_passed entries_of_link z)) is
+    ∙ sym (fold-roll-Passed (List ℕ) (List ℕ) (List ℕ) expression_entries passed_entries link_entries x)
+
+link-layer : (x : Link-F Expr Passed Link) (y : Link-F EnteredExpr EnteredPassed EnteredLink)
+    → map-Link EnteredExpr EnteredPassed EnteredLink Expr Passed Link (λ e. e.0) (λ p. p.0) (λ l. l.0) y ≡ x
+    → EntersFrom (link_walk (roll-Link x)) (entries_of_link (roll-Link x))
+link-layer x y is left context state =
+    ap (λ (joint : Joint). numbers_of (joint.combination left context state).linked)
+    (fold-roll-Link Piece PassedPiece Joint piece_step passed_step link_step x
+    ∙ ap (λ z. link_step (map-Link Expr Passed Link Piece PassedPiece Joint piece_of passed_piece_of joint_of z)) (sym is))
+    ∙ link-parts y left context state
+    ∙ ap (λ z. link_entries (map-Link Expr Passed Link (List ℕ) (List ℕ) (List ℕ) entries_of_expression entries_of_passed entries_of_link z)) is
+    ∙ sym (fold-roll-Link (List ℕ) (List ℕ) (List ℕ) expression_entries passed_entries link_entries x)
+
 -- the walk over an expression enters its entries
 pub value-entered : (e : Expr) → Enters (value_walk e) (entries_of_expression e)
-value-entered = ind-Expr (λ e. Enters (value_walk e) (entries_of_expression e)) (λ l. EntersFrom (link_walk l) (entries_of_link l))
-    (λ x y is context state.
-    ap (λ (piece : Piece). numbers_of (piece.walk context state).linked)
-    (fold-roll-Expr Piece Joint piece_step link_step x
-    ∙ ap (λ z. piece_step (map-Expr Expr Link Piece Joint piece_of joint_of z)) (sym is))
-    ∙ value-parts y context state
-    ∙ ap (λ z. expression_entries (map-Expr Expr Link (List ℕ) (List ℕ) entries_of_expression entries_of_link z)) is
-    ∙ sym (fold-roll-Expr (List ℕ) (List ℕ) expression_entries link_entries x))
-    (λ x y is left context state.
-    ap (λ (joint : Joint). numbers_of (joint.combination left context state).linked)
-    (fold-roll-Link Piece Joint piece_step link_step x
-    ∙ ap (λ z. link_step (map-Link Expr Link Piece Joint piece_of joint_of z)) (sym is))
-    ∙ link-parts y left context state
-    ∙ ap (λ z. link_entries (map-Link Expr Link (List ℕ) (List ℕ) entries_of_expression entries_of_link z)) is
-    ∙ sym (fold-roll-Link (List ℕ) (List ℕ) expression_entries link_entries x))
+value-entered =
+    ind-Expr (λ e. Enters (value_walk e) (entries_of_expression e)) (λ p. Enters (passed_piece_of p).walk (entries_of_passed p))
+    (λ l. EntersFrom (link_walk l) (entries_of_link l)) value-layer passed-layer link-layer
+
+pub actual-entered : (p : Passed) → Enters (passed_piece_of p).walk (entries_of_passed p)
+actual-entered =
+    ind-Passed (λ e. Enters (value_walk e) (entries_of_expression e)) (λ p. Enters (passed_piece_of p).walk (entries_of_passed p))
+    (λ l. EntersFrom (link_walk l) (entries_of_link l)) value-layer passed-layer link-layer
+
+all-actual : (actuals : List Passed) → AllPass (map passed_piece_of actuals) (map entries_of_passed actuals)
+all-actual [] = tt
+all-actual (actual ∷ actuals) = (actual-entered actual, all-actual actuals)
+
+-- the walk over a call enters it and its actual parameters
+pub call-entered : (call : Call) (actuals : List Passed)
+    → Enters (call_walk call (map passed_piece_of actuals)) (call_entries call (map entries_of_passed actuals))
+call-entered call actuals = called-entered call (map passed_piece_of actuals) (map entries_of_passed actuals) (all-actual actuals)
 
 test-silent : (site : ℕ) (known : Known) → Enters (width_test site known) []
 test-silent site (Ordinal range) context state = refl

@@ -1,27 +1,12 @@
--- What of the store a piece of a program keeps, for each loop round it; and that values lie in the ranges of their types.
-use Rattle.std.proofs.Common.{◌≡◌, ℕ, List, [], Some}
+-- What of the store a piece of a program keeps, for each loop round it.
+use Rattle.std.proofs.Common.{List}
 use Rattle.std.specs.List.{Contains}
-use Rattle.domain.specs.Interval.{Interval}
-use Rattle.meaning.specs.declared.store.Value.{Value}
-use Rattle.types.specs.declared.form.Step.{Step}
 use Rattle.meaning.specs.Store.{Environment, Store}
-use Rattle.abstract_state.specs.State.{integer}
-use Rattle.abstract_state.specs.Holds.{IsIn, value_at}
-use Rattle.abstract_state.specs.Knows.{IsKept, moment}
+use Rattle.abstract_state.specs.Knows.{IsKept}
 use Rattle.abstract_state.proofs.Looped.{kept-itself, kept-then}
-use Rattle.typed_tree.specs.declared.tree.Tree.{Tree}
-use Rattle.leaf_rows.specs.Rows.{all_parts, rows_of}
-use Rattle.component_states.specs.Holds.{IsOfRow, component_at}
-use Rattle.structured_states.specs.Loops.{Round, limits_at, row_limits, touched}
+use Rattle.structured_states.specs.Loops.{Round, touched}
 
--- each variable's value lies in the range of its type, and so does that of each component of a row; that of each part of a variable is an integer
-pub record InTypes (tree : Tree) (limits : List Interval) (env : Environment) (store : Store) : Type 0 where
-  pub ranges : (root : ℕ) (v : Value) → value_at (moment env store) root [] ≡ Some v → IsIn (limits_at limits root) v
-  pub components : (row : ℕ) (steps : List Step) (v : Value) → IsOfRow (all_parts tree) row steps
-      → component_at (all_parts tree) (moment env store) row steps ≡ Some v → IsIn (row_limits (rows_of tree) row) v
-  pub integers : (root : ℕ) (steps : List Step) (v : Value) → value_at (moment env store) root steps ≡ Some v → IsIn integer v
-
--- so it is for each loop round a piece
+-- of each loop round a piece nothing changed but what that touches
 abbrev pub Keeps : Environment → List Round → Store → Store → Type 0
 Keeps env rounds before after = (round : Round) → Contains rounds round → IsKept env (touched round) round.controls before after
 

@@ -1,13 +1,13 @@
 -- The walk over accesses and over whole values is sound, where that over their index expressions is.
-use Rattle.std.proofs.Common.{arith, ◌≡◌, ⊎_elim, ◌∙◌, sym, ap, refl, subst, ℕ, zero, suc, ◌+◌, ◌<◌, ℤ, pos, ◌≤ℤ◌, Bool, true, false}
+use Rattle.std.proofs.Common.{arith, ◌≡◌, ⊎_elim, ◌∙◌, sym, ap, refl, subst, ℕ, zero, suc, ◌+◌, ◌<◌, ℤ, pos, ◌≤ℤ◌, Bool, true, false, cond}
 use Rattle.std.proofs.Common.{◌&&◌, ◌||◌, nat_eq, nat_lt, nat_le, not, List, [], ◌∷◌, ◌++◌, append-nil, append_assoc, length, map, Option, Some, None}
 use Rattle.std.specs.Prelude.{slice_get, slice_index_or}
 use Rattle.std.specs.List.{All, Contains, list_all}
-use Rattle.std.specs.Option.{option_and_then}
 use Rattle.std.proofs.lemmas.Int.{ints}
-use Rattle.std.proofs.lemmas.Bool.{and_parts, eqb-true, ltb-true, or_cases}
+use Rattle.std.proofs.lemmas.Bool.{and_parts, eqb-true, ltb-true, or_cases, or_left, or_right}
+use Rattle.std.proofs.lemmas.List.{length-map}
 use Rattle.std.proofs.lemmas.List.Elements.{All-cons, All-nil}
-use Rattle.std.proofs.lemmas.Option.{get_or_from_slice_get, none-some, same_Some, slice_get-get_or, slice_get_within}
+use Rattle.std.proofs.lemmas.Option.{none-some, same_Some, slice_get-get_or}
 use Rattle.types.specs.Forms.{Form}
 use Rattle.types.specs.declared.form.TypeId.{TypeId}
 use Rattle.types.specs.declared.form.Step.{Step}
@@ -21,20 +21,20 @@ use Rattle.typed_tree.specs.declared.tree.Access.{Access}
 use Rattle.typed_tree.specs.declared.tree.RangeTest.{RangeTest}
 use Rattle.typed_tree.specs.declared.tree.Selector.{Selector}
 use Rattle.typed_tree.specs.declared.tree.Selector.TheVariants.{Element, Field}
-use Rattle.typed_tree.specs.declared.tree.Variable.{Variable}
 use Rattle.typed_tree.specs.declared.tree.Whole.{Whole}
 use Rattle.typed_tree.specs.declared.tree.Whole.TheVariants.{Text, Variable as VariableOf}
 use Rattle.typed_tree.specs.Accesses as accesses
 use Rattle.typed_tree.specs.Accesses.{index_count, is_type, led}
-use Rattle.typed_tree.specs.WellFormed.{are_characters, is_character, is_value_of, is_well_formed_selector, is_well_formed_whole, is_whole, leads_to}
-use Rattle.typed_tree.specs.WellFormed.{leads_to_whole}
+use Rattle.typed_tree.specs.WellFormed.{Outline, are_characters, is_character, is_value_of, is_visible, is_well_formed_selector, is_well_formed_whole, is_whole}
+use Rattle.typed_tree.specs.WellFormed.{leads_to, leads_to_whole, outline_of}
 use Rattle.domain.specs.Interval.{HasMember}
+use Rattle.domain.specs.Ranges.{common-has_left}
 use Rattle.meaning.specs.declared.store.Value.{Value}
 use Rattle.meaning.specs.declared.store.Value.TheVariants.{Number}
 use Rattle.meaning.specs.Store.{Environment, Place, Store, held, part}
 use Rattle.meaning.specs.Effect as effect
 use Rattle.meaning.specs.Effect.{fetch, fetch_all, is_in, number_of}
-use Rattle.meaning.specs.Meaning.{Evaluation, accessed, selected, whole_of}
+use Rattle.meaning.specs.Meaning.{Evaluation, Surroundings, accessed, selected, whole_of}
 use Rattle.abstract_state.specs.declared.known.Known.{Known}
 use Rattle.abstract_state.specs.declared.known.Known.TheVariants.{Ordinal}
 use Rattle.domain.specs.Facts.{Bound}
@@ -44,23 +44,28 @@ use Rattle.meaning.specs.Integers.{is_integer_number, is_within}
 use Rattle.abstract_state.specs.Forms.{bound_of}
 use Rattle.abstract_state.specs.State.{integer}
 use Rattle.abstract_state.specs.Holds.{HasValue, IsBound, IsIn, Moment, part_of, value_at}
-use Rattle.abstract_state.specs.Knows.{IsOfForm, Shows, moment}
+use Rattle.abstract_state.specs.Knows.{IsOfForm, moment}
 use Rattle.abstract_state.proofs.Ranged.{IsKnown, constant-in, is_within-has}
 use Rattle.component_states.specs.Components.{At, Entire, Index, Inside, Reach}
 use Rattle.component_states.specs.States.{State, is_dead}
 use Rattle.typed_tree.specs.declared.tree.Tree.{Tree}
+use Rattle.leaf_rows.specs.Leaves.{leaves_of}
 use Rattle.leaf_rows.specs.Rows.{is_structured, rows_accessed, rows_of}
+use Rattle.leaf_rows.proofs.Accessed.{rows-count}
 use Rattle.component_states.specs.Components.{row_at}
 use Rattle.component_states.specs.Holds.{IsOfRow, Knows}
 use Rattle.component_states.proofs.Joins.{in-left, in-right}
 use Rattle.expression_checker.specs.Walk as walk
-use Rattle.expression_checker.specs.Walk.{Context, Piece, Walking, access_walk, all_joined, deeper, index_test, indexes_walk, is_covered}
+use Rattle.call_states.specs.Environments.{Fine, Typed}
+use Rattle.expression_checker.specs.Walk.{Context, Piece, Walking, access_walk, all_joined, deeper, form_before, hold_call, index_test, indexes_walk}
+use Rattle.expression_checker.specs.Walk.{is_covered}
 use Rattle.expression_checker.specs.Walk.{range_in, ranges_of, text_range, value_use, whole_walk, with_used}
-use Rattle.expression_checker.proofs.Keeping.{InTypes, Keeps, keeps-itself}
-use Rattle.expression_checker.proofs.Sound.{World, variables_in, Any_value, Good, IsForetold, IsPartOf, Leaves, Sound, SoundFrom, Stands, alive, declared_in}
-use Rattle.expression_checker.proofs.Sound.{errs-here, false-true, good-give, good-then, good-weaker, nothing-new, open-here, sound-enter, sound-give}
-use Rattle.expression_checker.proofs.Sound.{nonempty-stands, parts_in, sound-anywhere, sound-here, sound-named, sound-still, sound-then, sound-use}
-use Rattle.expression_checker.proofs.Sound.{stands-as, types_in}
+use Rattle.expression_checker.proofs.Fitting.{contains-at, same-type}
+use Rattle.expression_checker.proofs.Keeping.{Keeps, keeps-itself}
+use Rattle.expression_checker.proofs.Sound.{World, Any_value, Good, Here, IsForetold, IsPartOf, IsValue, Leaves, Sound, SoundFrom, Stands, alive, declared_in}
+use Rattle.expression_checker.proofs.Sound.{errs-here, false-true, from-then, gives-state, good-give, good-then, good-weaker, is_seen, nothing-new}
+use Rattle.expression_checker.proofs.Sound.{sound-anywhere, sound-enter, sound-give, sound-here, sound-named, sound-then, sound-use, stands-as}
+use Rattle.expression_checker.proofs.Sound.{sites_in, parts_in, open-here, nonempty-stands, types_in, variables_in}
 use Rattle.expression_checker.proofs.SoundOperations.{IsKnownOf, fitting-sound}
 use Rattle.expression_checker.proofs.SoundRows.{AreIntegers, IsIndexOn, IsReachedBy, IsWhole, Leads, LieIn, Matches, RowsAre, covered-row, first-behind}
 use Rattle.expression_checker.proofs.SoundRows.{first-then, joined-in, matches-then, reached-has, rows-are, used-known}
@@ -81,39 +86,41 @@ part-held store (Some p) steps = refl
 
 -- ---- what is well formed
 
--- a variable that is accessed is one of the program's
-module _ (variables : List Variable) (types : List Form) (wanted : TypeId → Bool) (selectors : List Selector) where
-  type-within : (root : ℕ) (found : Option Variable) → slice_get variables root ≡ found
-      → is_type wanted (option_and_then (λ (variable : Variable). led types selectors variable.type_id) found) ≡ true → root < length variables
-  type-within root None is well = absurd (cc)
-  type-within root (Some variable) is well = slice_get_within variables root variable is
+module _ (outline : Outline) (block : ℕ) (wanted : TypeId → Bool) (root : ℕ) (selectors : List Selector) (indexes : ℕ)
+    (well : leads_to outline block wanted root selectors indexes ≡ true) where
+  abbrev seen : Bool
+  seen = is_visible outline block root
 
--- so many sites and variables
-module _ (variables : List Variable) (types : List Form) (sites : ℕ) (wanted : TypeId → Bool) (root : ℕ) (selectors : List Selector) (indexes : ℕ)
-    (well : leads_to variables types sites wanted root selectors indexes ≡ true) where
+  abbrev counts : Bool
+  counts = nat_eq indexes (index_count selectors)
+
   abbrev all_tests : Bool
-  all_tests = list_all (is_well_formed_selector variables types sites) selectors
+  all_tests = list_all (is_well_formed_selector outline block) selectors
 
   abbrev of_type : Bool
-  of_type = is_type wanted (accesses.accessed variables types root selectors)
+  of_type = is_type wanted (accesses.accessed outline.variables outline.types root selectors)
 
-  outer : (nat_eq indexes (index_count selectors) ≡ true) × ((all_tests && of_type) ≡ true)
-  outer = and_parts (nat_eq indexes (index_count selectors)) (all_tests && of_type) well
+  outer : (seen ≡ true) × ((counts && (all_tests && of_type)) ≡ true)
+  outer = and_parts seen (counts && (all_tests && of_type)) well
+
+  middle : (counts ≡ true) × ((all_tests && of_type) ≡ true)
+  middle = and_parts counts (all_tests && of_type) outer.1
 
   inner : (all_tests ≡ true) × (of_type ≡ true)
-  inner = and_parts all_tests of_type outer.1
+  inner = and_parts all_tests of_type middle.1
+
+  -- the variable is visible
+  pub leads-seen : seen ≡ true
+  leads-seen = outer.0
 
   pub leads-count : indexes ≡ index_count selectors
-  leads-count = eqb-true indexes (index_count selectors) outer.0
+  leads-count = eqb-true indexes (index_count selectors) middle.0
 
   pub leads-tests : all_tests ≡ true
   leads-tests = inner.0
 
   pub leads-type : of_type ≡ true
   leads-type = inner.1
-
-  pub leads-within : root < length variables
-  leads-within = type-within variables types wanted selectors root (slice_get variables root) refl inner.1
 
 -- ---- rows of integers
 
@@ -134,35 +141,39 @@ field-same position offset selectors (index ∷ pieces) reach = refl
 
 -- ---- replies
 
-gives-state : {A : Type 0} (a b : A) (s t : effect.State) → effect.Gives a s ≡ effect.Gives b t → t ≡ s
-gives-state a b s t is = cc
-
 entered-leaves : (number : ℕ) (env : Environment) → Leaves (effect.enter number env)
 entered-leaves number env s t done is = ap (λ (u : effect.State). u.store)
     (gives-state tt done (record s { visited = s.visited ++ record { number = number; environment = env; store = s.store } ∷ [] }) t is)
 
-required-leaves : (test : Bool) (site : ℕ) → Leaves (effect.require test site)
+pub required-leaves : (test : Bool) (site : ℕ) → Leaves (effect.require test site)
 required-leaves true site s t done is = ap (λ (u : effect.State). u.store) (gives-state tt done s t is)
 required-leaves false site s t done is = absurd (cc)
 
-required-true : (test : Bool) (site : ℕ) (s t : effect.State) (done : Unit {0}) → effect.require test site s ≡ effect.Gives done t → test ≡ true
+pub required-true : (test : Bool) (site : ℕ) (s t : effect.State) (done : Unit {0}) → effect.require test site s ≡ effect.Gives done t → test ≡ true
 required-true true site s t done is = refl
 required-true false site s t done is = absurd (cc)
 
 -- ---- index expressions
 
--- the walk over one is sound, it leaves the store as it is, and its value is of its form
-pub record IndexIsSound (world : World) (env : Environment) (evaluation : Evaluation) (piece : Piece) : Type 0 where
-  pub sound : Sound world env IsKnown (evaluation env) piece.walk
-  pub leaves : Leaves (evaluation env)
-  pub form : (s t : effect.State) (v : Value) → evaluation env s ≡ effect.Gives v t → IsOfForm (moment env t.store) (bound_of piece.form) v
+-- the walk over one is sound, unless it holds a call it leaves the store as it is, and its value is of its form
+pub record IndexIsSound (world : World) (block : ℕ) (env : Surroundings) (evaluation : Evaluation) (piece : Piece) : Type 0 where
+  pub sound : Sound world block env.visible IsValue (evaluation env) piece.walk
+  pub leaves : piece.holds_call ≡ false → Leaves (evaluation env)
+  pub form : (s t : effect.State) (v : Value) → evaluation env s ≡ effect.Gives v t → IsOfForm (moment env.visible t.store) (bound_of piece.form) v
 
-abbrev pub AllSound : World → Environment → List Evaluation → List Piece → Type 0
-AllSound world env [] [] = Unit {0}
-AllSound world env (evaluation ∷ evaluations) (piece ∷ pieces) = IndexIsSound world env evaluation piece × AllSound world env evaluations pieces
-AllSound world env evaluations pieces = ⊥
+abbrev pub AllSound : World → ℕ → Surroundings → List Evaluation → List Piece → Type 0
+AllSound world block env [] [] = Unit {0}
+AllSound world block env (evaluation ∷ evaluations) (piece ∷ pieces) =
+    IndexIsSound world block env evaluation piece × AllSound world block env evaluations pieces
+AllSound world block env evaluations pieces = ⊥
 
-known-range : (known : Known) (v : Value) → IsKnown known v → IsIn (range_in known) v
+-- what is reached tells of no variable's value
+abbrev IsFormless : Reach → Type 0
+IsFormless Entire = Unit {0}
+IsFormless (At index) = index.form ≡ None
+IsFormless (Inside index) = index.form ≡ None
+
+pub known-range : (known : Known) (v : Value) → IsKnown known v → IsIn (range_in known) v
 known-range (Ordinal range) v inside = inside
 
 -- an index that passed its test, and what is known of it
@@ -225,21 +236,59 @@ module _ (env : Environment) (store : Store) where
   behind-element before way fits cells number index (At first) inside form matches reached = longer first way (step.Element number ∷ []) reached.1
   behind-element before way fits cells number index (Inside first) inside form matches reached = longer first way (step.Element number ∷ []) reached
 
+-- what tells of no variable's value is so of any store
+any-store : (env : Environment) (before after : Store) (selectors : List Selector) (way : List Step) (reach : Reach) → IsFormless reach
+    → IsReachedBy env before selectors way reach → IsReachedBy env after selectors way reach
+any-store env before after selectors way Entire formless reached = reached
+any-store env before after selectors way (At index) formless reached = (reached.0, without-form index reached.1 formless)
+  where
+    without-form : (index : Index) → IsIndexOn env before index way → index.form ≡ None → IsIndexOn env after index way
+    without-form index on none = record {
+      number = on.number;
+      is_first = on.is_first;
+      in_range = on.in_range;
+      of_form = λ b is. absurd (none-some b (sym none ∙ is));
+    }
+any-store env before after selectors way (Inside index) formless on = record {
+  number = on.number;
+  is_first = on.is_first;
+  in_range = on.in_range;
+  of_form = λ b is. absurd (none-some b (sym formless ∙ is));
+}
+
+-- what was reached is reached behind an evaluation: it holds no call and leaves the store, or nothing is told of variables
+later-reached : (env : Environment) (before after : Store) (selectors : List Selector) (way : List Step) (reach : Reach) (holds_call : Bool)
+    → (holds_call ≡ false → after ≡ before) → (holds_call ≡ true → IsFormless reach) → IsReachedBy env before selectors way reach
+    → IsReachedBy env after selectors way reach
+later-reached env before after selectors way reach true same formless reached = any-store env before after selectors way reach (formless refl) reached
+later-reached env before after selectors way reach false same formless reached =
+    subst (λ (store : Store). IsReachedBy env store selectors way reach) (sym (same refl)) reached
+
+-- a form is known where no index behind it holds a call
+form-unless : (m : Moment) (form : Option Bound) (holds_call : Bool) (number : ℤ) → ((b : Bound) → form ≡ Some b → IsBound m b number) → (b : Bound)
+    → (cond holds_call None form) ≡ Some b → IsBound m b number
+form-unless m form true number known b is = absurd (none-some b is)
+form-unless m form false number known b is = known b is
+
+formless-deeper : (form : Option Bound) (range : Interval) (holds_call : Bool) (reach : Reach) → (holds_call ≡ true → IsFormless reach) → holds_call ≡ true
+    → IsFormless (deeper (record { form = cond holds_call None form; range = range }) reach)
+formless-deeper form range true Entire formless is = refl
+formless-deeper form range true (At first) formless is = formless refl
+formless-deeper form range true (Inside first) formless is = formless refl
+formless-deeper form range false reach formless is = absurd (false-true is)
+
 -- ---- what is found
 
 in-program : (world : World) (context : Context) (P : Context → Type 0) → context.tree ≡ world.tree → P (record context { tree = world.tree }) → P context
 in-program world context P is so = subst (λ (tree : Tree). P (record context { tree = tree })) (sym is) so
 
-type-of : (wanted : TypeId → Bool) (found : Option TypeId) → is_type wanted found ≡ true → (id : TypeId) × (found ≡ Some id) × (wanted id ≡ true)
+pub type-of : (wanted : TypeId → Bool) (found : Option TypeId) → is_type wanted found ≡ true → (id : TypeId) × (found ≡ Some id) × (wanted id ≡ true)
 type-of wanted None is = absurd (false-true is)
 type-of wanted (Some id) is = (id, refl, is)
 
 alone : {A : Type 0} (x y : A) → Contains (x ∷ []) y → x ≡ y
 alone x y (zero, within, at) = at
 alone x y (suc k, within, at) = absurd (omega (arith, within))
-
-get-contains : {A : Type 0} (xs : List A) (k : ℕ) (x : A) → slice_get xs k ≡ Some x → Contains xs x
-get-contains xs k x is = (k, slice_get_within xs k x is, get_or_from_slice_get xs k x x is)
 
 contains-get : {A : Type 0} (xs : List A) (x : A) → (inside : Contains xs x) → slice_get xs inside.0 ≡ Some x
 contains-get xs x inside = slice_get-get_or xs inside.0 x inside.1 ∙ ap Some inside.2
@@ -249,16 +298,13 @@ mapped-at f [] k y is = absurd (none-some y is)
 mapped-at f (x ∷ xs) zero y is = (x, refl, same_Some (f x) y is)
 mapped-at f (x ∷ xs) (suc k) y is = mapped-at f xs k y is
 
-same-type : (a b : TypeId) → is_same a b ≡ true → a ≡ b
-same-type a b is = ap (λ (n : ℕ). record { index = n }) (eqb-true a.index b.index is)
-
 number-back : (v : Value) → Number (number_of v) ≡ v
 number-back (Number n) = refl
 
 integer-number : (v : Value) → IsIn integer v → HasMember integer (number_of v)
 integer-number (Number n) inside = inside
 
-no-way : (way : List Step) → Matches [] way → way ≡ []
+pub no-way : (way : List Step) → Matches [] way → way ≡ []
 no-way [] matches = refl
 no-way (s ∷ way) matches = absurd matches
 
@@ -278,100 +324,128 @@ text-in (c ∷ text) =
     All-cons (HasMember (text_range (c ∷ text))) (pos c) (map pos text) (in-left own (text_range text) (Number (pos c)) (constant-in (pos c)))
     (λ k d within. in-right own (text_range text) (Number (slice_index_or (map pos text) k d)) (text-in text k d within))
 
-module _ (world : World) (env : Environment) (shows : Shows (variables_in world) env) where
+module _ (world : World) (block : ℕ) (env : Surroundings) where
+  abbrev visible : Environment
+  visible = env.visible
+
   abbrev tests_are_well : List Selector → Bool
-  tests_are_well selectors = list_all (is_well_formed_selector (declared_in world) (types_in world) world.sites) selectors
+  tests_are_well selectors = list_all (is_well_formed_selector (outline_of world.tree) block) selectors
 
   -- an index is tested: it lies in the range that passes
-  abbrev LiesIn : Value → Interval → Unit {0} → Type 0
-  LiesIn v range done = IsIn range v
+  abbrev LiesWithin : Value → Interval → Unit {0} → Store → Type 0
+  LiesWithin v range done store = IsIn range v
 
-  tested-sound : (fits : RangeTest) (known : Known) (v : Value) → fits.site < world.sites → IsKnown known v
-      → Sound world env (LiesIn v) (effect.require (is_in fits.range v) fits.site) (index_test (Some fits) known)
+  tested-sound : (fits : RangeTest) (known : Known) (v : Value) → fits.site < sites_in world → IsKnown known v
+      → Sound world block visible (LiesWithin v) (effect.require (is_in fits.range v) fits.site) (index_test (Some fits) known)
   tested-sound fits known v below inside =
-      sound-named world env (IsKnownOf v) (LiesIn v) range_in (λ passed done tie. known-range passed v tie) (effect.require (is_in fits.range v) fits.site)
-      (walk.fitting fits known) (fitting-sound world env fits known v below inside)
+      sound-named world block visible (IsKnownOf v) (LiesWithin v) range_in (λ passed done store tie. known-range passed v tie)
+      (effect.require (is_in fits.range v) fits.site) (walk.fitting fits known) (fitting-sound world block visible fits known v below inside)
+
+  -- selectors lead to a place, which is reached in the store behind them
+  abbrev pub LeadsTo : ℕ → List Selector → Reach → Option Place → Store → Type 0
+  LeadsTo root selectors reach place store = Leads visible root selectors store reach place
 
   -- the selectors behind some
-  selected-sound : (root : ℕ) (selectors : List Selector) (evaluations : List Evaluation) (pieces : List Piece) → AllSound world env evaluations pieces
+  selected-sound : (root : ℕ) (selectors : List Selector) (evaluations : List Evaluation) (pieces : List Piece) → AllSound world block env evaluations pieces
       → length evaluations ≡ index_count selectors → tests_are_well selectors ≡ true
       → (store : Store) (before : List Selector) (way : List Step) (reach : Reach) (place : Option Place)
-      → place ≡ part (env.variables root) way → Matches before way → IsReachedBy env store before way reach
-      → SoundFrom world env store (Leads env root (before ++ selectors) store) (selected selectors evaluations env place) (indexes_walk selectors pieces reach)
-  selected-sound root [] [] [] all count tests store before way reach place place_is matches reached =
-      let R = λ (list : List Selector). Leads env root list store in
-      let leads : R (before ++ []) reach place =
-      subst (λ (list : List Selector). R list reach place) (sym (append-nil before))
-      (record { way = way; place_is = place_is; matches = matches; reached = reached }) in
-      sound-here world env store (R (before ++ [])) (effect.give place) (walk.give reach) (sound-give world env (R (before ++ [])) place reach leads)
-  selected-sound root [] (evaluation ∷ evaluations) pieces all count tests store before way reach place place_is matches reached =
+      → place ≡ part (visible.variables root) way → Matches before way → IsReachedBy visible store before way reach
+      → (hold_call pieces ≡ true → IsFormless reach)
+      → SoundFrom world block visible store (LeadsTo root (before ++ selectors)) (selected selectors evaluations env place)
+      (indexes_walk selectors pieces reach)
+  selected-sound root [] [] [] all count tests store before way reach place place_is matches reached formless = λ context state s same unbroken walked here.
+      let R = LeadsTo root (before ++ []) in
+      let leads : R reach place s.store =
+      subst (λ (list : List Selector). LeadsTo root list reach place s.store) (sym (append-nil before))
+      (record {
+        way = way;
+        place_is = place_is;
+        matches = matches;
+        reached = subst (λ (x : Store). IsReachedBy visible x before way reach) (sym same) reached;
+      }) in
+      good-give world (IsForetold world visible R context (walk.give reach context state) s.store) place s here.fine
+      (record { tie = leads; stands = here.stands; kept = keeps-itself visible context.rounds s.store })
+  selected-sound root [] (evaluation ∷ evaluations) pieces all count tests store before way reach place place_is matches reached formless =
       absurd (omega (arith, count))
-  selected-sound root [] [] (piece ∷ pieces) all count tests store before way reach place place_is matches reached = absurd all
-  selected-sound root (Field position offset ∷ selectors) evaluations pieces all count tests store before way reach place place_is matches reached =
+  selected-sound root [] [] (piece ∷ pieces) all count tests store before way reach place place_is matches reached formless = absurd all
+  selected-sound root (Field position offset ∷ selectors) evaluations pieces all count tests store before way reach place place_is matches reached formless =
       let more = way ++ step.Field position ∷ [] in
       let inner = part place (step.Field position ∷ []) in
-      let inner_is : inner ≡ part (env.variables root) more =
-      ap (λ (p : Option Place). part p (step.Field position ∷ [])) place_is ∙ part-then (env.variables root) way (step.Field position ∷ []) in
+      let inner_is : inner ≡ part (visible.variables root) more =
+      ap (λ (p : Option Place). part p (step.Field position ∷ [])) place_is ∙ part-then (visible.variables root) way (step.Field position ∷ []) in
       let own : List Selector = Field position offset ∷ [] in
       let gone = matches-then before own way (step.Field position ∷ []) matches (refl, tt) in
       subst (λ (w : Walking Reach).
-      SoundFrom world env store (Leads env root (before ++ Field position offset ∷ selectors) store) (selected selectors evaluations env inner) w)
+      SoundFrom world block visible store (LeadsTo root (before ++ Field position offset ∷ selectors)) (selected selectors evaluations env inner) w)
       (sym (field-same position offset selectors pieces reach))
-      (subst (λ (list : List Selector). SoundFrom world env store (Leads env root list store) (selected selectors evaluations env inner)
+      (subst (λ (list : List Selector). SoundFrom world block visible store (LeadsTo root list) (selected selectors evaluations env inner)
       (indexes_walk selectors pieces reach)) (append_assoc before own selectors)
       (selected-sound root selectors evaluations pieces all count tests store (before ++ own) more reach inner inner_is gone
-      (behind-field env store before way position offset reach reached)))
-  selected-sound root (Element fits cells ∷ selectors) [] pieces all count tests store before way reach place place_is matches reached =
+      (behind-field visible store before way position offset reach reached) formless))
+  selected-sound root (Element fits cells ∷ selectors) [] pieces all count tests store before way reach place place_is matches reached formless =
       absurd (omega (arith, count))
-  selected-sound root (Element fits cells ∷ selectors) (evaluation ∷ evaluations) [] all count tests store before way reach place place_is matches reached =
-      absurd all
+  selected-sound root (Element fits cells ∷ selectors) (evaluation ∷ evaluations) [] all count tests store before way reach place place_is matches reached
+      formless = absurd all
   selected-sound root (Element fits cells ∷ selectors) (evaluation ∷ evaluations) (index ∷ pieces) all count tests store before way reach place place_is
-      matches reached =
-      let R = Leads env root (before ++ Element fits cells ∷ selectors) store in
-      let first = and_parts (is_well_formed_selector (declared_in world) (types_in world) world.sites (Element fits cells)) (tests_are_well selectors) tests in
-      let site = and_parts (nat_lt fits.site world.sites) (is_whole fits.range.first && is_whole fits.range.last) first.0 in
+      matches reached formless =
+      let R = LeadsTo root (before ++ Element fits cells ∷ selectors) in
+      let first = and_parts (is_well_formed_selector (outline_of world.tree) block (Element fits cells)) (tests_are_well selectors) tests in
+      let site = and_parts (nat_lt fits.site (sites_in world)) (is_whole fits.range.first && is_whole fits.range.last) first.0 in
       let test = λ (v : Value). effect.require (is_in fits.range v) fits.site in
       let inner_of = λ (v : Value). part place (step.Element (number_of v) ∷ []) in
-      let reached_by = λ (range : Interval). deeper (record { form = bound_of index.form; range = range }) reach in
+      let reached_by = λ (range : Interval). deeper (record { form = form_before index.form pieces; range = range }) reach in
       let own : List Selector = Element fits cells ∷ [] in
-      sound-still world env store IsKnown R (evaluation env)
+      from-then world block visible store IsValue R (evaluation env)
       (λ v. effect.◌>>=◌ (test v) (λ tested. selected selectors evaluations env (inner_of v))) index.walk
       (λ known. walk.◌>>=◌ (index_test (Some fits) known) (λ range. indexes_walk selectors pieces (reached_by range)))
-      (sound-here world env store IsKnown (evaluation env) index.walk all.0.sound) all.0.leaves
+      (sound-here world block visible store IsValue (evaluation env) index.walk all.0.sound)
       (λ known v s t is from inside.
-      let form : IsOfForm (moment env store) (bound_of index.form) v =
-      subst (λ (x : Store). IsOfForm (moment env x) (bound_of index.form) v) (all.0.leaves s t v is ∙ from) (all.0.form s t v is) in
+      let form : IsOfForm (moment visible t.store) (bound_of index.form) v = all.0.form s t v is in
+      let reached_now : IsReachedBy visible t.store before way reach =
+      later-reached visible store t.store before way reach index.holds_call (λ without. all.0.leaves without s t v is ∙ from)
+      (λ holds. formless (or_left index.holds_call (hold_call pieces) holds)) reached in
       let more = way ++ step.Element (number_of v) ∷ [] in
-      let inner_is : inner_of v ≡ part (env.variables root) more =
-      ap (λ (p : Option Place). part p (step.Element (number_of v) ∷ [])) place_is ∙ part-then (env.variables root) way (step.Element (number_of v) ∷ []) in
-      sound-still world env store (LiesIn v) R (test v) (λ tested. selected selectors evaluations env (inner_of v)) (index_test (Some fits) known)
+      let inner_is : inner_of v ≡ part (visible.variables root) more =
+      ap (λ (p : Option Place). part p (step.Element (number_of v) ∷ [])) place_is
+      ∙ part-then (visible.variables root) way (step.Element (number_of v) ∷ []) in
+      from-then world block visible t.store (LiesWithin v) R (test v) (λ tested. selected selectors evaluations env (inner_of v)) (index_test (Some fits) known)
       (λ range. indexes_walk selectors pieces (reached_by range))
-      (sound-here world env store (LiesIn v) (test v) (index_test (Some fits) known)
-      (tested-sound fits known v (ltb-true fits.site world.sites site.0) inside)) (required-leaves (is_in fits.range v) fits.site)
-      (λ range tested t u passes same lies.
-      let bounds = in-test fits.range v (required-true (is_in fits.range v) fits.site t u tested passes) in
+      (sound-here world block visible t.store (LiesWithin v) (test v) (index_test (Some fits) known)
+      (tested-sound fits known v (ltb-true fits.site (sites_in world) site.0) inside))
+      (λ range tested s2 u passes same lies.
+      let bounds = in-test fits.range v (required-true (is_in fits.range v) fits.site s2 u tested passes) in
       let gone : Matches (before ++ own) more =
       matches-then before own way (step.Element (number_of v) ∷ []) matches (bounds.0, bounds.1, tt) in
-      subst (λ (list : List Selector). SoundFrom world env store (Leads env root list store) (selected selectors evaluations env (inner_of v))
+      let stays : u.store ≡ t.store = required-leaves (is_in fits.range v) fits.site s2 u tested passes ∙ same in
+      subst (λ (list : List Selector). SoundFrom world block visible u.store (LeadsTo root list) (selected selectors evaluations env (inner_of v))
       (indexes_walk selectors pieces (reached_by range))) (append_assoc before own selectors)
-      (selected-sound root selectors evaluations pieces all.1 (omega (arith, count)) first.1 store (before ++ own) more (reached_by range) (inner_of v) inner_is
-      gone (behind-element env store before way fits cells (number_of v) (record { form = bound_of index.form; range = range }) reach
-      (number-in range v lies) (of-form (moment env store) (bound_of index.form) v form) matches reached))))
+      (selected-sound root selectors evaluations pieces all.1 (omega (arith, count)) first.1 u.store (before ++ own) more (reached_by range) (inner_of v)
+      inner_is gone
+      (subst (λ (x : Store). IsReachedBy visible x (before ++ own) more (reached_by range)) (sym stays)
+      (behind-element visible t.store before way fits cells (number_of v) (record { form = form_before index.form pieces; range = range }) reach
+      (number-in range v lies)
+      (form-unless (moment visible t.store) (bound_of index.form) (hold_call pieces) (number_of v)
+      (of-form (moment visible t.store) (bound_of index.form) v form)) matches reached_now))
+      (formless-deeper (bound_of index.form) range (hold_call pieces) reach
+      (λ holds. formless (or_right index.holds_call (hold_call pieces) holds))))))
 
   -- an access
-  pub reached-sound : (access : Access) (evaluations : List Evaluation) (pieces : List Piece) → AllSound world env evaluations pieces
-      → length evaluations ≡ index_count access.selectors.items → tests_are_well access.selectors.items ≡ true → (store : Store)
-      → SoundFrom world env store (Leads env access.root access.selectors.items store) (accessed access evaluations env) (access_walk access pieces)
-  reached-sound access evaluations pieces all count tests store =
+  pub reached-sound : (access : Access) (evaluations : List Evaluation) (pieces : List Piece) → AllSound world block env evaluations pieces
+      → length evaluations ≡ index_count access.selectors.items → tests_are_well access.selectors.items ≡ true
+      → Sound world block visible (LeadsTo access.root access.selectors.items) (accessed access evaluations env) (access_walk access pieces)
+  reached-sound access evaluations pieces all count tests =
       let selectors = access.selectors.items in
-      sound-still world env store Any_value (Leads env access.root selectors store) (effect.enter access.number env)
-      (λ done. selected selectors evaluations env (env.variables access.root)) (walk.enter access.number)
+      let R = LeadsTo access.root selectors in
+      sound-anywhere world block visible R (accessed access evaluations env) (access_walk access pieces)
+      (λ store.
+      from-then world block visible store Any_value R (effect.enter access.number visible)
+      (λ done. selected selectors evaluations env (visible.variables access.root)) (walk.enter access.number)
       (λ done. indexes_walk selectors pieces Entire)
-      (sound-here world env store Any_value (effect.enter access.number env) (walk.enter access.number) (sound-enter world env shows access.number))
-      (entered-leaves access.number env)
+      (sound-here world block visible store Any_value (effect.enter access.number visible) (walk.enter access.number)
+      (sound-enter world block visible access.number))
       (λ b a s t is from tie.
-      selected-sound access.root selectors evaluations pieces all count tests store [] [] Entire (env.variables access.root)
-      (sym (part-none (env.variables access.root))) tt refl)
+      selected-sound access.root selectors evaluations pieces all count tests t.store [] [] Entire (visible.variables access.root)
+      (sym (part-none (visible.variables access.root))) tt refl (λ holds. tt)))
 
   -- ---- uses
 
@@ -381,32 +455,51 @@ module _ (world : World) (env : Environment) (shows : Shows (variables_in world)
   abbrev inside : Context → Context
   inside context = record context { tree = world.tree }
 
-  held-at : (store : Store) (root : ℕ) (way rest : List Step) (place : Option Place) → place ≡ part (env.variables root) way
-      → held store (part place rest) ≡ value_at (moment env store) root (way ++ rest)
+  held-at : (store : Store) (root : ℕ) (way rest : List Step) (place : Option Place) → place ≡ part (visible.variables root) way
+      → held store (part place rest) ≡ value_at (moment visible store) root (way ++ rest)
   held-at store root way rest place place_is =
-      ap (λ (p : Option Place). held store (part p rest)) place_is ∙ ap (held store) (part-then (env.variables root) way rest)
-      ∙ part-held store (env.variables root) (way ++ rest)
+      ap (λ (p : Option Place). held store (part p rest)) place_is ∙ ap (held store) (part-then (visible.variables root) way rest)
+      ∙ part-held store (visible.variables root) (way ++ rest)
+
+  -- each part of a variable has an integer as its value
+  integer-held : (store : Store) (found : Option Place) (steps : List Step) (v : Value) → Typed world.tree store → part_of store found steps ≡ Some v
+      → IsIn integer v
+  integer-held store None steps v typed is = absurd (none-some v is)
+  integer-held store (Some place) steps (Number n) typed is =
+      let lies = typed (record place { steps = place.steps ++ steps }) (Number n) is in
+      let range = lies.2.0 in
+      common-has_left integer (record { first = range.first; last = range.last }) n lies.2.2
+
+  integer-at : (store : Store) (root : ℕ) (steps : List Step) (v : Value) → Typed world.tree store → value_at (moment visible store) root steps ≡ Some v
+      → IsIn integer v
+  integer-at store root steps v typed is = integer-held store (visible.variables root) steps v typed is
+
+  -- the numbers of a whole value are in the ranges that are known, whatever the store
+  abbrev pub IsWholeIn : Whole → List Interval → List ℤ → Store → Type 0
+  IsWholeIn value ranges numbers store = IsWhole (types_in world) value ranges numbers
 
   -- what an access of a type reaches
-  module _ (root : ℕ) (selectors : List Selector) (id : TypeId) (laws : RowsAre world.tree root selectors id) (site : ℕ) (below : site < world.sites)
-      (reach : Reach) (way : List Step) (matches : Matches selectors way) where
+  module _ (root : ℕ) (selectors : List Selector) (id : TypeId) (laws : RowsAre world.tree root selectors id)
+      (many : (selectors ≡ [] → is_structured (types_in world) id ≡ true) → length (rows root selectors) ≡ length (leaves_of (types_in world) id))
+      (site : ℕ) (below : site < (sites_in world)) (reach : Reach) (way : List Step) (matches : Matches selectors way) where
     -- each component that is given has a value
-    given-has : (state : State) (store : Store) → Knows (parts_in world) (variables_in world) env state store → IsReachedBy env store selectors way reach
+    given-has : (state : State) (store : Store) → Knows (parts_in world) (variables_in world) visible state store
+        → IsReachedBy visible store selectors way reach
         → (selectors ≡ [] → is_structured (types_in world) id ≡ true) → is_covered world.tree state reach (rows root selectors) ≡ true
-        → (rest : List Step) → Contains (components_of (types_in world) id) rest → HasValue (moment env store) root (way ++ rest)
+        → (rest : List Step) → Contains (components_of (types_in world) id) rest → HasValue (moment visible store) root (way ++ rest)
     given-has state store known reached structured covered rest of_type =
         let row = laws.covers way rest structured matches of_type in
-        subst (λ (r : ℕ). HasValue (moment env store) r (way ++ rest)) (laws.root_is row.0 row.1)
-        (reached-has world.tree (variables_in world) env state store known selectors row.0 way rest reach reached row.2
+        subst (λ (r : ℕ). HasValue (moment visible store) r (way ++ rest)) (laws.root_is row.0 row.1)
+        (reached-has world.tree (variables_in world) visible state store known selectors row.0 way rest reach reached row.2
         (covered-row world.tree state reach (rows root selectors) row.0 covered row.1))
 
     -- the value of a component of a row lies in the row's range
-    row-in : (state : State) (store : Store) → Knows (parts_in world) (variables_in world) env state store → (row : ℕ) (rest : List Step) (v : Value)
-        → Contains (rows root selectors) row → IsOfRow (parts_in world) row (way ++ rest) → value_at (moment env store) root (way ++ rest) ≡ Some v
+    row-in : (state : State) (store : Store) → Knows (parts_in world) (variables_in world) visible state store → (row : ℕ) (rest : List Step) (v : Value)
+        → Contains (rows root selectors) row → IsOfRow (parts_in world) row (way ++ rest) → value_at (moment visible store) root (way ++ rest) ≡ Some v
         → IsIn (row_at state.components row).range v
     row-in state store known row rest v among of_row at =
         known.components.ranges row (way ++ rest) v of_row
-        (subst (λ (r : ℕ). value_at (moment env store) r (way ++ rest) ≡ Some v) (sym (laws.root_is row among)) at)
+        (subst (λ (r : ℕ). value_at (moment visible store) r (way ++ rest) ≡ Some v) (sym (laws.root_is row among)) at)
 
     -- ---- an ordinal
 
@@ -420,30 +513,30 @@ module _ (world : World) (env : Environment) (shows : Shows (variables_in world)
       no-rest : (rest : List Step) → Contains (components_of (types_in world) id) rest → [] ≡ rest
       no-rest rest of_type = alone [] rest (subst (λ (components : List (List Step)). Contains components rest) scalar of_type)
 
-      rows-good : (context : Context) (state : State) (s : effect.State) → IsReachedBy env s.store selectors way reach
-          → IsPartOf world (used (inside context) state) → Stands world env context state s.store → (found : Option Value)
-          → value_at (moment env s.store) root (way ++ []) ≡ found
-          → Good world (IsForetold world env IsKnown context (used (inside context) state) s.store) s.visited (effect.fetched found site s)
-      rows-good context state s reached part stands None is =
+      rows-good : (context : Context) (state : State) (s : effect.State) → IsReachedBy visible s.store selectors way reach
+          → IsPartOf world (used (inside context) state) → Here world block visible context state s → (found : Option Value)
+          → value_at (moment visible s.store) root (way ++ []) ≡ found
+          → Good world (IsForetold world visible IsValue context (used (inside context) state) s.store) s (effect.fetched found site s)
+      rows-good context state s reached part here None is =
           let unclosed : is_covered world.tree state reach (rows root selectors) ≡ true → ⊥ = λ covered.
-          let has = given-has state s.store stands.known reached structured covered [] itself in none-some has.0 (sym is ∙ has.1) in
+          let has = given-has state s.store here.stands.known reached structured covered [] itself in none-some has.0 (sym is ∙ has.1) in
           record {
             errs = errs-here world site (part.ids site (open-here site (is_covered world.tree state reach (rows root selectors)) unclosed)) below;
             new = nothing-new world s.visited;
             gives = tt;
           }
-      rows-good context state s reached part stands (Some v) is =
+      rows-good context state s reached part here (Some v) is =
           let row = laws.covers way [] structured matches itself in
-          let lies = joined-in state (rows root selectors) row.0 v row.1 (row-in state s.store stands.known row.0 [] v row.1 row.2 is) in
-          let has : (rest : List Step) → Contains (components_of (types_in world) id) rest → HasValue (moment env s.store) root (way ++ rest) =
-          λ rest of_type. (v, subst (λ (steps : List Step). value_at (moment env s.store) root (way ++ steps) ≡ Some v) (no-rest rest of_type) is) in
-          let known = used-known world.tree (variables_in world) env s.store root selectors id laws way matches reach reached has state stands.known in
+          let lies = joined-in state (rows root selectors) row.0 v row.1 (row-in state s.store here.stands.known row.0 [] v row.1 row.2 is) in
+          let has : (rest : List Step) → Contains (components_of (types_in world) id) rest → HasValue (moment visible s.store) root (way ++ rest) =
+          λ rest of_type. (v, subst (λ (steps : List Step). value_at (moment visible s.store) root (way ++ steps) ≡ Some v) (no-rest rest of_type) is) in
+          let known = used-known world.tree (variables_in world) visible s.store root selectors id laws way matches reach reached has state here.stands.known in
           let behind = with_used reach (rows root selectors) state in
-          good-give world (IsForetold world env IsKnown context (used (inside context) state) s.store) v s (record {
+          good-give world (IsForetold world visible IsValue context (used (inside context) state) s.store) v s here.fine (record {
             tie = lies;
-            stands = nonempty-stands world env context (all_joined (ranges_of state (rows root selectors))) behind s.store v lies
-                (stands-as world env context state behind s.store stands known);
-            kept = keeps-itself env context.rounds s.store;
+            stands = nonempty-stands world visible context (all_joined (ranges_of state (rows root selectors))) behind s.store v lies
+                (stands-as world visible context state behind s.store here.stands known);
+            kept = keeps-itself visible context.rounds s.store;
           })
 
     -- ---- a whole value
@@ -453,66 +546,67 @@ module _ (world : World) (env : Environment) (shows : Shows (variables_in world)
     AreRead before components numbers after =
         (after ≡ before) × AreIntegers numbers × (length numbers ≡ length components)
         × ((k : ℕ) (rest : List Step) (n : ℤ) → slice_get components k ≡ Some rest → slice_get numbers k ≡ Some n
-        → value_at (moment env before) root (way ++ rest) ≡ Some (Number n))
+        → value_at (moment visible before) root (way ++ rest) ≡ Some (Number n))
 
-    module _ (place : Option Place) (place_is : place ≡ part (env.variables root) way) (before : Store)
-        (typed : InTypes world.tree world.limits env before) where
+    module _ (place : Option Place) (place_is : place ≡ part (visible.variables root) way) (before : Store) where
       abbrev IsRead : List Step → Value → Store → Type 0
-      IsRead rest v after = (value_at (moment env before) root (way ++ rest) ≡ Some v) × (after ≡ before)
+      IsRead rest v after = (value_at (moment visible before) root (way ++ rest) ≡ Some v) × (after ≡ before)
 
-      found-good : (rest : List Step) (s : effect.State) → s.store ≡ before → (found : Option Value) → value_at (moment env before) root (way ++ rest) ≡ found
-          → (found ≡ None → Contains world.ids site) → Good world (IsRead rest) s.visited (effect.fetched found site s)
-      found-good rest s same None is opens = record {
+      found-good : (rest : List Step) (s : effect.State) → Fine world.tree s → s.store ≡ before → (found : Option Value)
+          → value_at (moment visible before) root (way ++ rest) ≡ found
+          → (found ≡ None → Contains world.ids site) → Good world (IsRead rest) s (effect.fetched found site s)
+      found-good rest s fine same None is opens = record {
         errs = errs-here world site (opens refl) below;
         new = nothing-new world s.visited;
         gives = tt;
       }
-      found-good rest s same (Some v) is opens = good-give world (IsRead rest) v s (is, same)
+      found-good rest s fine same (Some v) is opens = good-give world (IsRead rest) v s fine (is, same)
 
-      one-good : (rest : List Step) (s : effect.State) → s.store ≡ before
-          → (value_at (moment env before) root (way ++ rest) ≡ None → Contains world.ids site)
-          → Good world (IsRead rest) s.visited (fetch (part place rest) site s)
-      one-good rest s same opens =
-          subst (λ (found : Option Value). Good world (IsRead rest) s.visited (effect.fetched found site s))
-          (sym (held-at s.store root way rest place place_is ∙ ap (λ (x : Store). value_at (moment env x) root (way ++ rest)) same))
-          (found-good rest s same (value_at (moment env before) root (way ++ rest)) refl opens)
+      one-good : (rest : List Step) (s : effect.State) → Fine world.tree s → s.store ≡ before
+          → (value_at (moment visible before) root (way ++ rest) ≡ None → Contains world.ids site)
+          → Good world (IsRead rest) s (fetch (part place rest) site s)
+      one-good rest s fine same opens =
+          subst (λ (found : Option Value). Good world (IsRead rest) s (effect.fetched found site s))
+          (sym (held-at s.store root way rest place place_is ∙ ap (λ (x : Store). value_at (moment visible x) root (way ++ rest)) same))
+          (found-good rest s fine same (value_at (moment visible before) root (way ++ rest)) refl opens)
 
-      all-good : (components : List (List Step)) (s : effect.State) → s.store ≡ before
-          → ((rest : List Step) → Contains components rest → value_at (moment env before) root (way ++ rest) ≡ None → Contains world.ids site)
-          → Good world (AreRead before components) s.visited (fetch_all place components site s)
-      all-good [] s same opens =
-          good-give world (AreRead before []) [] s (same, All-nil (HasMember integer), refl, λ k rest n is at. absurd (none-some rest is))
-      all-good (first ∷ components) s same opens =
-          good-then world (IsRead first) (AreRead before (first ∷ components)) s.visited (fetch (part place first) site s)
+      all-good : (components : List (List Step)) (s : effect.State) → Fine world.tree s → s.store ≡ before
+          → ((rest : List Step) → Contains components rest → value_at (moment visible before) root (way ++ rest) ≡ None → Contains world.ids site)
+          → Good world (AreRead before components) s (fetch_all place components site s)
+      all-good [] s fine same opens =
+          good-give world (AreRead before []) [] s fine (same, All-nil (HasMember integer), refl, λ k rest n is at. absurd (none-some rest is))
+      all-good (first ∷ components) s fine same opens =
+          good-then world (IsRead first) (AreRead before (first ∷ components)) s (fetch (part place first) site s)
           (λ v. effect.◌>>=◌ (fetch_all place components site) (λ numbers. effect.give (number_of v ∷ numbers)))
-          (one-good first s same (opens first (0, omega arith, refl)))
+          (one-good first s fine same (opens first (0, omega arith, refl)))
           (λ v t is read.
-          good-then world (AreRead before components) (AreRead before (first ∷ components)) t.visited (fetch_all place components site t)
+          good-then world (AreRead before components) (AreRead before (first ∷ components)) t (fetch_all place components site t)
           (λ numbers. effect.give (number_of v ∷ numbers))
-          (all-good components t read.1 (λ rest among. opens rest (suc among.0, omega (arith, among.1), among.2)))
+          (all-good components t read.fine read.so.1 (λ rest among. opens rest (suc among.0, omega (arith, among.1), among.2)))
           (λ numbers u gives more.
-          good-give world (AreRead before (first ∷ components)) (number_of v ∷ numbers) u (
-            more.0,
-            All-cons (HasMember integer) (number_of v) numbers (integer-number v (typed.integers root (way ++ first) v read.0)) more.1,
-            ap suc more.2,
-            pairs-then (λ rest n. value_at (moment env before) root (way ++ rest) ≡ Some (Number n)) first components (number_of v) numbers
-                (read.0 ∙ ap Some (sym (number-back v))) more.3,
+          good-give world (AreRead before (first ∷ components)) (number_of v ∷ numbers) u more.fine (
+            more.so.0,
+            All-cons (HasMember integer) (number_of v) numbers (integer-number v (integer-at s.store root (way ++ first) v fine.typed
+                (ap (λ (x : Store). value_at (moment visible x) root (way ++ first)) same ∙ read.so.0))) more.so.1,
+            ap suc more.so.2,
+            pairs-then (λ rest n. value_at (moment visible before) root (way ++ rest) ≡ Some (Number n)) first components (number_of v) numbers
+                (read.so.0 ∙ ap Some (sym (number-back v))) more.so.3,
           )))
 
     abbrev used_whole : Walking (List Interval)
     used_whole = walk.whole_rows_use id (rows root selectors) reach site
 
     -- what was read lies in the ranges, row by row
-    read-in : (state : State) (store after : Store) (numbers : List ℤ) → Knows (parts_in world) (variables_in world) env state store
+    read-in : (state : State) (store after : Store) (numbers : List ℤ) → Knows (parts_in world) (variables_in world) visible state store
         → AreRead store (components_of (types_in world) id) numbers after → LieIn (types_in world) id (ranges_of state (rows root selectors)) numbers
     read-in state store after numbers known read k j rest leaf n range of_type of_leaf named at ranged =
         let row = mapped-at (λ (r : ℕ). (row_at state.components r).range) (rows root selectors) j range ranged in
-        let of_row = laws.placed way rest j row.0 leaf matches (get-contains (components_of (types_in world) id) k rest of_type) of_leaf named row.1 in
-        let lies = row-in state store known row.0 rest (Number n) (get-contains (rows root selectors) j row.0 row.1) of_row (read.3 k rest n of_type at) in
+        let of_row = laws.placed way rest j row.0 leaf matches (contains-at (components_of (types_in world) id) k rest of_type) of_leaf named row.1 in
+        let lies = row-in state store known row.0 rest (Number n) (contains-at (rows root selectors) j row.0 row.1) of_row (read.3 k rest n of_type at) in
         subst (λ (r : Interval). HasMember r n) row.2 lies
 
     read-has : (store after : Store) (numbers : List ℤ) → AreRead store (components_of (types_in world) id) numbers after
-        → (rest : List Step) → Contains (components_of (types_in world) id) rest → HasValue (moment env store) root (way ++ rest)
+        → (rest : List Step) → Contains (components_of (types_in world) id) rest → HasValue (moment visible store) root (way ++ rest)
     read-has store after numbers read rest among =
         let components = components_of (types_in world) id in
         let within : among.0 < length numbers = omega (arith, among.1, read.2) in
@@ -522,15 +616,21 @@ module _ (world : World) (env : Environment) (shows : Shows (variables_in world)
     abbrev closed : State → Bool
     closed state = is_dead state || (is_structured (types_in world) id && is_covered world.tree state reach (rows root selectors))
 
-    whole-open : (context : Context) (state : State) (store : Store) → IsReachedBy env store selectors way reach
-        → IsPartOf world (used_whole (inside context) state) → Stands world env context state store
-        → (rest : List Step) → Contains (components_of (types_in world) id) rest → value_at (moment env store) root (way ++ rest) ≡ None
+    -- there is a range for each leaf
+    ranges-many : (state : State) → is_structured (types_in world) id ≡ true
+        → length (ranges_of state (rows root selectors)) ≡ length (leaves_of (types_in world) id)
+    ranges-many state structured =
+        length-map (rows root selectors) (λ row. (row_at state.components row).range) ∙ many (λ none. structured)
+
+    whole-open : (context : Context) (state : State) (store : Store) → IsReachedBy visible store selectors way reach
+        → IsPartOf world (used_whole (inside context) state) → Stands world visible context state store
+        → (rest : List Step) → Contains (components_of (types_in world) id) rest → value_at (moment visible store) root (way ++ rest) ≡ None
         → Contains world.ids site
     whole-open context state store reached part stands rest among none =
         let structured = is_structured (types_in world) id in
         let covered = is_covered world.tree state reach (rows root selectors) in
         let unclosed : closed state ≡ true → ⊥ = λ is.
-        ⊎_elim (λ dead. false-true (sym (alive (variables_in world) env state.variables store stands.known.variables) ∙ dead))
+        ⊎_elim (λ dead. false-true (sym (alive (variables_in world) visible state.variables store stands.known.variables) ∙ dead))
         (λ both.
         let each = and_parts structured covered both in
         let has = given-has state store stands.known reached (λ entire. each.0) each.1 rest among in none-some has.0 (sym none ∙ has.1))
@@ -538,28 +638,31 @@ module _ (world : World) (env : Environment) (shows : Shows (variables_in world)
         part.ids site (open-here site (closed state) unclosed)
 
     whole-good : (value : Whole) → ((ranges : List Interval) (numbers : List ℤ) → AreIntegers numbers
-        → length numbers ≡ length (components_of (types_in world) id) → LieIn (types_in world) id ranges numbers
+        → length numbers ≡ length (components_of (types_in world) id)
+        → (is_structured (types_in world) id ≡ true → length ranges ≡ length (leaves_of (types_in world) id))
+        → LieIn (types_in world) id ranges numbers
         → IsWhole (types_in world) value ranges numbers)
-        → (place : Option Place) → place ≡ part (env.variables root) way → (context : Context) (state : State) (s : effect.State)
-        → IsReachedBy env s.store selectors way reach → IsPartOf world (used_whole (inside context) state) → Stands world env context state s.store
-        → Good world (IsForetold world env (IsWhole (types_in world) value) context (used_whole (inside context) state) s.store) s.visited
+        → (place : Option Place) → place ≡ part (visible.variables root) way → (context : Context) (state : State) (s : effect.State)
+        → IsReachedBy visible s.store selectors way reach → IsPartOf world (used_whole (inside context) state) → Here world block visible context state s
+        → Good world (IsForetold world visible (IsWholeIn value) context (used_whole (inside context) state) s.store) s
         (fetch_all place (components_of (types_in world) id) site s)
-    whole-good value so place place_is context state s reached part stands =
+    whole-good value so place place_is context state s reached part here =
         let components = components_of (types_in world) id in
         let behind = with_used reach (rows root selectors) state in
         good-weaker world (AreRead s.store components)
-        (IsForetold world env (IsWhole (types_in world) value) context (used_whole (inside context) state) s.store) s.visited
+        (IsForetold world visible (IsWholeIn value) context (used_whole (inside context) state) s.store) s
         (fetch_all place components site s)
         (λ numbers t gives read.
-        let known = used-known world.tree (variables_in world) env s.store root selectors id laws way matches reach reached
-        (read-has s.store t.store numbers read) state stands.known in
+        let known = used-known world.tree (variables_in world) visible s.store root selectors id laws way matches reach reached
+        (read-has s.store t.store numbers read.so) state here.stands.known in
         record {
-          tie = so (ranges_of state (rows root selectors)) numbers read.1 read.2 (read-in state s.store t.store numbers stands.known read);
-          stands = subst (λ (store : Store). Stands world env context behind store) (sym read.0)
-              (stands-as world env context state behind s.store stands known);
-          kept = subst (λ (store : Store). Keeps env context.rounds s.store store) (sym read.0) (keeps-itself env context.rounds s.store);
+          tie = so (ranges_of state (rows root selectors)) numbers read.so.1 read.so.2 (ranges-many state)
+              (read-in state s.store t.store numbers here.stands.known read.so);
+          stands = subst (λ (store : Store). Stands world visible context behind store) (sym read.so.0)
+              (stands-as world visible context state behind s.store here.stands known);
+          kept = subst (λ (store : Store). Keeps visible context.rounds s.store store) (sym read.so.0) (keeps-itself visible context.rounds s.store);
         })
-        (all-good place place_is s.store stands.typed components s refl (whole-open context state s.store reached part stands))
+        (all-good place place_is s.store components s here.fine refl (whole-open context state s.store reached part here.stands))
 
   -- ---- what is accessed
 
@@ -568,98 +671,103 @@ module _ (world : World) (env : Environment) (shows : Shows (variables_in world)
 
   -- the use of a component
   component-sound : (root : ℕ) (selectors : List Selector) (id : TypeId) → access_type root selectors ≡ Some id → is_ordinal (types_in world) id ≡ true
-      → (selectors ≡ [] → ⊥) → (site : ℕ) → site < world.sites → (store : Store) (reach : Reach) (place : Option Place)
-      → Leads env root selectors store reach place
-      → SoundFrom world env store IsKnown (fetch place site) (walk.component_use root selectors reach site)
-  component-sound root selectors id of_type ordinal some site below store reach place leads context state s same unbroken walked stands =
+      → (selectors ≡ [] → ⊥) → (site : ℕ) → site < sites_in world → (store : Store) (reach : Reach) (place : Option Place)
+      → Leads visible root selectors store reach place
+      → SoundFrom world block visible store IsValue (fetch place site) (walk.component_use root selectors reach site)
+  component-sound root selectors id of_type ordinal some site below store reach place leads context state s same unbroken walked here =
       let walking = walk.component_use root selectors reach site in
       let scalar = ordinal_component (types_in world) id ordinal in
-      let reached : IsReachedBy env s.store selectors leads.way reach =
-      subst (λ (x : Store). IsReachedBy env x selectors leads.way reach) (sym same) leads.reached in
+      let reached : IsReachedBy visible s.store selectors leads.way reach =
+      subst (λ (x : Store). IsReachedBy visible x selectors leads.way reach) (sym same) leads.reached in
       let place_is : part place [] ≡ place = part-none place in
       in-program world context (λ (c : Context). IsPartOf world (walking c state)
-      → Good world (IsForetold world env IsKnown context (walking c state) s.store) s.visited (fetch place site s)) stands.tree_is
+      → Good world (IsForetold world visible IsValue context (walking c state) s.store) s (fetch place site s)) here.stands.goes.tree_is
       (λ inside_walked.
-      subst (λ (found : Option Value). Good world (IsForetold world env IsKnown context (walking (inside context) state) s.store) s.visited
+      subst (λ (found : Option Value). Good world (IsForetold world visible IsValue context (walking (inside context) state) s.store) s
       (effect.fetched found site s)) (sym (held-at s.store root leads.way [] place leads.place_is) ∙ ap (held s.store) place_is)
-      (rows-good root selectors id (rows-are world.tree root selectors id of_type) site below reach leads.way leads.matches scalar
-      (λ none. absurd (some none)) context state s reached inside_walked stands (value_at (moment env s.store) root (leads.way ++ [])) refl)) walked
+      (rows-good root selectors id (rows-are world.tree root selectors id of_type) (rows-count world.tree root selectors id of_type) site below reach leads.way
+      leads.matches scalar (λ none. absurd (some none)) context state s reached inside_walked here
+      (value_at (moment visible s.store) root (leads.way ++ [])) refl)) walked
 
   some-selector : (selector : Selector) (selectors : List Selector) → selector ∷ selectors ≡ [] → ⊥
   some-selector selector selectors is = cc
 
   -- the value of what is accessed
   pub used-sound : (root : ℕ) (selectors : List Selector) (site : ℕ) → is_type (is_ordinal (types_in world)) (access_type root selectors) ≡ true
-      → root < variables_in world → site < world.sites → (store : Store) (reach : Reach) (place : Option Place) → Leads env root selectors store reach place
-      → SoundFrom world env store IsKnown (fetch place site) (value_use root selectors reach site)
-  used-sound root [] site typed within below store reach place leads =
-      let entire : place ≡ env.variables root = leads.place_is ∙ ap (part (env.variables root)) (no-way leads.way leads.matches)
-      ∙ part-none (env.variables root) in
-      subst (λ (p : Option Place). SoundFrom world env store IsKnown (fetch p site) (walk.use_of root site)) (sym entire)
-      (sound-here world env store IsKnown (fetch (env.variables root) site) (walk.use_of root site) (sound-use world env shows root site within below))
-  used-sound root (selector ∷ selectors) site typed within below store reach place leads =
+      → is_seen world block root ≡ true → site < sites_in world → (store : Store) (reach : Reach) (place : Option Place)
+      → Leads visible root selectors store reach place
+      → SoundFrom world block visible store IsValue (fetch place site) (value_use root selectors reach site)
+  used-sound root [] site typed shown below store reach place leads =
+      let entire : place ≡ visible.variables root = leads.place_is ∙ ap (part (visible.variables root)) (no-way leads.way leads.matches)
+      ∙ part-none (visible.variables root) in
+      subst (λ (p : Option Place). SoundFrom world block visible store IsValue (fetch p site) (walk.use_of root site)) (sym entire)
+      (sound-here world block visible store IsValue (fetch (visible.variables root) site) (walk.use_of root site)
+      (sound-use world block visible root site shown below))
+  used-sound root (selector ∷ selectors) site typed shown below store reach place leads =
       let id = type-of (is_ordinal (types_in world)) (access_type root (selector ∷ selectors)) typed in
       component-sound root (selector ∷ selectors) id.0 id.1 id.2 (some-selector selector selectors) site below store reach place leads
 
   -- the components of a whole value
-  components-sound : (root : ℕ) (selectors : List Selector) (id : TypeId) → access_type root selectors ≡ Some id → (site : ℕ) → site < world.sites
+  components-sound : (root : ℕ) (selectors : List Selector) (id : TypeId) → access_type root selectors ≡ Some id → (site : ℕ) → site < sites_in world
       → (value : Whole) → ((ranges : List Interval) (numbers : List ℤ) → AreIntegers numbers → length numbers ≡ length (components_of (types_in world) id)
+      → (is_structured (types_in world) id ≡ true → length ranges ≡ length (leaves_of (types_in world) id))
       → LieIn (types_in world) id ranges numbers → IsWhole (types_in world) value ranges numbers)
-      → (store : Store) (reach : Reach) (place : Option Place) → Leads env root selectors store reach place
-      → SoundFrom world env store (IsWhole (types_in world) value) (fetch_all place (components_of env.types id) site)
+      → (store : Store) (reach : Reach) (place : Option Place) → Leads visible root selectors store reach place
+      → SoundFrom world block visible store (IsWholeIn value) (fetch_all place (components_of visible.types id) site)
       (walk.whole_use id root selectors reach site)
-  components-sound root selectors id of_type site below value so store reach place leads context state s same unbroken part stands =
-      let R = IsWhole (types_in world) value in
+  components-sound root selectors id of_type site below value so store reach place leads context state s same unbroken part here =
+      let R = IsWholeIn value in
       let walking = walk.whole_use id root selectors reach site in
-      let reached : IsReachedBy env s.store selectors leads.way reach =
-      subst (λ (x : Store). IsReachedBy env x selectors leads.way reach) (sym same) leads.reached in
-      subst (λ (types : List Form). Good world (IsForetold world env R context (walking context state) s.store) s.visited
-      (fetch_all place (components_of types id) site s)) (sym stands.types_are)
+      let reached : IsReachedBy visible s.store selectors leads.way reach =
+      subst (λ (x : Store). IsReachedBy visible x selectors leads.way reach) (sym same) leads.reached in
+      subst (λ (types : List Form). Good world (IsForetold world visible R context (walking context state) s.store) s
+      (fetch_all place (components_of types id) site s)) (sym here.proper.types_are)
       (in-program world context (λ (c : Context). IsPartOf world (walking c state)
-      → Good world (IsForetold world env R context (walking c state) s.store) s.visited (fetch_all place (components_of (types_in world) id) site s))
-      stands.tree_is
-      (λ part. whole-good root selectors id (rows-are world.tree root selectors id of_type) site below reach leads.way leads.matches value so place
-      leads.place_is context state s reached part stands) part)
+      → Good world (IsForetold world visible R context (walking c state) s.store) s (fetch_all place (components_of (types_in world) id) site s))
+      here.stands.goes.tree_is
+      (λ part. whole-good root selectors id (rows-are world.tree root selectors id of_type) (rows-count world.tree root selectors id of_type) site below reach
+      leads.way leads.matches value so place leads.place_is context state s reached part here) part)
 
   -- a whole value: a string, or what is accessed
   pub string-sound : (number : ℕ) (text : Vec ℕ Global) → are_characters text.items ≡ true
-      → Sound world env (IsWhole (types_in world) (Text number text)) (whole_of (Text number text) [] env) (whole_walk (Text number text) [])
+      → Sound world block visible (IsWholeIn (Text number text)) (whole_of (Text number text) [] env) (whole_walk (Text number text) [])
   string-sound number text well =
       let parts = and_parts (nat_le (length text.items) 65536) (list_all is_character text.items) well in
-      let R = IsWhole (types_in world) (Text number text) in
-      sound-then world env Any_value R (effect.enter number env) (λ done. effect.give (map pos text.items)) (walk.enter number)
-      (λ done. walk.give (text_range text.items ∷ [])) (sound-enter world env shows number)
-      (λ b a tie. sound-give world env R (map pos text.items) (text_range text.items ∷ [])
-      (record { integers = characters-integers text.items parts.1; told = (refl, refl, text-in text.items) }))
+      let R = IsWholeIn (Text number text) in
+      sound-then world block visible Any_value R (effect.enter number visible) (λ done. effect.give (map pos text.items)) (walk.enter number)
+      (λ done. walk.give (text_range text.items ∷ [])) (sound-enter world block visible number)
+      (λ b a store tie. sound-give world block visible R (map pos text.items) (text_range text.items ∷ [])
+      (λ later. record { integers = characters-integers text.items parts.1; told = (refl, refl, text-in text.items) }))
 
   pub stored-sound : (access : Access) (type_id : TypeId) (cells defined : ℕ) (evaluations : List Evaluation) (pieces : List Piece)
-      → AllSound world env evaluations pieces → Leaves (accessed access evaluations env)
-      → is_well_formed_whole (declared_in world) (types_in world) world.sites (VariableOf access type_id cells defined) (length evaluations) ≡ true
-      → Sound world env (IsWhole (types_in world) (VariableOf access type_id cells defined))
+      → AllSound world block env evaluations pieces
+      → is_well_formed_whole (outline_of world.tree) block (VariableOf access type_id cells defined) (length evaluations) ≡ true
+      → Sound world block visible (IsWholeIn (VariableOf access type_id cells defined))
       (whole_of (VariableOf access type_id cells defined) evaluations env) (whole_walk (VariableOf access type_id cells defined) pieces)
-  stored-sound access type_id cells defined evaluations pieces all leaves well =
+  stored-sound access type_id cells defined evaluations pieces all well =
       let value : Whole = VariableOf access type_id cells defined in
       let selectors = access.selectors.items in
       let n = length evaluations in
-      let leads_there = leads_to_whole (declared_in world) (types_in world) world.sites type_id access.root selectors n in
-      let sized = is_value_of (declared_in world) (types_in world) world.sites type_id cells in
-      let parts = and_parts leads_there (sized && nat_lt defined world.sites) well in
-      let site = and_parts sized (nat_lt defined world.sites) parts.1 in
+      let leads_there = leads_to_whole (outline_of world.tree) block type_id access.root selectors n in
+      let sized = is_value_of (outline_of world.tree) block type_id cells in
+      let parts = and_parts leads_there (sized && nat_lt defined (sites_in world)) well in
+      let site = and_parts sized (nat_lt defined (sites_in world)) parts.1 in
       let wanted = λ (id : TypeId). is_same id type_id && not (is_ordinal (types_in world) id) in
       let found = type-of wanted (access_type access.root selectors)
-      (leads-type (declared_in world) (types_in world) world.sites wanted access.root selectors n parts.0) in
+      (leads-type (outline_of world.tree) block wanted access.root selectors n parts.0) in
       let same = same-type found.0 type_id (and_parts (is_same found.0 type_id) (not (is_ordinal (types_in world) found.0)) found.2).0 in
-      let R = IsWhole (types_in world) value in
+      let R = IsWholeIn value in
       let action = accessed access evaluations env in
-      let next = λ (place : Option Place). fetch_all place (components_of env.types type_id) defined in
+      let next = λ (place : Option Place). fetch_all place (components_of visible.types type_id) defined in
       let walking = access_walk access pieces in
       let walk_next = λ (reach : Reach). walk.whole_use type_id access.root selectors reach defined in
-      sound-anywhere world env R (effect.◌>>=◌ action next) (walk.◌>>=◌ walking walk_next)
+      sound-anywhere world block visible R (effect.◌>>=◌ action next) (walk.◌>>=◌ walking walk_next)
       (λ store.
-      sound-still world env store (Leads env access.root selectors store) R action next walking walk_next
+      from-then world block visible store (LeadsTo access.root selectors) R action next walking walk_next
+      (sound-here world block visible store (LeadsTo access.root selectors) action walking
       (reached-sound access evaluations pieces all
-      (leads-count (declared_in world) (types_in world) world.sites wanted access.root selectors n parts.0)
-      (leads-tests (declared_in world) (types_in world) world.sites wanted access.root selectors n parts.0) store) leaves
+      (leads-count (outline_of world.tree) block wanted access.root selectors n parts.0)
+      (leads-tests (outline_of world.tree) block wanted access.root selectors n parts.0)))
       (λ reach place s t is from leads.
-      components-sound access.root selectors type_id (found.1 ∙ ap (λ (id : TypeId). Some id) same) defined (ltb-true defined world.sites site.1) value
-      (λ ranges numbers integers many lie. record { integers = integers; told = (many, lie) }) store reach place leads))
+      components-sound access.root selectors type_id (found.1 ∙ ap (λ (id : TypeId). Some id) same) defined (ltb-true defined (sites_in world) site.1) value
+      (λ ranges numbers integers many count lie. record { integers = integers; told = (many, count, lie) }) t.store reach place leads))

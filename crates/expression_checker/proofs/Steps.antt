@@ -10,6 +10,11 @@ use Rattle.typed_tree.specs.declared.tree.Relation.{Relation}
 use Rattle.typed_tree.specs.declared.tree.Whole.{Whole}
 use Rattle.typed_tree.specs.declared.tree.Expr.{Expr}
 use Rattle.typed_tree.specs.declared.tree.Link.{Link}
+use Rattle.typed_tree.specs.declared.tree.Call.{Call}
+use Rattle.typed_tree.specs.declared.tree.Passed.{Passed}
+use Rattle.typed_tree.specs.declared.tree.Passed.TheVariants as passed
+use Rattle.types.specs.declared.form.TypeId.{TypeId}
+use Rattle.call_states.specs.Actuals.{Actual}
 use Rattle.typed_tree.specs.declared.tree.Expr.TheVariants as expr
 use Rattle.typed_tree.specs.declared.tree.Expr.TheFolds.{the_lemmas}
 use Rattle.std.specs.declared.boxed.Box.{Box}
@@ -20,8 +25,6 @@ use Rattle.expression_checker.specs.declared.fault.CheckFault.TheVariants.{Memor
 use Rattle.expression_checker.specs.declared.flow.Flow.{Flow}
 use Rattle.abstract_state.specs.declared.known.Known.{Known}
 use Rattle.abstract_state.specs.declared.known.Known.TheVariants.{Ordinal}
-use Rattle.abstract_state.specs.Conditions.{bound_form}
-use Rattle.abstract_state.specs.Forms.{bound_of}
 use Rattle.abstract_state.specs.State.{is_defined, limits_of, range_of, unless_empty}
 use Rattle.abstract_state.specs.State as variables
 use Rattle.component_states.specs.declared.state.State.{State as Kept}
@@ -32,11 +35,14 @@ use Rattle.domain.specs.Interval.{Interval, between}
 use Rattle.std.proofs.lemmas.Int.{ints}
 use Rattle.expression_checker.specs.Visits.{Visits, all_counted, counted}
 use Rattle.expression_checker.specs.Walk.{Breach, Context, Linked, Walked, Walking, IsBreachOf, use_of, tested, positive, within, width_test, fitting, ◌>>=◌}
-use Rattle.expression_checker.specs.Walk.{behind_next, deeper, give, index_test, index_pieces, indexes_walk, next_test, related_walk, variable_walk}
+use Rattle.expression_checker.specs.Walk.{behind_next, deeper, form_before, give, index_test, index_pieces, indexes_walk, next_test, related_walk}
+use Rattle.expression_checker.specs.Walk.{variable_walk}
 use Rattle.expression_checker.specs.Walk.{whole_walk, joint_of, piece_of, range_in}
+use Rattle.expression_checker.specs.Walk.{actuals_walk, function_walk, passed_piece_of, value_passed, variable_passed, whole_passed}
 use Rattle.expression_checker.specs.Walk.{ordinal, enter, first_breach, left_open, operated, combined, in_turn, value_walk, link_walk, numbers_of}
-use Rattle.expression_checker.specs.View.{Flows, Goes, seen}
-use Rattle.expression_checker.proofs.Forms.{form-same}
+use Rattle.structured_states.specs.Loops.{Claims}
+use Rattle.expression_checker.specs.declared.grounds.Grounds.{Grounds}
+use Rattle.expression_checker.specs.View.{Flows, Goes, context_of, seen}
 use Rattle.structured_states.proofs.Claims.{item-cut, drop-past}
 
 -- ---- the walk, form by form
@@ -116,7 +122,7 @@ module _ {A B : Type 0} (context : Context) (first : Walking A) (next : A → Wa
   pub flows-then : (new : Flow) (after : Visits) (b : B) → Flows context (next a) mid between new after b
       → Flows context (first >>= next) old before new after b
   flows-then new after b two = record {
-    rows_are = two.rows_are ∙ one.rows_are;
+    grounds_are = two.grounds_are ∙ one.grounds_are;
     value_is = two.value_is ∙ ap (λ w. w.value) then-same;
     state_is = two.state_is ∙ ap (λ w. w.after) then-same;
     open_is = two.open_is ∙ ap (λ ids. ids ++ then.open_ids) one.open_is ∙ ap (λ w. (old.open_ids.items ++ was.open_ids) ++ w.open_ids) then-same
@@ -131,14 +137,10 @@ module _ {A B : Type 0} (context : Context) (first : Walking A) (next : A → Wa
   pub breach-later : (fault : CheckFault) → IsBreachOf then fault → IsBreachOf ((first >>= next) context (viewed old.state)) fault
   breach-later fault is = breach-same then ((first >>= next) context (viewed old.state)) fault both-broken is
 
-  -- the tree is that of the flow's rows still
-  pub tree-same : context.tree ≡ old.rows.now → context.tree ≡ mid.rows.now
-  tree-same is = is ∙ sym (ap (λ rows. rows.now) one.rows_are)
-
 -- a piece that only gives its value
 pub flows-give : {A : Type 0} (context : Context) (value : A) (old : Flow) (visits : Visits) → Flows context (give value) old visits old visits value
 flows-give context value old visits = record {
-  rows_are = refl;
+  grounds_are = refl;
   value_is = refl;
   state_is = refl;
   open_is = sym (append-nil old.open_ids.items);
@@ -157,27 +159,30 @@ breach-first {A} context first next state fault is =
 
 -- the checker gave up over a piece
 abbrev pub Stops : {A : Type 0} → Walking A → Flow → CheckFault → Type 0
-Stops walk old fault = (context : Context) → context.tree ≡ old.rows.now → IsBreachOf (walk context (viewed old.state)) fault
+Stops walk old fault = (claims : List Claims) → IsBreachOf (walk (context_of old.grounds claims) (viewed old.state)) fault
 
 -- the first piece was walked over: what the checker did over the next is what it did over both
 pub goes-then : {A B : Type 0} (first : Walking A) (next : A → Walking B)
     (old mid new : Flow) (before between after : Visits) (a : A) (result : Result B CheckFault)
     → Goes first old before (Ok a) mid between → Goes (next a) mid between result new after → Goes (first >>= next) old before result new after
-goes-then first next old mid new before between after a (Ok b) one two =
-    λ context is. let begun = one context is in
-    flows-then context first next old mid before between a begun new after b (two context (tree-same context first next old mid before between a begun is))
-goes-then first next old mid new before between after a (Err fault) one two =
-    λ context is. let begun = one context is in
-    breach-later context first next old mid before between a begun fault (two context (tree-same context first next old mid before between a begun is))
+goes-then first next old mid new before between after a (Ok b) one two = λ claims.
+    let begun = one claims in
+    flows-then (context_of old.grounds claims) first next old mid before between a begun new after b
+    (subst (λ (grounds : Grounds). Flows (context_of grounds claims) (next a) mid between new after b) begun.grounds_are (two claims))
+goes-then first next old mid new before between after a (Err fault) one two = λ claims.
+    let begun = one claims in
+    breach-later (context_of old.grounds claims) first next old mid before between a begun fault
+    (subst (λ (grounds : Grounds). IsBreachOf (next a (context_of grounds claims) (viewed mid.state)) fault) begun.grounds_are (two claims))
 
 -- the checker gave up over the first piece: so it does over both
 pub goes-stopped : {A B : Type 0} (first : Walking A) (next : A → Walking B) (old new : Flow) (before after : Visits) (fault : CheckFault)
     → Stops first old fault → Goes (first >>= next) old before (Err fault) new after
-goes-stopped first next old new before after fault stops = λ context is. breach-first context first next (viewed old.state) fault (stops context is)
+goes-stopped first next old new before after fault stops =
+    λ claims. breach-first (context_of old.grounds claims) first next (viewed old.state) fault (stops claims)
 
 -- a piece that only gives its value
 pub goes-give : {A : Type 0} (value : A) (old : Flow) (visits : Visits) → Goes (give value) old visits (Ok value) old visits
-goes-give value old visits = λ context is. flows-give context value old visits
+goes-give value old visits = λ claims. flows-give (context_of old.grounds claims) value old visits
 
 -- by what a walk is
 pub goes-as : {A : Type 0} (walk form : Walking A) (old new : Flow) (before after : Visits) (result : Result A CheckFault) → walk ≡ form
@@ -257,16 +262,17 @@ pub use-goes : (root site : ℕ) (closed : Bool) (range value : Interval) (old n
     → viewed state ≡ defined_in root (viewed old.state)
     → Goes (tested closed site range) (record old { state = state }) before (Ok value) new after
     → Goes (use_of root site) old before (Ok (Ordinal value)) new after
-use-goes root site closed range value old new state before after closed_is range_is state_is done = λ context is.
+use-goes root site closed range value old new state before after closed_is range_is state_is done = λ claims.
+    let context = context_of old.grounds claims in
     let was : State = viewed old.state in
     let same : tested closed site range context (viewed state) ≡ tested (is_defined was.variables root) site (range_of was.variables root) context
     (defined_in root was) =
     ap (λ c. tested c site range context (viewed state)) closed_is
     ∙ ap (λ r. tested (is_defined was.variables root) site r context (viewed state)) range_is
     ∙ ap (tested (is_defined was.variables root) site (range_of was.variables root) context) state_is in
-    let one = done context is in
+    let one = done claims in
     record {
-      rows_are = one.rows_are;
+      grounds_are = one.grounds_are;
       value_is = ap Ordinal (one.value_is ∙ ap (λ w. w.value) same);
       state_is = one.state_is ∙ ap (λ w. w.after) same;
       open_is = one.open_is ∙ ap (λ w. old.open_ids.items ++ w.open_ids) same
@@ -277,8 +283,9 @@ use-goes root site closed range value old new state before after closed_is range
 
 pub use-stopped : (root site : ℕ) (old new : Flow) (before after : Visits) (closed : Bool) (range : Interval) (state : Kept) (fault : CheckFault)
     → Stops (tested closed site range) (record old { state = state }) fault → Goes (use_of root site) old before (Err fault) new after
-use-stopped root site old new before after closed range state fault stops = λ context is.
-    breach-same (tested closed site range context (viewed state)) (use_of root site context (viewed old.state)) fault refl (stops context is)
+use-stopped root site old new before after closed range state fault stops = λ claims.
+    let context = context_of old.grounds claims in
+    breach-same (tested closed site range context (viewed state)) (use_of root site context (viewed old.state)) fault refl (stops claims)
 
 -- ---- an expression that the checker has begun
 
@@ -341,13 +348,13 @@ pub value-Compare : (number : ℕ) (relation : Relation) (left : Whole) (left_in
     ≡ (whole_walk left (index_pieces left_indexes.items) >>= λ _. related_walk number right (index_pieces right_indexes.items))
 value-Compare number relation left left_indexes right right_indexes = search (rules, the_lemmas)
 
--- an index, by the form of its expression and by where it lies
-abbrev pub index_at : Expr → Interval → Index
-index_at index range = record { form = bound_of (piece_of index).form; range = range }
+-- an index, by the form of its expression, if none of those behind it holds a call, and by where it lies
+abbrev pub index_at : Expr → List Expr → Interval → Index
+index_at index more range = record { form = form_before (piece_of index).form (index_pieces more); range = range }
 
 -- the index expressions behind one of them, by where that lies
 abbrev pub behind_walk : List Selector → Expr → List Expr → Reach → Interval → Walking Reach
-behind_walk behind index more reach range = indexes_walk behind (index_pieces more) (deeper (index_at index range) reach)
+behind_walk behind index more reach range = indexes_walk behind (index_pieces more) (deeper (index_at index more range) reach)
 
 -- the index expressions from one of them on
 pub index-cut : (selectors : List Selector) (items : List Expr) (i : ℕ) (index : Expr) (reach : Reach) → i < length items → index ≡ get_or items i index
@@ -361,15 +368,13 @@ index-cut selectors items i index reach inside is =
 pub index-step : (selectors behind : List Selector) (items : List Expr) (i : ℕ) (index : Expr) (reach next : Reach) (fits : Option RangeTest)
     (known : Known) (range : Interval) (old valued mid new : Flow) (before between after : Visits) (result : Result Reach CheckFault)
     → i < length items → index ≡ get_or items i index → fits ≡ next_test selectors → behind ≡ behind_next selectors
-    → next ≡ deeper (record { form = bound_form index; range = range }) reach
+    → next ≡ deeper (index_at index (drop (i + 1) items) range) reach
     → Goes (value_walk index) old before (Ok known) valued between → Goes (index_test fits known) valued between (Ok range) mid between
     → Goes (indexes_walk behind (index_pieces (drop (i + 1) items)) next) mid between result new after
     → Goes (indexes_walk selectors (index_pieces (drop i items)) reach) old before result new after
 index-step selectors behind items i index reach next fits known range old valued mid new before between after result inside is fits_is behind_is next_is
     one two three =
     let rest = λ (left : List Selector). behind_walk left index (drop (i + 1) items) reach in
-    let deep : next ≡ deeper (index_at index range) reach =
-    next_is ∙ ap (λ form. deeper (record { form = form; range = range }) reach) (sym (ap bound_of (form-same index))) in
     goes-as (indexes_walk selectors (index_pieces (drop i items)) reach) (value_walk index >>= λ known. (index_test fits known >>= rest behind)) old new
     before after result
     (index-cut selectors items i index reach inside is
@@ -377,7 +382,7 @@ index-step selectors behind items i index reach next fits known range old valued
     ∙ ap (λ left. value_walk index >>= λ known. (index_test fits known >>= rest left)) (sym behind_is))
     (goes-then (value_walk index) (λ known. index_test fits known >>= rest behind) old valued new before between after known result one
     (goes-then (index_test fits known) (rest behind) valued mid new between between after range result two
-    (subst (λ r. Goes (indexes_walk behind (index_pieces (drop (i + 1) items)) r) mid between result new after) deep three)))
+    (subst (λ r. Goes (indexes_walk behind (index_pieces (drop (i + 1) items)) r) mid between result new after) next_is three)))
 
 -- the checker gave up over an index expression, or over the test of its value
 pub index-stopped : (selectors : List Selector) (items : List Expr) (i : ℕ) (index : Expr) (reach : Reach) (old new : Flow) (before after : Visits)
@@ -418,6 +423,55 @@ range-in known range is = ap range_in is
 pub passed-goes : {A B : Type 0} (walk : Walking B) (test : Walking A) (next : A → B) (passed known : A) (result : B) (old new : Flow) (visits : Visits)
     → walk ≡ (test >>= λ x. give (next x)) → ((context : Context) → (test context (viewed old.state)).value ≡ known)
     → (passed ≡ known → result ≡ next passed) → Goes test old visits (Ok passed) new visits → Goes walk old visits (Ok result) new visits
-passed-goes walk test next passed known result old new visits is known_is result_is tested = λ context tree_is.
-    let same = result_is ((tested context tree_is).value_is ∙ known_is context) in
-    tested-goes walk test next passed result old new visits is same tested context tree_is
+passed-goes walk test next passed known result old new visits is known_is result_is tested = λ claims.
+    let same = result_is ((tested claims).value_is ∙ known_is (context_of old.grounds claims)) in
+    tested-goes walk test next passed result old new visits is same tested claims
+
+-- ---- calls
+
+pub value-Call : (call : Call) (actuals : Vec Passed Global)
+    → value_walk (expr.Call call actuals) ≡ function_walk call (map passed_piece_of actuals.items)
+value-Call call actuals = search (rules, the_lemmas)
+
+pub passed-Value : (value : Expr) (fits : RangeTest)
+    → (passed_piece_of (passed.Value value fits)).walk ≡ value_passed (piece_of value) fits
+passed-Value value fits = search (rules, the_lemmas)
+
+pub passed-Whole : (type_id : TypeId) (value : Whole) (indexes : Vec Expr Global)
+    → (passed_piece_of (passed.Whole type_id value indexes)).walk ≡ whole_passed type_id value (index_pieces indexes.items)
+passed-Whole type_id value indexes = search (rules, the_lemmas)
+
+pub passed-Reference : (type_id : TypeId) (access : Access) (indexes : Vec Expr Global)
+    → (passed_piece_of (passed.Reference type_id access indexes)).walk ≡ variable_passed access (index_pieces indexes.items)
+passed-Reference type_id access indexes = search (rules, the_lemmas)
+
+-- the actual parameters from one of them on
+abbrev pub actuals_from : List Passed → ℕ → Walking (List Actual)
+actuals_from items i = actuals_walk (map passed_piece_of (drop i items))
+
+pub actual-cut : (items : List Passed) (i : ℕ) (one : Passed) → i < length items → one ≡ get_or items i one
+    → actuals_from items i ≡ ((passed_piece_of one).walk >>= λ actual. (actuals_from items (i + 1) >>= λ more. give (actual ∷ more)))
+actual-cut items i one inside is = ap (λ list. actuals_walk (map passed_piece_of list)) (item-cut items i one inside is)
+
+-- what the checker did over those behind one of them is what it did over all, with what was passed before
+pub actual-step : (items : List Passed) (i : ℕ) (one : Passed) (actual : Actual) (old mid new : Flow) (before between after : Visits)
+    (result : Result (List Actual) CheckFault) → i < length items → one ≡ get_or items i one
+    → Goes (passed_piece_of one).walk old before (Ok actual) mid between
+    → Goes (actuals_from items (i + 1) >>= λ more. give (actual ∷ more)) mid between result new after
+    → Goes (actuals_from items i) old before result new after
+actual-step items i one actual old mid new before between after result inside is first rest =
+    let next = λ (actual : Actual). actuals_from items (i + 1) >>= λ more. give (actual ∷ more) in
+    goes-as (actuals_from items i) ((passed_piece_of one).walk >>= next) old new before after result (actual-cut items i one inside is)
+    (goes-then (passed_piece_of one).walk next old mid new before between after actual result first rest)
+
+pub actual-stopped : (items : List Passed) (i : ℕ) (one : Passed) (old new : Flow) (before after : Visits) (fault : CheckFault) → i < length items
+    → one ≡ get_or items i one → Stops (passed_piece_of one).walk old fault → Goes (actuals_from items i) old before (Err fault) new after
+actual-stopped items i one old new before after fault inside is stops =
+    let next = λ (actual : Actual). actuals_from items (i + 1) >>= λ more. give (actual ∷ more) in
+    goes-as (actuals_from items i) ((passed_piece_of one).walk >>= next) old new before after (Err fault) (actual-cut items i one inside is)
+    (goes-stopped (passed_piece_of one).walk next old new before after fault stops)
+
+pub actual-end : (items : List Passed) (i : ℕ) (old : Flow) (visits : Visits) → length items ≤ i → Goes (actuals_from items i) old visits (Ok []) old visits
+actual-end items i old visits past =
+    subst (λ (list : List Passed). Goes (actuals_walk (map passed_piece_of list)) old visits (Ok []) old visits) (sym (drop-past items i past))
+    (goes-give [] old visits)

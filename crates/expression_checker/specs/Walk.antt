@@ -1,12 +1,15 @@
 -- The walk of the checker over an expression, one equation a form: what is known of its value, the state after it, the
--- sites that it leaves open, and the state at each entry into an expression (ISO 7185:1990, 6.7). Rules of certificates
--- are broken by statements alone. It does not say that a run does what the walk says of it.
+-- sites that it leaves open, the rules of certificates that its calls break, and the state at each entry into an
+-- expression (ISO 7185:1990, 6.7). It does not say that a run does what the walk says of it.
 use Rattle.std.specs.Prelude.{◌≡◌, ℕ, ℤ, pos, ◌+ℤ◌, ◌-ℤ◌, Bool, not, ◌||◌, int_le, int_lt, List, [], ◌∷◌, ◌++◌}
-use Rattle.std.specs.Prelude.{Option, Some, None, if◌then◌else◌, map, ◌&&◌}
-use Rattle.std.specs.List.{list_all}
+use Rattle.std.specs.Prelude.{Option, Some, None, if◌then◌else◌, map, ◌&&◌, true, false, length, slice_get}
+use Rattle.std.specs.List.{list_all, list_any}
 use Rattle.place.specs.declared.Place.{Place}
 use Rattle.typed_tree.specs.declared.tree.Tree.{Tree}
 use Rattle.typed_tree.specs.declared.tree.Access.{Access}
+use Rattle.typed_tree.specs.declared.tree.Block.{Block}
+use Rattle.typed_tree.specs.declared.tree.Call.{Call}
+use Rattle.typed_tree.specs.declared.tree.FunctionResult.{FunctionResult}
 use Rattle.typed_tree.specs.declared.tree.Selector.{Selector}
 use Rattle.typed_tree.specs.declared.tree.Selector.TheVariants.{Element, Field}
 use Rattle.typed_tree.specs.declared.tree.RangeTest.{RangeTest}
@@ -20,17 +23,24 @@ use Rattle.typed_tree.specs.declared.tree.Written.{Written}
 use Rattle.typed_tree.specs.declared.tree.Written.TheVariants as written
 use Rattle.typed_tree.specs.declared.tree.Whole.{Whole}
 use Rattle.typed_tree.specs.declared.tree.Whole.TheVariants.{Text, Variable as VariableOf}
+use Rattle.types.specs.Forms.{Form as TypeForm}
+use Rattle.types.specs.Types.{have_one_length, is_same, string_length}
 use Rattle.types.specs.declared.form.TypeId.{TypeId}
 use Rattle.typed_tree.specs.declared.tree.Expr.{Expr}
 use Rattle.typed_tree.specs.declared.tree.Link.{Link}
-use Rattle.typed_tree.specs.declared.tree.Expr.TheOpen.{Expr-F, Link-F}
+use Rattle.typed_tree.specs.declared.tree.Passed.{Passed}
+use Rattle.typed_tree.specs.declared.tree.Expr.TheOpen.{Expr-F, Passed-F, Link-F}
 use Rattle.typed_tree.specs.declared.tree.Expr.TheOpen.Expr-F.{Constant, Variable, Monadic as MonadicOf, Chain}
-use Rattle.typed_tree.specs.declared.tree.Expr.TheOpen.Expr-F.{Compare}
-use Rattle.typed_tree.specs.declared.tree.Expr.TheFolds.{fold-Expr, fold-Link}
+use Rattle.typed_tree.specs.declared.tree.Expr.TheOpen.Expr-F.{Compare, Call as CallOf}
+use Rattle.typed_tree.specs.declared.tree.Expr.TheOpen.Passed-F.{Value as PassedValue, Whole as PassedWhole, Reference}
+use Rattle.typed_tree.specs.declared.tree.Expr.TheFolds.{fold-Expr, fold-Passed, fold-Link}
+use Rattle.typed_tree.specs.WellFormed.{of_one, whole_indexes}
 use Rattle.domain.specs.Interval.{Interval, is_included, has_number, common, sum, difference, negated, product, squared}
 use Rattle.domain.specs.Interval.{absolute, quotient, remainder, without_zero_end, at_least, at_most, both, either}
 use Rattle.domain.specs.Interval.{complement, joined, truth_values, vacant}
+use Rattle.domain.specs.Facts.{Bound}
 use Rattle.expression_checker.specs.declared.fault.Rule.{Rule}
+use Rattle.expression_checker.specs.declared.fault.Rule.TheVariants.{Aliases, CallEntry, Changes}
 use Rattle.expression_checker.specs.declared.fault.CheckFault.{CheckFault}
 use Rattle.expression_checker.specs.declared.fault.CheckFault.TheVariants.{Memory, Foreign, Broken}
 use Rattle.abstract_state.specs.declared.known.Known.{Known}
@@ -41,15 +51,25 @@ use Rattle.abstract_state.specs.Forms.{Form, Literal, Other, Operand, access_for
 use Rattle.leaf_rows.specs.Rows.{index_at, is_structured, rows_accessed, rows_of}
 use Rattle.component_states.specs.Components.{Index, Reach, Entire, At, Inside, row_at, with_defined}
 use Rattle.component_states.specs.States.{State, gives_reached, is_dead, over_components, over_variables}
-use Rattle.structured_states.specs.Loops.{Claims, Round}
+use Rattle.abstract_state.specs.Loops.{is_among}
+use Rattle.structured_states.specs.Loops.{Claims, Round, all_list}
 use Rattle.structured_states.specs.Ways.{single}
+use Rattle.call_states.specs.Sections.{BlockClaims, block_claims_at}
+use Rattle.call_states.specs.Starts.{is_own}
+use Rattle.call_states.specs.Actuals.{Actual, OfValue, OfRows, OfVariable, Binding, are_of_types, bound_to, settled}
+use Rattle.call_states.specs.Entry.{are_given}
+use Rattle.call_states.specs.Overlaps.{are_separate}
+use Rattle.exit_states.specs.Exit.{behind_call, result_range, roots_changed}
 
--- what a walk goes by: the program, the values of its variables' types, the claims on its loops, and the loops round
--- the point, the outermost first
+-- what a walk goes by: the program, the values of its variables' types, the claims on its loops and its blocks, the
+-- listed pairs, the number of the block, and the loops round the point, the outermost first
 pub record Context : Type 0 where
   pub tree : Tree
   pub limits : List Interval
   pub claims : List Claims
+  pub blocks : List BlockClaims
+  pub pairs : List (ℕ × ℕ)
+  pub block : ℕ
   pub rounds : List Round
 
 -- a rule of certificates that is broken at a place
@@ -100,6 +120,34 @@ abbrev pub enter : ℕ → Walking (Unit {0})
 enter number context state =
     record
     { value = tt; after = state; open_ids = []; broken = []; linked = record { number = number; state = state } ∷ [] }
+
+-- another state from here on
+abbrev pub with_state : State → Walking (Unit {0})
+with_state after context state = record { value = tt; after = after; open_ids = []; broken = []; linked = [] }
+
+-- what is known is changed
+abbrev pub changed_by : (State → State) → Walking (Unit {0})
+changed_by change context state = with_state (change state) context state
+
+-- a rule that is kept, or broken at a place
+abbrev pub breach_unless : Bool → Rule → Place → List Breach
+breach_unless kept rule place = if kept then [] else record { rule = rule; place = place } ∷ []
+
+-- what a rule asks for at a place
+abbrev pub asked : Bool → Rule → Place → Walking (Unit {0})
+asked kept rule place context state =
+    record { value = tt; after = state; open_ids = []; broken = breach_unless kept rule place; linked = [] }
+
+-- the block lists a variable among those that it changes
+abbrev pub block_lists : Context → ℕ → Bool
+block_lists context root = is_among root (block_claims_at context.blocks context.block).changes
+
+-- a variable may be changed: each loop round the point lists it, and so does the block, unless it is a variable of its
+-- variable declaration part, or its result
+abbrev pub may_change : Context → ℕ → Bool
+may_change context root =
+    all_list root context.rounds
+    && (of_one (is_own context.block) (slice_get context.tree.variables.items root) || block_lists context root)
 
 -- the numbers to which states are linked
 abbrev pub numbers_of : List Linked → List ℕ
@@ -227,10 +275,23 @@ behind_next [] = []
 behind_next (Element fits cells ∷ selectors) = selectors
 behind_next (Field position offset ∷ selectors) = behind_next selectors
 
--- an expression: its walk, and its form, as far as that is part of a bound form
+-- an expression: its walk, its form, as far as that is part of a bound form, and whether it holds a call
 pub record Piece : Type 0 where
   pub walk : Walking Known
   pub form : Form
+  pub holds_call : Bool
+
+-- an actual parameter: its walk, and whether it holds a call
+pub record PassedPiece : Type 0 where
+  pub walk : Walking Actual
+  pub holds_call : Bool
+
+abbrev pub hold_call : List Piece → Bool
+hold_call pieces = list_any (λ piece. piece.holds_call) pieces
+
+-- the bound form of an expression behind which others were evaluated
+abbrev pub form_before : Form → List Piece → Option Bound
+form_before form later = if hold_call later then None else bound_of form
 
 abbrev pub range_in : Known → Interval
 range_in (Ordinal range) = range
@@ -254,7 +315,8 @@ indexes_walk selectors [] reach = give reach
 indexes_walk selectors (index ∷ indexes) reach = do
   known ← index.walk
   range ← index_test (next_test selectors) known
-  indexes_walk (behind_next selectors) indexes (deeper (record { form = bound_of index.form; range = range }) reach)
+  indexes_walk (behind_next selectors) indexes
+      (deeper (record { form = form_before index.form indexes; range = range }) reach)
 
 -- an access, which is entered before its index expressions: what is reached
 abbrev pub access_walk : Access → List Piece → Walking Reach
@@ -351,22 +413,24 @@ related_walk number right indexes = do
 abbrev pub Combination : Type 0
 Combination = Known → Walking Known
 
--- an operator with its right operand: its walk, and the form of the operand
+-- an operator with its right operand: its walk, the form of the operand, and whether that holds a call
 pub record Joint : Type 0 where
   pub combination : Combination
   pub operand : Operand
+  pub holds_call : Bool
 
 -- the right operand, and then the operation
-abbrev pub combination_of : Link-F Piece Joint → Combination
+abbrev pub combination_of : Link-F Piece PassedPiece Joint → Combination
 combination_of link left = do
   _ ← enter link.number
   right ← link.operand.walk
   combined link.operation left right
 
-abbrev pub link_step : Link-F Piece Joint → Joint
+abbrev pub link_step : Link-F Piece PassedPiece Joint → Joint
 link_step link = record {
   combination = combination_of link;
   operand = record { operation = link.operation; form = link.operand.form };
+  holds_call = link.operand.holds_call;
 }
 
 -- the operators of a chain, from left to right
@@ -376,8 +440,147 @@ in_turn (link ∷ links) left = do
   result ← link left
   in_turn links result
 
+-- ---- calls
+
+-- a value that is passed: it is tested at once
+abbrev pub value_passed : Piece → RangeTest → Walking Actual
+value_passed value fits = do
+  known ← value.walk
+  passed ← fitting fits known
+  give (OfValue (range_in passed) (bound_of value.form))
+
+-- a whole value may be copied to a target of a structured type: it is of the same type, or a string as long
+abbrev pub fits_whole : List TypeForm → TypeId → Whole → Bool
+fits_whole types target (Text number text) =
+    is_structured types target && have_one_length (string_length types target) (Some (length text.items))
+fits_whole types target (VariableOf access type_id cells defined) =
+    is_structured types target
+    && (is_same target type_id || have_one_length (string_length types target) (string_length types type_id))
+
+-- a copy of a value for a parameter of a type: one that may not be copied has no ranges
+abbrev pub copied : TypeId → Whole → List Interval → Walking Actual
+copied type_id value ranges context =
+    give (OfRows (if fits_whole context.tree.types type_id value then ranges else [])) context
+
+abbrev pub whole_passed : TypeId → Whole → List Piece → Walking Actual
+whole_passed type_id value indexes = do
+  ranges ← whole_walk value indexes
+  copied type_id value ranges
+
+abbrev pub variable_passed : Access → List Piece → Walking Actual
+variable_passed access indexes = do
+  reach ← access_walk access indexes
+  give (OfVariable access.root access.selectors.items reach)
+
+abbrev pub passed_walk : Passed-F Piece PassedPiece Joint → Walking Actual
+passed_walk (PassedValue value fits) = value_passed value fits
+passed_walk (PassedWhole type_id value indexes) = whole_passed type_id value indexes.items
+passed_walk (Reference type_id access indexes) = variable_passed access indexes.items
+
+abbrev pub passed_holds : Passed-F Piece PassedPiece Joint → Bool
+passed_holds (PassedValue value fits) = value.holds_call
+passed_holds (PassedWhole type_id value indexes) = hold_call (whole_indexes value indexes.items)
+passed_holds (Reference type_id access indexes) = hold_call indexes.items
+
+abbrev pub passed_step : Passed-F Piece PassedPiece Joint → PassedPiece
+passed_step actual = record { walk = passed_walk actual; holds_call = passed_holds actual }
+
+-- actual parameters, from left to right
+abbrev pub actuals_walk : List PassedPiece → Walking (List Actual)
+actuals_walk [] = give []
+actuals_walk (one ∷ others) = do
+  actual ← one.walk
+  actuals ← actuals_walk others
+  give (actual ∷ actuals)
+
+abbrev pub actuals_hold_call : List PassedPiece → Bool
+actuals_hold_call actuals = list_any (λ actual. actual.holds_call) actuals
+
+-- the formal parameters of a block, and the blocks round it
+abbrev pub parameters_of : Option Block → List ℕ
+parameters_of None = []
+parameters_of (Some block) = block.heading.parameters.items
+
+abbrev pub around_of : Option Block → List ℕ
+around_of None = []
+around_of (Some block) = block.heading.around.items
+
+abbrev pub result_of : Option Block → Option FunctionResult
+result_of None = None
+result_of (Some block) = block.heading.result
+
+abbrev pub called_block : Context → Call → Option Block
+called_block context call = slice_get context.tree.blocks.items call.block
+
+-- a call changes what it may: by the claims on the callee, at the place of its name
+abbrev pub call_change : Place → List Binding → BlockClaims → Walking (Unit {0})
+call_change place bindings claims context =
+    asked
+    (list_all (may_change context) (roots_changed bindings claims.changes)
+    && are_of_types context.tree context.limits bindings)
+    Changes place context
+
+-- what is passed makes listed aliases alone
+abbrev pub call_aliases : Call → List Binding → Walking (Unit {0})
+call_aliases call bindings context =
+    asked (are_separate context.pairs context.tree (around_of (called_block context call)) bindings) Aliases call.name
+    context
+
+-- the facts are given that hold where the callee begins
+abbrev pub call_entry : Call → List Binding → BlockClaims → Walking (Unit {0})
+call_entry call bindings claims context state =
+    asked (are_given context.tree bindings state claims.entry) CallEntry call.name context state
+
+-- what is known behind a call
+abbrev pub call_behind : Call → List Binding → BlockClaims → Walking (Unit {0})
+call_behind call bindings claims context =
+    changed_by (behind_call context.tree context.pairs call.block bindings claims) context
+
+-- a call with these parameters, by the claims on the callee
+abbrev pub call_with : Call → BlockClaims → List Binding → Walking (Unit {0})
+call_with call claims bindings = do
+  _ ← call_aliases call bindings
+  _ ← call_entry call bindings claims
+  _ ← call_change call.name bindings claims
+  call_behind call bindings claims
+
+-- a call from its actual parameters on; the forms of those that were evaluated before a call count no more
+abbrev pub called : Call → Bool → List Actual → Walking (Unit {0})
+called call holds_call actuals context =
+    call_with call (block_claims_at context.blocks call.block)
+    (bound_to (parameters_of (called_block context call)) (settled holds_call actuals)) context
+
+-- the value of a function lies in a range; no run goes on from an empty one
+abbrev pub result_known : Interval → Walking Known
+result_known range context state = record {
+  value = Ordinal range;
+  after = over_variables (unless_empty range) state;
+  open_ids = [];
+  broken = [];
+  linked = [];
+}
+
+-- the value of the function that a call calls
+abbrev pub result_walk : Call → Option FunctionResult → Walking Known
+result_walk call None context = result_known integer context
+result_walk call (Some result) context =
+    result_known (result_range context.tree (block_claims_at context.blocks call.block) result.root) context
+
+-- a call, which is entered before its actual parameters
+abbrev pub call_walk : Call → List PassedPiece → Walking (Unit {0})
+call_walk call actuals = do
+  _ ← enter call.number
+  passed ← actuals_walk actuals
+  called call (actuals_hold_call actuals) passed
+
+-- a call of a function
+abbrev pub function_walk : Call → List PassedPiece → Walking Known
+function_walk call actuals = do
+  _ ← call_walk call actuals
+  λ context. result_walk call (result_of (called_block context call)) context
+
 -- one layer of an expression: its walk
-abbrev pub walk_step : Expr-F Piece Joint → Walking Known
+abbrev pub walk_step : Expr-F Piece PassedPiece Joint → Walking Known
 walk_step (Constant number value) = do
   _ ← enter number
   ordinal (record { first = value; last = value })
@@ -392,28 +595,45 @@ walk_step (Chain first rest) = do
 walk_step (Compare number relation left left_indexes right right_indexes) = do
   _ ← whole_walk left left_indexes.items
   related_walk number right right_indexes.items
+walk_step (CallOf call actuals) = function_walk call actuals.items
 
 -- and its form
-abbrev pub form_step : Expr-F Piece Joint → Form
+abbrev pub form_step : Expr-F Piece PassedPiece Joint → Form
 form_step (Constant number value) = Literal value
 form_step (Variable access indexes defined) = access_form access.root access.selectors.items
 form_step (MonadicOf number operation operand) = sign_form operand.value.form operation
 form_step (Chain first rest) = chain_form first.value.form (map (λ joint. joint.operand) rest.items)
 form_step (Compare number relation left left_indexes right right_indexes) = Other
+form_step (CallOf call actuals) = Other
 
-abbrev pub piece_step : Expr-F Piece Joint → Piece
-piece_step expression = record { walk = walk_step expression; form = form_step expression }
+-- and whether it holds a call
+abbrev pub holds_step : Expr-F Piece PassedPiece Joint → Bool
+holds_step (Constant number value) = false
+holds_step (Variable access indexes defined) = hold_call indexes.items
+holds_step (MonadicOf number operation operand) = operand.value.holds_call
+holds_step (Chain first rest) = first.value.holds_call || list_any (λ joint. joint.holds_call) rest.items
+holds_step (Compare number relation left left_indexes right right_indexes) =
+    hold_call (whole_indexes left left_indexes.items) || hold_call (whole_indexes right right_indexes.items)
+holds_step (CallOf call actuals) = true
+
+abbrev pub piece_step : Expr-F Piece PassedPiece Joint → Piece
+piece_step expression =
+    record { walk = walk_step expression; form = form_step expression; holds_call = holds_step expression }
 
 -- the walk over an operator and its right operand
 abbrev pub joint_of : Link → Joint
-joint_of = fold-Link Piece Joint piece_step link_step
+joint_of = fold-Link Piece PassedPiece Joint piece_step passed_step link_step
 
 abbrev pub link_walk : Link → Combination
 link_walk link = (joint_of link).combination
 
 -- the walk over an expression: what is known of its value
 abbrev pub piece_of : Expr → Piece
-piece_of = fold-Expr Piece Joint piece_step link_step
+piece_of = fold-Expr Piece PassedPiece Joint piece_step passed_step link_step
+
+-- the walk over an actual parameter
+abbrev pub passed_piece_of : Passed → PassedPiece
+passed_piece_of = fold-Passed Piece PassedPiece Joint piece_step passed_step link_step
 
 abbrev pub value_walk : Expr → Walking Known
 value_walk expression = (piece_of expression).walk

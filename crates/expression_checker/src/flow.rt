@@ -1,31 +1,46 @@
-ghost use Rattle.std.specs.Prelude.{◌≡◌};
+ghost use Rattle.std.specs.Prelude.{◌≡◌, [], Ok, Err, if◌then◌else◌, map};
 ghost use Rattle.abstract_state.specs.State.{limits_of};
+ghost use Rattle.abstract_state.specs.View.{said_form};
+ghost use Rattle.call_states.specs.Actuals.{OfRows};
+ghost use Rattle.call_states.specs.View.{said_actual};
 ghost use Rattle.component_states.specs.Components.{Entire};
 ghost use Rattle.component_states.specs.View.{said_index, said_reach};
 ghost use Rattle.expression_checker.specs.Visits.{Visits};
-ghost use Rattle.expression_checker.specs.View.{Goes, said_ranges, seen};
+ghost use Rattle.expression_checker.specs.declared.fault.CheckFault.TheVariants.{Broken};
+ghost use Rattle.expression_checker.specs.View.{Goes, said_actuals, said_ranges, seen};
+ghost use Rattle.expression_checker.specs.Walk.{actuals_walk, call_walk, called, fits_whole, form_before};
+ghost use Rattle.expression_checker.specs.Walk.{function_walk, passed_piece_of, piece_of};
 ghost use Rattle.expression_checker.specs.Walk.{above, access_walk, behind_next, below, combined, deeper, divisor};
 ghost use Rattle.expression_checker.specs.Walk.{enter, fitting, index_pieces, index_test, indexes_walk, link_walk};
 ghost use Rattle.expression_checker.specs.Walk.{next_test, operated, parameter_walk, positive, related_walk, tested};
 ghost use Rattle.expression_checker.specs.Walk.{value_walk, variable_walk, whole, whole_walk, width_test, width_walk};
 ghost use Rattle.expression_checker.specs.Walk.{within, written_walk};
 
-use crate::fault::CheckFault;
+use crate::fault::{CheckFault, Rule};
+use crate::grounds::Grounds;
 use crate::visits::Visits;
 use abstract_state::{Known, bound_form, limits};
+use call_states::actuals::{Actual, Bindings, settle};
+use call_states::entry::are_given;
+use call_states::sections::{block_claims_at, changes, entry};
 use component_states::{Index, Reach, State};
 use domain::Domain;
+use domain::facts::Bound;
 use domain::interval::Interval;
-use leaf_rows::Rows;
+use exit_states::exit;
+use place::Place;
+use typed_tree::calls::{actuals_hold_call, hold_call};
 use typed_tree::tree::{
-    Access, Dyadic, Expr, Link, Monadic, RangeTest, Selector, Whole, Width, WriteParameter, Written,
+    Access, Call, Dyadic, Expr, Link, Monadic, Passed, RangeTest, Selector, Whole, Width,
+    WriteParameter, Written,
 };
+use types::TypeId;
 
 /// The flow of a walk through a program: what it comes with to each expression, and goes on with behind it.
 #[derive(Drop)]
 pub struct Flow<'a> {
-    /// The rows of the program's components.
-    pub rows: &'a Rows<'a>,
+    /// What it goes by.
+    pub grounds: Grounds<'a>,
     /// What is known where the walk is.
     pub state: State,
     /// The ids of the sites that the walk leaves open, in its order.
@@ -48,7 +63,7 @@ impl<'a> Flow<'a> {
     /// What is known of an expression's value (ISO 7185:1990, 6.7).
     ///
     /// # Errors
-    /// `Memory`; an expression breaks no rule of certificates.
+    /// `Memory`, and the first rule of certificates that a call in it breaks.
     #[cycle(expression)]
     pub fn expression(
         &mut self,
@@ -94,6 +109,7 @@ impl<'a> Flow<'a> {
                 self.whole_value(left, left_indexes, visits)?;
                 self.related(*number, right, right_indexes, visits)
             }
+            Expr::Call { call, actuals } => self.function(*call, actuals, visits),
         }
     }
 
@@ -144,7 +160,7 @@ impl<'a> Flow<'a> {
     /// entered; its characters lie in one range.
     ///
     /// # Errors
-    /// `Memory`; a value breaks no rule of certificates.
+    /// `Memory`, and the first rule of certificates that a call in it breaks.
     #[cycle(expression)]
     pub fn whole_value(
         &mut self,
@@ -175,7 +191,7 @@ impl<'a> Flow<'a> {
     /// A variable access with its index expressions (6.5.1): what it reaches of the rows under it.
     ///
     /// # Errors
-    /// `Memory`; an access breaks no rule of certificates.
+    /// `Memory`, and the first rule of certificates that a call in it breaks.
     #[cycle(expression)]
     pub fn access(
         &mut self,
@@ -203,14 +219,111 @@ impl<'a> Flow<'a> {
     {
         let mut left = selectors;
         let mut reach = Reach::Entire;
-        for index in indexes {
+        for i in 0..indexes.len() {
+            let index = &indexes[i];
             let known = self.expression(index, visits)?;
             let range = self.index(next_test(left), known)?;
-            let form = bound_form(index);
+            let form = form_before(index, &indexes[i + 1..]);
             reach = deeper(Index { form, range }, reach);
             left = behind_next(left);
         }
         Ok(reach)
+    }
+
+    /// The value of a function that is called (6.7.3).
+    #[cycle(expression)]
+    fn function(
+        &mut self,
+        call: Call,
+        actuals: &[Passed],
+        visits: &mut Visits,
+    ) -> Result<Known, CheckFault>
+        ensures { Goes (function_walk call (map passed_piece_of actuals.now))
+            self.old visits.old result self.new visits.new }
+    {
+        self.call(call, actuals, visits)?;
+        let range = self.grounds.result_range(call);
+        self.state.variables.unless_empty(range);
+        Ok(Known::Ordinal(range))
+    }
+
+    /// A call of a routine, with its actual parameters (6.7.3, 6.8.2.3).
+    ///
+    /// # Errors
+    /// `Memory`, and the first rule of certificates that is broken: in an actual parameter, or by what is passed
+    /// together (aliases, entry facts, changes).
+    #[cycle(expression)]
+    pub fn call(
+        &mut self,
+        call: Call,
+        actuals: &[Passed],
+        visits: &mut Visits,
+    ) -> Result<(), CheckFault>
+        ensures { Goes (call_walk call (map passed_piece_of actuals.now)) self.old visits.old result
+            self.new visits.new }
+    {
+        self.enter(call.number, visits)?;
+        let passed = self.actuals(actuals, visits)?;
+        self.called(call, actuals_hold_call(actuals), passed)
+    }
+
+    /// Actual parameters, from left to right.
+    #[cycle(expression)]
+    fn actuals<'b>(
+        &mut self,
+        actuals: &'b [Passed],
+        visits: &mut Visits,
+    ) -> Result<Vec<Actual<'b>>, CheckFault>
+        ensures { Goes (actuals_walk (map passed_piece_of actuals.now)) self.old visits.old
+            (seen said_actuals result) self.new visits.new }
+    {
+        let mut passed = Vec::new(*self.open_ids.allocator());
+        for actual in actuals {
+            passed.push(self.actual(actual, visits)?)?;
+        }
+        Ok(passed)
+    }
+
+    /// An actual parameter (6.6.3): a value is tested at once.
+    #[cycle(expression)]
+    fn actual<'b>(
+        &mut self,
+        actual: &'b Passed,
+        visits: &mut Visits,
+    ) -> Result<Actual<'b>, CheckFault>
+        ensures { Goes (passed_piece_of actual.now).walk self.old visits.old (seen said_actual result)
+            self.new visits.new }
+    {
+        match actual {
+            Passed::Value { value, fits } => {
+                let known = self.expression(value, visits)?;
+                let passed = self.fitting(*fits, known)?;
+                Ok(Actual::Value {
+                    range: passed.range(),
+                    form: bound_form(value),
+                })
+            }
+            Passed::Whole {
+                type_id,
+                value,
+                indexes,
+            } => {
+                let ranges = self.whole_value(value, indexes, visits)?;
+                Ok(self.copied(*type_id, value, ranges))
+            }
+            Passed::Reference {
+                access,
+                indexes,
+                ..
+            } => {
+                let reach = self.access(access, indexes, visits)?;
+                Ok(Actual::Variable {
+                    root: access.root,
+                    selectors: &access.selectors,
+                    reach,
+                })
+            }
+        }
     }
 
     /// A value that is written, and then its width.
@@ -255,6 +368,17 @@ impl<'a> Flow<'a> {
     }
 }
 
+/// The bound form of an index expression behind which others are evaluated: none, where one of these holds a call.
+fn form_before(index: &Expr, later: &[Expr]) -> Option<Bound>
+    ensures { said_form result ≡ form_before (piece_of index.now).form (index_pieces later.now) }
+{
+    if hold_call(later) {
+        None
+    } else {
+        bound_form(index)
+    }
+}
+
 /// What is reached with one index more.
 fn deeper(index: Index, reach: Reach) -> Reach
     ensures { said_reach result ≡ deeper (said_index index) (said_reach reach) }
@@ -290,6 +414,17 @@ fn behind_next(selectors: &[Selector]) -> &[Selector]
         }
     }
     &[]
+}
+
+/// What a rule asks for at a place.
+pub fn asked(kept: bool, rule: Rule, place: Place) -> Result<(), CheckFault>
+    ensures { result ≡ (if kept then Ok tt else Err (Broken rule place)) }
+{
+    if kept {
+        Ok(())
+    } else {
+        Err(CheckFault::Broken { rule, place })
+    }
 }
 
 // Operations and tests, which enter nothing.
@@ -393,6 +528,63 @@ impl<'a> Flow<'a> {
             Dyadic::Or => Ok(Known::Ordinal(left.either(&right))),
             Dyadic::Relation(_) => Ok(Known::Ordinal(Interval::TRUTH_VALUES)),
         }
+    }
+
+    /// A copy of a whole value for a parameter of a type: one that may not be copied has no ranges.
+    fn copied<'b>(&self, type_id: TypeId, value: &Whole, ranges: Vec<Interval>) -> Actual<'b>
+        ensures { said_actual result ≡ OfRows (if fits_whole self.now.grounds.rows.now.types type_id value.now
+            then ranges.items else []) }
+    {
+        let mut ranges = ranges;
+        if !self.grounds.may_copy(type_id, value) {
+            ranges.clear();
+        }
+        Actual::Rows(ranges)
+    }
+
+    /// A call from its actual parameters on, of which one may hold a call.
+    fn called(
+        &mut self,
+        call: Call,
+        holds_call: bool,
+        actuals: Vec<Actual>,
+    ) -> Result<(), CheckFault>
+        ensures { (visits : Visits) → Goes (called call holds_call (map said_actual actuals.entry.items))
+            self.old visits result self.new visits }
+    {
+        let mut actuals = actuals;
+        settle(holds_call, &mut actuals);
+        let bindings = Bindings {
+            roots: self.grounds.parameters(call),
+            actuals: &actuals,
+        };
+        let alloc = *self.open_ids.allocator();
+        let claims = block_claims_at(&self.grounds.sections, call.block);
+        asked(
+            self.grounds.is_separate(call, bindings),
+            Rule::Aliases,
+            call.name,
+        )?;
+        let given = are_given(
+            alloc,
+            self.grounds.rows,
+            bindings,
+            &self.state,
+            entry(claims),
+        )?;
+        asked(given, Rule::CallEntry, call.name)?;
+        let may = self.grounds.may_call(alloc, bindings, changes(claims))?;
+        asked(may, Rule::Changes, call.name)?;
+        exit::call(
+            alloc,
+            &mut self.state,
+            self.grounds.rows,
+            &self.grounds.pairs,
+            call.block,
+            bindings,
+            claims,
+        )?;
+        Ok(())
     }
 
     /// A result that has to be an integer.

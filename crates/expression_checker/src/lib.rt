@@ -4,5 +4,6 @@
 
 pub mod fault;
 pub mod flow;
+pub mod grounds;
 mod uses;
 pub mod visits;

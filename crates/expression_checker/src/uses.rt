@@ -45,7 +45,7 @@ impl<'a> Flow<'a> {
     {
         let is_defined = self.state.variables.is_defined(root);
         let range = self.state.variables.range(root);
-        self.state.variables.define(root);
+        self.state.variables.define(root)?;
         Ok(Known::Ordinal(self.test(is_defined, defined, range)?))
     }
 
@@ -60,10 +60,10 @@ impl<'a> Flow<'a> {
         ensures { (visits : Visits) → Goes (component_use root selectors.now (said_reach reach.now) defined)
             self.old visits result self.new visits }
     {
-        let rows = self.rows.accessed(root, selectors);
+        let rows = self.grounds.rows.accessed(root, selectors);
         let range = joined_ranges(&self.state, rows);
         self.open_unless(self.covers(reach, rows), defined)?;
-        define_used(&mut self.state, reach, rows);
+        define_used(&mut self.state, reach, rows)?;
         self.state.variables.unless_empty(range);
         Ok(Known::Ordinal(range))
     }
@@ -80,28 +80,31 @@ impl<'a> Flow<'a> {
             → Goes (whole_use type_id access.now.root access.now.selectors.items (said_reach reach.now) defined)
             self.old visits (seen said_ranges result) self.new visits }
     {
-        let rows = self.rows.accessed(access.root, &access.selectors);
+        let rows = self.grounds.rows.accessed(access.root, &access.selectors);
         let ranges = ranges_of(*self.open_ids.allocator(), &self.state, rows)?;
         self.open_unless(self.covers_whole(type_id, reach, rows), defined)?;
-        define_used(&mut self.state, reach, rows);
+        define_used(&mut self.state, reach, rows)?;
         Ok(ranges)
     }
 
     /// Whether what is reached of a whole value is known to be defined.
     fn covers_whole(&self, type_id: TypeId, reach: &Reach, span: Span) -> bool
-        ensures { result ≡ (is_dead (viewed self.now.state) || (is_structured self.now.rows.now.types type_id
-            && is_covered self.now.rows.now (viewed self.now.state) (said_reach reach.now) (numbers span))) }
+        ensures { result ≡ (is_dead (viewed self.now.state) || (is_structured self.now.grounds.rows.now.types type_id
+            && is_covered self.now.grounds.rows.now (viewed self.now.state) (said_reach reach.now) (numbers span))) }
     {
-        self.state.is_dead() || self.rows.is_structured(type_id) && self.covers(reach, span)
+        self.state.is_dead() || self.grounds.rows.is_structured(type_id) && self.covers(reach, span)
     }
 
     /// Whether what is reached in each row is known to be defined.
     fn covers(&self, reach: &Reach, span: Span) -> bool
         ensures { result
-            ≡ is_covered self.now.rows.now (viewed self.now.state) (said_reach reach.now) (numbers span) }
+            ≡ is_covered self.now.grounds.rows.now (viewed self.now.state) (said_reach reach.now) (numbers span) }
     {
         for row in span.first..span.end() {
-            if !self.state.gives_reached(*reach, self.rows.index(row), row) {
+            if !self
+                .state
+                .gives_reached(*reach, self.grounds.rows.index(row), row)
+            {
                 return false;
             }
         }
@@ -154,21 +157,23 @@ fn joined_ranges(state: &State, span: Span) -> Interval
 }
 
 /// Each row is defined from here on, where all of it is reached.
-fn define_used(state: &mut State, reach: &Reach, span: Span)
-    ensures { viewed state.new ≡ with_used (said_reach reach.now) (numbers span) (viewed state.old) }
+fn define_used(state: &mut State, reach: &Reach, span: Span) -> Result<(), AllocError>
+    ensures { IfOk result
+        (λ _. viewed state.new ≡ with_used (said_reach reach.now) (numbers span) (viewed state.old)) }
 {
     match reach {
         Reach::Entire => define_all(state, span),
-        Reach::At(_) | Reach::Inside(_) => {}
+        Reach::At(_) | Reach::Inside(_) => Ok(()),
     }
 }
 
-fn define_all(state: &mut State, span: Span)
-    ensures { viewed state.new ≡ all_defined (numbers span) (viewed state.old) }
+fn define_all(state: &mut State, span: Span) -> Result<(), AllocError>
+    ensures { IfOk result (λ _. viewed state.new ≡ all_defined (numbers span) (viewed state.old)) }
 {
     for row in span.first..span.end() {
-        state.define_row(row);
+        state.define_row(row)?;
     }
+    Ok(())
 }
 
 /// The range of the characters of a string.

@@ -121,7 +121,7 @@ module _ (root : ℕ) (type_id : TypeId) (selectors : List Selector) (indexes : 
 -- ---- values
 
 -- an access, as it is made
-look_made : (access : VariableAccess) (indexes : Vec Expr Global) (does : Mark)
+pub look_made : (access : VariableAccess) (indexes : Vec Expr Global) (does : Mark)
     → look_access access indexes.items does ≡ Access access.number ∷ (flat_map look_expr indexes.items ++ (does ∷ []))
 look_made access indexes does =
     ap (λ rows. Access access.number ∷ (rows ++ (does ∷ []))) (flat_map-map (λ (row : Look). row) look_expr indexes.items)

@@ -1,6 +1,7 @@
 -- How the answers are what typing says of expressions: what is made of a form has the type, the length and the leading
 -- site that typing answers, and looks so. It says nothing of what typing answers.
-use Rattle.std.specs.Prelude.{◌≡◌, ℕ, Bool, true, false, ◌||◌, List, [], ◌∷◌, ◌++◌, flat_map, length, nat_eq, Result}
+use Rattle.std.specs.Prelude.{◌≡◌, ℕ, Bool, true, false, ◌||◌, List, [], ◌∷◌, ◌++◌, flat_map, length, map, nat_eq}
+use Rattle.std.specs.Prelude.{Result}
 use Rattle.std.specs.Prelude.{Option, Some, None, is_none, Vec}
 use Rattle.std.specs.declared.alloc.Global.{Global}
 use Rattle.place.specs.declared.Place.{Place}
@@ -12,15 +13,22 @@ use Rattle.typed_tree.specs.declared.tree.Dyadic.{Dyadic}
 use Rattle.typed_tree.specs.declared.tree.Dyadic.TheVariants as dyadic
 use Rattle.typed_tree.specs.declared.tree.Expr.{Expr}
 use Rattle.typed_tree.specs.declared.tree.Whole.{Whole}
-use Rattle.typed_tree.specs.Look.{Look, Begins, Operator, Compared, Ends, look_expr, look_link, look_whole}
-use Rattle.typed_tree.specs.WellFormed.{length_of}
+use Rattle.typed_tree.specs.declared.tree.Passed.{Passed as PassedOne}
+use Rattle.typed_tree.specs.declared.tree.Variable.{Variable}
+use Rattle.types.specs.declared.form.TypeId.{TypeId}
+use Rattle.typed_tree.specs.Entries.{joined}
+use Rattle.typed_tree.specs.Look.{Look, Begins, Operator, Compared, Ends, look_call, look_expr, look_link}
+use Rattle.typed_tree.specs.Look.{look_passed, look_whole}
+use Rattle.typed_tree.specs.WellFormed.{length_of, placed}
 use Rattle.typing.specs.declared.typed.Typed.{Typed}
-use Rattle.typing.specs.Passing.{Passed, Passing, Checked, After, given, mark, pure, ◌>>=◌, ◌>>◌}
-use Rattle.typing.specs.Steps.{fits}
-use Rattle.typing.specs.Expressions.{WrittenLink, typed, links, are_alike}
-use Rattle.typing.specs.Outcomes.{Makes}
+use Rattle.typing.specs.Passing.{Passed, Passing, Checked, After, and_then, behind_marks, given, mark, pure, ◌>>=◌}
+use Rattle.typing.specs.Passing.{◌>>◌}
+use Rattle.typing.specs.Steps.{fits, host_type}
+use Rattle.typing.specs.Expressions.{WrittenLink, typed, links, are_alike, or_no_result}
+use Rattle.typing.specs.Outcomes.{Makes, Tells}
 use Rattle.expression_resolver.specs.declared.typed.Value.{Value}
 use Rattle.expression_resolver.specs.declared.typed.Value.TheVariants.{Ordinal, Whole as WholeOf}
+use Rattle.expression_resolver.specs.declared.typed.TypedCall.{TypedCall}
 use Rattle.expression_resolver.specs.declared.typed.TypedExpr.{TypedExpr}
 use Rattle.expression_resolver.specs.declared.typed.TypedLink.{TypedLink}
 use Rattle.expression_resolver.specs.declared.typed.TypedLinks.{TypedLinks}
@@ -99,3 +107,33 @@ pub record IsComparisonOf (left : Whole) (indexes : Vec Expr Global) (site : Opt
 -- the value of the only actual
 abbrev pub IsOnly : List Actual → SyntaxExpr → Type 0
 IsOnly actuals value = (actual : Actual) × (actuals ≡ actual ∷ []) × ((out-Actual actual).value ≡ value)
+
+-- ---- calls
+
+-- actual parameters, for a callee, the first of them at the first place
+abbrev pub look_actuals : ℕ → List PassedOne → Look
+look_actuals callee made = joined (placed callee 0 (map look_passed made))
+
+abbrev pub MakesActuals : ℕ → Checked (After (Unit {0})) → Result (Vec PassedOne Global) TypeFault → Passed → Type 0
+MakesActuals callee = Makes (λ _. tt) (λ made. look_actuals callee made.items)
+
+-- an actual parameter, for whatever callee and place of a formal one
+abbrev pub MakesPassed
+    : (ℕ → ℕ → Passing (Unit {0})) → Passed → Result PassedOne TypeFault → Passed → Type 0
+MakesPassed typing old result new =
+    (callee position : ℕ)
+    → Makes (λ _. tt) (λ made. look_passed made callee position) (typing callee position old) result new
+
+-- a call of a function, or of a procedure, by the root of its result
+abbrev pub MakesCall : Bool → Checked (After (Option ℕ)) → Result TypedCall TypeFault → Passed → Type 0
+MakesCall is_function = Makes (λ made. made.root) (λ made. look_call is_function made.call made.actuals.items)
+
+-- the host type of the variable that is found, if one is: else K3 at a place
+unfoldable pub host_found : Place → Option Variable → Passing TypeId
+host_found place found = do
+  result ← given (or_no_result place found)
+  host_type result.type_id
+
+abbrev pub IsHostOf : Checked (After (Option Variable)) → Place → Result TypeId TypeFault → Passed → Type 0
+IsHostOf outcome place result new =
+    Tells (and_then outcome (λ a. behind_marks a.look (host_found place a.answer a.passed))) result new

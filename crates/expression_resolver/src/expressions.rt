@@ -1,22 +1,24 @@
-ghost use Rattle.std.specs.Prelude.{◌≡◌, [], ◌∷◌, Ok, Err, IfOk, MatchResult, map};
+ghost use Rattle.std.specs.Prelude.{◌≡◌, ℕ, true, [], ◌∷◌, Ok, Err, IfOk, MatchResult, length, map};
 ghost use Rattle.typed_tree.specs.Look.{Begins};
 ghost use Rattle.typing.specs.Passing.{behind_marks};
 ghost use Rattle.typing.specs.Expressions as spec;
+ghost use Rattle.typing.specs.Expressions.{result_variable};
+ghost use Rattle.expression_resolver.specs.Made.{IsHostOf, MakesActuals, MakesCall, MakesPassed};
 ghost use Rattle.expression_resolver.specs.Made.{typed_of, look_value, operators};
 ghost use Rattle.expression_resolver.specs.Made.{MakesTyped, MakesLink, MakesLinks, IsLinkBehind, IsOnly};
 ghost use Rattle.expression_resolver.specs.Accesses.{MakesSelection, MakesIndex, SelectsElement, SelectsOne, IsCounted};
 
 use crate::accesses::{accessed_value, enter, entire, select_field, text_value};
 use crate::operators::{chain, comparison, in_chain, monadic};
-use crate::typed::{Selection, TypedExpr, TypedLink, TypedLinks, Value};
+use crate::typed::{Selection, TypedCall, TypedExpr, TypedLink, TypedLinks, Value};
 use place::Place;
 use scopes::Denotation;
 use syntax_tree as syntax;
 use typed_tree::fault::TypeFault;
 use typed_tree::site::SiteKind;
-use typed_tree::tree::{Expr, Monadic, RangeTest, Selector};
+use typed_tree::tree::{Access, Call, Expr, Monadic, Passed, RangeTest, Selector, VariableKind};
 use types::{ArrayElement, TypeId, TypeTable};
-use typing::rules::{as_function, as_variable, sign_operation};
+use typing::rules::{as_function, as_routine, as_variable, sign_operation};
 use typing::{Typed, Typer, characters};
 
 /// An expression, by the kind of its leading site.
@@ -130,7 +132,7 @@ fn named(
     denoted(typer, denotation, name.place, lead)
 }
 
-// What a name denotes, as an expression: a constant, or a variable.
+// What a name denotes, as an expression: a constant, a variable, or a function without parameters.
 #[tactic(auto, unfolding(typing::specs::Expressions::denoted))]
 fn denoted(
     typer: &mut Typer,
@@ -164,8 +166,57 @@ fn denoted(
         Denotation::Procedure(_) | Denotation::Function(_) => {
             Err(TypeFault::WrongParameters(place))
         }
+        Denotation::Routine { block, is_function } => {
+            plain_value(typer, block, is_function, place, lead)
+        }
         Denotation::TypeName(_) | Denotation::Output => Err(TypeFault::Mismatch(place)),
     }
+}
+
+// The value of a function without actual parameters: K3 at the name of a procedure.
+#[tactic(auto, unfolding(typing::specs::Expressions::function_value))]
+fn plain_value(
+    typer: &mut Typer,
+    block: u32,
+    is_function: bool,
+    place: Place,
+    lead: Option<SiteKind>,
+) -> Result<TypedExpr, TypeFault>
+    ensures { MakesTyped (spec.function_value block is_function place [] lead typer.old) result typer.new }
+{
+    if !is_function {
+        return Err(TypeFault::WrongParameters(place));
+    }
+    typer.pass(place);
+    let site = typer.behind(lead, place)?;
+    let made = plain_call(typer, block, place)?;
+    let type_id = result_type(typer, place, made.root)?;
+    Ok(TypedExpr {
+        value: Value::Ordinal(Expr::Call {
+            call: made.call,
+            actuals: made.actuals,
+        }),
+        type_id,
+        site,
+    })
+}
+
+// The call of a function without actual parameters.
+#[tactic(auto, unfolding(typing::specs::Expressions::routine_call))]
+fn plain_call(typer: &mut Typer, block: u32, place: Place) -> Result<TypedCall, TypeFault>
+    ensures { MakesCall true (spec.routine_call true block place [] typer.old) result typer.new }
+{
+    let number = typer.enter()?;
+    let found = typer.callee(block, 0, place)?;
+    Ok(TypedCall {
+        call: Call {
+            number,
+            name: place,
+            block,
+        },
+        actuals: Vec::new(typer.alloc),
+        root: found.root,
+    })
 }
 
 // A component of a variable (6.5.1, 6.5.3).
@@ -429,7 +480,7 @@ fn link(typer: &mut Typer, left: Typed, written: &syntax::Link) -> Result<TypedL
     })
 }
 
-// The call of a function.
+// The call of a function: of one that the program declares, or of a required one.
 #[cycle(expressions)]
 #[tactic(auto, unfolding(typing::specs::Expressions::call))]
 fn call(
@@ -441,6 +492,27 @@ fn call(
     ensures { MakesTyped (spec.call name.now (map spec.written_actual actuals.now) lead typer.old) result typer.new }
 {
     let denotation = typer.find(name)?;
+    match as_routine(denotation) {
+        None => required_call(typer, denotation, name, actuals, lead),
+        Some((block, is_function)) => {
+            function_value(typer, block, is_function, name.place, actuals, lead)
+        }
+    }
+}
+
+// The call of a required function (6.6.6).
+#[cycle(expressions)]
+#[tactic(auto, unfolding(typing::specs::Expressions::required_call))]
+fn required_call(
+    typer: &mut Typer,
+    denotation: Denotation,
+    name: &syntax::Name,
+    actuals: &[syntax::Actual],
+    lead: Option<SiteKind>,
+) -> Result<TypedExpr, TypeFault>
+    ensures { MakesTyped (spec.required_call denotation name.now (map spec.written_actual actuals.now) lead typer.old)
+        result typer.new }
+{
     let function = as_function(name.place, denotation)?;
     let operation = typer.function_operation(function, name.place)?;
     let site = typer.behind(lead, name.place)?;
@@ -454,6 +526,243 @@ fn call(
         value: monadic(typer.alloc, number, operation, argument)?,
         type_id,
         site,
+    })
+}
+
+// The value of a function that the program declares (6.7.3), which is of the host type: K3 at the name of a procedure.
+#[cycle(expressions)]
+#[tactic(auto, unfolding(typing::specs::Expressions::function_value))]
+fn function_value(
+    typer: &mut Typer,
+    block: u32,
+    is_function: bool,
+    place: Place,
+    actuals: &[syntax::Actual],
+    lead: Option<SiteKind>,
+) -> Result<TypedExpr, TypeFault>
+    ensures { MakesTyped (spec.function_value block is_function place (map spec.written_actual actuals.now) lead
+        typer.old) result typer.new }
+{
+    if !is_function {
+        return Err(TypeFault::WrongParameters(place));
+    }
+    typer.pass(place);
+    let site = typer.behind(lead, place)?;
+    let made = routine_call(typer, true, block, place, actuals)?;
+    let type_id = result_type(typer, place, made.root)?;
+    Ok(TypedExpr {
+        value: Value::Ordinal(Expr::Call {
+            call: made.call,
+            actuals: made.actuals,
+        }),
+        type_id,
+        site,
+    })
+}
+
+// The type of a function's result, by its root: the host type.
+#[tactic(auto)]
+fn result_type(typer: &Typer, place: Place, root: Option<u32>) -> Result<TypeId, TypeFault>
+    ensures { IsHostOf (result_variable root typer.now) place result typer.now }
+{
+    let Some(root) = root else {
+        return Err(TypeFault::WrongParameters(place));
+    };
+    let Some(variable) = typer.variable_at(root) else {
+        return Err(TypeFault::WrongParameters(place));
+    };
+    Ok(typer.host(variable.type_id))
+}
+
+/// The call of a block, a function's or a procedure's, at the place of its name: K3 where the number of actual
+/// parameters is wrong.
+#[cycle(expressions)]
+#[tactic(auto, unfolding(typing::specs::Expressions::routine_call))]
+pub fn routine_call(
+    typer: &mut Typer,
+    is_function: bool,
+    block: u32,
+    place: Place,
+    actuals: &[syntax::Actual],
+) -> Result<TypedCall, TypeFault>
+    ensures { MakesCall is_function (spec.routine_call is_function block place (map spec.written_actual actuals.now)
+        typer.old) result typer.new }
+{
+    let number = typer.enter()?;
+    let found = typer.callee(block, actuals.len(), place)?;
+    let passed = actuals_for(typer, &found.parameters, actuals)?;
+    Ok(TypedCall {
+        call: Call {
+            number,
+            name: place,
+            block,
+        },
+        actuals: passed,
+        root: found.root,
+    })
+}
+
+// Actual parameters for as many formal ones, by the roots of these.
+#[cycle(expressions)]
+fn actuals_for(
+    typer: &mut Typer,
+    roots: &[u32],
+    actuals: &[syntax::Actual],
+) -> Result<Vec<Passed>, TypeFault>
+    requires { length actuals.now ≡ length roots.now }
+    ensures counted { IfOk result (λ made. length made.items ≡ length actuals.now) }
+    ensures made { (callee : ℕ) → MakesActuals callee (spec.actuals_for roots.now (map spec.written_actual actuals.now)
+        callee 0 typer.old) result typer.new }
+{
+    let mut made = Vec::with_capacity(typer.alloc, actuals.len())?;
+    for i in 0..actuals.len() {
+        made.push(actual(typer, roots[i], &actuals[i])?)?;
+    }
+    Ok(made)
+}
+
+// An actual parameter, by what the formal one is, which has this root.
+#[cycle(expressions)]
+#[tactic(auto, unfolding(typing::specs::Expressions::actual))]
+fn actual(typer: &mut Typer, root: u32, written: &syntax::Actual) -> Result<Passed, TypeFault>
+    ensures { MakesPassed (spec.actual (spec.written_actual written.now) root) typer.old result typer.new }
+{
+    let place = first_place(&written.value);
+    if written.width.is_some() {
+        return Err(TypeFault::WrongParameters(place));
+    }
+    match typer.variable_at(root) {
+        None => Err(TypeFault::WrongParameters(place)),
+        Some(formal) => match formal.kind {
+            VariableKind::VariableParameter => {
+                passed_variable(typer, formal.type_id, &written.value)
+            }
+            _ => passed_value(typer, formal.type_id, &written.value),
+        },
+    }
+}
+
+// A variable for a variable parameter of a type (6.6.3.3): K2 at the first token of what is none.
+#[cycle(expressions)]
+#[tactic(auto, using(typing::proofs::Written::written_expressions), unfolding(typing::specs::Expressions::no_variable))]
+fn passed_variable(
+    typer: &mut Typer,
+    wanted: TypeId,
+    written: &syntax::Expr,
+) -> Result<Passed, TypeFault>
+    ensures { MakesPassed ((spec.expression written.now).passing wanted) typer.old result typer.new }
+{
+    match written {
+        syntax::Expr::Name(name) => passed_access(typer, wanted, name, &[], &[]),
+        syntax::Expr::Component {
+            name,
+            selectors,
+            indexes,
+        } => passed_access(typer, wanted, name, selectors, indexes),
+        syntax::Expr::Number { place, .. }
+        | syntax::Expr::String { place, .. }
+        | syntax::Expr::Not { place, .. }
+        | syntax::Expr::Signed { place, .. } => Err(TypeFault::NotVariable(*place)),
+        syntax::Expr::Call { name, .. } => Err(TypeFault::NotVariable(name.place)),
+        syntax::Expr::Parenthesized { open, .. } => Err(TypeFault::NotVariable(*open)),
+        syntax::Expr::Chain { first, .. } => Err(TypeFault::NotVariable(first_place(first))),
+    }
+}
+
+// What is accessed for a variable parameter of a type.
+#[cycle(expressions)]
+#[tactic(auto, unfolding(typing::specs::Expressions::passed_variable))]
+fn passed_access(
+    typer: &mut Typer,
+    wanted: TypeId,
+    name: &syntax::Name,
+    selectors: &[syntax::Selector],
+    indexes: &[syntax::Expr],
+) -> Result<Passed, TypeFault>
+    ensures { MakesPassed (spec.passed_variable name.now selectors.now (map spec.expression indexes.now) wanted)
+        typer.old result typer.new }
+{
+    let denotation = typer.find(name)?;
+    let (root, type_id) = as_variable(name.place, denotation)?;
+    typer.may_change(name.place, root)?;
+    let number = typer.enter()?;
+    let component = selected(typer, type_id, selectors, indexes)?;
+    typer.passable(
+        wanted,
+        type_id,
+        &component.selectors,
+        component.type_id,
+        name.place,
+    )?;
+    Ok(Passed::Reference {
+        type_id: wanted,
+        access: Access {
+            number,
+            root,
+            selectors: component.selectors,
+        },
+        indexes: component.indexes,
+    })
+}
+
+// A value for a value parameter of a type (6.6.3.2).
+#[cycle(expressions)]
+#[tactic(auto, unfolding(typing::specs::Expressions::passed_value))]
+fn passed_value(
+    typer: &mut Typer,
+    type_id: TypeId,
+    written: &syntax::Expr,
+) -> Result<Passed, TypeFault>
+    ensures { MakesPassed (spec.passed_value type_id (spec.expression written.now)) typer.old result typer.new }
+{
+    if typer.tests_ordinal(type_id) {
+        passed_ordinal(typer, type_id, written)
+    } else {
+        passed_whole(typer, type_id, written)
+    }
+}
+
+// A value of an ordinal type.
+#[cycle(expressions)]
+#[tactic(auto, unfolding(typing::specs::Expressions::passed_ordinal))]
+fn passed_ordinal(
+    typer: &mut Typer,
+    type_id: TypeId,
+    written: &syntax::Expr,
+) -> Result<Passed, TypeFault>
+    ensures { MakesPassed (spec.passed_ordinal type_id (spec.expression written.now)) typer.old result typer.new }
+{
+    let place = first_place(written);
+    let site = typer.site(SiteKind::Subrange, place)?;
+    let made = expression(typer, written, None)?;
+    let range = typer
+        .fitting(type_id, made.typed())
+        .ok_or(TypeFault::Mismatch(place))?;
+    let value = made.ordinal(place)?;
+    let fits = RangeTest { site, range };
+    Ok(Passed::Value { value, fits })
+}
+
+// A value of a structured type.
+#[cycle(expressions)]
+#[tactic(auto, unfolding(typing::specs::Expressions::passed_whole))]
+fn passed_whole(
+    typer: &mut Typer,
+    type_id: TypeId,
+    written: &syntax::Expr,
+) -> Result<Passed, TypeFault>
+    ensures { MakesPassed (spec.passed_whole type_id (spec.expression written.now)) typer.old result typer.new }
+{
+    let place = first_place(written);
+    let made = expression(typer, written, None)?;
+    typer
+        .copying(type_id, made.typed())
+        .ok_or(TypeFault::Mismatch(place))?;
+    let (value, indexes) = made.whole(place)?;
+    Ok(Passed::Whole {
+        type_id,
+        value,
+        indexes,
     })
 }
 

@@ -7,7 +7,7 @@ ghost use Rattle.expression_resolver.specs.Made.{typed_of, look_value, value_len
 
 use place::Place;
 use typed_tree::fault::TypeFault;
-use typed_tree::tree::{Dyadic, Expr, Link, Selector, Whole};
+use typed_tree::tree::{Call, Dyadic, Expr, Link, Passed, Selector, Whole};
 use types::TypeId;
 use typing::Typed;
 
@@ -94,6 +94,14 @@ impl TypedExpr {
         }
         self.ordinal(place)
     }
+}
+
+/// The call of a routine: with its actual parameters, and the root of its result, if it is a function.
+#[derive(Drop)]
+pub struct TypedCall {
+    pub call: Call,
+    pub actuals: Vec<Passed>,
+    pub root: Option<u32>,
 }
 
 /// An operator and its right operand, and the type of its result.

@@ -12,7 +12,8 @@ use Rattle.meaning.specs.declared.outcome.Ending.TheVariants as ending
 use Rattle.meaning.specs.declared.store.Value.{Value}
 use Rattle.meaning.specs.declared.store.Value.TheVariants.{Number}
 use Rattle.meaning.specs.Counting.{has_values, next_value, value_behind}
-use Rattle.meaning.specs.Store.{Environment, kept}
+use Rattle.meaning.specs.Meaning.{Surroundings}
+use Rattle.meaning.specs.Store.{kept}
 use Rattle.meaning.specs.Effect.{State, Reply, Gives, Stops, Action, ◌>>=◌, and_then, give, stop, require, use_turn, another, looping, looped, is_in}
 use Rattle.meaning.specs.Meaning.{Execution, effect_of, for_round, for_between}
 use Rattle.operations.specs.Answers.{both_bounds, bounds_tested, value_before}
@@ -59,7 +60,7 @@ pub turn-given : {A : Type 0} (reply : Reply (Unit {0})) (body : Action (Unit {0
 turn-given (Gives done s) body a next = body-given (body s) a next
 turn-given (Stops e s) body a next = refl
 
-module _ (env : Environment) (control : ℕ) (direction : Direction) (last : ℤ) (body : Stmt) where
+module _ (env : Surroundings) (control : ℕ) (direction : Direction) (last : ℤ) (body : Stmt) where
   -- the same rounds follow
   alike_behind : (n : ℤ) (s : State) (first second : ℤ → Action (Unit {0})) → Behind direction last n →
       ((m : ℤ) (t : State) → has_values direction m last ≡ true → first m t ≡ second m t) →
@@ -75,7 +76,7 @@ module _ (env : Environment) (control : ℕ) (direction : Direction) (last : ℤ
       and_then (for_round control direction last (effect_of body) env n s) (λ more. another more first) ≡
       and_then (counting env control direction last body n s) (λ more. another more second)
   alike_round n s first second left same =
-      let there : State = record s { store = kept s.store (env.variables control) (Number n) } in
+      let there : State = record s { store = kept s.store (env.visible.variables control) (Number n) } in
       let inner = effect_of body env in
       turn-given (use_turn there) inner (value_behind direction last n) (λ more. another more first)
       ∙ and_then-same (use_turn there) _ _ (λ _ t. and_then-same (inner t) _ _
@@ -90,12 +91,12 @@ module _ (env : Environment) (control : ℕ) (direction : Direction) (last : ℤ
       (λ m t there. alike_looping bound m t there)
 
 -- the rounds of a for from its tested bounds
-abbrev pub rounds_of : Environment → ℕ → Direction → Execution → Result (Option (ℤ × ℤ)) ℕ → Action (Unit {0})
+abbrev pub rounds_of : Surroundings → ℕ → Direction → Execution → Result (Option (ℤ × ℤ)) ℕ → Action (Unit {0})
 rounds_of env control direction body (Err site) = stop (ending.Error site)
 rounds_of env control direction body (Ok None) = give tt
 rounds_of env control direction body (Ok (Some bounds)) = looped (for_round control direction bounds.1 body env) bounds.0
 
-tested_rounds : (env : Environment) (control : ℕ) (direction : Direction) (body : Execution) (first last : ℤ) (one other : ℕ) (has fits fits_too : Bool)
+tested_rounds : (env : Surroundings) (control : ℕ) (direction : Direction) (body : Execution) (first last : ℤ) (one other : ℕ) (has fits fits_too : Bool)
     (s : State) →
     (if has then (require fits one >>= λ _. require fits_too other >>= λ _. looped (for_round control direction last body env) first) else give tt) s ≡
     rounds_of env control direction body
@@ -106,7 +107,7 @@ tested_rounds env control direction body first last one other true true false s 
 tested_rounds env control direction body first last one other true true true s = refl
 
 -- a for from the values of its bounds, once they are tested
-pub between-tested : (env : Environment) (control : ℕ) (first_fits : RangeTest) (direction : Direction) (last_fits : RangeTest) (body : Execution)
+pub between-tested : (env : Surroundings) (control : ℕ) (first_fits : RangeTest) (direction : Direction) (last_fits : RangeTest) (body : Execution)
     (first last : Value) (s : State) → for_between control first_fits direction last_fits body env first last s ≡
     rounds_of env control direction body (bounds_tested direction first_fits first last_fits last) s
 between-tested env control first_fits direction last_fits body (Number first) (Number last) s =
@@ -141,7 +142,7 @@ bounds-leave direction first_fits (Number first) last_fits (Number last) a b is 
     (is_in last_fits.range (Number last)) a b refl is
 
 -- a for whose bounds leave values is the rounds that don't pass the last one
-pub looped-counting : (env : Environment) (control : ℕ) (direction : Direction) (first last : ℤ) (body : Stmt) (s : State) →
+pub looped-counting : (env : Surroundings) (control : ℕ) (direction : Direction) (first last : ℤ) (body : Stmt) (s : State) →
     has_values direction first last ≡ true → looped (for_round control direction last (effect_of body) env) first s ≡
     looped (counting env control direction last body) first s
 looped-counting env control direction first last body s left = alike_looping env control direction last body s.turns first s left

@@ -1,3 +1,4 @@
+mod Activating
 mod Counts
 mod FoundArms
 mod Places

@@ -8,14 +8,15 @@ use Rattle.std.proofs.lemmas.Int.{ints}
 use Rattle.std.specs.Cmp.Lexicographic.{slice_cmp, pointwise}
 use Rattle.types.specs.declared.form.Step.{Step}
 use Rattle.types.specs.declared.form.Step.TheVariants.{Element, Field}
-use Rattle.interpreter.specs.declared.store.Place.{Place as KeptPlace}
+use Rattle.interpreter_state.specs.declared.store.Place.{Place as KeptPlace}
 use Rattle.types.specs.contracts.form.StepOrd.TheImpl.{ghosts as steps_in_order}
-use Rattle.interpreter.specs.contracts.store.PlaceOrd.TheImpl.{ghosts as places}
+use Rattle.interpreter_state.specs.contracts.store.PlaceOrd.TheImpl.{ghosts as places}
 use Rattle.meaning.specs.Store.{Store, step_eq, place_eq, stored}
 use Rattle.std.specs.BTreeMap.{BTreeMap, get, is_at}
 use Rattle.std.proofs.Math.Bool.{cond}
 use Rattle.meaning.specs.declared.store.Value.{Value}
-use Rattle.interpreter.specs.Pending.{StoreAgrees, place_seen}
+use Rattle.interpreter_state.specs.Views.{place_seen}
+use Rattle.interpreter.specs.Pending.{StoreAgrees}
 
 both_equal : (first second : Ordering) → is_eq (ordering_then first second) ≡ (is_eq first && is_eq second)
 both_equal Less second = refl

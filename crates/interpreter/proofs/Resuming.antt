@@ -1,5 +1,6 @@
 -- What pending work means, step by step.
-use Rattle.std.proofs.Common.{◌≡◌, ℕ, List, [], ◌∷◌, ◌++◌, Option, Some, None, Result, Ok, Err, reverse, sym, ◌∙◌, ap, subst, refl, length, arith, Bool}
+use Rattle.std.proofs.Common.{◌≡◌, ℕ, suc, List, [], ◌∷◌, ◌++◌, Option, Some, None, Result, Ok, Err, reverse, sym, ◌∙◌}
+use Rattle.std.proofs.Common.{ap, subst, refl, length, map, arith, Bool}
 use Rattle.std.proofs.Common.{true, false, if◌then◌else◌, Box, Global, ℤ}
 use Rattle.std.proofs.lemmas.Int.{ints}
 use mir.Syntax.{w32}
@@ -14,17 +15,26 @@ use Rattle.std.specs.Option.{ok_or}
 use Rattle.meaning.specs.declared.outcome.Ending.TheVariants.{Finished}
 use Rattle.meaning.specs.declared.store.Value.{Value}
 use Rattle.interpreter.specs.declared.interpreter.Run.{Run}
-use Rattle.interpreter.specs.declared.work.Work.{Work}
-use Rattle.interpreter.specs.declared.work.Work.TheVariants as work
+use Rattle.interpreter_state.specs.declared.work.Work.{Work}
+use Rattle.interpreter_state.specs.declared.work.Work.TheVariants as work
 use Rattle.types.specs.declared.form.Step.TheVariants as step
 use Rattle.meaning.specs.declared.outcome.Ending.TheVariants as ending
 use Rattle.meaning.specs.declared.store.Value.TheVariants.{Number}
-use Rattle.meaning.specs.Store.{Environment, Place, held, kept, part}
+use Rattle.meaning.specs.Meaning.{Surroundings}
+use Rattle.meaning.specs.Store.{Place, held, kept, part}
 use Rattle.meaning.specs.Effect.{State, Reply, Gives, Stops, Action, ◌>>=◌, and_then, fetched, fetch, give, is_in, number_of, require, stop, store}
-use Rattle.meaning.specs.Meaning.{effect_of, is_so}
+use Rattle.meaning.specs.Meaning.{Calls, calls_of, effect_of, is_so}
+use Rattle.typed_tree.specs.declared.tree.Tree.{Tree}
+use Rattle.meaning.proofs.Turns.{ExtendedCalls, extended_calls}
+use Rattle.interpreter_state.specs.declared.work.Caller.{Caller}
 use Rattle.operations.specs.Answers.{answered, checked, number_tested}
-use Rattle.interpreter.specs.Pending.{Resumption, InHand, OfValue, Agrees, Continues, Does, EndsAs, pending_of, resumed, rest_of, operands_of}
-use Rattle.interpreter.specs.Pending.{giving, with_top, chosen, top_of, top_place, below_top, indexed}
+use Rattle.meaning.specs.Meaning.{Argument, OfValue}
+use Rattle.interpreter.specs.Pending.{Resumption, Waits, Agrees, Continues, Does, EndsAs, pending_of, resumed, rest_of, operands_of}
+use Rattle.interpreter.specs.Pending.{tested, giving, with_top, chosen, top_of, top_place, below_top, indexed}
+
+map_append : {A B : Type 0} (f : A → B) (xs ys : List A) → map f (xs ++ ys) ≡ map f xs ++ map f ys
+map_append f [] ys = refl
+map_append f (x ∷ xs) ys = ap (λ l. f x ∷ l) (map_append f xs ys)
 
 -- one more at the end of a stack is one more at its top
 pub reverse_push : {A : Type 0} (xs : List A) (x : A) → reverse (xs ++ x ∷ []) ≡ x ∷ reverse xs
@@ -32,6 +42,12 @@ reverse_push xs x = reverse-append xs (x ∷ [])
 
 pub reverse_pushed : {A : Type 0} (ys xs : List A) (x : A) (zs : List A) → ys ≡ xs ++ x ∷ [] → reverse xs ≡ zs → reverse ys ≡ x ∷ zs
 reverse_pushed ys xs x zs pushed below = ap reverse pushed ∙ reverse_push xs x ∙ ap (λ l. x ∷ l) below
+
+pub map_reverse : {A B : Type 0} (f : A → B) (xs : List A) → map f (reverse xs) ≡ reverse (map f xs)
+map_reverse f [] = refl
+map_reverse f (x ∷ xs) =
+    ap (map f) (reverse-append (x ∷ []) xs) ∙ map_append f (reverse xs) (x ∷ []) ∙ ap (λ l. l ++ f x ∷ []) (map_reverse f xs)
+    ∙ sym (reverse-append (f x ∷ []) (map f xs))
 
 pub none_left : {A : Type 0} (xs : List A) → length xs ≡ 0 → xs ≡ []
 none_left [] h = refl
@@ -46,17 +62,24 @@ pub fetched_there : (defined : ℕ) (s : State) (place : Option Place) (o : Opti
     answer ≡ ok_or o defined → fetch place defined s ≡ answered answer s
 fetched_there defined s place o answer holds is = ap (λ w. fetched w defined s) (sym holds) ∙ fetched_answer o defined s ∙ ap (λ a. answered a s) (sym is)
 
-module _ (env : Environment) (old new : Run) where
+-- loops in a run give no turns back
+extended_at : (tree : Tree) (depth : ℕ) (calls : Calls) → calls ≡ calls_of tree depth → ExtendedCalls calls
+extended_at tree depth calls is = subst ExtendedCalls (sym is) (extended_calls tree depth)
+
+pub calls_extended : (env : Surroundings) (outer : Resumption) (run : Run) (s : State) → Agrees env outer run s → ExtendedCalls env.calls
+calls_extended env outer run s agrees = extended_at run.tree.now (suc run.activation.depth) env.calls agrees.calls
+
+module _ (env : Surroundings) (outer : Resumption) (old new : Run) where
   -- the run goes on with other work
-  pub goes_on_to : (s : State) (works : List Work) (operands : List InHand) (reply : Reply (Unit {0})) → Agrees env new s →
-      reverse new.pending.items ≡ works → operands_of new ≡ operands → reply ≡ pending_of env works operands s → Continues env reply (Ok None) new
+  pub goes_on_to : (s : State) (works : List Work) (operands : List Argument) (reply : Reply (Unit {0})) → Agrees env outer new s →
+      reverse new.pending.items ≡ works → operands_of new ≡ operands → reply ≡ pending_of env outer works operands s → Continues reply (Ok None) new
   goes_on_to s works operands reply agrees work same is =
-      (s, agrees, is ∙ ap (λ l. pending_of env works l s) (sym same) ∙ ap (λ p. pending_of env p (operands_of new) s) (sym work))
+      (env, outer, s, agrees, is ∙ ap (λ l. pending_of env outer works l s) (sym same) ∙ ap (λ p. pending_of env outer p (operands_of new) s) (sym work))
 
   -- what another reply goes on to
-  pub continues_as : (reply other : Reply (Unit {0})) (result : Result (Option Ending) AllocError) → reply ≡ other → Continues env other result new →
-      Continues env reply result new
-  continues_as reply other result is continues = subst (λ (r : Reply (Unit {0})). Continues env r result new) (sym is) continues
+  pub continues_as : (reply other : Reply (Unit {0})) (result : Result (Option Ending) AllocError) → reply ≡ other → Continues other result new →
+      Continues reply result new
+  continues_as reply other result is continues = subst (λ (r : Reply (Unit {0})). Continues r result new) (sym is) continues
 
 module _ (old new : Run) where
   -- a step that does another piece of work that is the same
@@ -64,56 +87,60 @@ module _ (old new : Run) where
       Does (λ env. resumed env work) old result new
   does_as work other result is does = subst (λ (w : Work). Does (λ env. resumed env w) old result new) (sym is) does
 
-  -- a run that goes on after its topmost piece of work
-  pub goes_on_from : (env : Environment) (start reply : Reply (Unit {0})) (result : Result (Option Ending) AllocError) → start ≡ reply → result ≡ Ok None →
-      Continues env reply result new → (t : State) × Agrees env new t × (start ≡ rest_of env new t)
-  goes_on_from env start reply result is none continues =
-      let next : Continues env reply (Ok None) new = subst (λ (r : Result (Option Ending) AllocError). Continues env reply r new) none continues in
-      (next.0, next.1, is ∙ next.2)
+  -- a run that goes on after a step
+  pub goes_on_from : (start reply : Reply (Unit {0})) (result : Result (Option Ending) AllocError) → start ≡ reply → result ≡ Ok None →
+      Continues reply result new →
+      (env : Surroundings) × (outer : Resumption) × (t : State) × Agrees env outer new t × (start ≡ rest_of env outer new t)
+  goes_on_from start reply result is none continues =
+      subst (λ (r : Result (Option Ending) AllocError). Continues start r new) none
+      (subst (λ (r : Reply (Unit {0})). Continues r result new) (sym is) continues)
 
-  -- a run that stops at its topmost piece of work
-  pub stops_from : (env : Environment) (start reply : Reply (Unit {0})) (result : Result (Option Ending) AllocError) (ending : Ending) → start ≡ reply →
-      result ≡ Ok (Some ending) → Continues env reply result new → EndsAs env start new ending
-  stops_from env start reply result ending is some continues =
-      let next : Continues env reply (Ok (Some ending)) new = subst (λ (r : Result (Option Ending) AllocError). Continues env reply r new) some continues in
-      subst (λ (r : Reply (Unit {0})). EndsAs env r new ending) (sym (is ∙ next.2)) (record { state = next.1; ending = refl })
+  -- a run that stops at a step
+  pub stops_from : (start reply : Reply (Unit {0})) (result : Result (Option Ending) AllocError) (ending : Ending) → start ≡ reply →
+      result ≡ Ok (Some ending) → Continues reply result new → EndsAs start new ending
+  stops_from start reply result ending is some continues =
+      let next : Continues reply (Ok (Some ending)) new = subst (λ (r : Result (Option Ending) AllocError). Continues reply r new) some continues in
+      let agrees = next.3 in
+      subst (λ (r : Reply (Unit {0})). EndsAs r new ending) (sym (is ∙ next.4)) (record { output = agrees.output; ending = refl })
 
   -- a run that has nothing left to do
-  pub done_from : (env : Environment) (start : Reply (Unit {0})) (t : State) → start ≡ rest_of env new t → new.pending.items ≡ [] → Agrees env new t →
-      EndsAs env start new Finished
-  done_from env start t is none agrees =
-      let done : start ≡ Gives tt t = is ∙ ap (λ (l : List Work). pending_of env (reverse l) (operands_of new) t) none in
-      subst (λ (r : Reply (Unit {0})). EndsAs env r new Finished) (sym done) (record { state = agrees; ending = refl })
+  pub done_from : (env : Surroundings) (outer : Resumption) (start : Reply (Unit {0})) (t : State) → start ≡ rest_of env outer new t →
+      new.pending.items ≡ [] → new.callers.items ≡ [] → Agrees env outer new t → EndsAs start new Finished
+  done_from env outer start t is none alone agrees =
+      let waits : Waits new.tree.now env new.activation outer [] =
+      subst (λ (l : List Caller). Waits new.tree.now env new.activation outer (reverse l)) alone agrees.waits in
+      let done : start ≡ Gives tt t = is ∙ ap (λ (l : List Work). pending_of env outer (reverse l) (operands_of new) t) none ∙ waits (operands_of new) t in
+      subst (λ (r : Reply (Unit {0})). EndsAs r new Finished) (sym done) (record { output = agrees.output; ending = refl })
 
 -- a run that stops behind its operands
-pub stops_below : (old taken : Run) (env : Environment) (s : State) (start : Reply (Unit {0})) (ending : Ending) →
-    taken ≡ record old { operands = taken.operands } → start ≡ Stops ending s → Agrees env old s → Continues env start (Ok (Some ending)) taken
-stops_below old taken env s start ending same is agrees = (s, subst (λ (r : Run). Agrees env r s) (sym same) agrees, is)
+pub stops_below : (old taken : Run) (env : Surroundings) (outer : Resumption) (s : State) (start : Reply (Unit {0})) (ending : Ending) →
+    taken ≡ record old { operands = taken.operands } → start ≡ Stops ending s → Agrees env outer old s → Continues start (Ok (Some ending)) taken
+stops_below old taken env outer s start ending same is agrees = (env, outer, s, subst (λ (r : Run). Agrees env outer r s) (sym same) agrees, is)
 
 -- a run whose operands changed
-pub agreed_below : (old taken : Run) (env : Environment) (s : State) → taken ≡ record old { operands = taken.operands } → Agrees env old s →
-    Agrees env taken s
-agreed_below old taken env s same agrees = subst (λ (r : Run). Agrees env r s) (sym same) agrees
+pub agreed_below : (old taken : Run) (env : Surroundings) (outer : Resumption) (s : State) → taken ≡ record old { operands = taken.operands } →
+    Agrees env outer old s → Agrees env outer taken s
+agreed_below old taken env outer s same agrees = subst (λ (r : Run). Agrees env outer r s) (sym same) agrees
 
 -- a piece of work whose operands were taken from the stack
-pub goes_on_below : (old taken new : Run) (env : Environment) (s : State) (piece : Environment → Resumption → Resumption) (below : List InHand)
-    (result : Result (Option Ending) AllocError) (start : Reply (Unit {0})) → taken ≡ record old { operands = taken.operands } →
-    operands_of taken ≡ below → start ≡ piece env (pending_of env (reverse old.pending.items)) below s → Agrees env old s →
-    Does piece taken result new → Continues env start result new
-goes_on_below old taken new env s piece below result start same left is agrees does =
-    let agreed : Agrees env taken s = subst (λ (r : Run). Agrees env r s) (sym same) agrees in
-    continues_as env old new start _ result
+pub goes_on_below : (old taken new : Run) (env : Surroundings) (outer : Resumption) (s : State) (piece : Surroundings → Resumption → Resumption)
+    (below : List Argument) (result : Result (Option Ending) AllocError) (start : Reply (Unit {0})) → taken ≡ record old { operands = taken.operands } →
+    operands_of taken ≡ below → start ≡ piece env (pending_of env outer (reverse old.pending.items)) below s → Agrees env outer old s →
+    Does piece taken result new → Continues start result new
+goes_on_below old taken new env outer s piece below result start same left is agrees does =
+    let agreed : Agrees env outer taken s = subst (λ (r : Run). Agrees env outer r s) (sym same) agrees in
+    continues_as env outer old new start _ result
     (is
-    ∙ ap (λ (l : List InHand). piece env (pending_of env (reverse old.pending.items)) l s) (sym left)
-    ∙ ap (λ (r : Run). piece env (pending_of env (reverse r.pending.items)) (operands_of taken) s) (sym same))
-    (does env s agreed)
+    ∙ ap (λ (l : List Argument). piece env (pending_of env outer (reverse old.pending.items)) l s) (sym left)
+    ∙ ap (λ (r : Run). piece env (pending_of env outer (reverse r.pending.items)) (operands_of taken) s) (sym same))
+    (does env outer s agreed)
 
 -- a statement, and then the rest
-abbrev pub executing : Stmt → Environment → Resumption → Resumption
+abbrev pub executing : Stmt → Surroundings → Resumption → Resumption
 executing statement env next operands = effect_of statement env >>= λ _. next operands
 
 -- the topmost operand chooses a branch
-pub chooses : (env : Environment) (consequence : Stmt) (alternative : Option (Box Stmt Global)) (next : Resumption) (operands : List InHand) (s : State)
+pub chooses : (env : Surroundings) (consequence : Stmt) (alternative : Option (Box Stmt Global)) (next : Resumption) (operands : List Argument) (s : State)
     (so : Bool) → is_so (top_of operands) ≡ so →
     with_top (λ v below. chosen (is_so v) consequence alternative env >>= λ _. next below) operands s ≡
     and_then (chosen so consequence alternative env s) (λ _. next (below_top operands))
@@ -121,22 +148,23 @@ chooses env consequence alternative next operands s so is =
     ap (λ (b : Bool). and_then (chosen b consequence alternative env s) (λ _. next (below_top operands))) is
 
 -- a calculation with operands that were taken from the stack
-pub goes_on_by : (old taken new : Run) (env : Environment) (s : State) (action : Action Value) (answer : Result Value ℕ) (below : List InHand)
-    (result : Result (Option Ending) AllocError) → taken ≡ record old { operands = taken.operands } → operands_of taken ≡ below →
-    action s ≡ answered answer s → Agrees env old s → Does (λ env. giving (answered answer)) taken result new →
-    Continues env (giving action (pending_of env (reverse old.pending.items)) below s) result new
-goes_on_by old taken new env s action answer below result same left gives agrees does =
-    goes_on_below old taken new env s (λ env. giving (answered answer)) below result _ same left
-    (ap (λ (r : Reply Value). and_then r (λ v. pending_of env (reverse old.pending.items) (OfValue v ∷ below))) gives)
+pub goes_on_by : (old taken new : Run) (env : Surroundings) (outer : Resumption) (s : State) (action : Action Value) (answer : Result Value ℕ)
+    (below : List Argument) (result : Result (Option Ending) AllocError) → taken ≡ record old { operands = taken.operands } → operands_of taken ≡ below →
+    action s ≡ answered answer s → Agrees env outer old s → Does (λ env. giving (answered answer)) taken result new →
+    Continues (giving action (pending_of env outer (reverse old.pending.items)) below s) result new
+goes_on_by old taken new env outer s action answer below result same left gives agrees does =
+    goes_on_below old taken new env outer s (λ env. giving (answered answer)) below result _ same left
+    (ap (λ (r : Reply Value). and_then r (λ v. pending_of env outer (reverse old.pending.items) (OfValue v ∷ below))) gives)
     agrees does
 
 -- the topmost piece of work is taken from the stack
-pub taken : (env : Environment) (run : Run) (left : List Work) (work : Work) (t : State) → run.pending.items ≡ left ++ work ∷ [] →
-    rest_of env run t ≡ resumed env work (pending_of env (reverse left)) (operands_of run) t
-taken env run left work t is = ap (λ (l : List Work). pending_of env l (operands_of run) t) (ap reverse is ∙ reverse_push left work)
+pub taken : (env : Surroundings) (outer : Resumption) (run : Run) (left : List Work) (work : Work) (t : State) → run.pending.items ≡ left ++ work ∷ [] →
+    rest_of env outer run t ≡ resumed env work (pending_of env outer (reverse left)) (operands_of run) t
+taken env outer run left work t is =
+    ap (λ (l : List Work). pending_of env outer l (operands_of run) t) (ap reverse is ∙ reverse_push left work)
 
 -- the topmost operand is stored
-pub stores : (env : Environment) (fits : RangeTest) (next : Resumption) (operands : List InHand) (s : State) (v : Value) → v ≡ top_of operands →
+pub stores : (env : Surroundings) (fits : RangeTest) (next : Resumption) (operands : List Argument) (s : State) (v : Value) → v ≡ top_of operands →
     is_in fits.range v ≡ true → resumed env (work.Store fits) next operands s ≡
     next (below_top (below_top operands)) (record s { store = kept s.store (top_place (below_top operands)) v })
 stores env fits next operands s v top fine =
@@ -173,3 +201,12 @@ passed P a b fits too holds =
     let one : to_z w32 (of_z w32 a) ≡ a = omega (arith, ints, fits) in
     let other : to_z w32 (of_z w32 b) ≡ b = omega (arith, ints, too) in
     subst (λ n. P n b) one (subst (λ n. P (to_z w32 (of_z w32 a)) n) other holds)
+
+-- a value that was tested
+tested_answer : (b : Bool) (site : ℕ) (v : Value) (s : State) →
+    (require b site >>= λ _. give v) s ≡ answered (ok_or (if b then Some v else None) site) s
+tested_answer true site v s = refl
+tested_answer false site v s = refl
+
+pub tested_as : (fits : RangeTest) (v : Value) (s : State) → tested fits v s ≡ answered (ok_or (checked fits.range v) fits.site) s
+tested_as fits v s = tested_answer (is_in fits.range v) fits.site v s

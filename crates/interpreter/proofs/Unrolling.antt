@@ -1,7 +1,9 @@
 -- Each form of an expression and of a statement, as the work that an interpreter has to do for it.
-use Rattle.std.proofs.Common.{◌≡◌, ℕ, ℤ, pos, List, [], ◌∷◌, ◌++◌, Bool, true, false, Option, Some, None, Result, Bor, if◌then◌else◌, Box, Vec, Global, map}
+use Rattle.std.proofs.Common.{◌≡◌, ℕ, ℤ, pos, List, [], ◌∷◌, ◌++◌, Bool, true, false, Option, Some, None, Result, Bor}
+use Rattle.std.proofs.Common.{if◌then◌else◌, Box, Vec, Global, map, length, zero, suc, arith}
 use Rattle.std.proofs.Common.{sym}
 use Rattle.std.proofs.Common.{◌∙◌, ap, refl}
+use Rattle.std.proofs.lemmas.List.{length-map}
 use Rattle.place.specs.declared.Place.{Place as SourcePlace}
 use Rattle.typed_tree.specs.declared.tree.Access.{Access}
 use Rattle.typed_tree.specs.declared.tree.Direction.{Direction}
@@ -24,131 +26,139 @@ use Rattle.typed_tree.specs.WellFormed.{length_of}
 use Rattle.typed_tree.specs.declared.tree.Expr.{Expr}
 use Rattle.typed_tree.specs.declared.tree.Link.{Link}
 use Rattle.typed_tree.specs.declared.tree.Stmt.{Stmt}
+use Rattle.typed_tree.specs.declared.tree.Call.{Call}
+use Rattle.typed_tree.specs.declared.tree.Passed.{Passed}
+use Rattle.typed_tree.specs.declared.tree.Passed.TheVariants as passed
 use Rattle.typed_tree.specs.declared.tree.Expr.TheVariants as expr
 use Rattle.typed_tree.specs.declared.tree.Stmt.TheVariants as stmt
 use Rattle.typed_tree.specs.declared.tree.Stmt.TheOpen.Stmt-F.{Empty as Empty-F, Assign as Assign-F, Copy as Copy-F, Write as Write-F}
 use Rattle.typed_tree.specs.declared.tree.Stmt.TheOpen.Stmt-F.{Compound as Compound-F, If as If-F}
-use Rattle.typed_tree.specs.declared.tree.Stmt.TheOpen.Stmt-F.{While as While-F, Repeat as Repeat-F, For as For-F, Case as Case-F}
+use Rattle.typed_tree.specs.declared.tree.Stmt.TheOpen.Stmt-F.{While as While-F, Repeat as Repeat-F, For as For-F, Case as Case-F, Call as Call-F}
 use Rattle.typed_tree.specs.declared.tree.Stmt.TheFolds.{fold-roll-Stmt}
 use Rattle.meaning.specs.declared.store.Value.{Value}
 use Rattle.meaning.specs.declared.store.Value.TheVariants.{Number}
-use Rattle.interpreter.specs.declared.work.Work.{Work}
-use Rattle.interpreter.specs.declared.work.Work.TheVariants as work
-use Rattle.meaning.specs.Store.{Environment, Place, kept, part}
+use Rattle.interpreter_state.specs.declared.work.Work.{Work}
+use Rattle.interpreter_state.specs.declared.work.Work.TheVariants as work
+use Rattle.meaning.specs.Meaning.{Surroundings}
+use Rattle.meaning.specs.Store.{Place, kept, part}
 use Rattle.meaning.specs.Effect.{State, Reply, Action, ◌>>=◌, and_then, give, require, enter, use_turn, another, looped}
 use Rattle.meaning.specs.Effect.{fetch, fetch_all, store, store_all, undefine, write, is_in, number_of, row_text, text_of}
 use Rattle.meaning.specs.Meaning.{Combination, Execution, effect_step, operated, combined, in_turn, all_of}
 use Rattle.meaning.specs.Meaning.{compared, selected, accessed, whole_of, default_width, written_of, width_of, parameter_of}
 use Rattle.meaning.specs.Meaning.{line_ended, is_so, turn_if, for_between, arm_of}
-use Rattle.meaning.specs.Meaning.{value_of, values_of, link_of, effect_of}
+use Rattle.meaning.specs.Meaning.{value_of, values_of, link_of, effect_of, Passing, all_passed, call_of, passing_of}
 use Rattle.operations.specs.Answers.{bounds_tested, positive, value_before}
-use Rattle.interpreter.specs.Pending.{Resumption, InHand, OfValue, OfPlace, OfRow, pending_of, resumed, chosen, further, while_rounds, repeat_rounds, counting}
+use Rattle.meaning.specs.Meaning.{Argument, OfValue, OfPlace, OfRow}
+use Rattle.interpreter.specs.Pending.{Resumption, pending_of, resumed, chosen, further, while_rounds, repeat_rounds, counting}
 use Rattle.interpreter.specs.Pending.{forgetting, turning, turning_tested, whiling, repeating, counting_on, line_ending, linking}
 use Rattle.interpreter.specs.Pending.{giving, giving_place, giving_row, with_top, with_row, top_of, top_place, top_row, below_top}
-use Rattle.interpreter.specs.Pending.{writing, writing_row, placing, accessing, selecting, comparing}
-use Rattle.meaning.proofs.Expressions.{value-Variable, value-Monadic, value-Chain, value-Compare, combination-Link}
+use Rattle.interpreter.specs.Pending.{writing, writing_one, writing_row, placing, accessing, selecting, comparing}
+use Rattle.interpreter.specs.Pending.{calling, left_below, passing, taken_from, tested, top_in_hand}
+use Rattle.meaning.proofs.Expressions.{value-Variable, value-Monadic, value-Chain, value-Compare, value-Call, combination-Link}
+use Rattle.meaning.proofs.Expressions.{passing-Value, passing-Whole, passing-Reference}
 use Rattle.meaning.proofs.Replies.{and_then-and_then, and_then-same}
-use Rattle.meaning.proofs.Turns.{extended_value, extended_effect, extended_statements}
+use Rattle.meaning.proofs.Turns.{ExtendedCalls, extended_value, extended_effect, extended_statements}
 use Rattle.meaning.proofs.Loops.{looped-rounds, while_uses, repeat_uses, counted_uses}
 use Rattle.interpreter.proofs.Counts.{rounds_of, between-tested, turn-given}
 
-effect-Empty : (n : ℕ) (env : Environment) → effect_of (stmt.Empty n) env ≡ enter n env
+effect-Empty : (n : ℕ) (env : Surroundings) → effect_of (stmt.Empty n) env ≡ enter n env.visible
 effect-Empty n env = ap (λ (e : Stmt). effect_of e env) (sym (stmt.rolls-Empty n))
     ∙ ap (λ (f : Execution). f env) (fold-roll-Stmt Execution effect_step (Empty-F n))
 
-effect-Assign : (n : ℕ) (becomes : SourcePlace) (target : Access) (indexes : Vec Expr Global) (fits : RangeTest) (value : Expr) (env : Environment) →
+effect-Assign : (n : ℕ) (becomes : SourcePlace) (target : Access) (indexes : Vec Expr Global) (fits : RangeTest) (value : Expr) (env : Surroundings) →
     effect_of (stmt.Assign n becomes target indexes fits value) env ≡
-    (enter n env >>= λ _. accessed target (values_of indexes.items) env >>= λ place. value_of value env >>= λ v.
+    (enter n env.visible >>= λ _. accessed target (values_of indexes.items) env >>= λ place. value_of value env >>= λ v.
     require (is_in fits.range v) fits.site >>= λ _. store place v)
 effect-Assign n becomes target indexes fits value env =
     ap (λ (e : Stmt). effect_of e env) (sym (stmt.rolls-Assign n becomes target indexes fits value))
     ∙ ap (λ (f : Execution). f env) (fold-roll-Stmt Execution effect_step (Assign-F n becomes target indexes fits value))
 
 effect-Copy : (n : ℕ) (becomes : SourcePlace) (target : Access) (indexes : Vec Expr Global) (type_id : TypeId) (value : Whole)
-    (value_indexes : Vec Expr Global) (env : Environment) → effect_of (stmt.Copy n becomes target indexes type_id value value_indexes) env ≡
-    (enter n env >>= λ _. accessed target (values_of indexes.items) env >>= λ place. whole_of value (values_of value_indexes.items) env >>= λ numbers.
-    store_all place (components_of env.types type_id) numbers)
+    (value_indexes : Vec Expr Global) (env : Surroundings) → effect_of (stmt.Copy n becomes target indexes type_id value value_indexes) env ≡
+    (enter n env.visible >>= λ _. accessed target (values_of indexes.items) env >>= λ place. whole_of value (values_of value_indexes.items) env >>= λ numbers.
+    store_all place (components_of env.visible.types type_id) numbers)
 effect-Copy n becomes target indexes type_id value value_indexes env =
     ap (λ (e : Stmt). effect_of e env) (sym (stmt.rolls-Copy n becomes target indexes type_id value value_indexes))
     ∙ ap (λ (f : Execution). f env) (fold-roll-Stmt Execution effect_step (Copy-F n becomes target indexes type_id value value_indexes))
 
-effect-Write : (n : ℕ) (name : SourcePlace) (parameters : Vec WriteParameter Global) (ends_line : Bool) (env : Environment) →
-    effect_of (stmt.Write n name parameters ends_line) env ≡ (enter n env >>= λ _. all_of (map parameter_of parameters.items) env >>= λ _. line_ended ends_line)
+effect-Write : (n : ℕ) (name : SourcePlace) (parameters : Vec WriteParameter Global) (ends_line : Bool) (env : Surroundings) →
+    effect_of (stmt.Write n name parameters ends_line) env ≡ (enter n env.visible >>= λ _. all_of (map parameter_of parameters.items) env >>= λ _. line_ended
+    ends_line)
 effect-Write n name parameters ends_line env = ap (λ (e : Stmt). effect_of e env) (sym (stmt.rolls-Write n name parameters ends_line))
     ∙ ap (λ (f : Execution). f env) (fold-roll-Stmt Execution effect_step (Write-F n name parameters ends_line))
 
-effect-Compound : (n : ℕ) (statements : Vec Stmt Global) (env : Environment) →
-    effect_of (stmt.Compound n statements) env ≡ (enter n env >>= λ _. all_of (map effect_of statements.items) env)
+effect-Compound : (n : ℕ) (statements : Vec Stmt Global) (env : Surroundings) →
+    effect_of (stmt.Compound n statements) env ≡ (enter n env.visible >>= λ _. all_of (map effect_of statements.items) env)
 effect-Compound n statements env = ap (λ (e : Stmt). effect_of e env) (sym (stmt.rolls-Compound n statements))
     ∙ ap (λ (f : Execution). f env) (fold-roll-Stmt Execution effect_step (Compound-F n statements))
 
-effect-If : (n : ℕ) (condition : Expr) (consequence : Box Stmt Global) (alternative : Option (Box Stmt Global)) (env : Environment) →
+effect-If : (n : ℕ) (condition : Expr) (consequence : Box Stmt Global) (alternative : Option (Box Stmt Global)) (env : Surroundings) →
     effect_of (stmt.If n condition consequence alternative) env ≡
-    (enter n env >>= λ _. value_of condition env >>= λ v. chosen (is_so v) consequence.value alternative env)
+    (enter n env.visible >>= λ _. value_of condition env >>= λ v. chosen (is_so v) consequence.value alternative env)
 effect-If n condition consequence None env = ap (λ (e : Stmt). effect_of e env) (sym (stmt.rolls-If n condition consequence None))
     ∙ ap (λ (f : Execution). f env) (fold-roll-Stmt Execution effect_step (If-F n condition consequence None))
 effect-If n condition consequence (Some other) env = ap (λ (e : Stmt). effect_of e env) (sym (stmt.rolls-If n condition consequence (Some other)))
     ∙ ap (λ (f : Execution). f env) (fold-roll-Stmt Execution effect_step (If-F n condition consequence (Some other)))
 
-effect-While : (n loop_number : ℕ) (place : SourcePlace) (condition : Expr) (body : Box Stmt Global) (env : Environment) →
-    effect_of (stmt.While n loop_number place condition body) env ≡ (enter n env >>= λ _. looped (while_rounds env condition body.value) tt)
+effect-While : (n loop_number : ℕ) (place : SourcePlace) (condition : Expr) (body : Box Stmt Global) (env : Surroundings) →
+    effect_of (stmt.While n loop_number place condition body) env ≡ (enter n env.visible >>= λ _. looped (while_rounds env condition body.value) tt)
 effect-While n loop_number place condition body env = ap (λ (e : Stmt). effect_of e env) (sym (stmt.rolls-While n loop_number place condition body))
     ∙ ap (λ (f : Execution). f env) (fold-roll-Stmt Execution effect_step (While-F n loop_number place condition body))
 
-effect-Repeat : (n loop_number : ℕ) (place : SourcePlace) (statements : Vec Stmt Global) (condition : Expr) (env : Environment) →
+effect-Repeat : (n loop_number : ℕ) (place : SourcePlace) (statements : Vec Stmt Global) (condition : Expr) (env : Surroundings) →
     effect_of (stmt.Repeat n loop_number place statements condition) env ≡
-    (enter n env >>= λ _. looped (repeat_rounds env statements.items condition) tt)
+    (enter n env.visible >>= λ _. looped (repeat_rounds env statements.items condition) tt)
 effect-Repeat n loop_number place statements condition env =
     ap (λ (e : Stmt). effect_of e env) (sym (stmt.rolls-Repeat n loop_number place statements condition))
     ∙ ap (λ (f : Execution). f env) (fold-roll-Stmt Execution effect_step (Repeat-F n loop_number place statements condition))
 
 effect-For : (n loop_number : ℕ) (place : SourcePlace) (control : ℕ) (first : Expr) (first_fits : RangeTest) (direction : Direction) (last : Expr)
-    (last_fits : RangeTest) (body : Box Stmt Global) (env : Environment) →
+    (last_fits : RangeTest) (body : Box Stmt Global) (env : Surroundings) →
     effect_of (stmt.For n loop_number place control first first_fits direction last last_fits body) env ≡
-    (enter n env >>= λ _. value_of first env >>= λ a. value_of last env >>= λ b.
-    for_between control first_fits direction last_fits (effect_of body.value) env a b >>= λ _. undefine (env.variables control))
+    (enter n env.visible >>= λ _. value_of first env >>= λ a. value_of last env >>= λ b.
+    for_between control first_fits direction last_fits (effect_of body.value) env a b >>= λ _. undefine (env.visible.variables control))
 effect-For n loop_number place control first first_fits direction last last_fits body env =
     ap (λ (e : Stmt). effect_of e env) (sym (stmt.rolls-For n loop_number place control first first_fits direction last last_fits body))
     ∙ ap (λ (f : Execution). f env)
     (fold-roll-Stmt Execution effect_step (For-F n loop_number place control first first_fits direction last last_fits body))
 
-effect-Case : (n site : ℕ) (index : Expr) (constants : Vec (Vec ℤ Global) Global) (arms : Vec Stmt Global) (env : Environment) →
+effect-Case : (n site : ℕ) (index : Expr) (constants : Vec (Vec ℤ Global) Global) (arms : Vec Stmt Global) (env : Surroundings) →
     effect_of (stmt.Case n site index constants arms) env ≡
-    (enter n env >>= λ _. value_of index env >>= λ v. arm_of site constants.items (map effect_of arms.items) (number_of v) env)
+    (enter n env.visible >>= λ _. value_of index env >>= λ v. arm_of site constants.items (map effect_of arms.items) (number_of v) env)
 effect-Case n site index constants arms env = ap (λ (e : Stmt). effect_of e env) (sym (stmt.rolls-Case n site index constants arms))
     ∙ ap (λ (f : Execution). f env) (fold-roll-Stmt Execution effect_step (Case-F n site index constants arms))
 
 -- the state after an entry
-abbrev pub entered : ℕ → Environment → State → State
-entered number env s = record s { visited = s.visited ++ record { number = number; environment = env; store = s.store } ∷ [] }
+abbrev pub entered : ℕ → Surroundings → State → State
+entered number env s = record s { visited = s.visited ++ record { number = number; environment = env.visible; store = s.store } ∷ [] }
 
 -- what is pending after an expression's value
-abbrev pub evaluated : Environment → Expr → List Work → List InHand → Action (Unit {0})
-evaluated env e works operands = giving (value_of e env) (pending_of env works) operands
+abbrev pub evaluated : Surroundings → Resumption → Expr → List Work → List Argument → Action (Unit {0})
+evaluated env outer e works operands = giving (value_of e env) (pending_of env outer works) operands
 
 pub does-Variable : (a : Access) (indexes : Vec Expr Global) (defined : ℕ) (given : Expr) → given ≡ expr.Variable a indexes defined →
-    (all : List Expr) → all ≡ indexes.items → (env : Environment) (works : List Work) (operands : List InHand) (s : State) →
-    evaluated env given works operands s ≡ accessing env a all (work.Fetch defined) (pending_of env works) operands (entered a.number env s)
-does-Variable a indexes defined given is all same env works operands s =
-    let then_rest : Value → Action (Unit {0}) = λ v. pending_of env works (OfValue v ∷ operands) in
-    let place : List Expr → Reply (Option Place) = λ l. selected a.selectors.items (values_of l) env (env.variables a.root) (entered a.number env s) in
-    ap (λ (e : Expr). evaluated env e works operands s) is
-    ∙ ap (λ (a : Action Value). giving a (pending_of env works) operands s) (value-Variable a indexes defined env)
+    (all : List Expr) → all ≡ indexes.items → (env : Surroundings) (outer : Resumption) (works : List Work) (operands : List Argument) (s : State) →
+    evaluated env outer given works operands s ≡ accessing env a all (work.Fetch defined) (pending_of env outer works) operands (entered a.number env s)
+does-Variable a indexes defined given is all same env outer works operands s =
+    let then_rest : Value → Action (Unit {0}) = λ v. pending_of env outer works (OfValue v ∷ operands) in
+    let place : List Expr → Reply (Option Place) = λ l. selected a.selectors.items (values_of l) env (env.visible.variables a.root) (entered a.number env s) in
+    ap (λ (e : Expr). evaluated env outer e works operands s) is
+    ∙ ap (λ (a : Action Value). giving a (pending_of env outer works) operands s) (value-Variable a indexes defined env)
     ∙ and_then-and_then (place indexes.items) (λ p. fetch p defined) then_rest
     ∙ ap (λ l. and_then (place l) (λ p. fetch p defined >>= then_rest)) (sym same)
 
 pub does-Monadic : (n : ℕ) (operation : Monadic) (operand : Box Expr Global) (given : Expr) → given ≡ expr.Monadic n operation operand → (inner : Bor Expr) →
-    inner.now ≡ operand.value → (env : Environment) (works : List Work) (operands : List InHand) (s : State) →
-    evaluated env given works operands s ≡ pending_of env (work.Value inner ∷ work.Monadic operation ∷ works) operands (entered n env s)
-does-Monadic n operation operand given is inner same env works operands s =
-    let then_rest : Value → Action (Unit {0}) = λ v. pending_of env works (OfValue v ∷ operands) in
-    ap (λ (e : Expr). evaluated env e works operands s) is
+    inner.now ≡ operand.value → (env : Surroundings) (outer : Resumption) (works : List Work) (operands : List Argument) (s : State) →
+    evaluated env outer given works operands s ≡ pending_of env outer (work.Value inner ∷ work.Monadic operation ∷ works) operands (entered n env s)
+does-Monadic n operation operand given is inner same env outer works operands s =
+    let then_rest : Value → Action (Unit {0}) = λ v. pending_of env outer works (OfValue v ∷ operands) in
+    ap (λ (e : Expr). evaluated env outer e works operands s) is
     ∙ ap (λ (a : Action Value). and_then (a s) then_rest) (value-Monadic n operation operand env)
     ∙ and_then-and_then (value_of operand.value env (entered n env s)) (λ v. operated operation v) then_rest
     ∙ ap (λ (e : Expr). and_then (value_of e env (entered n env s)) (λ v. operated operation v >>= then_rest)) (sym same)
 
 -- the operators of a chain, with the operands in hand
-linking-in_turn : (env : Environment) (links : List Combination) (next : Resumption) (v : Value) (operands : List InHand) (s : State) →
+linking-in_turn : (env : Surroundings) (links : List Combination) (next : Resumption) (v : Value) (operands : List Argument) (s : State) →
     and_then (in_turn links env v s) (λ w. next (OfValue w ∷ operands)) ≡ linking env links next (OfValue v ∷ operands) s
 linking-in_turn env [] next v operands s = refl
 linking-in_turn env (link ∷ links) next v operands s =
@@ -157,69 +167,71 @@ linking-in_turn env (link ∷ links) next v operands s =
 
 pub does-Chain : (first : Box Expr Global) (rest : Vec Link Global) (given : Expr) → given ≡ expr.Chain first rest → (inner : Bor Expr) →
     inner.now ≡ first.value → (links : Bor (List Link)) → links.now ≡ rest.items →
-    (env : Environment) (works : List Work) (operands : List InHand) (s : State) →
-    evaluated env given works operands s ≡ pending_of env (work.Value inner ∷ work.Links links ∷ works) operands s
-does-Chain first rest given is inner same links all env works operands s =
-    let then_rest : Value → Action (Unit {0}) = λ v. pending_of env works (OfValue v ∷ operands) in
-    ap (λ (e : Expr). evaluated env e works operands s) is
+    (env : Surroundings) (outer : Resumption) (works : List Work) (operands : List Argument) (s : State) →
+    evaluated env outer given works operands s ≡ pending_of env outer (work.Value inner ∷ work.Links links ∷ works) operands s
+does-Chain first rest given is inner same links all env outer works operands s =
+    let then_rest : Value → Action (Unit {0}) = λ v. pending_of env outer works (OfValue v ∷ operands) in
+    ap (λ (e : Expr). evaluated env outer e works operands s) is
     ∙ ap (λ (a : Action Value). and_then (a s) then_rest) (value-Chain first rest env)
     ∙ and_then-and_then (value_of first.value env s) (λ v. in_turn (map link_of rest.items) env v) then_rest
-    ∙ and_then-same (value_of first.value env s) _ _ (λ v t. linking-in_turn env (map link_of rest.items) (pending_of env works) v operands t)
-    ∙ ap (λ (e : Expr). and_then (value_of e env s) (λ v. linking env (map link_of rest.items) (pending_of env works) (OfValue v ∷ operands))) (sym same)
-    ∙ ap (λ (l : List Link). and_then (value_of inner.now env s) (λ v. linking env (map link_of l) (pending_of env works) (OfValue v ∷ operands))) (sym all)
+    ∙ and_then-same (value_of first.value env s) _ _ (λ v t. linking-in_turn env (map link_of rest.items) (pending_of env outer works) v operands t)
+    ∙ ap (λ (e : Expr). and_then (value_of e env s) (λ v. linking env (map link_of rest.items) (pending_of env outer works) (OfValue v ∷ operands))) (sym same)
+    ∙ ap (λ (l : List Link). and_then (value_of inner.now env s) (λ v. linking env (map link_of l) (pending_of env outer works) (OfValue v ∷ operands)))
+    (sym all)
 
 pub does-Links : (first : Link) (rest all : Bor (List Link)) → all.now ≡ first ∷ rest.now →
-    (env : Environment) (works : List Work) (operands : List InHand) (s : State) →
-    resumed env (work.Links all) (pending_of env works) operands s ≡
-    evaluated env first.operand (work.Combine first.operation ∷ work.Links rest ∷ works) operands (entered first.number env s)
-does-Links first rest all is env works operands s =
+    (env : Surroundings) (outer : Resumption) (works : List Work) (operands : List Argument) (s : State) →
+    resumed env (work.Links all) (pending_of env outer works) operands s ≡
+    evaluated env outer first.operand (work.Combine first.operation ∷ work.Links rest ∷ works) operands (entered first.number env s)
+does-Links first rest all is env outer works operands s =
     let left = top_of operands in
-    let then_rest : Value → Action (Unit {0}) = λ w. linking env (map link_of rest.now) (pending_of env works) (OfValue w ∷ below_top operands) in
-    ap (λ (l : List Link). linking env (map link_of l) (pending_of env works) operands s) is
+    let then_rest : Value → Action (Unit {0}) = λ w. linking env (map link_of rest.now) (pending_of env outer works) (OfValue w ∷ below_top operands) in
+    ap (λ (l : List Link). linking env (map link_of l) (pending_of env outer works) operands s) is
     ∙ ap (λ (a : Action Value). and_then (a s) then_rest) (combination-Link first env left)
     ∙ and_then-and_then (value_of first.operand env (entered first.number env s)) (λ right. combined first.operation left right) then_rest
 
 -- what is pending after a statement
-abbrev executed : Environment → Stmt → List Work → List InHand → Action (Unit {0})
-executed env e works operands = effect_of e env >>= λ _. pending_of env works operands
+abbrev executed : Surroundings → Resumption → Stmt → List Work → List Argument → Action (Unit {0})
+executed env outer e works operands = effect_of e env >>= λ _. pending_of env outer works operands
 
-pub does-Empty : (n : ℕ) (given : Stmt) → given ≡ stmt.Empty n → (env : Environment) (works : List Work) (operands : List InHand) (s : State) →
-    executed env given works operands s ≡ pending_of env works operands (entered n env s)
-does-Empty n given is env works operands s =
-    ap (λ (e : Stmt). executed env e works operands s) is
-    ∙ ap (λ (a : Action (Unit {0})). and_then (a s) (λ _. pending_of env works operands)) (effect-Empty n env)
+pub does-Empty : (n : ℕ) (given : Stmt) → given ≡ stmt.Empty n → (env : Surroundings) (outer : Resumption) (works : List Work) (operands : List Argument)
+    (s : State) →
+    executed env outer given works operands s ≡ pending_of env outer works operands (entered n env s)
+does-Empty n given is env outer works operands s =
+    ap (λ (e : Stmt). executed env outer e works operands s) is
+    ∙ ap (λ (a : Action (Unit {0})). and_then (a s) (λ _. pending_of env outer works operands)) (effect-Empty n env)
 
 pub does-Assign : (n : ℕ) (becomes : SourcePlace) (target : Access) (indexes : Vec Expr Global) (fits : RangeTest) (value : Expr) (given : Stmt) →
     given ≡ stmt.Assign n becomes target indexes fits value → (all : List Expr) → all ≡ indexes.items →
-    (env : Environment) (works : List Work) (operands : List InHand) (s : State) →
-    executed env given works operands s ≡
-    placing env target all (evaluated env value (work.Store fits ∷ works)) operands (entered target.number env (entered n env s))
-does-Assign n becomes target indexes fits value given is all same env works operands s =
-    let then_rest : Unit {0} → Action (Unit {0}) = λ _. pending_of env works operands in
+    (env : Surroundings) (outer : Resumption) (works : List Work) (operands : List Argument) (s : State) →
+    executed env outer given works operands s ≡
+    placing env target all (evaluated env outer value (work.Store fits ∷ works)) operands (entered target.number env (entered n env s))
+does-Assign n becomes target indexes fits value given is all same env outer works operands s =
+    let then_rest : Unit {0} → Action (Unit {0}) = λ _. pending_of env outer works operands in
     let place : List Expr → Reply (Option Place) =
-    λ l. selected target.selectors.items (values_of l) env (env.variables target.root) (entered target.number env (entered n env s)) in
+    λ l. selected target.selectors.items (values_of l) env (env.visible.variables target.root) (entered target.number env (entered n env s)) in
     let stored : Option Place → Value → Action (Unit {0}) = λ p v. require (is_in fits.range v) fits.site >>= λ _. store p v in
-    ap (λ (e : Stmt). executed env e works operands s) is
+    ap (λ (e : Stmt). executed env outer e works operands s) is
     ∙ ap (λ (a : Action (Unit {0})). and_then (a s) then_rest) (effect-Assign n becomes target indexes fits value env)
     ∙ and_then-and_then (place indexes.items) (λ p. value_of value env >>= stored p) then_rest
     ∙ and_then-same (place indexes.items) _ _ (λ p t. and_then-and_then (value_of value env t) (stored p) then_rest
     ∙ and_then-same (value_of value env t) _ _ (λ v u. and_then-and_then (require (is_in fits.range v) fits.site u) (λ _. store p v) then_rest))
-    ∙ ap (λ l. and_then (place l) (λ p. evaluated env value (work.Store fits ∷ works) (OfPlace p ∷ operands))) (sym same)
+    ∙ ap (λ l. and_then (place l) (λ p. evaluated env outer value (work.Store fits ∷ works) (OfPlace p ∷ operands))) (sym same)
 
 pub does-Copy : (n : ℕ) (becomes : SourcePlace) (target : Access) (indexes : Vec Expr Global) (type_id : TypeId) (value : Whole)
     (value_indexes : Vec Expr Global) (given : Stmt) → given ≡ stmt.Copy n becomes target indexes type_id value value_indexes →
     (all others : List Expr) → all ≡ indexes.items → others ≡ value_indexes.items →
-    (env : Environment) (works : List Work) (operands : List InHand) (s : State) →
-    executed env given works operands s ≡
-    placing env target all (giving_row (whole_of value (values_of others) env) (pending_of env (work.StoreRow type_id ∷ works))) operands
+    (env : Surroundings) (outer : Resumption) (works : List Work) (operands : List Argument) (s : State) →
+    executed env outer given works operands s ≡
+    placing env target all (giving_row (whole_of value (values_of others) env) (pending_of env outer (work.StoreRow type_id ∷ works))) operands
     (entered target.number env (entered n env s))
-does-Copy n becomes target indexes type_id value value_indexes given is all others same alike env works operands s =
-    let then_rest : Unit {0} → Action (Unit {0}) = λ _. pending_of env works operands in
+does-Copy n becomes target indexes type_id value value_indexes given is all others same alike env outer works operands s =
+    let then_rest : Unit {0} → Action (Unit {0}) = λ _. pending_of env outer works operands in
     let place : List Expr → Reply (Option Place) =
-    λ l. selected target.selectors.items (values_of l) env (env.variables target.root) (entered target.number env (entered n env s)) in
+    λ l. selected target.selectors.items (values_of l) env (env.visible.variables target.root) (entered target.number env (entered n env s)) in
     let row : List Expr → Action (List ℤ) = λ l. whole_of value (values_of l) env in
-    let stored : Option Place → List ℤ → Action (Unit {0}) = λ p numbers. store_all p (components_of env.types type_id) numbers in
-    ap (λ (e : Stmt). executed env e works operands s) is
+    let stored : Option Place → List ℤ → Action (Unit {0}) = λ p numbers. store_all p (components_of env.visible.types type_id) numbers in
+    ap (λ (e : Stmt). executed env outer e works operands s) is
     ∙ ap (λ (a : Action (Unit {0})). and_then (a s) then_rest) (effect-Copy n becomes target indexes type_id value value_indexes env)
     ∙ and_then-and_then (place indexes.items) (λ p. row value_indexes.items >>= stored p) then_rest
     ∙ and_then-same (place indexes.items) _ _ (λ p t. and_then-and_then (row value_indexes.items t) (stored p) then_rest)
@@ -228,74 +240,77 @@ does-Copy n becomes target indexes type_id value value_indexes given is all othe
 
 pub does-Write : (n : ℕ) (name : SourcePlace) (parameters : Vec WriteParameter Global) (ends_line : Bool) (given : Stmt) →
     given ≡ stmt.Write n name parameters ends_line → (all : Bor (List WriteParameter)) → all.now ≡ parameters.items →
-    (env : Environment) (works : List Work) (operands : List InHand) (s : State) →
-    executed env given works operands s ≡ resumed env (work.Parameters all ends_line) (pending_of env works) operands (entered n env s)
-does-Write n name parameters ends_line given is all same env works operands s =
-    let then_rest : Unit {0} → Action (Unit {0}) = λ _. pending_of env works operands in
+    (env : Surroundings) (outer : Resumption) (works : List Work) (operands : List Argument) (s : State) →
+    executed env outer given works operands s ≡ resumed env (work.Parameters all ends_line) (pending_of env outer works) operands (entered n env s)
+does-Write n name parameters ends_line given is all same env outer works operands s =
+    let then_rest : Unit {0} → Action (Unit {0}) = λ _. pending_of env outer works operands in
     let written : List WriteParameter → Reply (Unit {0}) = λ l. all_of (map parameter_of l) env (entered n env s) in
-    ap (λ (e : Stmt). executed env e works operands s) is
+    ap (λ (e : Stmt). executed env outer e works operands s) is
     ∙ ap (λ (a : Action (Unit {0})). and_then (a s) then_rest) (effect-Write n name parameters ends_line env)
     ∙ and_then-and_then (written parameters.items) (λ _. line_ended ends_line) then_rest
     ∙ ap (λ (l : List WriteParameter). and_then (written l) (λ _. line_ended ends_line >>= then_rest)) (sym same)
 
 pub does-Compound : (n : ℕ) (statements : Vec Stmt Global) (given : Stmt) → given ≡ stmt.Compound n statements → (all : Bor (List Stmt)) →
-    all.now ≡ statements.items → (env : Environment) (works : List Work) (operands : List InHand) (s : State) →
-    executed env given works operands s ≡ pending_of env (work.Statements all ∷ works) operands (entered n env s)
-does-Compound n statements given is all same env works operands s =
-    let then_rest : Unit {0} → Action (Unit {0}) = λ _. pending_of env works operands in
-    ap (λ (e : Stmt). executed env e works operands s) is
+    all.now ≡ statements.items → (env : Surroundings) (outer : Resumption) (works : List Work) (operands : List Argument) (s : State) →
+    executed env outer given works operands s ≡ pending_of env outer (work.Statements all ∷ works) operands (entered n env s)
+does-Compound n statements given is all same env outer works operands s =
+    let then_rest : Unit {0} → Action (Unit {0}) = λ _. pending_of env outer works operands in
+    ap (λ (e : Stmt). executed env outer e works operands s) is
     ∙ ap (λ (a : Action (Unit {0})). and_then (a s) then_rest) (effect-Compound n statements env)
     ∙ ap (λ (l : List Stmt). and_then (all_of (map effect_of l) env (entered n env s)) then_rest) (sym same)
 
 -- what is pending after the condition of an if
-abbrev pub choosing : Environment → Stmt → Option (Box Stmt Global) → List Work → Resumption
-choosing env consequence alternative works = with_top (λ v below. chosen (is_so v) consequence alternative env >>= λ _. pending_of env works below)
+abbrev pub choosing : Surroundings → Resumption → Stmt → Option (Box Stmt Global) → List Work → Resumption
+choosing env outer consequence alternative works = with_top (λ v below. chosen (is_so v) consequence alternative env >>= λ _. pending_of env outer works below)
 
 pub does-If : (n : ℕ) (condition : Expr) (consequence : Box Stmt Global) (alternative : Option (Box Stmt Global)) (given : Stmt) →
     given ≡ stmt.If n condition consequence alternative → (one : Stmt) → one ≡ consequence.value →
-    (env : Environment) (works : List Work) (operands : List InHand) (s : State) →
-    executed env given works operands s ≡ giving (value_of condition env) (choosing env one alternative works) operands (entered n env s)
-does-If n condition consequence alternative given is one same env works operands s =
-    let then_rest : Unit {0} → Action (Unit {0}) = λ _. pending_of env works operands in
+    (env : Surroundings) (outer : Resumption) (works : List Work) (operands : List Argument) (s : State) →
+    executed env outer given works operands s ≡ giving (value_of condition env) (choosing env outer one alternative works) operands (entered n env s)
+does-If n condition consequence alternative given is one same env outer works operands s =
+    let then_rest : Unit {0} → Action (Unit {0}) = λ _. pending_of env outer works operands in
     let tested : Reply Value = value_of condition env (entered n env s) in
-    ap (λ (e : Stmt). executed env e works operands s) is
+    ap (λ (e : Stmt). executed env outer e works operands s) is
     ∙ ap (λ (a : Action (Unit {0})). and_then (a s) then_rest) (effect-If n condition consequence alternative env)
     ∙ and_then-and_then tested (λ v. chosen (is_so v) consequence.value alternative env) then_rest
     ∙ ap (λ (e : Stmt). and_then tested (λ v. chosen (is_so v) e alternative env >>= then_rest)) (sym same)
 
 pub does-While : (n loop_number : ℕ) (place : SourcePlace) (condition : Expr) (body : Box Stmt Global) (given : Stmt) →
     given ≡ stmt.While n loop_number place condition body → (inner : Stmt) → inner ≡ body.value →
-    (env : Environment) (works : List Work) (operands : List InHand) (s : State) →
-    executed env given works operands s ≡ whiling env condition inner (pending_of env works) operands (entered n env s)
-does-While n loop_number place condition body given is inner same env works operands s =
-    let then_rest : Unit {0} → Action (Unit {0}) = λ _. pending_of env works operands in
-    ap (λ (e : Stmt). executed env e works operands s) is
+    (env : Surroundings) (outer : Resumption) (works : List Work) (operands : List Argument) (s : State) →
+    executed env outer given works operands s ≡ whiling env condition inner (pending_of env outer works) operands (entered n env s)
+does-While n loop_number place condition body given is inner same env outer works operands s =
+    let then_rest : Unit {0} → Action (Unit {0}) = λ _. pending_of env outer works operands in
+    ap (λ (e : Stmt). executed env outer e works operands s) is
     ∙ ap (λ (a : Action (Unit {0})). and_then (a s) then_rest) (effect-While n loop_number place condition body env)
-    ∙ ap (λ (e : Stmt). whiling env condition e (pending_of env works) operands (entered n env s)) (sym same)
+    ∙ ap (λ (e : Stmt). whiling env condition e (pending_of env outer works) operands (entered n env s)) (sym same)
 
 -- what is pending after the condition of a while
-abbrev pub while_tested : Environment → Expr → Stmt → List Work → Resumption
-while_tested env condition body works =
-    with_top (λ v below. further (while_rounds env condition body) (turn_if (is_so v) (effect_of body env)) >>= λ _. pending_of env works below)
+abbrev pub while_tested : Surroundings → Resumption → Expr → Stmt → List Work → Resumption
+while_tested env outer condition body works =
+    with_top (λ v below. further (while_rounds env condition body) (turn_if (is_so v) (effect_of body env)) >>= λ _. pending_of env outer works below)
 
-pub does-while-round : (env : Environment) (condition : Expr) (body : Stmt) (works : List Work) (operands : List InHand) (s : State) →
-    whiling env condition body (pending_of env works) operands s ≡ giving (value_of condition env) (while_tested env condition body works) operands s
-does-while-round env condition body works operands s =
-    let then_rest : Unit {0} → Action (Unit {0}) = λ _. pending_of env works operands in
+pub does-while-round : (env : Surroundings) (outer : Resumption) (calls : ExtendedCalls env.calls) (condition : Expr) (body : Stmt) (works : List Work)
+    (operands : List Argument) (s : State) →
+    whiling env condition body (pending_of env outer works) operands s ≡ giving (value_of condition env) (while_tested env outer condition body works)
+    operands s
+does-while-round env outer calls condition body works operands s =
+    let then_rest : Unit {0} → Action (Unit {0}) = λ _. pending_of env outer works operands in
     let round = while_rounds env condition body in
     let again : Option (Unit {0}) → Action (Unit {0}) = λ more. another more (looped round) in
     let turn : Value → Action (Option (Unit {0})) = λ v. turn_if (is_so v) (effect_of body env) in
-    let uses = while_uses (value_of condition) (effect_of body) env (extended_value condition env) (extended_effect body env) in
+    let uses = while_uses (value_of condition) (effect_of body) env (extended_value env calls condition) (extended_effect env calls body) in
     ap (λ (r : Reply (Unit {0})). and_then r then_rest) (looped-rounds round uses tt s)
     ∙ and_then-and_then (round tt s) again then_rest
     ∙ and_then-and_then (value_of condition env s) turn (λ more. again more >>= then_rest)
     ∙ and_then-same (value_of condition env s) _ _ (λ v t. sym (and_then-and_then (turn v t) again then_rest))
 
-pub does-while-turn : (env : Environment) (condition : Bor Expr) (body : Bor Stmt) (works : List Work) (operands : List InHand) (s : State) →
-    is_so (top_of operands) ≡ true → while_tested env condition.now body.now works operands s ≡
-    turning_tested env (work.Statement body) condition.now (work.WhileTurn condition body) (pending_of env works) (below_top operands) s
-does-while-turn env condition body works operands s so =
-    let then_rest : Unit {0} → Action (Unit {0}) = λ _. pending_of env works (below_top operands) in
+pub does-while-turn : (env : Surroundings) (outer : Resumption) (calls : ExtendedCalls env.calls) (condition : Bor Expr) (body : Bor Stmt) (works : List Work)
+    (operands : List Argument) (s : State) →
+    is_so (top_of operands) ≡ true → while_tested env outer condition.now body.now works operands s ≡
+    turning_tested env (work.Statement body) condition.now (work.WhileTurn condition body) (pending_of env outer works) (below_top operands) s
+does-while-turn env outer calls condition body works operands s so =
+    let then_rest : Unit {0} → Action (Unit {0}) = λ _. pending_of env outer works (below_top operands) in
     let round = while_rounds env condition.now body.now in
     let again : Option (Unit {0}) → Action (Unit {0}) = λ more. another more (looped round) in
     let inner = effect_of body.now env in
@@ -303,93 +318,97 @@ does-while-turn env condition body works operands s so =
     ∙ ap (λ (r : Reply (Unit {0})). and_then r then_rest) (turn-given (use_turn s) inner (Some tt) again)
     ∙ and_then-and_then (use_turn s) (λ _. inner >>= λ _. again (Some tt)) then_rest
     ∙ and_then-same (use_turn s) _ _ (λ _ t. and_then-and_then (inner t) (λ _. again (Some tt)) then_rest
-    ∙ and_then-same (inner t) _ _ (λ _ u. does-while-round env condition.now body.now works (below_top operands) u))
+    ∙ and_then-same (inner t) _ _ (λ _ u. does-while-round env outer calls condition.now body.now works (below_top operands) u))
 
 pub does-Repeat : (n loop_number : ℕ) (place : SourcePlace) (statements : Vec Stmt Global) (condition : Expr) (given : Stmt) →
     given ≡ stmt.Repeat n loop_number place statements condition → (all : List Stmt) → all ≡ statements.items →
-    (env : Environment) (works : List Work) (operands : List InHand) (s : State) →
-    executed env given works operands s ≡ repeating env all condition (pending_of env works) operands (entered n env s)
-does-Repeat n loop_number place statements condition given is all same env works operands s =
-    let then_rest : Unit {0} → Action (Unit {0}) = λ _. pending_of env works operands in
-    ap (λ (e : Stmt). executed env e works operands s) is
+    (env : Surroundings) (outer : Resumption) (works : List Work) (operands : List Argument) (s : State) →
+    executed env outer given works operands s ≡ repeating env all condition (pending_of env outer works) operands (entered n env s)
+does-Repeat n loop_number place statements condition given is all same env outer works operands s =
+    let then_rest : Unit {0} → Action (Unit {0}) = λ _. pending_of env outer works operands in
+    ap (λ (e : Stmt). executed env outer e works operands s) is
     ∙ ap (λ (a : Action (Unit {0})). and_then (a s) then_rest) (effect-Repeat n loop_number place statements condition env)
-    ∙ ap (λ (l : List Stmt). repeating env l condition (pending_of env works) operands (entered n env s)) (sym same)
+    ∙ ap (λ (l : List Stmt). repeating env l condition (pending_of env outer works) operands (entered n env s)) (sym same)
 
-pub does-repeat-round : (env : Environment) (statements : Bor (List Stmt)) (condition : Bor Expr) (works : List Work) (operands : List InHand) (s : State) →
-    repeating env statements.now condition.now (pending_of env works) operands s ≡
-    turning_tested env (work.Statements statements) condition.now (work.Unless statements condition) (pending_of env works) operands s
-does-repeat-round env statements condition works operands s =
-    let then_rest : Unit {0} → Action (Unit {0}) = λ _. pending_of env works operands in
+pub does-repeat-round : (env : Surroundings) (outer : Resumption) (calls : ExtendedCalls env.calls) (statements : Bor (List Stmt)) (condition : Bor Expr)
+    (works : List Work) (operands : List Argument) (s : State) →
+    repeating env statements.now condition.now (pending_of env outer works) operands s ≡
+    turning_tested env (work.Statements statements) condition.now (work.Unless statements condition) (pending_of env outer works) operands s
+does-repeat-round env outer calls statements condition works operands s =
+    let then_rest : Unit {0} → Action (Unit {0}) = λ _. pending_of env outer works operands in
     let round = repeat_rounds env statements.now condition.now in
     let again : Option (Unit {0}) → Action (Unit {0}) = λ more. another more (looped round) in
     let all : Action (Unit {0}) = all_of (map effect_of statements.now) env in
     let tested : Action Value = value_of condition.now env in
     let until : Value → Action (Option (Unit {0})) = λ v. give (if is_so v then None else Some tt) in
     let rest : Option (Unit {0}) → Action (Unit {0}) = λ more. again more >>= then_rest in
-    let uses = repeat_uses (all_of (map effect_of statements.now)) (value_of condition.now) env (extended_statements statements.now env)
-    (extended_value condition.now env) in
+    let uses = repeat_uses (all_of (map effect_of statements.now)) (value_of condition.now) env (extended_statements env calls statements.now)
+    (extended_value env calls condition.now) in
     ap (λ (r : Reply (Unit {0})). and_then r then_rest) (looped-rounds round uses tt s)
     ∙ and_then-and_then (round tt s) again then_rest
     ∙ and_then-and_then (use_turn s) (λ _. all >>= λ _. tested >>= until) rest
     ∙ and_then-same (use_turn s) _ _ (λ _ t. and_then-and_then (all t) (λ _. tested >>= until) rest
     ∙ and_then-same (all t) _ _ (λ _ u. and_then-and_then (tested u) until rest))
 
-pub does-unless : (env : Environment) (statements : Bor (List Stmt)) (condition : Bor Expr) (works : List Work) (operands : List InHand) (s : State) →
-    is_so (top_of operands) ≡ false → resumed env (work.Unless statements condition) (pending_of env works) operands s ≡
-    repeating env statements.now condition.now (pending_of env works) (below_top operands) s
-does-unless env statements condition works operands s so =
+pub does-unless : (env : Surroundings) (outer : Resumption) (statements : Bor (List Stmt)) (condition : Bor Expr) (works : List Work)
+    (operands : List Argument) (s : State) →
+    is_so (top_of operands) ≡ false → resumed env (work.Unless statements condition) (pending_of env outer works) operands s ≡
+    repeating env statements.now condition.now (pending_of env outer works) (below_top operands) s
+does-unless env outer statements condition works operands s so =
     ap (λ (b : Bool). and_then (further (repeat_rounds env statements.now condition.now) (give (if b then None else Some tt)) s)
-    (λ _. pending_of env works (below_top operands))) so
+    (λ _. pending_of env outer works (below_top operands))) so
 
 -- what is pending after the bounds of a for
-abbrev pub bounding : Environment → ℕ → RangeTest → Direction → RangeTest → Stmt → List Work → Resumption
-bounding env control first_fits direction last_fits body works =
+abbrev pub bounding : Surroundings → Resumption → ℕ → RangeTest → Direction → RangeTest → Stmt → List Work → Resumption
+bounding env outer control first_fits direction last_fits body works =
     with_top (λ last rest. with_top (λ first below. for_between control first_fits direction last_fits (effect_of body) env first last
-    >>= λ _. forgetting (env.variables control) (pending_of env works) below) rest)
+    >>= λ _. forgetting (env.visible.variables control) (pending_of env outer works) below) rest)
 
 pub does-For : (n loop_number : ℕ) (place : SourcePlace) (control : ℕ) (first : Expr) (first_fits : RangeTest) (direction : Direction) (last : Expr)
     (last_fits : RangeTest) (body : Box Stmt Global) (given : Stmt) →
     given ≡ stmt.For n loop_number place control first first_fits direction last last_fits body → (inner : Stmt) → inner ≡ body.value →
-    (env : Environment) (works : List Work) (operands : List InHand) (s : State) →
-    executed env given works operands s ≡ giving (value_of first env) (giving (value_of last env)
-    (bounding env control first_fits direction last_fits inner works)) operands (entered n env s)
-does-For n loop_number place control first first_fits direction last last_fits body given is inner same env works operands s =
-    let then_rest : Unit {0} → Action (Unit {0}) = λ _. pending_of env works operands in
+    (env : Surroundings) (outer : Resumption) (works : List Work) (operands : List Argument) (s : State) →
+    executed env outer given works operands s ≡ giving (value_of first env) (giving (value_of last env)
+    (bounding env outer control first_fits direction last_fits inner works)) operands (entered n env s)
+does-For n loop_number place control first first_fits direction last last_fits body given is inner same env outer works operands s =
+    let then_rest : Unit {0} → Action (Unit {0}) = λ _. pending_of env outer works operands in
     let there = entered n env s in
     let between : Value → Value → Action (Unit {0}) = λ a b. for_between control first_fits direction last_fits (effect_of body.value) env a b in
-    let behind : Unit {0} → Action (Unit {0}) = λ _. undefine (env.variables control) in
+    let behind : Unit {0} → Action (Unit {0}) = λ _. undefine (env.visible.variables control) in
     let with_last : Value → Action (Unit {0}) = λ a. value_of last env >>= λ b. between a b >>= behind in
-    ap (λ (e : Stmt). executed env e works operands s) is
+    ap (λ (e : Stmt). executed env outer e works operands s) is
     ∙ ap (λ (a : Action (Unit {0})). and_then (a s) then_rest)
     (effect-For n loop_number place control first first_fits direction last last_fits body env)
     ∙ and_then-and_then (value_of first env there) with_last then_rest
     ∙ and_then-same (value_of first env there) _ _ (λ a t. and_then-and_then (value_of last env t) (λ b. between a b >>= behind) then_rest
     ∙ and_then-same (value_of last env t) _ _ (λ b u. and_then-and_then (between a b u) behind then_rest))
     ∙ ap (λ (e : Stmt). giving (value_of first env) (giving (value_of last env)
-    (bounding env control first_fits direction last_fits e works)) operands there) (sym same)
+    (bounding env outer control first_fits direction last_fits e works)) operands there) (sym same)
 
-pub does-bounds : (env : Environment) (control : ℕ) (first_fits : RangeTest) (direction : Direction) (last_fits : RangeTest) (body : Stmt)
-    (works : List Work) (operands : List InHand) (s : State) (result : Result (Option (ℤ × ℤ)) ℕ) →
+pub does-bounds : (env : Surroundings) (outer : Resumption) (control : ℕ) (first_fits : RangeTest) (direction : Direction) (last_fits : RangeTest) (body : Stmt)
+    (works : List Work) (operands : List Argument) (s : State) (result : Result (Option (ℤ × ℤ)) ℕ) →
     bounds_tested direction first_fits (top_of (below_top operands)) last_fits (top_of operands) ≡ result →
-    bounding env control first_fits direction last_fits body works operands s ≡
+    bounding env outer control first_fits direction last_fits body works operands s ≡
     and_then (rounds_of env control direction (effect_of body) result s)
-    (λ _. forgetting (env.variables control) (pending_of env works) (below_top (below_top operands)))
-does-bounds env control first_fits direction last_fits body works operands s result is =
-    let then_rest : Unit {0} → Action (Unit {0}) = λ _. forgetting (env.variables control) (pending_of env works) (below_top (below_top operands)) in
+    (λ _. forgetting (env.visible.variables control) (pending_of env outer works) (below_top (below_top operands)))
+does-bounds env outer control first_fits direction last_fits body works operands s result is =
+    let then_rest : Unit {0} → Action (Unit {0}) = λ _. forgetting (env.visible.variables control) (pending_of env outer works)
+    (below_top (below_top operands)) in
     ap (λ (r : Reply (Unit {0})). and_then r then_rest)
     (between-tested env control first_fits direction last_fits (effect_of body) (top_of (below_top operands)) (top_of operands) s
     ∙ ap (λ (r : Result (Option (ℤ × ℤ)) ℕ). rounds_of env control direction (effect_of body) r s) is)
 
-pub does-for-round : (env : Environment) (control : ℕ) (direction : Direction) (n last : ℤ) (body : Bor Stmt) (next : Resumption) (operands : List InHand)
+pub does-for-round : (env : Surroundings) (calls : ExtendedCalls env.calls) (control : ℕ) (direction : Direction) (n last : ℤ) (body : Bor Stmt)
+    (next : Resumption) (operands : List Argument)
     (s : State) → counting_on env control direction n last body.now next operands s ≡
     turning env (work.Statement body) (work.Next control direction n last body) next operands
-    (record s { store = kept s.store (env.variables control) (Number n) })
-does-for-round env control direction n last body next operands s =
-    let then_rest : Unit {0} → Action (Unit {0}) = λ _. forgetting (env.variables control) next operands in
+    (record s { store = kept s.store (env.visible.variables control) (Number n) })
+does-for-round env calls control direction n last body next operands s =
+    let then_rest : Unit {0} → Action (Unit {0}) = λ _. forgetting (env.visible.variables control) next operands in
     let each = counting env control direction last body.now in
     let again : Option ℤ → Action (Unit {0}) = λ more. another more (looped each) in
-    let there : State = record s { store = kept s.store (env.variables control) (Number n) } in
-    let uses = counted_uses control (effect_of body.now) env (value_before direction last) (extended_effect body.now env) in
+    let there : State = record s { store = kept s.store (env.visible.variables control) (Number n) } in
+    let uses = counted_uses control (effect_of body.now) env (value_before direction last) (extended_effect env calls body.now) in
     ap (λ (r : Reply (Unit {0})). and_then r then_rest)
     (looped-rounds each uses n s ∙ turn-given (use_turn there) (effect_of body.now env) (value_before direction last n) again)
     ∙ and_then-and_then (use_turn there) (λ _. effect_of body.now env >>= λ _. again (value_before direction last n)) then_rest
@@ -398,110 +417,112 @@ does-for-round env control direction n last body next operands s =
 
 pub does-Case : (n site : ℕ) (index : Expr) (constants : Vec (Vec ℤ Global) Global) (arms : Vec Stmt Global) (given : Stmt) →
     given ≡ stmt.Case n site index constants arms → (rows : Bor (List (Vec ℤ Global))) → rows.now ≡ constants.items →
-    (all : Bor (List Stmt)) → all.now ≡ arms.items → (env : Environment) (works : List Work) (operands : List InHand) (s : State) →
-    executed env given works operands s ≡ evaluated env index (work.Case site rows all ∷ works) operands (entered n env s)
-does-Case n site index constants arms given is rows same all alike env works operands s =
-    let then_rest : Unit {0} → Action (Unit {0}) = λ _. pending_of env works operands in
+    (all : Bor (List Stmt)) → all.now ≡ arms.items → (env : Surroundings) (outer : Resumption) (works : List Work) (operands : List Argument) (s : State) →
+    executed env outer given works operands s ≡ evaluated env outer index (work.Case site rows all ∷ works) operands (entered n env s)
+does-Case n site index constants arms given is rows same all alike env outer works operands s =
+    let then_rest : Unit {0} → Action (Unit {0}) = λ _. pending_of env outer works operands in
     let value : Reply Value = value_of index env (entered n env s) in
     let arm : List (Vec ℤ Global) → List Stmt → Value → Action (Unit {0}) = λ l m v. arm_of site l (map effect_of m) (number_of v) env in
-    ap (λ (e : Stmt). executed env e works operands s) is
+    ap (λ (e : Stmt). executed env outer e works operands s) is
     ∙ ap (λ (a : Action (Unit {0})). and_then (a s) then_rest) (effect-Case n site index constants arms env)
     ∙ and_then-and_then value (arm constants.items arms.items) then_rest
     ∙ ap (λ (l : List (Vec ℤ Global)). and_then value (λ v. arm l arms.items v >>= then_rest)) (sym same)
     ∙ ap (λ (m : List Stmt). and_then value (λ v. arm rows.now m v >>= then_rest)) (sym alike)
 
 pub does-Statements : (first : Bor Stmt) (rest all : Bor (List Stmt)) → all.now ≡ first.now ∷ rest.now →
-    (env : Environment) (works : List Work) (operands : List InHand) (s : State) →
-    resumed env (work.Statements all) (pending_of env works) operands s ≡ pending_of env (work.Statement first ∷ work.Statements rest ∷ works) operands s
-does-Statements first rest all is env works operands s =
-    let then_rest : Unit {0} → Action (Unit {0}) = λ _. pending_of env works operands in
+    (env : Surroundings) (outer : Resumption) (works : List Work) (operands : List Argument) (s : State) →
+    resumed env (work.Statements all) (pending_of env outer works) operands s ≡ pending_of env outer (work.Statement first ∷ work.Statements rest ∷ works)
+    operands s
+does-Statements first rest all is env outer works operands s =
+    let then_rest : Unit {0} → Action (Unit {0}) = λ _. pending_of env outer works operands in
     ap (λ (l : List Stmt). and_then (all_of (map effect_of l) env s) then_rest) is
     ∙ and_then-and_then (effect_of first.now env s) (λ _. all_of (map effect_of rest.now) env) then_rest
 
 pub does-Parameters : (first : Bor WriteParameter) (rest all : Bor (List WriteParameter)) (ends_line : Bool) → all.now ≡ first.now ∷ rest.now →
-    (env : Environment) (works : List Work) (operands : List InHand) (s : State) →
-    resumed env (work.Parameters all ends_line) (pending_of env works) operands s ≡
-    pending_of env (work.Parameter first ∷ work.Parameters rest ends_line ∷ works) operands s
-does-Parameters first rest all ends_line is env works operands s =
-    let then_rest : Unit {0} → Action (Unit {0}) = λ _. line_ended ends_line >>= λ _. pending_of env works operands in
+    (env : Surroundings) (outer : Resumption) (works : List Work) (operands : List Argument) (s : State) →
+    resumed env (work.Parameters all ends_line) (pending_of env outer works) operands s ≡
+    writing_one env first.now (pending_of env outer (work.Parameters rest ends_line ∷ works)) operands s
+does-Parameters first rest all ends_line is env outer works operands s =
+    let then_rest : Unit {0} → Action (Unit {0}) = λ _. line_ended ends_line >>= λ _. pending_of env outer works operands in
     ap (λ (l : List WriteParameter). and_then (all_of (map parameter_of l) env s) then_rest) is
     ∙ and_then-and_then (parameter_of first.now env s) (λ _. all_of (map parameter_of rest.now) env) then_rest
 
 pub does-no-Parameters : (all : Bor (List WriteParameter)) (ends_line : Bool) → all.now ≡ [] →
-    (env : Environment) (works : List Work) (operands : List InHand) (s : State) →
-    resumed env (work.Parameters all ends_line) (pending_of env works) operands s ≡ line_ending ends_line (pending_of env works) operands s
-does-no-Parameters all ends_line none env works operands s =
-    ap (λ (l : List WriteParameter). and_then (all_of (map parameter_of l) env s) (λ _. line_ending ends_line (pending_of env works) operands)) none
+    (env : Surroundings) (outer : Resumption) (works : List Work) (operands : List Argument) (s : State) →
+    resumed env (work.Parameters all ends_line) (pending_of env outer works) operands s ≡ line_ending ends_line (pending_of env outer works) operands s
+does-no-Parameters all ends_line none env outer works operands s =
+    ap (λ (l : List WriteParameter). and_then (all_of (map parameter_of l) env s) (λ _. line_ending ends_line (pending_of env outer works) operands)) none
 
 pub does-Compare : (n : ℕ) (r : Relation) (left : Whole) (left_indexes : Vec Expr Global) (right : Whole) (right_indexes : Vec Expr Global)
     (given : Expr) → given ≡ expr.Compare n r left left_indexes right right_indexes →
     (all others : List Expr) → all ≡ left_indexes.items → others ≡ right_indexes.items →
-    (env : Environment) (works : List Work) (operands : List InHand) (s : State) → evaluated env given works operands s ≡
+    (env : Surroundings) (outer : Resumption) (works : List Work) (operands : List Argument) (s : State) → evaluated env outer given works operands s ≡
     giving_row (whole_of left (values_of all) env)
-    (with_row (λ row. giving (comparing env n r right others row) (pending_of env works))) operands s
-does-Compare n r left left_indexes right right_indexes given is all others same alike env works operands s =
-    let then_rest : Value → Action (Unit {0}) = λ v. pending_of env works (OfValue v ∷ operands) in
+    (with_row (λ row. giving (comparing env n r right others row) (pending_of env outer works))) operands s
+does-Compare n r left left_indexes right right_indexes given is all others same alike env outer works operands s =
+    let then_rest : Value → Action (Unit {0}) = λ v. pending_of env outer works (OfValue v ∷ operands) in
     let row : List Expr → Reply (List ℤ) = λ l. whole_of left (values_of l) env s in
-    ap (λ (e : Expr). evaluated env e works operands s) is
+    ap (λ (e : Expr). evaluated env outer e works operands s) is
     ∙ ap (λ (a : Action Value). and_then (a s) then_rest) (value-Compare n r left left_indexes right right_indexes env)
     ∙ and_then-and_then (row left_indexes.items) (λ a. comparing env n r right right_indexes.items a) then_rest
     ∙ ap (λ l. and_then (row l) (λ a. comparing env n r right right_indexes.items a >>= then_rest)) (sym same)
     ∙ ap (λ l. and_then (row all) (λ a. comparing env n r right l a >>= then_rest)) (sym alike)
 
 -- the right side of a relation, and then the relation of both rows
-pub does-right-side : (n : ℕ) (r : Relation) (right : Bor Whole) (indexes : Bor (List Expr)) (env : Environment) (works : List Work)
-    (operands : List InHand) (s : State) → resumed env (work.RightSide n r right indexes) (pending_of env works) operands s ≡
-    pending_of env (work.Whole right indexes ∷ work.Compare r ∷ works) operands (entered n env s)
-does-right-side n r right indexes env works operands s =
-    let then_rest : Value → Action (Unit {0}) = λ v. pending_of env works (OfValue v ∷ below_top operands) in
+pub does-right-side : (n : ℕ) (r : Relation) (right : Bor Whole) (indexes : Bor (List Expr)) (env : Surroundings) (outer : Resumption) (works : List Work)
+    (operands : List Argument) (s : State) → resumed env (work.RightSide n r right indexes) (pending_of env outer works) operands s ≡
+    pending_of env outer (work.Whole right indexes ∷ work.Compare r ∷ works) operands (entered n env s)
+does-right-side n r right indexes env outer works operands s =
+    let then_rest : Value → Action (Unit {0}) = λ v. pending_of env outer works (OfValue v ∷ below_top operands) in
     and_then-and_then (whole_of right.now (values_of indexes.now) env (entered n env s)) (λ other. give (compared r (top_row operands) other)) then_rest
 
 -- a string that is written out
 pub does-Text : (n : ℕ) (characters : Vec ℕ Global) (given : Whole) → given ≡ Text n characters → (indexes : List Expr) (row : List ℤ) →
-    row ≡ map pos characters.items → (env : Environment) (works : List Work) (operands : List InHand) (s : State) →
-    giving_row (whole_of given (values_of indexes) env) (pending_of env works) operands s ≡ pending_of env works (OfRow row ∷ operands) (entered n env s)
-does-Text n characters given is indexes row same env works operands s =
-    ap (λ (w : Whole). giving_row (whole_of w (values_of indexes) env) (pending_of env works) operands s) is
-    ∙ ap (λ (l : List ℤ). pending_of env works (OfRow l ∷ operands) (entered n env s)) (sym same)
+    row ≡ map pos characters.items → (env : Surroundings) (outer : Resumption) (works : List Work) (operands : List Argument) (s : State) →
+    giving_row (whole_of given (values_of indexes) env) (pending_of env outer works) operands s ≡ pending_of env outer works (OfRow row ∷ operands)
+    (entered n env s)
+does-Text n characters given is indexes row same env outer works operands s =
+    ap (λ (w : Whole). giving_row (whole_of w (values_of indexes) env) (pending_of env outer works) operands s) is
+    ∙ ap (λ (l : List ℤ). pending_of env outer works (OfRow l ∷ operands) (entered n env s)) (sym same)
 
 -- a whole value that is accessed, and then fetched
 pub does-whole-Variable : (access : Access) (type_id : TypeId) (cells defined : ℕ) (given : Whole) → given ≡ VariableOf access type_id cells defined →
-    (indexes : List Expr) (env : Environment) (works : List Work) (operands : List InHand) (s : State) →
-    giving_row (whole_of given (values_of indexes) env) (pending_of env works) operands s ≡
-    accessing env access indexes (work.FetchRow type_id defined) (pending_of env works) operands (entered access.number env s)
-does-whole-Variable access type_id cells defined given is indexes env works operands s =
-    let then_rest : List ℤ → Action (Unit {0}) = λ row. pending_of env works (OfRow row ∷ operands) in
-    ap (λ (w : Whole). giving_row (whole_of w (values_of indexes) env) (pending_of env works) operands s) is
-    ∙ and_then-and_then (selected access.selectors.items (values_of indexes) env (env.variables access.root) (entered access.number env s))
-    (λ place. fetch_all place (components_of env.types type_id) defined) then_rest
+    (indexes : List Expr) (env : Surroundings) (outer : Resumption) (works : List Work) (operands : List Argument) (s : State) →
+    giving_row (whole_of given (values_of indexes) env) (pending_of env outer works) operands s ≡
+    accessing env access indexes (work.FetchRow type_id defined) (pending_of env outer works) operands (entered access.number env s)
+does-whole-Variable access type_id cells defined given is indexes env outer works operands s =
+    let then_rest : List ℤ → Action (Unit {0}) = λ row. pending_of env outer works (OfRow row ∷ operands) in
+    ap (λ (w : Whole). giving_row (whole_of w (values_of indexes) env) (pending_of env outer works) operands s) is
+    ∙ and_then-and_then (selected access.selectors.items (values_of indexes) env (env.visible.variables access.root) (entered access.number env s))
+    (λ place. fetch_all place (components_of env.visible.types type_id) defined) then_rest
 
 -- the selectors that lead on from a place
-pub selecting-on : (env : Environment) (selectors : List Selector) (indexes : List Expr) (place : Option Place) (next : Resumption)
-    (operands : List InHand) (s : State) → selecting env selectors indexes next (OfPlace place ∷ operands) s ≡
+pub selecting-on : (env : Surroundings) (selectors : List Selector) (indexes : List Expr) (place : Option Place) (next : Resumption)
+    (operands : List Argument) (s : State) → selecting env selectors indexes next (OfPlace place ∷ operands) s ≡
     giving_place (selected selectors (values_of indexes) env place) next operands s
 selecting-on env [] indexes place next operands s = refl
 selecting-on env (selector ∷ selectors) indexes place next operands s = refl
 
 -- an index, its test, and then the rest of the selectors
 pub does-Element : (fits : RangeTest) (rest : Bor (List Selector)) (index : Bor Expr) (others : Bor (List Expr)) (indexes : List Expr) →
-    indexes ≡ index.now ∷ others.now → (env : Environment) (works : List Work) (operands : List InHand) (s : State) →
-    selecting env (Element fits 0 ∷ rest.now) indexes (pending_of env works) operands s ≡
-    pending_of env (work.Value index ∷ work.Index fits ∷ work.Select rest others ∷ works) operands s
-does-Element fits rest index others indexes is env works operands s =
+    indexes ≡ index.now ∷ others.now → (env : Surroundings) (outer : Resumption) (works : List Work) (operands : List Argument) (s : State) →
+    selecting env (Element fits 0 ∷ rest.now) indexes (pending_of env outer works) operands s ≡
+    pending_of env outer (work.Value index ∷ work.Index fits ∷ work.Select rest others ∷ works) operands s
+does-Element fits rest index others indexes is env outer works operands s =
     let place = top_place operands in
-    let then_rest : Option Place → Action (Unit {0}) = λ p. pending_of env works (OfPlace p ∷ below_top operands) in
+    let then_rest : Option Place → Action (Unit {0}) = λ p. pending_of env outer works (OfPlace p ∷ below_top operands) in
     let further : Option Place → Action (Option Place) = λ p. selected rest.now (values_of others.now) env p in
     let there : Value → Option Place = λ v. part place (step.Element (number_of v) ∷ []) in
     let tested : Value → Action (Unit {0}) = λ v. require (is_in fits.range v) fits.site in
-    ap (λ (l : List Expr). selecting env (Element fits 0 ∷ rest.now) l (pending_of env works) operands s) is
+    ap (λ (l : List Expr). selecting env (Element fits 0 ∷ rest.now) l (pending_of env outer works) operands s) is
     ∙ and_then-and_then (value_of index.now env s) (λ v. tested v >>= λ _. further (there v)) then_rest
     ∙ and_then-same (value_of index.now env s) _ _ (λ v t. and_then-and_then (tested v t) (λ _. further (there v)) then_rest
     ∙ sym (and_then-and_then (tested v t) (λ _. give (there v)) (λ p. further p >>= then_rest))
     ∙ and_then-same ((tested v >>= λ _. give (there v)) t) _ _
-    (λ p u. sym (selecting-on env rest.now others.now p (pending_of env works) (below_top operands) u)))
+    (λ p u. sym (selecting-on env rest.now others.now p (pending_of env outer works) (below_top operands) u)))
 
 pub does-Ordinal : (parameter : WriteParameter) (value : Expr) (representation : Representation) → parameter.value ≡ Ordinal value representation →
-    (env : Environment) (next : Resumption) (operands : List InHand) (s : State) →
+    (env : Surroundings) (next : Resumption) (operands : List Argument) (s : State) →
     and_then (parameter_of parameter env s) (λ _. next operands) ≡ writing env value representation parameter.width next operands s
 does-Ordinal parameter value representation is env next operands s =
     let then_rest : Unit {0} → Action (Unit {0}) = λ _. next operands in
@@ -512,7 +533,7 @@ does-Ordinal parameter value representation is env next operands s =
     ∙ and_then-same (value_of value env s) _ _ (λ v t. and_then-and_then (width t) (written v) then_rest)
 
 pub does-String : (parameter : WriteParameter) (value : Whole) (indexes : Vec Expr Global) → parameter.value ≡ String value indexes →
-    (all : List Expr) → all ≡ indexes.items → (env : Environment) (next : Resumption) (operands : List InHand) (s : State) →
+    (all : List Expr) → all ≡ indexes.items → (env : Surroundings) (next : Resumption) (operands : List Argument) (s : State) →
     and_then (parameter_of parameter env s) (λ _. next operands) ≡ writing_row env value all parameter.width next operands s
 does-String parameter value indexes is all same env next operands s =
     let then_rest : Unit {0} → Action (Unit {0}) = λ _. next operands in
@@ -526,29 +547,127 @@ does-String parameter value indexes is all same env next operands s =
 
 -- a string that is written in a width
 pub does-wide : (given : Option Width) (width : Width) → given ≡ Some width → (value : Whole) (indexes : List Expr)
-    (env : Environment) (works : List Work) (operands : List InHand) (s : State) →
-    writing_row env value indexes given (pending_of env works) operands s ≡
-    giving_row (whole_of value (values_of indexes) env) (evaluated env width.value (work.WidthTest width.site ∷ work.WriteRow ∷ works)) operands s
-does-wide given width is value indexes env works operands s =
+    (env : Surroundings) (outer : Resumption) (works : List Work) (operands : List Argument) (s : State) →
+    writing_row env value indexes given (pending_of env outer works) operands s ≡
+    giving_row (whole_of value (values_of indexes) env) (evaluated env outer width.value (work.WidthTest width.site ∷ work.WriteRow ∷ works)) operands s
+does-wide given width is value indexes env outer works operands s =
     let row : Reply (List ℤ) = whole_of value (values_of indexes) env s in
-    let written : List ℤ → Value → Action (Unit {0}) = λ components w. write (row_text components w) >>= λ _. pending_of env works operands in
-    ap (λ (o : Option Width). writing_row env value indexes o (pending_of env works) operands s) is
+    let written : List ℤ → Value → Action (Unit {0}) = λ components w. write (row_text components w) >>= λ _. pending_of env outer works operands in
+    ap (λ (o : Option Width). writing_row env value indexes o (pending_of env outer works) operands s) is
     ∙ and_then-same row _ _ (λ components t. and_then-and_then (value_of width.value env t) (positive width.site) (written components))
 
 -- and in its length
 pub does-long : (given : Option Width) → given ≡ None → (value : Bor Whole) (indexes : Bor (List Expr)) (places : ℕ) → places ≡ length_of value.now →
-    (env : Environment) (works : List Work) (operands : List InHand) (s : State) →
-    writing_row env value.now indexes.now given (pending_of env works) operands s ≡
-    pending_of env (work.Whole value indexes ∷ work.WriteRowIn places ∷ works) operands s
-does-long given is value indexes places same env works operands s =
+    (env : Surroundings) (outer : Resumption) (works : List Work) (operands : List Argument) (s : State) →
+    writing_row env value.now indexes.now given (pending_of env outer works) operands s ≡
+    pending_of env outer (work.Whole value indexes ∷ work.WriteRowIn places ∷ works) operands s
+does-long given is value indexes places same env outer works operands s =
     let row : Reply (List ℤ) = whole_of value.now (values_of indexes.now) env s in
-    let written : ℕ → List ℤ → Action (Unit {0}) = λ n components. write (row_text components (Number (pos n))) >>= λ _. pending_of env works operands in
-    ap (λ (o : Option Width). writing_row env value.now indexes.now o (pending_of env works) operands s) is
+    let written : ℕ → List ℤ → Action (Unit {0}) = λ n components. write (row_text components (Number (pos n))) >>= λ _. pending_of env outer works operands in
+    ap (λ (o : Option Width). writing_row env value.now indexes.now o (pending_of env outer works) operands s) is
     ∙ ap (λ n. and_then row (written n)) (sym same)
 
 pub does-Width : (given : Option Width) (width : Width) → given ≡ Some width → (default : ℤ) →
-    (env : Environment) (works : List Work) (operands : List InHand) (s : State) →
-    giving (width_of given default env) (pending_of env works) operands s ≡ evaluated env width.value (work.WidthTest width.site ∷ works) operands s
-does-Width given width is default env works operands s =
-    ap (λ (o : Option Width). giving (width_of o default env) (pending_of env works) operands s) is
-    ∙ and_then-and_then (value_of width.value env s) (positive width.site) (λ w. pending_of env works (OfValue w ∷ operands))
+    (env : Surroundings) (outer : Resumption) (works : List Work) (operands : List Argument) (s : State) →
+    giving (width_of given default env) (pending_of env outer works) operands s ≡ evaluated env outer width.value (work.WidthTest width.site ∷ works) operands s
+does-Width given width is default env outer works operands s =
+    ap (λ (o : Option Width). giving (width_of o default env) (pending_of env outer works) operands s) is
+    ∙ and_then-and_then (value_of width.value env s) (positive width.site) (λ w. pending_of env outer works (OfValue w ∷ operands))
+
+-- arguments that are passed are taken from what is in hand
+passing-taken : (env : Surroundings) (ones : List Passing) (count : ℕ) → count ≡ length ones → (next : List Argument → Resumption)
+    (operands : List Argument) (s : State) → and_then (all_passed ones env s) (λ arguments. next arguments operands) ≡
+    passing env ones (λ in_hand. next (taken_from count in_hand) (left_below count in_hand)) operands s
+passing-taken env [] count is next operands s =
+    ap (λ n. next (taken_from n operands) (left_below n operands) s) (sym is)
+passing-taken env (one ∷ ones) zero is next operands s = let no : ⊥ = omega (arith, is) in absurd no
+passing-taken env (one ∷ ones) (suc count) is next operands s =
+    and_then-and_then (one env s) (λ argument. all_passed ones env >>= λ arguments. give (argument ∷ arguments))
+    (λ arguments. next arguments operands)
+    ∙ and_then-same (one env s) _ _ (λ argument t.
+    and_then-and_then (all_passed ones env t) (λ arguments. give (argument ∷ arguments)) (λ arguments. next arguments operands)
+    ∙ passing-taken env ones count (omega (arith, is)) (λ arguments in_hand. next (top_in_hand in_hand ∷ arguments) (below_top in_hand))
+    (argument ∷ operands) t)
+
+-- a call, as an action before the rest
+called-as : (call : Call) (actuals : List Passed) (env : Surroundings) (next : Resumption) (operands : List Argument) (s : State) →
+    and_then (call_of call (map passing_of actuals) env s) (λ v. next (OfValue v ∷ operands)) ≡
+    calling env call actuals next operands (entered call.number env s)
+called-as call actuals env next operands s =
+    let then_rest : Value → Action (Unit {0}) = λ v. next (OfValue v ∷ operands) in
+    let there = entered call.number env s in
+    and_then-and_then (all_passed (map passing_of actuals) env there) (λ arguments. env.calls call.block arguments env.visible) then_rest
+    ∙ passing-taken env (map passing_of actuals) (length actuals) (sym (length-map actuals passing_of))
+    (λ arguments below. giving (env.calls call.block arguments env.visible) next below) operands there
+
+pub does-Call : (call : Call) (actuals : Vec Passed Global) (given : Expr) → given ≡ expr.Call call actuals → (same_call : Call) → same_call ≡ call →
+    (all : List Passed) → all ≡ actuals.items → (env : Surroundings) (outer : Resumption) (works : List Work) (operands : List Argument) (s : State) →
+    evaluated env outer given works operands s ≡ calling env same_call all (pending_of env outer works) operands (entered call.number env s)
+does-Call call actuals given is same_call same all alike env outer works operands s =
+    let next = pending_of env outer works in
+    ap (λ (e : Expr). evaluated env outer e works operands s) is
+    ∙ ap (λ (a : Action Value). giving a next operands s) (value-Call call actuals env)
+    ∙ called-as call actuals.items env next operands s
+    ∙ ap (λ (c : Call). calling env c actuals.items next operands (entered call.number env s)) (sym same)
+    ∙ ap (λ (l : List Passed). calling env same_call l next operands (entered call.number env s)) (sym alike)
+
+effect-Call : (call : Call) (actuals : Vec Passed Global) (env : Surroundings) →
+    effect_of (stmt.Call call actuals) env ≡ (call_of call (map passing_of actuals.items) env >>= λ _. give tt)
+effect-Call call actuals env = ap (λ (e : Stmt). effect_of e env) (sym (stmt.rolls-Call call actuals))
+    ∙ ap (λ (f : Execution). f env) (fold-roll-Stmt Execution effect_step (Call-F call actuals))
+
+-- a procedure, whose value is discarded
+pub does-procedure : (call : Call) (actuals : Vec Passed Global) (given : Stmt) → given ≡ stmt.Call call actuals → (same_call : Call) → same_call ≡ call →
+    (all : List Passed) → all ≡ actuals.items → (env : Surroundings) (outer : Resumption) (works : List Work) (operands : List Argument) (s : State) →
+    executed env outer given works operands s ≡
+    calling env same_call all (pending_of env outer (work.Discard ∷ works)) operands (entered call.number env s)
+does-procedure call actuals given is same_call same all alike env outer works operands s =
+    let then_rest : Unit {0} → Action (Unit {0}) = λ _. pending_of env outer works operands in
+    let next = pending_of env outer (work.Discard ∷ works) in
+    ap (λ (e : Stmt). executed env outer e works operands s) is
+    ∙ ap (λ (a : Action (Unit {0})). and_then (a s) then_rest) (effect-Call call actuals env)
+    ∙ and_then-and_then (call_of call (map passing_of actuals.items) env s) (λ _. give tt) then_rest
+    ∙ called-as call actuals.items env next operands s
+    ∙ ap (λ (c : Call). calling env c actuals.items next operands (entered call.number env s)) (sym same)
+    ∙ ap (λ (l : List Passed). calling env same_call l next operands (entered call.number env s)) (sym alike)
+
+-- actual parameters, the first one and then the others
+pub does-passed : (first : Bor Passed) (rest all : Bor (List Passed)) → all.now ≡ first.now ∷ rest.now → (env : Surroundings) (next : Resumption)
+    (operands : List Argument) (s : State) → resumed env (work.Pass all) next operands s ≡
+    and_then (passing_of first.now env s) (λ argument. resumed env (work.Pass rest) next (argument ∷ operands))
+does-passed first rest all is env next operands s = ap (λ (l : List Passed). passing env (map passing_of l) next operands s) is
+
+pub does-passed-Value : (value : Expr) (fits : RangeTest) (given : Passed) → given ≡ passed.Value value fits → (env : Surroundings) (next : Resumption)
+    (operands : List Argument) (s : State) → and_then (passing_of given env s) (λ argument. next (argument ∷ operands)) ≡
+    giving (value_of value env) (with_top (λ v. giving (tested fits v) next)) operands s
+does-passed-Value value fits given is env next operands s =
+    let then_rest : Argument → Action (Unit {0}) = λ argument. next (argument ∷ operands) in
+    let test : Value → Action (Unit {0}) = λ v. require (is_in fits.range v) fits.site in
+    ap (λ (p : Passed). and_then (passing_of p env s) then_rest) is
+    ∙ ap (λ (a : Action Argument). and_then (a s) then_rest) (passing-Value value fits env)
+    ∙ and_then-and_then (value_of value env s) (λ v. test v >>= λ _. give (OfValue v)) then_rest
+    ∙ and_then-same (value_of value env s) _ _ (λ v t. and_then-and_then (test v t) (λ _. give (OfValue v)) then_rest
+    ∙ sym (and_then-and_then (test v t) (λ _. give v) (λ w. next (OfValue w ∷ operands))))
+
+pub does-passed-Whole : (type_id : TypeId) (value : Whole) (indexes : Vec Expr Global) (given : Passed) → given ≡ passed.Whole type_id value indexes →
+    (all : List Expr) → all ≡ indexes.items → (env : Surroundings) (next : Resumption) (operands : List Argument) (s : State) →
+    and_then (passing_of given env s) (λ argument. next (argument ∷ operands)) ≡ giving_row (whole_of value (values_of all) env) next operands s
+does-passed-Whole type_id value indexes given is all same env next operands s =
+    let then_rest : Argument → Action (Unit {0}) = λ argument. next (argument ∷ operands) in
+    ap (λ (p : Passed). and_then (passing_of p env s) then_rest) is
+    ∙ ap (λ (a : Action Argument). and_then (a s) then_rest) (passing-Whole type_id value indexes env)
+    ∙ and_then-and_then (whole_of value (values_of indexes.items) env s) (λ numbers. give (OfRow numbers)) then_rest
+    ∙ ap (λ l. giving_row (whole_of value (values_of l) env) next operands s) (sym same)
+
+pub does-passed-Reference : (type_id : TypeId) (access : Access) (indexes : Vec Expr Global) (given : Passed) →
+    given ≡ passed.Reference type_id access indexes → (all : List Expr) → all ≡ indexes.items → (env : Surroundings) (next : Resumption)
+    (operands : List Argument) (s : State) → and_then (passing_of given env s) (λ argument. next (argument ∷ operands)) ≡
+    placing env access all next operands (entered access.number env s)
+does-passed-Reference type_id access indexes given is all same env next operands s =
+    let then_rest : Argument → Action (Unit {0}) = λ argument. next (argument ∷ operands) in
+    let place : List Expr → Reply (Option Place) =
+    λ l. selected access.selectors.items (values_of l) env (env.visible.variables access.root) (entered access.number env s) in
+    ap (λ (p : Passed). and_then (passing_of p env s) then_rest) is
+    ∙ ap (λ (a : Action Argument). and_then (a s) then_rest) (passing-Reference type_id access indexes env)
+    ∙ and_then-and_then (place indexes.items) (λ p. give (OfPlace p)) then_rest
+    ∙ ap (λ l. and_then (place l) (λ p. next (OfPlace p ∷ operands))) (sym same)

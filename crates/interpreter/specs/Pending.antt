@@ -1,7 +1,8 @@
 -- What the work that an interpreter has still to do means: from its operands and the state, the topmost first.
 -- It says nothing of how many steps the work takes.
-use Rattle.std.specs.Prelude.{◌≡◌, ℕ, ℤ, pos, Bool, List, [], ◌∷◌, Option, Some, None, Result, Ok, Err, Vec, IfOk}
-use Rattle.std.specs.Prelude.{if◌then◌else◌, drop, map, option_map, reverse, slice_get}
+use Rattle.std.specs.Prelude.{◌≡◌, ◌+◌, ◌^◌, ◌<◌, ◌≤◌, zero, suc, ℕ, ℤ, pos, Bool, List, [], ◌∷◌, Option, Some, None}
+use Rattle.std.specs.Prelude.{Result, Ok, Err, Vec, IfOk}
+use Rattle.std.specs.Prelude.{if◌then◌else◌, drop, length, map, reverse, slice_get}
 use Rattle.std.specs.BTreeMap.{BTreeMap, get}
 use Rattle.std.specs.declared.alloc.AllocError.{AllocError}
 use Rattle.std.specs.declared.alloc.Global.{Global}
@@ -9,6 +10,11 @@ use Rattle.std.specs.declared.boxed.Box.{Box}
 use Rattle.types.specs.declared.form.Step.{Step}
 use Rattle.types.specs.declared.form.Step.TheVariants as step
 use Rattle.types.specs.Components.{components_of}
+use Rattle.typed_tree.specs.declared.tree.Tree.{Tree}
+use Rattle.typed_tree.specs.declared.tree.Block.{Block}
+use Rattle.typed_tree.specs.declared.tree.Call.{Call}
+use Rattle.typed_tree.specs.declared.tree.Passed.{Passed}
+use Rattle.typed_tree.specs.declared.tree.WriteParameter.{WriteParameter}
 use Rattle.typed_tree.specs.declared.tree.Access.{Access}
 use Rattle.typed_tree.specs.declared.tree.Selector.{Selector}
 use Rattle.typed_tree.specs.declared.tree.Direction.{Direction}
@@ -24,64 +30,48 @@ use Rattle.meaning.specs.declared.outcome.Ending.{Ending}
 use Rattle.meaning.specs.declared.store.Value.{Value}
 use Rattle.meaning.specs.declared.store.Value.TheVariants.{Number}
 use Rattle.operations.specs.Answers.{positive, value_before}
-use Rattle.interpreter.specs.declared.operand.Operand.{Operand}
-use Rattle.interpreter.specs.declared.operand.Operand.TheVariants as operand
-use Rattle.interpreter.specs.declared.store.Place.{Place as KeptPlace}
-use Rattle.interpreter.specs.declared.work.Work.{Work}
-use Rattle.interpreter.specs.declared.work.Work.TheVariants as work
+use Rattle.interpreter_state.specs.declared.activation.Activation.{Activation as KeptActivation}
+use Rattle.interpreter_state.specs.declared.store.Place.{Place as KeptPlace}
+use Rattle.interpreter_state.specs.declared.work.Caller.{Caller}
+use Rattle.interpreter_state.specs.declared.work.Work.{Work}
+use Rattle.interpreter_state.specs.declared.work.Work.TheVariants as work
+use Rattle.interpreter_state.specs.contracts.store.PlaceOrd.TheImpl.{ghosts as places}
+use Rattle.interpreter_state.specs.Views.{operand_seen, place_of, place_seen, row_in, value_in, visible_in}
 use Rattle.interpreter.specs.declared.interpreter.Run.{Run}
-use Rattle.interpreter.specs.contracts.store.PlaceOrd.TheImpl.{ghosts as places}
 use Rattle.meaning.specs.Store.{Environment, Place, Store, held, kept, part, stored}
-use Rattle.meaning.specs.Effect.{State, Reply, Stops, Action, Round, ◌>>=◌, give, require, enter, use_turn}
+use Rattle.meaning.specs.Effect.{State, Reply, Gives, Stops, Action, Round, ◌>>=◌, give, require, enter, use_turn}
 use Rattle.meaning.specs.Effect.{another, fetch, fetch_all, looped, number_of, store, store_all, undefine, write, is_in}
-use Rattle.meaning.specs.Effect.{row_text, text_of}
-use Rattle.meaning.specs.Meaning.{Combination, Execution, completed, ended, home_of, operated, combined, compared}
+use Rattle.meaning.specs.Effect.{end_with, row_text, text_of}
+use Rattle.meaning.specs.Meaning.{Argument, OfValue, OfPlace, OfRow, Surroundings, Combination, Execution, Passing}
+use Rattle.meaning.specs.Meaning.{activated, calls_of, completed, ended, operated, combined, compared, passing_of}
+use Rattle.meaning.specs.Meaning.{place_passed, result_of, run_of}
 use Rattle.meaning.specs.Meaning.{default_width, link_of, selected, value_of, values_of, whole_of}
 use Rattle.meaning.specs.Meaning.{effect_of, all_of, width_of, parameter_of, line_ended, is_so, turn_if, while_round}
 use Rattle.meaning.specs.Meaning.{repeat_round, for_between, arm_of}
-use Rattle.meaning.specs.Laws.{state_after}
-
--- what a run has in hand: a value, a place that is accessed, if there is one, or the numbers of a whole value
-pub data InHand : Type 0 where
-  OfValue : Value → InHand
-  OfPlace : Option Place → InHand
-  OfRow : List ℤ → InHand
 
 -- what is done with the operands, the topmost first, and the state
 abbrev pub Resumption : Type 0
-Resumption = List InHand → Action (Unit {0})
-
--- an operand as a value, a place or a row; what is pending finds those that it needs
-abbrev pub value_in : InHand → Value
-value_in (OfValue v) = v
-value_in (OfPlace place) = Number (pos 0)
-value_in (OfRow row) = Number (pos 0)
-
-abbrev pub place_in : InHand → Option Place
-place_in (OfValue v) = None
-place_in (OfPlace place) = place
-place_in (OfRow row) = None
-
-abbrev pub row_in : InHand → List ℤ
-row_in (OfValue v) = []
-row_in (OfPlace place) = []
-row_in (OfRow row) = row
+Resumption = List Argument → Action (Unit {0})
 
 -- the topmost operand
-abbrev pub top_of : List InHand → Value
+abbrev pub top_of : List Argument → Value
 top_of [] = Number (pos 0)
 top_of (top ∷ below) = value_in top
 
-abbrev pub top_place : List InHand → Option Place
+abbrev pub top_place : List Argument → Option Place
 top_place [] = None
-top_place (top ∷ below) = place_in top
+top_place (top ∷ below) = place_passed top
 
-abbrev pub top_row : List InHand → List ℤ
+abbrev pub top_row : List Argument → List ℤ
 top_row [] = []
 top_row (top ∷ below) = row_in top
 
+abbrev pub top_in_hand : List Argument → Argument
+top_in_hand [] = OfValue (Number (pos 0))
+top_in_hand (top ∷ below) = top
+
 -- the operands below it
-abbrev pub below_top : List InHand → List InHand
+abbrev pub below_top : List Argument → List Argument
 below_top [] = []
 below_top (top ∷ below) = below
 
@@ -106,7 +96,7 @@ abbrev pub giving_row : Action (List ℤ) → Resumption → Resumption
 giving_row action next operands = action >>= λ row. next (OfRow row ∷ operands)
 
 -- the operators of a chain, from left to right, whose value so far is the topmost operand
-abbrev pub linking : Environment → List Combination → Resumption → Resumption
+abbrev pub linking : Surroundings → List Combination → Resumption → Resumption
 linking env [] next operands = next operands
 linking env (link ∷ links) next operands = with_top (λ v. giving (link env v) (linking env links next)) operands
 
@@ -130,16 +120,16 @@ abbrev pub further : {A : Type 0} → Round A → Action (Option A) → Action (
 further round begun = begun >>= λ more. another more (looped round)
 
 -- the rounds of a while, and of a repeat
-abbrev pub while_rounds : Environment → Expr → Stmt → Round (Unit {0})
+abbrev pub while_rounds : Surroundings → Expr → Stmt → Round (Unit {0})
 while_rounds env condition body = while_round (value_of condition) (effect_of body) env
 
-abbrev pub repeat_rounds : Environment → List Stmt → Expr → Round (Unit {0})
+abbrev pub repeat_rounds : Surroundings → List Stmt → Expr → Round (Unit {0})
 repeat_rounds env statements condition = repeat_round (all_of (map effect_of statements)) (value_of condition) env
 
 -- the rounds of a for with values that haven't passed the last one
-abbrev pub counting : Environment → ℕ → Direction → ℤ → Stmt → Round ℤ
+abbrev pub counting : Surroundings → ℕ → Direction → ℤ → Stmt → Round ℤ
 counting env control direction last body n = do
-  _ ← store (env.variables control) (Number n)
+  _ ← store (env.visible.variables control) (Number n)
   _ ← use_turn
   _ ← effect_of body env
   give (value_before direction last n)
@@ -151,25 +141,25 @@ forgetting place next operands = do
   next operands
 
 -- a while, and then the rest
-abbrev pub whiling : Environment → Expr → Stmt → Resumption → Resumption
+abbrev pub whiling : Surroundings → Expr → Stmt → Resumption → Resumption
 whiling env condition body next operands = do
   _ ← looped (while_rounds env condition body) tt
   next operands
 
 -- a repeat, and then the rest
-abbrev pub repeating : Environment → List Stmt → Expr → Resumption → Resumption
+abbrev pub repeating : Surroundings → List Stmt → Expr → Resumption → Resumption
 repeating env statements condition next operands = do
   _ ← looped (repeat_rounds env statements condition) tt
   next operands
 
 -- a for from a value of its control variable on, and then the rest
-abbrev pub counting_on : Environment → ℕ → Direction → ℤ → ℤ → Stmt → Resumption → Resumption
+abbrev pub counting_on : Surroundings → ℕ → Direction → ℤ → ℤ → Stmt → Resumption → Resumption
 counting_on env control direction value last body next operands = do
   _ ← looped (counting env control direction last body) value
-  forgetting (env.variables control) next operands
+  forgetting (env.visible.variables control) next operands
 
 -- further rounds of a repeat, unless the topmost operand ends it, and then the rest
-abbrev pub unless_so : Environment → List Stmt → Expr → Resumption → Resumption
+abbrev pub unless_so : Surroundings → List Stmt → Expr → Resumption → Resumption
 unless_so env statements condition next =
     with_top
     (λ v below. further (repeat_rounds env statements condition) (give (if is_so v then None else Some tt))
@@ -182,20 +172,46 @@ indexed fits place v = do
   give (part place (step.Element (number_of v) ∷ []))
 
 -- a relation, from its operator on
-abbrev pub comparing : Environment → ℕ → Relation → Whole → List Expr → List ℤ → Action Value
+abbrev pub comparing : Surroundings → ℕ → Relation → Whole → List Expr → List ℤ → Action Value
 comparing env number relation right indexes row = do
-  _ ← enter number env
+  _ ← enter number env.visible
   other ← whole_of right (values_of indexes) env
   give (compared relation row other)
 
 -- the selectors that lead on from the topmost place, and then the rest
-abbrev pub selecting : Environment → List Selector → List Expr → Resumption → Resumption
+abbrev pub selecting : Surroundings → List Selector → List Expr → Resumption → Resumption
 selecting env [] indexes next = next
 selecting env (selector ∷ selectors) indexes next =
     with_place (λ place. giving_place (selected (selector ∷ selectors) (values_of indexes) env place) next)
 
+-- actual parameters, from left to right
+abbrev pub passing : Surroundings → List Passing → Resumption → Resumption
+passing env [] next operands = next operands
+passing env (one ∷ others) next operands = one env >>= λ argument. passing env others next (argument ∷ operands)
+
+-- a value that is passed, in the range of its formal parameter
+abbrev pub tested : RangeTest → Value → Action Value
+tested fits v = do
+  _ ← require (is_in fits.range v) fits.site
+  give v
+
+-- the operands below so many
+abbrev pub left_below : ℕ → List Argument → List Argument
+left_below zero operands = operands
+left_below (suc count) operands = below_top (left_below count operands)
+
+-- so many operands, the topmost one last
+abbrev pub taken_from : ℕ → List Argument → List Argument
+taken_from zero operands = []
+taken_from (suc count) operands = top_in_hand (left_below count operands) ∷ taken_from count operands
+
+-- a routine is called with so many operands, and then comes the rest
+abbrev pub activating : Surroundings → ℕ → ℕ → Resumption → Resumption
+activating env block count next operands =
+    giving (env.calls block (taken_from count operands) env.visible) next (left_below count operands)
+
 -- a piece of work, and then the rest
-abbrev pub resumed : Environment → Work → Resumption → Resumption
+abbrev pub resumed : Surroundings → Work → Resumption → Resumption
 resumed env (work.Statements statements) next operands = do
   _ ← all_of (map effect_of statements.now) env
   next operands
@@ -217,12 +233,12 @@ resumed env (work.Bounds control first_fits direction last_fits body) next opera
     with_top
     (λ last rest. with_top
     (λ first below. for_between control first_fits direction last_fits (effect_of body.now) env first last
-    >>= λ _. forgetting (env.variables control) next below)
+    >>= λ _. forgetting (env.visible.variables control) next below)
     rest)
     operands
 resumed env (work.Next control direction value last body) next operands = do
   _ ← further (counting env control direction last body.now) (give (value_before direction last value))
-  forgetting (env.variables control) next operands
+  forgetting (env.visible.variables control) next operands
 resumed env (work.Case site constants arms) next operands =
     with_top
     (λ v below. arm_of site constants.now (map effect_of arms.now) (number_of v) env >>= λ _. next below)
@@ -230,9 +246,6 @@ resumed env (work.Case site constants arms) next operands =
 resumed env (work.Parameters parameters ends_line) next operands = do
   _ ← all_of (map parameter_of parameters.now) env
   line_ending ends_line next operands
-resumed env (work.Parameter parameter) next operands = do
-  _ ← parameter_of parameter.now env
-  next operands
 resumed env (work.Width width representation) next operands =
     giving (width_of width.now (default_width representation) env) next operands
 resumed env (work.WidthTest site) next operands = with_top (λ w. giving (positive site w) next) operands
@@ -251,7 +264,7 @@ resumed env (work.Store fits) next operands =
 resumed env (work.StoreRow type_id) next operands =
     with_row
     (λ row rest. with_place
-    (λ place below. store_all place (components_of env.types type_id) row >>= λ _. next below)
+    (λ place below. store_all place (components_of env.visible.types type_id) row >>= λ _. next below)
     rest)
     operands
 resumed env (work.Select selectors indexes) next operands = selecting env selectors.now indexes.now next operands
@@ -265,7 +278,7 @@ resumed env (work.Fetch defined) next operands = with_place (λ place. giving (f
 resumed env (work.Whole value indexes) next operands =
     giving_row (whole_of value.now (values_of indexes.now) env) next operands
 resumed env (work.FetchRow type_id defined) next operands =
-    with_place (λ place. giving_row (fetch_all place (components_of env.types type_id) defined) next) operands
+    with_place (λ place. giving_row (fetch_all place (components_of env.visible.types type_id) defined) next) operands
 resumed env (work.Value expression) next operands = giving (value_of expression.now env) next operands
 resumed env (work.Monadic operation) next operands = with_top (λ v. giving (operated operation v) next) operands
 resumed env (work.Links links) next operands = linking env (map link_of links.now) next operands
@@ -275,14 +288,24 @@ resumed env (work.RightSide number relation right indexes) next operands =
     with_row (λ row. giving (comparing env number relation right.now indexes.now row) next) operands
 resumed env (work.Compare relation) next operands =
     with_row (λ other rest. with_row (λ row. giving (give (compared relation row other)) next) rest) operands
+resumed env (work.Pass actuals) next operands = passing env (map passing_of actuals.now) next operands
+resumed env (work.Test fits) next operands = with_top (λ v. giving (tested fits v) next) operands
+resumed env (work.Activate block count) next operands = activating env block count next operands
+resumed env work.Discard next operands = next (below_top operands)
 
 -- two values, a piece of work with them, and then the rest
-abbrev pub evaluating : Environment → Expr → Expr → Work → Resumption → Resumption
+abbrev pub evaluating : Surroundings → Expr → Expr → Work → Resumption → Resumption
 evaluating env first second later next =
     giving (value_of first env) (giving (value_of second env) (resumed env later next))
 
+-- a value is written, and then the rest
+abbrev pub writing_one : Surroundings → WriteParameter → Resumption → Resumption
+writing_one env parameter next operands = do
+  _ ← parameter_of parameter env
+  next operands
+
 -- an ordinal is written, and then the rest
-abbrev pub writing : Environment → Expr → Representation → Option Width → Resumption → Resumption
+abbrev pub writing : Surroundings → Expr → Representation → Option Width → Resumption → Resumption
 writing env value representation width next operands = do
   v ← value_of value env
   w ← width_of width (default_width representation) env
@@ -290,7 +313,7 @@ writing env value representation width next operands = do
   next operands
 
 -- a string is written, and then the rest
-abbrev pub writing_row : Environment → Whole → List Expr → Option Width → Resumption → Resumption
+abbrev pub writing_row : Surroundings → Whole → List Expr → Option Width → Resumption → Resumption
 writing_row env value indexes width next operands = do
   row ← whole_of value (values_of indexes) env
   w ← width_of width (pos (length_of value)) env
@@ -298,43 +321,38 @@ writing_row env value indexes width next operands = do
   next operands
 
 -- the place of an access that was entered, and then the rest
-abbrev pub placing : Environment → Access → List Expr → Resumption → Resumption
+abbrev pub placing : Surroundings → Access → List Expr → Resumption → Resumption
 placing env access indexes =
-    giving_place (selected access.selectors.items (values_of indexes) env (env.variables access.root))
+    giving_place (selected access.selectors.items (values_of indexes) env (env.visible.variables access.root))
 
 -- the same, a piece of work with the place, and then the rest
-abbrev pub accessing : Environment → Access → List Expr → Work → Resumption → Resumption
+abbrev pub accessing : Surroundings → Access → List Expr → Work → Resumption → Resumption
 accessing env access indexes later next = placing env access indexes (resumed env later next)
 
 -- two pieces of work in a turn, and then the rest
-abbrev pub turning : Environment → Work → Work → Resumption → Resumption
+abbrev pub turning : Surroundings → Work → Work → Resumption → Resumption
 turning env first second next operands = do
   _ ← use_turn
   resumed env first (resumed env second next) operands
 
 -- a piece of work in a turn, a condition and a piece of work with it, and then the rest
-abbrev pub turning_tested : Environment → Work → Expr → Work → Resumption → Resumption
+abbrev pub turning_tested : Surroundings → Work → Expr → Work → Resumption → Resumption
 turning_tested env first condition second next operands = do
   _ ← use_turn
   resumed env first (giving (value_of condition env) (resumed env second next)) operands
 
--- what is pending, the next first
-abbrev pub pending_of : Environment → List Work → Resumption
-pending_of env [] operands = give tt
-pending_of env (work ∷ rest) operands = resumed env work (pending_of env rest) operands
+-- the actual parameters of a call, its activation, and then the rest
+abbrev pub calling : Surroundings → Call → List Passed → Resumption → Resumption
+calling env call actuals next =
+    passing env (map passing_of actuals) (activating env call.block (length actuals) next)
 
--- a place that the interpreter keeps
-abbrev pub place_seen : KeptPlace → Place
-place_seen p = record { activation = p.activation; variable = p.variable; steps = p.steps.items }
-
--- what the interpreter has in hand
-abbrev pub operand_seen : Operand → InHand
-operand_seen (operand.Value v) = OfValue v
-operand_seen (operand.Place place) = OfPlace (option_map place_seen place)
-operand_seen (operand.Row row) = OfRow row.items
+-- what is pending in an activation, the next first, and what goes on behind it
+abbrev pub pending_of : Surroundings → Resumption → List Work → Resumption
+pending_of env outer [] operands = outer operands
+pending_of env outer (work ∷ rest) operands = resumed env work (pending_of env outer rest) operands
 
 -- the operands of a run, the topmost first
-abbrev pub operands_of : Run → List InHand
+abbrev pub operands_of : Run → List Argument
 operands_of run = map operand_seen (reverse run.operands.items)
 
 -- the number of a value before others, if they are there
@@ -364,44 +382,115 @@ items_of row = row.items
 abbrev pub StoreAgrees : BTreeMap KeptPlace Value → Store → Type 0
 StoreAgrees kept store = (p : KeptPlace) → get places.cmp kept p ≡ stored store (place_seen p)
 
--- the interpreter has what a state has, but for its entries, and finds the variables of an environment
-abbrev pub Agrees : Environment → Run → State → Type 0
-Agrees env run s = record {
-  visible : (root : ℕ) → env.variables root ≡ home_of root (slice_get run.variables.now root);
-  types : env.types ≡ run.types.now;
+-- an activation finds the variables of an environment
+abbrev pub Sees : Environment → Tree → KeptActivation → Type 0
+Sees visible tree activation = record {
+  variables : (root : ℕ) →
+      visible.variables root ≡ place_of (visible_in activation) root (slice_get tree.variables.items root);
+  types : visible.types ≡ tree.types;
+}
+
+-- an activation ends, those that lasted when it began last again, and its result is given to what is pending then
+abbrev pub returning : Surroundings → KeptActivation → List ℕ → Resumption → Resumption
+returning env activation living next operands = do
+  v ← result_of activation.result env.visible
+  _ ← end_with living
+  next (OfValue v ∷ operands)
+
+-- what goes on behind an activation: its callers wait for it, the latest first; behind the program's nothing is done
+abbrev pub Waits : Tree → Surroundings → KeptActivation → Resumption → List Caller → Type 0
+Waits tree env activation outer [] = (operands : List Argument) (s : State) → outer operands s ≡ give tt s
+Waits tree env activation outer (caller ∷ callers) =
+    (there : Surroundings) × (behind : Resumption) × (living : List ℕ)
+    × Sees there.visible tree caller.activation
+    × (there.calls ≡ calls_of tree (suc caller.activation.depth))
+    × (caller.activation.depth ≡ suc activation.depth)
+    × Waits tree there caller.activation behind callers
+    × ((operands : List Argument) (s : State) → outer operands s ≡
+    returning env activation living (pending_of there behind (reverse caller.pending.items)) operands s)
+
+-- the interpreter has what a state has, but for its entries and what lasts, finds the variables of an environment, and
+-- its callers are those that wait; an activation may hold as many others as turns are left, and each used one
+abbrev pub Agrees : Surroundings → Resumption → Run → State → Type 0
+Agrees env outer run s = record {
+  visible : Sees env.visible run.tree.now run.activation;
+  calls : env.calls ≡ calls_of run.tree.now (suc run.activation.depth);
+  waits : Waits run.tree.now env run.activation outer (reverse run.callers.items);
+  deep : run.turns ≤ run.activation.depth;
+  few : run.called + run.turns < 2 ^ 64;
   store : StoreAgrees run.store s.store;
   input : drop run.taken (completed run.input.now) ≡ s.input;
   output : run.output.items ≡ s.output;
   turns : run.turns ≡ s.turns;
-  activations : run.activations ≡ s.activations;
+  activations : suc run.called ≡ s.activations;
 }
 
 -- what a run has still to do, from a state
-abbrev pub rest_of : Environment → Run → State → Reply (Unit {0})
-rest_of env run s = pending_of env (reverse run.pending.items) (operands_of run) s
+abbrev pub rest_of : Surroundings → Resumption → Run → State → Reply (Unit {0})
+rest_of env outer run s = pending_of env outer (reverse run.pending.items) (operands_of run) s
 
 -- a step answered: it goes on to what the reply goes on to, or the reply stops with this ending, in a state that the
 -- run agrees with
-abbrev pub Continues : Environment → Reply (Unit {0}) → Result (Option Ending) AllocError → Run → Type 0
-Continues env reply (Err e) run = Unit {0}
-Continues env reply (Ok None) run = (s : State) × Agrees env run s × (reply ≡ rest_of env run s)
-Continues env reply (Ok (Some ending)) run = (s : State) × Agrees env run s × (reply ≡ Stops ending s)
+abbrev pub Continues : Reply (Unit {0}) → Result (Option Ending) AllocError → Run → Type 0
+Continues reply (Err e) run = Unit {0}
+Continues reply (Ok None) run =
+    (env : Surroundings) × (outer : Resumption) × (s : State) × Agrees env outer run s
+    × (reply ≡ rest_of env outer run s)
+Continues reply (Ok (Some ending)) run =
+    (env : Surroundings) × (outer : Resumption) × (s : State) × Agrees env outer run s × (reply ≡ Stops ending s)
 
 -- a step does a piece of work: in each state that the run agrees with
-abbrev pub Does : (Environment → Resumption → Resumption) → Run → Result (Option Ending) AllocError → Run → Type 0
+abbrev pub Does : (Surroundings → Resumption → Resumption) → Run → Result (Option Ending) AllocError → Run → Type 0
 Does piece old result new =
-    (env : Environment) (s : State) → Agrees env old s →
-    Continues env (piece env (pending_of env (reverse old.pending.items)) (operands_of old) s) result new
+    (env : Surroundings) (outer : Resumption) (s : State) → Agrees env outer old s →
+    Continues (piece env (pending_of env outer (reverse old.pending.items)) (operands_of old) s) result new
 
--- a run ended as a reply does, and agrees with the state there
-abbrev pub EndsAs : Environment → Reply (Unit {0}) → Run → Ending → Type 0
-EndsAs env reply run ending = record {
-  state : Agrees env run (state_after reply);
+-- an activation with nothing left to do ends, and the latest caller goes on
+abbrev pub Leaves : Run → Result (Option Ending) AllocError → Run → Type 0
+Leaves old result new =
+    (env : Surroundings) (outer : Resumption) (s : State) → Agrees env outer old s → old.pending.items ≡ [] →
+    0 < length old.callers.items → Continues (outer (operands_of old) s) result new
+
+-- a reply with no value, after which the store alone is another one, with which the run agrees
+abbrev pub StoresIn : Reply (Unit {0}) → State → Run → Type 0
+StoresIn reply s run =
+    (after : Store) × (reply ≡ Gives tt (record s { store = after })) × StoreAgrees run.store after
+
+-- an activation of a block begins with these arguments, and then comes the rest
+abbrev pub beginning : Tree → ℕ → ℕ → Block → List Argument → Surroundings → Resumption → Resumption
+beginning tree depth number block arguments env =
+    giving (activated tree (calls_of tree depth) number (Some block) arguments env.visible)
+
+-- a run ended as a reply does
+abbrev pub EndsAs : Reply (Unit {0}) → Run → Ending → Type 0
+EndsAs reply run ending = record {
+  output : run.output.items ≡ (ended reply).output;
   ending : (ended reply).ending ≡ ending;
 }
 
 -- a run is done: it ended as all that it had to do does
-abbrev pub Finishes : (Environment → Action (Unit {0})) → Run → Result Ending AllocError → Run → Type 0
-Finishes all old result new =
-    (env : Environment) (s : State) → Agrees env old s →
-    IfOk result (λ ending. EndsAs env (all env s) new ending)
+abbrev pub Finishes : Run → Result Ending AllocError → Run → Type 0
+Finishes old result new =
+    (env : Surroundings) (outer : Resumption) (s : State) → Agrees env outer old s →
+    IfOk result (λ ending. EndsAs (rest_of env outer old s) new ending)
+
+-- a run in which nothing is visible and nothing has begun
+abbrev pub IsFresh : Run → State → Type 0
+IsFresh run s = record {
+  visible : run.activation.visible.items ≡ [];
+  callers : run.callers.items ≡ [];
+  pending : run.pending.items ≡ [];
+  called : run.called ≡ 0;
+  few : run.turns < 2 ^ 64;
+  store : StoreAgrees run.store s.store;
+  input : drop run.taken (completed run.input.now) ≡ s.input;
+  output : run.output.items ≡ s.output;
+  turns : run.turns ≡ s.turns;
+  activations : s.activations ≡ 1;
+}
+
+-- a run did the statement of the program's block: it ended as that does
+abbrev pub Executes : Run → Result Ending AllocError → Run → Type 0
+Executes old result new =
+    (s : State) → IsFresh old s → IfOk result (λ ending.
+    EndsAs (run_of old.tree.now (suc old.turns) (slice_get old.tree.now.blocks.items 0) s) new ending)

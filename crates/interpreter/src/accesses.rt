@@ -1,13 +1,14 @@
 ghost use Rattle.std.specs.Prelude.{◌≡◌, ◌+◌, ◌≤◌, ◌∷◌, [], OnOk};
 ghost use Rattle.meaning.specs.Store.{part};
-ghost use Rattle.interpreter.specs.Pending.{Does, OfPlace, accessing, below_top, operands_of, resumed, selecting};
+ghost use Rattle.meaning.specs.Meaning.{OfPlace};
+ghost use Rattle.interpreter.specs.Pending.{Does, accessing, below_top, operands_of, resumed, selecting};
 ghost use Rattle.interpreter.specs.Pending.{top_place};
-ghost use Rattle.interpreter.specs.Weight.{Lightens, pending_weight, weight_of, weight_of_selectors};
+ghost use Rattle.interpreter.specs.Weight.{Lightens, callees_in, pending_weight, weight_of, weight_of_selectors};
 
 use crate::interpreter::Run;
-use crate::operand::Operand;
-use crate::variables::part;
-use crate::work::{Work, put};
+use interpreter_state::operand::Operand;
+use interpreter_state::store::part;
+use interpreter_state::work::{Work, put};
 use meaning::outcome::Ending;
 use operations::ordinals::{number_of, tested_number, value_in};
 use operations::rows::row_of;
@@ -25,11 +26,11 @@ impl<'t> Run<'t, '_> {
         later: Work<'t>,
     ) -> Result<Option<Ending>, AllocError>
         ensures weight { OnOk result (pending_weight self.new ≡ pending_weight self.old
-            + weight_of self.old.turns later.entry
-            + weight_of_selectors access.now.selectors.items indexes.now self.old.turns) }
+            + weight_of (callees_in self.old) self.old.turns later.entry
+            + weight_of_selectors (callees_in self.old) access.now.selectors.items indexes.now self.old.turns) }
         ensures does { Does (λ env. accessing env access.now indexes.now later.entry) self.old result self.new }
     {
-        let place = self.place(access.root);
+        let place = self.place(access.root)?;
         self.push(Operand::Place(place))?;
         self.plan(
             Work::Select {
@@ -69,7 +70,7 @@ impl<'t> Run<'t, '_> {
         indexes: &'t [Expr],
     ) -> Result<Option<Ending>, AllocError>
         ensures weight { OnOk result (pending_weight self.new
-            ≤ pending_weight self.old + weight_of_selectors rest.now indexes.now self.old.turns) }
+            ≤ pending_weight self.old + weight_of_selectors (callees_in self.old) rest.now indexes.now self.old.turns) }
         ensures does { Does (λ env. selecting env (Selector.Element fits 0 ∷ rest.now) indexes.now)
             self.old result self.new }
     {
@@ -110,6 +111,7 @@ impl<'t> Run<'t, '_> {
     // Goes on from the topmost place to a component of it.
     fn extend(&mut self, step: Step) -> Result<(), AllocError>
         ensures same { self.new ≡ record self.old { operands = self.new.operands } }
+        ensures weight { pending_weight self.new ≡ pending_weight self.old }
         ensures top { OnOk result (operands_of self.new
             ≡ OfPlace (part (top_place (operands_of self.old)) (step ∷ [])) ∷ below_top (operands_of self.old)) }
     {

@@ -3,7 +3,7 @@ ghost use Rattle.interpreter.specs.Pending.{Does, resumed};
 ghost use Rattle.interpreter.specs.Weight.{Lightens, pending_weight};
 
 use crate::interpreter::Run;
-use crate::work::{Work, put};
+use interpreter_state::work::{Work, put};
 use meaning::outcome::Ending;
 use meaning::store::{Ordinal, Value};
 use operations::ordinals::{combined_value, operated_value};
@@ -49,6 +49,7 @@ impl<'t> Run<'t, '_> {
                     indexes: right_indexes,
                 },
             ),
+            Expr::Call { call, actuals } => self.call(call, actuals),
         }
     }
 

@@ -1,19 +1,18 @@
-ghost use Rattle.std.specs.Prelude.{◌≡◌, ◌+◌, ◌≤◌, OnOk, IfOk, [], slice_get};
-ghost use Rattle.interpreter.specs.Pending.{Does, Finishes, evaluating, rest_of, resumed, turning};
-ghost use Rattle.interpreter.specs.Pending.{turning_tested};
-ghost use Rattle.interpreter.specs.Weight.{Lightens, pending_weight, tested_turn_weight, turn_weight, weight_of};
-ghost use Rattle.interpreter.specs.Weight.{weight_of_expression};
-ghost use Rattle.meaning.specs.Meaning.{meaning, run_of};
+ghost use Rattle.std.specs.Prelude.{◌≡◌, ◌+◌, ◌≤◌, OnOk, IfOk};
+ghost use Rattle.meaning.specs.Meaning.{meaning};
+ghost use Rattle.interpreter.specs.Pending.{Does, Executes, Finishes, evaluating, resumed, turning, turning_tested};
+ghost use Rattle.interpreter.specs.Weight.{Lightens, callees_in, pending_weight, tested_turn_weight, turn_weight};
+ghost use Rattle.interpreter.specs.Weight.{weight_of, weight_of_expression};
 
-use crate::operand::Operand;
-use crate::store::Place;
-use crate::work::{Work, put};
+use interpreter_state::activation::Activation;
+use interpreter_state::operand::Operand;
+use interpreter_state::store::Place;
+use interpreter_state::work::{Caller, Work, put};
 use meaning::outcome::{Ending, Outcome};
 use meaning::store::Value;
 use std::alloc::{AllocError, Global};
 use std::collections::BTreeMap;
-use typed_tree::tree::{Expr, Tree, Variable};
-use types::TypeTable;
+use typed_tree::tree::{Expr, Tree};
 
 /// What a program writes and how it ends, from an input and for a number of turns: each start of a
 /// loop's body or of a routine's block uses one.
@@ -29,52 +28,60 @@ pub fn interpret(
 {
     let mut run = Run {
         alloc,
-        variables: &tree.variables,
-        types: &tree.types,
+        tree,
         store: BTreeMap::new(alloc),
         input,
         taken: 0,
         output: Vec::new(alloc),
         turns,
-        activations: 1,
+        called: 0,
+        activation: Activation::outside(alloc, turns),
+        callers: Vec::new(alloc),
         operands: Vec::new(alloc),
         pending: Vec::new(alloc),
     };
-    let ending = run.execute(tree)?;
+    let ending = run.execute()?;
     Ok(Outcome {
         output: run.output,
         ending,
     })
 }
 
-// A run: what it has made so far, its operands, and the work that is left, the next on top.
+// A run: what it has made so far, its activations, its operands, and the work that is left, the next on top.
 #[derive(Drop)]
 pub(crate) struct Run<'t, 'i> {
     pub(crate) alloc: Global,
-    // The variables of the tree, by root number.
-    pub(crate) variables: &'t [Variable],
-    pub(crate) types: &'t TypeTable,
+    pub(crate) tree: &'t Tree,
     pub(crate) store: BTreeMap<Place, Value>,
     input: &'i [u8],
     // How many bytes of the input were read, its last line end among them if it has to be supplied.
     taken: usize,
     pub(crate) output: Vec<u8>,
     // How many turns are left.
-    turns: u64,
-    // How many activations there were.
-    activations: u64,
+    pub(crate) turns: u64,
+    // How many activations of routines there were; the last one has this number, the program's own has 0.
+    pub(crate) called: u64,
+    // The activation whose work is done.
+    pub(crate) activation: Activation,
+    // Those that wait for it, the one that called it last.
+    pub(crate) callers: Vec<Caller<'t>>,
     pub(crate) operands: Vec<Operand>,
     pub(crate) pending: Vec<Work<'t>>,
 }
 
 impl<'t> Run<'t, '_> {
-    // Does the statement of the program's block.
-    fn execute(&mut self, tree: &'t Tree) -> Result<Ending, AllocError>
-        requires { self.old.pending.items ≡ [] }
-        ensures { Finishes (run_of (slice_get tree.now.blocks.items 0)) self.old result self.new }
+    // Does the statement of the program's block, in the first activation.
+    fn execute(&mut self) -> Result<Ending, AllocError>
+        ensures { Executes self.old result self.new }
     {
-        match tree.blocks.first() {
+        match self.tree.blocks.first() {
             Some(block) => {
+                let mut activation = self
+                    .activation
+                    .inner(self.alloc, 0, &block.heading, 0, &[])?;
+                // Those inside it use a turn each, and it uses none itself.
+                activation.depth = self.turns;
+                self.activation = activation;
                 put(&mut self.pending, Work::Statement(&block.body))?;
                 self.finish()
             }
@@ -84,14 +91,19 @@ impl<'t> Run<'t, '_> {
 
     // Does the work that is left.
     fn finish(&mut self) -> Result<Ending, AllocError>
-        ensures { Finishes (λ env. rest_of env self.old) self.old result self.new }
+        ensures { Finishes self.old result self.new }
     {
-        while let Some(work) = self.pending.pop() {
-            if let Some(ending) = self.step(work)? {
+        loop {
+            if let Some(work) = self.pending.pop() {
+                if let Some(ending) = self.step(work)? {
+                    return Ok(ending);
+                }
+            } else if self.callers.is_empty() {
+                return Ok(Ending::Finished);
+            } else if let Some(ending) = self.leave()? {
                 return Ok(ending);
             }
         }
-        Ok(Ending::Finished)
     }
 
     fn step(&mut self, work: Work<'t>) -> Result<Option<Ending>, AllocError>
@@ -133,7 +145,6 @@ impl<'t> Run<'t, '_> {
                 parameters,
                 ends_line,
             } => self.parameters(parameters, ends_line),
-            Work::Parameter(parameter) => self.parameter(parameter),
             Work::Width {
                 width,
                 representation,
@@ -160,13 +171,17 @@ impl<'t> Run<'t, '_> {
                 indexes,
             } => self.right_side(number, relation, right, indexes),
             Work::Compare(relation) => self.compare(relation),
+            Work::Pass(actuals) => self.pass(actuals),
+            Work::Test(fits) => self.test(fits),
+            Work::Activate { block, count } => self.activate(block, count),
+            Work::Discard => self.discard(),
         }
     }
 
     // What is done next.
     pub(crate) fn do_next(&mut self, next: Work<'t>) -> Result<Option<Ending>, AllocError>
         ensures weight { OnOk result (pending_weight self.new
-            ≡ pending_weight self.old + weight_of self.old.turns next.entry) }
+            ≡ pending_weight self.old + weight_of (callees_in self.old) self.old.turns next.entry) }
         ensures does { Does (λ env. resumed env next.entry) self.old result self.new }
     {
         put(&mut self.pending, next)?;
@@ -180,7 +195,8 @@ impl<'t> Run<'t, '_> {
         later: Work<'t>,
     ) -> Result<Option<Ending>, AllocError>
         ensures weight { OnOk result (pending_weight self.new
-            ≡ pending_weight self.old + weight_of self.old.turns later.entry + weight_of self.old.turns next.entry) }
+            ≡ pending_weight self.old + weight_of (callees_in self.old) self.old.turns later.entry
+            + weight_of (callees_in self.old) self.old.turns next.entry) }
         ensures does { Does (λ env rest. resumed env next.entry (resumed env later.entry rest))
             self.old result self.new }
     {
@@ -197,8 +213,9 @@ impl<'t> Run<'t, '_> {
         later: Work<'t>,
     ) -> Result<Option<Ending>, AllocError>
         ensures weight { OnOk result (pending_weight self.new ≡ pending_weight self.old
-            + weight_of self.old.turns later.entry + weight_of_expression second.now self.old.turns
-            + weight_of_expression first.now self.old.turns) }
+            + weight_of (callees_in self.old) self.old.turns later.entry
+            + weight_of_expression (callees_in self.old) second.now self.old.turns
+            + weight_of_expression (callees_in self.old) first.now self.old.turns) }
         ensures does { Does (λ env. evaluating env first.now second.now later.entry) self.old result self.new }
     {
         put(&mut self.pending, later)?;
@@ -212,7 +229,7 @@ impl<'t> Run<'t, '_> {
         later: Work<'t>,
     ) -> Result<Option<Ending>, AllocError>
         ensures weight { OnOk result (pending_weight self.new
-            ≤ pending_weight self.old + turn_weight self.old.turns next.entry later.entry) }
+            ≤ pending_weight self.old + turn_weight (callees_in self.old) self.old.turns next.entry later.entry) }
         ensures does { Does (λ env. turning env next.entry later.entry) self.old result self.new }
     {
         if self.turns == 0 {
@@ -230,7 +247,8 @@ impl<'t> Run<'t, '_> {
         later: Work<'t>,
     ) -> Result<Option<Ending>, AllocError>
         ensures weight { OnOk result (pending_weight self.new
-            ≤ pending_weight self.old + tested_turn_weight self.old.turns next.entry condition.now later.entry) }
+            ≤ pending_weight self.old
+            + tested_turn_weight (callees_in self.old) self.old.turns next.entry condition.now later.entry) }
         ensures does { Does (λ env. turning_tested env next.entry condition.now later.entry)
             self.old result self.new }
     {

@@ -3,12 +3,11 @@
 #![tactic(auto)]
 
 mod accesses;
+mod calls;
 mod expressions;
 mod interpreter;
 mod operand;
 mod statements;
-mod store;
 mod variables;
-mod work;
 
 pub use interpreter::interpret;

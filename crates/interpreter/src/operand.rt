@@ -1,56 +1,16 @@
 ghost use Rattle.std.specs.Prelude.{◌≡◌, ◌∷◌, OnOk, option_map};
 ghost use Rattle.operations.specs.Answers.{answered};
-ghost use Rattle.interpreter.specs.Pending.{Does, below_top, giving, operand_seen, operands_of, place_in, place_seen};
-ghost use Rattle.interpreter.specs.Pending.{row_in, top_of, top_place, top_row, value_in};
+ghost use Rattle.interpreter_state.specs.Views.{operand_seen, place_seen};
+ghost use Rattle.interpreter.specs.Pending.{Does, below_top, giving, operands_of, top_in_hand, top_of, top_place};
+ghost use Rattle.interpreter.specs.Pending.{top_row};
 ghost use Rattle.interpreter.specs.Weight.{pending_weight};
 
 use crate::interpreter::Run;
-use crate::store::Place;
+use interpreter_state::operand::Operand;
+use interpreter_state::store::Place;
 use meaning::outcome::Ending;
 use meaning::store::{Ordinal, Value};
-use std::alloc::{AllocError, Global};
-
-/// What a run has in hand, on a stack.
-#[derive(Drop)]
-pub enum Operand {
-    Value(Value),
-    /// A place that is accessed; none, where no variable is visible.
-    Place(Option<Place>),
-    /// The numbers of the components of a whole value.
-    Row(Vec<Ordinal>),
-}
-
-impl Operand {
-    // The value that it is.
-    fn value(&self) -> Value
-        ensures { result ≡ value_in (operand_seen self.now) }
-    {
-        match self {
-            Operand::Value(value) => *value,
-            _ => Value::Number(Ordinal::new(0)),
-        }
-    }
-
-    // The place that it is.
-    fn place(self) -> Option<Place>
-        ensures { option_map place_seen result ≡ place_in (operand_seen self) }
-    {
-        match self {
-            Operand::Place(place) => place,
-            _ => None,
-        }
-    }
-
-    // The row that it is.
-    fn row(self, alloc: Global) -> Vec<Ordinal>
-        ensures { result.items ≡ row_in (operand_seen self) }
-    {
-        match self {
-            Operand::Row(row) => row,
-            _ => Vec::new(alloc),
-        }
-    }
-}
+use std::alloc::AllocError;
 
 // The stack of operands. Each piece of work that takes one follows work that left it.
 impl Run<'_, '_> {
@@ -70,6 +30,7 @@ impl Run<'_, '_> {
 
     pub(crate) fn push(&mut self, operand: Operand) -> Result<(), AllocError>
         ensures same { self.new ≡ record self.old { operands = self.new.operands } }
+        ensures weight { pending_weight self.new ≡ pending_weight self.old }
         ensures top { OnOk result (operands_of self.new ≡ operand_seen operand ∷ operands_of self.old) }
     {
         self.operands.push(operand)?;
@@ -79,6 +40,7 @@ impl Run<'_, '_> {
     // The topmost value.
     pub(crate) fn popped(&mut self) -> Value
         ensures same { self.new ≡ record self.old { operands = self.new.operands } }
+        ensures weight { pending_weight self.new ≡ pending_weight self.old }
         ensures top { result ≡ top_of (operands_of self.old) }
         ensures below { operands_of self.new ≡ below_top (operands_of self.old) }
     {
@@ -91,6 +53,7 @@ impl Run<'_, '_> {
     // The topmost place.
     pub(crate) fn popped_place(&mut self) -> Option<Place>
         ensures same { self.new ≡ record self.old { operands = self.new.operands } }
+        ensures weight { pending_weight self.new ≡ pending_weight self.old }
         ensures top { option_map place_seen result ≡ top_place (operands_of self.old) }
         ensures below { operands_of self.new ≡ below_top (operands_of self.old) }
     {
@@ -100,12 +63,26 @@ impl Run<'_, '_> {
     // The topmost row.
     pub(crate) fn popped_row(&mut self) -> Vec<Ordinal>
         ensures same { self.new ≡ record self.old { operands = self.new.operands } }
+        ensures weight { pending_weight self.new ≡ pending_weight self.old }
         ensures top { result.items ≡ top_row (operands_of self.old) }
         ensures below { operands_of self.new ≡ below_top (operands_of self.old) }
     {
         match self.operands.pop() {
             Some(operand) => operand.row(self.alloc),
             None => Vec::new(self.alloc),
+        }
+    }
+
+    // The topmost operand.
+    pub(crate) fn popped_operand(&mut self) -> Operand
+        ensures same { self.new ≡ record self.old { operands = self.new.operands } }
+        ensures weight { pending_weight self.new ≡ pending_weight self.old }
+        ensures top { operand_seen result ≡ top_in_hand (operands_of self.old) }
+        ensures below { operands_of self.new ≡ below_top (operands_of self.old) }
+    {
+        match self.operands.pop() {
+            Some(operand) => operand,
+            None => Operand::Value(Value::Number(Ordinal::new(0))),
         }
     }
 }

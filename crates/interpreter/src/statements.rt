@@ -1,18 +1,19 @@
 ghost use Rattle.std.specs.Prelude.{◌≡◌, ◌+◌, ◌<◌, ◌≤◌, OnOk};
-ghost use Rattle.typed_tree.specs.WellFormed.{length_of};
 ghost use Rattle.interpreter.specs.Pending.{Does, counting_on, forgetting, line_ending, repeating, resumed, whiling};
-ghost use Rattle.interpreter.specs.Pending.{writing, writing_row};
-ghost use Rattle.interpreter.specs.Weight.{Lightens, for_weight, pending_weight, weight_of_expression};
+ghost use Rattle.interpreter.specs.Pending.{writing, writing_one, writing_row};
+ghost use Rattle.interpreter.specs.Weight.{Lightens, callees_in, for_weight, pending_weight, weight_of_expression};
+ghost use Rattle.interpreter.specs.Weight.{weight_of_parameter};
 ghost use Rattle.interpreter.specs.Weight.{weight_of_statement, weight_of_whole, weight_of_width, while_weight};
 
 use crate::interpreter::Run;
-use crate::work::{Work, put};
+use interpreter_state::work::{Work, put};
 use meaning::outcome::Ending;
 use meaning::store::{Ordinal, Value};
 use operations::arms::arm_at;
 use operations::ordinals::{
     number_of, positive_width, tested_bounds, truth_of, value_toward, width_by_default,
 };
+use operations::rows::length_of;
 use operations::text::{write_row, write_row_in, write_value};
 use std::alloc::AllocError;
 use typed_tree::tree::{
@@ -73,6 +74,10 @@ impl<'t> Run<'t, '_> {
                 ends_line,
                 ..
             } => self.parameters(parameters, *ends_line),
+            Stmt::Call { call, actuals } => {
+                put(&mut self.pending, Work::Discard)?;
+                self.call(call, actuals)
+            }
             Stmt::Compound { statements, .. } => self.statements(statements),
             Stmt::If {
                 condition,
@@ -158,7 +163,8 @@ impl<'t> Run<'t, '_> {
         body: &'t Stmt,
     ) -> Result<Option<Ending>, AllocError>
         ensures fewer { OnOk result (pending_weight self.new < pending_weight self.old
-            + while_weight (weight_of_expression condition.now) (weight_of_statement body.now) self.old.turns) }
+            + while_weight (weight_of_expression (callees_in self.old) condition.now)
+            (weight_of_statement (callees_in self.old) body.now) self.old.turns) }
         ensures does { Does (λ env. whiling env condition.now body.now) self.old result self.new }
     {
         self.plan(Work::Value(condition), Work::WhileTurn { condition, body })
@@ -251,10 +257,11 @@ impl<'t> Run<'t, '_> {
         body: &'t Stmt,
     ) -> Result<Option<Ending>, AllocError>
         ensures fewer { OnOk result (pending_weight self.new
-            < pending_weight self.old + for_weight (weight_of_statement body.now) self.old.turns) }
+            < pending_weight self.old
+            + for_weight (weight_of_statement (callees_in self.old) body.now) self.old.turns) }
         ensures does { Does (λ env. counting_on env control direction value last body.now) self.old result self.new }
     {
-        let place = self.place(control);
+        let place = self.place(control)?;
         self.keep(place, Value::Number(Ordinal::new(value)))?;
         self.turn(
             Work::Statement(body),
@@ -289,9 +296,9 @@ impl<'t> Run<'t, '_> {
     // Behind a for its control variable is undefined.
     fn forget(&mut self, control: u32) -> Result<Option<Ending>, AllocError>
         ensures weight { pending_weight self.new ≡ pending_weight self.old }
-        ensures does { Does (λ env. forgetting (env.variables control)) self.old result self.new }
+        ensures does { Does (λ env. forgetting (env.visible.variables control)) self.old result self.new }
     {
-        let place = self.place(control);
+        let place = self.place(control)?;
         self.lose(&place);
         Ok(None)
     }
@@ -321,23 +328,25 @@ impl<'t> Run<'t, '_> {
         ensures does { Does (λ env. resumed env (Work.Parameters parameters.entry ends_line)) self.old result self.new }
     {
         match parameters.split_first() {
-            Some((first, rest)) => self.plan(
-                Work::Parameter(first),
-                Work::Parameters {
-                    parameters: rest,
-                    ends_line,
-                },
-            ),
+            Some((first, rest)) => {
+                put(
+                    &mut self.pending,
+                    Work::Parameters {
+                        parameters: rest,
+                        ends_line,
+                    },
+                )?;
+                self.parameter(first)
+            }
             None => self.line_end(ends_line),
         }
     }
 
-    pub(crate) fn parameter(
-        &mut self,
-        parameter: &'t WriteParameter,
-    ) -> Result<Option<Ending>, AllocError>
-        ensures fewer { Lightens (Work.Parameter parameter.entry) self.old result self.new }
-        ensures does { Does (λ env. resumed env (Work.Parameter parameter.entry)) self.old result self.new }
+    // A value that is written.
+    fn parameter(&mut self, parameter: &'t WriteParameter) -> Result<Option<Ending>, AllocError>
+        ensures fewer { OnOk result (pending_weight self.new < pending_weight self.old
+            + weight_of_parameter (callees_in self.old) parameter.now self.old.turns) }
+        ensures does { Does (λ env. writing_one env parameter.now) self.old result self.new }
     {
         match &parameter.value {
             Written::Ordinal {
@@ -356,7 +365,8 @@ impl<'t> Run<'t, '_> {
         width: &'t Option<Width>,
     ) -> Result<Option<Ending>, AllocError>
         ensures weight { OnOk result (pending_weight self.new ≡ pending_weight self.old + 1
-            + weight_of_width width.now self.old.turns + weight_of_expression value.now self.old.turns) }
+            + weight_of_width (callees_in self.old) width.now self.old.turns
+            + weight_of_expression (callees_in self.old) value.now self.old.turns) }
         ensures does { Does (λ env. writing env value.now representation width.now) self.old result self.new }
     {
         put(&mut self.pending, Work::Write(representation))?;
@@ -377,7 +387,8 @@ impl<'t> Run<'t, '_> {
         width: &'t Option<Width>,
     ) -> Result<Option<Ending>, AllocError>
         ensures weight { OnOk result (pending_weight self.new ≤ pending_weight self.old + 1
-            + weight_of_whole value.now indexes.now self.old.turns + weight_of_width width.now self.old.turns) }
+            + weight_of_whole (callees_in self.old) value.now indexes.now self.old.turns
+            + weight_of_width (callees_in self.old) width.now self.old.turns) }
         ensures does { Does (λ env. writing_row env value.now indexes.now width.now) self.old result self.new }
     {
         match width {
@@ -460,15 +471,5 @@ impl<'t> Run<'t, '_> {
             self.output.push(b'\n')?;
         }
         Ok(None)
-    }
-}
-
-// How many components a whole value has.
-fn length_of(value: &Whole) -> usize
-    ensures { result ≡ length_of value.now }
-{
-    match value {
-        Whole::Text { characters, .. } => characters.len(),
-        Whole::Variable { cells, .. } => *cells as usize,
     }
 }

@@ -1,31 +1,26 @@
-ghost use Rattle.std.specs.Prelude.{◌≡◌, ◌∷◌, ◌<◌, [], IfOk, OnOk, option_map, slice_get, slice_index_or};
+ghost use Rattle.std.specs.Prelude.{◌≡◌, IfOk, OnOk, option_map, slice_get};
 ghost use Rattle.types.specs.Components.{components_of};
-ghost use Rattle.types.specs.Types.{cells_of};
-ghost use Rattle.meaning.specs.Store.{Store, forgotten, held, kept, part};
-ghost use Rattle.meaning.specs.Meaning.{home_of};
-ghost use Rattle.interpreter.specs.Pending.{StoreAgrees, held_all, items_of, kept_all, place_seen};
+ghost use Rattle.meaning.specs.Store.{Store, forgotten, held, kept};
+ghost use Rattle.interpreter_state.specs.Views.{place_of, place_seen, visible_in};
+ghost use Rattle.interpreter.specs.Pending.{StoreAgrees, held_all, items_of, kept_all};
+ghost use Rattle.interpreter.specs.Weight.{pending_weight};
 
 use crate::interpreter::Run;
-use crate::store::Place;
+use interpreter_state::store::{Place, component as component_of};
 use meaning::store::{Ordinal, Value};
 use operations::ordinals::number_of;
-use std::alloc::{AllocError, Global};
-use types::{Step, TypeId};
+use std::alloc::AllocError;
+use types::TypeId;
 
 // The variables and their components.
 impl Run<'_, '_> {
-    // Where a variable lies, if the program's block declares it: that block's activation is the first.
-    pub(crate) fn place(&self, root: u32) -> Option<Place>
-        ensures { option_map place_seen result ≡ home_of root (slice_get self.now.variables.now root) }
+    // Where a variable lies, if it is visible.
+    pub(crate) fn place(&self, root: u32) -> Result<Option<Place>, AllocError>
+        ensures { IfOk result (λ place. option_map place_seen place
+            ≡ place_of (visible_in self.now.activation) root (slice_get self.now.tree.now.variables.items root)) }
     {
-        match self.variables.get(root as usize) {
-            Some(variable) if variable.block == 0 => Some(Place {
-                activation: 0,
-                variable: root,
-                steps: Vec::new(self.alloc),
-            }),
-            _ => None,
-        }
+        self.activation
+            .place(self.alloc, &self.tree.variables, root)
     }
 
     // What a place holds, if there is one and it is defined.
@@ -41,6 +36,7 @@ impl Run<'_, '_> {
     // Keeps a value at a place, if there is one.
     pub(crate) fn keep(&mut self, place: Option<Place>, value: Value) -> Result<(), AllocError>
         ensures same { self.new ≡ record self.old { store = self.new.store } }
+        ensures weight { pending_weight self.new ≡ pending_weight self.old }
         ensures agrees { OnOk result ((s : Store) → StoreAgrees self.old.store s
             → StoreAgrees self.new.store (kept s (option_map place_seen place) value)) }
     {
@@ -53,6 +49,7 @@ impl Run<'_, '_> {
     // Makes a place undefined, if there is one.
     pub(crate) fn lose(&mut self, place: &Option<Place>)
         ensures same { self.new ≡ record self.old { store = self.new.store } }
+        ensures weight { pending_weight self.new ≡ pending_weight self.old }
         ensures agrees { (s : Store) → StoreAgrees self.old.store s
             → StoreAgrees self.new.store (forgotten s (option_map place_seen place.now)) }
     {
@@ -68,11 +65,11 @@ impl Run<'_, '_> {
         type_id: TypeId,
     ) -> Result<Option<Vec<Ordinal>>, AllocError>
         ensures { IfOk result (λ row. (s : Store) → StoreAgrees self.now.store s → option_map items_of row
-            ≡ held_all s (option_map place_seen place.now) (components_of self.now.types.now type_id)) }
+            ≡ held_all s (option_map place_seen place.now) (components_of self.now.tree.now.types type_id)) }
     {
         let mut row = Vec::new(self.alloc);
-        for component in 0..self.types.cells(type_id) {
-            let part = self.component(place, type_id, component)?;
+        for component in 0..self.tree.types.cells(type_id) {
+            let part = component_of(self.alloc, &self.tree.types, place, type_id, component)?;
             match self.found(&part) {
                 Some(value) => row.push(number_of(value))?,
                 None => return Ok(None),
@@ -89,52 +86,17 @@ impl Run<'_, '_> {
         row: &[Ordinal],
     ) -> Result<(), AllocError>
         ensures same { self.new ≡ record self.old { store = self.new.store } }
+        ensures weight { pending_weight self.new ≡ pending_weight self.old }
         ensures agrees { OnOk result ((s : Store) → StoreAgrees self.old.store s → StoreAgrees self.new.store
-            (kept_all s (option_map place_seen place.now) (components_of self.old.types.now type_id) row.now)) }
+            (kept_all s (option_map place_seen place.now) (components_of self.old.tree.now.types type_id) row.now)) }
     {
-        for component in 0..self.types.cells(type_id) {
+        for component in 0..self.tree.types.cells(type_id) {
             let Some(number) = row.get(component as usize) else {
                 break;
             };
-            let part = self.component(place, type_id, component)?;
+            let part = component_of(self.alloc, &self.tree.types, place, type_id, component)?;
             self.keep(part, Value::Number(*number))?;
         }
         Ok(())
-    }
-
-    // The place of a component, by its place among the components of its type.
-    fn component(
-        &self,
-        place: &Option<Place>,
-        type_id: TypeId,
-        component: u32,
-    ) -> Result<Option<Place>, AllocError>
-        requires inside { component < cells_of self.now.types.now type_id }
-        ensures { IfOk result (λ found. option_map place_seen found ≡ part (option_map place_seen place.now)
-            (slice_index_or (components_of self.now.types.now type_id) component [])) }
-    {
-        let Some(place) = place else {
-            return Ok(None);
-        };
-        let mut steps = Vec::from_slice(self.alloc, &place.steps)?;
-        self.types.component(type_id, component, &mut steps)?;
-        Ok(Some(Place {
-            activation: place.activation,
-            variable: place.variable,
-            steps,
-        }))
-    }
-}
-
-/// The place of a part of a place, if there is one.
-pub(crate) fn part(place: Option<Place>, step: Step) -> Result<Option<Place>, AllocError>
-    ensures { IfOk result (λ found. option_map place_seen found ≡ part (option_map place_seen place) (step ∷ [])) }
-{
-    match place {
-        Some(mut place) => {
-            place.steps.push(step)?;
-            Ok(Some(place))
-        }
-        None => Ok(None),
     }
 }

@@ -39,6 +39,8 @@ mod scoping;
 #[cfg(test)]
 mod sources;
 #[cfg(test)]
+mod sparse_lists;
+#[cfg(test)]
 mod structured_types;
 #[cfg(test)]
 mod syntax;

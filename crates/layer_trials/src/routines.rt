@@ -2,6 +2,7 @@ use crate::sources::{fault_told, resolved, syntax_told};
 use std::alloc::{AllocError, Global};
 use std::test::Fail;
 use test_words::rows::all_hold;
+use typed_tree::tree::{Heading, Tree};
 
 /// What the parser tells of a program whose procedures and functions begin at 1:12: nothing, or why there is no tree.
 fn told(alloc: Global, routines: &&str) -> Result<String, AllocError> {
@@ -91,37 +92,60 @@ fn blocks_nest_to_the_bound(rt: HostRuntime) -> Result<(), Fail> {
     all_hold(rt.alloc(), &NESTED, nested_told)
 }
 
-/// Why a program has no typed tree, whose declarations begin at 1:12.
-fn refusal_told(alloc: Global, declarations: &&str) -> Result<String, AllocError> {
-    let source = format!(in alloc; "program m; {declarations} begin x := 1 end.")?;
+/// The numbers, with commas between them.
+fn numbers_told(alloc: Global, numbers: &[u32]) -> Result<String, AllocError> {
+    let mut told = String::new(alloc);
+    for number in numbers {
+        if !told.is_empty() {
+            told.push(',')?;
+        }
+        told.push_str(format!(in alloc; "{number}")?.as_str())?;
+    }
+    Ok(told)
+}
+
+/// The blocks round a block, its parameters and its result.
+fn heading_told(alloc: Global, heading: &Heading) -> Result<String, AllocError> {
+    let around = numbers_told(alloc, &heading.around)?;
+    let parameters = numbers_told(alloc, &heading.parameters)?;
+    match heading.result {
+        Some(result) => format!(in alloc; "{around};{parameters};{} ", result.root),
+        None => format!(in alloc; "{around};{parameters}; "),
+    }
+}
+
+/// Those of each block, and then the blocks in the order of their statements.
+fn blocks_told(alloc: Global, tree: &Tree) -> Result<String, AllocError> {
+    let mut told = String::new(alloc);
+    for block in &tree.blocks {
+        told.push_str(heading_told(alloc, &block.heading)?.as_str())?;
+    }
+    told.push_str(numbers_told(alloc, &tree.bodies)?.as_str())?;
+    Ok(told)
+}
+
+fn tree_told(alloc: Global, declarations: &&str) -> Result<String, AllocError> {
+    let source = format!(in alloc; "program m; {declarations} begin end.")?;
     match resolved(alloc, source.as_str()) {
-        Ok(_) => Ok(String::new(alloc)),
+        Ok(tree) => blocks_told(alloc, &tree),
         Err(fault) => fault_told(alloc, fault),
     }
 }
 
-/// A procedure or function is refused at its name, behind the declarations before it and before the statements.
-static REFUSALS: [(&str, &str); 5] = [
+/// Blocks have numbers by their first headings, and roots in the order of declarations, a result before parameters.
+static BLOCKS: [(&str, &str); 3] = [
+    ("", ";; 0"),
     (
-        "procedure q; begin end; function f: char; forward;",
-        "1:22: a block that is nested too deep",
+        "function f(a: char; var b: char): char; var y: char; procedure g; begin end; begin f := a end;",
+        ";; 0;1,2;0 0,1;; 2,1,0",
     ),
     (
-        "const n = 1; function f(n: char): char; begin y := 1 end;",
-        "1:34: a block that is nested too deep",
-    ),
-    (
-        "var x: integer; function f; procedure q; begin end; begin end;",
-        "1:37: a block that is nested too deep",
-    ),
-    ("const n = m; procedure q; begin end;", "1:22: not declared"),
-    (
-        "const n = true; type t = -maxint..Q; procedure q; begin end;",
-        "1:46: used before its declaration",
+        "var x: char; procedure h; forward; procedure k(c: char); begin h end; procedure h; begin end;",
+        ";; 0;; 0;1; 2,1,0",
     ),
 ];
 
 #[test]
-fn blocks_of_routines_are_refused(rt: HostRuntime) -> Result<(), Fail> {
-    all_hold(rt.alloc(), &REFUSALS, refusal_told)
+fn blocks_and_roots_are_numbered(rt: HostRuntime) -> Result<(), Fail> {
+    all_hold(rt.alloc(), &BLOCKS, tree_told)
 }

@@ -53,6 +53,19 @@ fn inner_decides(alloc: Global, scopes: &mut Scopes) -> Result<bool, ScopeFault>
     Ok(before && twice && found(scopes, "a") == "root 1" && found(scopes, "b") == "used before")
 }
 
+/// Whether a region beside the names of parameters knows these as they are defined, and its own names before their
+/// definitions.
+fn parameters_stay(alloc: Global, scopes: &mut Scopes) -> Result<bool, ScopeFault> {
+    opened(alloc, scopes, "a", "c")?;
+    declared(alloc, scopes, "a", 1)?;
+    let parameters = scopes.close(alloc);
+    let names = vec![in alloc; Vec::from_slice(alloc, b"d")?]?;
+    scopes.open_beside(parameters, &names)?;
+    let known = found(scopes, "a") == "root 1" && found(scopes, "d") == "used before";
+    let _region = scopes.close(alloc);
+    Ok(known)
+}
+
 /// Whether names mean what the regions say, from before the first to behind the second.
 fn regions_decide(alloc: Global) -> Result<bool, ScopeFault> {
     let mut scopes = Scopes::new(alloc);
@@ -61,8 +74,9 @@ fn regions_decide(alloc: Global) -> Result<bool, ScopeFault> {
     declared(alloc, &mut scopes, "a", 0)?;
     let inner = inner_decides(alloc, &mut scopes)?;
     let unknown = found(&scopes, "d") == "not declared";
-    scopes.close();
-    Ok(without && inner && unknown && found(&scopes, "a") == "root 0")
+    let _region = scopes.close(alloc);
+    let beside = parameters_stay(alloc, &mut scopes)?;
+    Ok(without && inner && unknown && beside && found(&scopes, "a") == "root 0")
 }
 
 #[test]

@@ -70,7 +70,7 @@ number-first test number row rows found more true passes (suc k, is) =
 number-first test number row rows found more false fails has =
     let there = more has in (suc there.0, there.1, omega (arith, there.2), there.3, there.4)
 
-in-numbers : (test : Row → Bool) (number : ℕ) (rows : List Row) (found : ℕ) → Has (numbers_where test number rows) found → IsNumber test number rows found
+pub in-numbers : (test : Row → Bool) (number : ℕ) (rows : List Row) (found : ℕ) → Has (numbers_where test number rows) found → IsNumber test number rows found
 in-numbers test number [] found (k, is) = absurd (none-some found is)
 in-numbers test number (row ∷ rows) found has =
     number-first test number row rows found (λ more. in-numbers test (suc number) rows found more) (test row) refl has

@@ -191,7 +191,7 @@ module _ (types : List Form) (Q : List Steps → List Leaf → Type 0) (of_scala
 abbrev pub AreNamed : List Steps → List Leaf → Type 0
 AreNamed rows leaves = (steps : Steps) → Has rows steps → (leaf : Leaf) × Has leaves leaf × (is_named leaf.steps steps ≡ true)
 
-only : {A : Type 0} (x item : A) → Has (x ∷ []) item → x ≡ item
+pub only : {A : Type 0} (x item : A) → Has (x ∷ []) item → x ≡ item
 only x item (zero, is) = same_Some x item is
 only x item (suc k, is) = absurd (none-some item is)
 
@@ -281,7 +281,8 @@ pub record OwnField (laid : List LaidOut) (before : List Leafed) (fields : List 
   pub of_components : Has (components_at laid field.type_id) rest
   pub named : is_named own.steps rest ≡ true
 
-own-field : (laid : List LaidOut) (before : List Leafed) (fields : List FieldForm) (leaf : Leaf) (steps : Steps) → Has (fields_components laid 0 fields) steps
+pub own-field : (laid : List LaidOut) (before : List Leafed) (fields : List FieldForm) (leaf : Leaf) (steps : Steps)
+    → Has (fields_components laid 0 fields) steps
     → Has (fields_leaves before 0 fields) leaf → is_named leaf.steps steps ≡ true → OwnField laid before fields leaf steps
 own-field laid before fields leaf steps of_row of_leaf named =
     let found = in-field laid 0 fields of_row.0 steps of_row.1 in

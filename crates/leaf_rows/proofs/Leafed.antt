@@ -1,15 +1,14 @@
 -- The leaves of the types of a table: those of a form over the types before it.
-use Rattle.std.proofs.Common.{◌≡◌, ℕ, ◌<◌, ◌≤◌, List, [], ◌∷◌, length, take, Option, Some, None, refl, sym, ap, ◌∙◌, arith}
+use Rattle.std.proofs.Common.{◌≡◌, ℕ, ◌<◌, ◌≤◌, List, [], ◌∷◌, length, take, Option, Some, None, refl, ap, ◌∙◌, arith}
 use Rattle.std.proofs.lemmas.List.{length-take}
 use Rattle.std.proofs.lemmas.Option.{slice_get_past}
 use Rattle.std.specs.Option.{option_map, option_and_then}
 use Rattle.std.specs.Prelude.{slice_get}
 use Rattle.types.specs.Forms.{Form}
 use Rattle.types.specs.Types.{form_at, form_range, range_of}
-use Rattle.types.specs.declared.form.OrdinalRange.{OrdinalRange}
 use Rattle.types.specs.declared.form.TypeId.{TypeId}
 use Rattle.types.proofs.Growing.{grown_before, made_at, slice_get-take}
-use Rattle.leaf_rows.specs.Leaves.{Leaf, Leafed, entry_leaves, entry_range, form_leaves, leafed, leaves_at, leaves_of, range_at, scalar}
+use Rattle.leaf_rows.specs.Leaves.{Leafed, entry_leaves, entry_range, form_leaves, leafed, leaves_at, leaves_of, range_at, scalar}
 
 -- the types before one, with their leaves
 abbrev pub leafed_before : List Form → TypeId → List Leafed

@@ -7,3 +7,4 @@ pub mod Components
 pub mod Selected
 pub mod Accessed
 pub mod Alike
+pub mod Numbered

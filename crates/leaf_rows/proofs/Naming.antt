@@ -1,5 +1,5 @@
 -- What a path names, step by step, and the rows under it.
-use Rattle.std.proofs.Common.{◌≡◌, ℕ, List, [], ◌∷◌, ◌++◌, map, Option, Some, None, refl, sym, ap, subst, ◌∙◌, append_assoc, append-nil}
+use Rattle.std.proofs.Common.{◌≡◌, ℕ, List, [], ◌∷◌, ◌++◌, Option, Some, None, refl, sym, ap, subst, ◌∙◌, append_assoc, append-nil}
 use Rattle.std.specs.Option.{option_and_then}
 use Rattle.types.specs.declared.form.ArrayElement.{ArrayElement}
 use Rattle.types.specs.declared.form.RecordField.{RecordField}
@@ -11,7 +11,7 @@ use Rattle.domain.specs.Facts.{Path}
 use Rattle.leaf_rows.specs.declared.part.Part.{Part}
 use Rattle.leaf_rows.specs.declared.rows.NamedPart.{NamedPart}
 use Rattle.leaf_rows.specs.Leaves.{LeafStep, Elements, FieldAt}
-use Rattle.leaf_rows.specs.Rows.{Named, behind_element, behind_name, next_named, part_named, rows_of, rows_under, steps_named}
+use Rattle.leaf_rows.specs.Rows.{behind_element, behind_name, next_named, part_named, rows_of, rows_under, steps_named}
 use Rattle.leaf_rows.specs.View.{IsAnswerOf, next_part, numbers, part_rows}
 use Rattle.leaf_rows.proofs.Variables.{all_of_part, part_under, under_step}
 

@@ -118,7 +118,7 @@ module _ (types : List Form) where
     pub components : components_at (laid_before types from) field.type_id ≡ components_of types next
     pub leaves : leaves_at (leafed_before types from) field.type_id ≡ leaves_of types next
 
-  placed-field : (entries : List Counted) (position offset : ℕ) (fields : List FieldForm) (n : ℕ) (f : RecordField)
+  pub placed-field : (entries : List Counted) (position offset : ℕ) (fields : List FieldForm) (n : ℕ) (f : RecordField)
       → slice_get (placed_fields entries position offset fields) n ≡ Some f
       → (field : FieldForm) × (slice_get fields n ≡ Some field) × (field.type_id ≡ f.type_id)
   placed-field entries position offset [] n f is = absurd (none-some f is)

@@ -1,8 +1,8 @@
 -- The leaves that lie under steps: those of a part, one behind another from a number on.
-use Rattle.std.proofs.Common.{◌≡◌, ℕ, zero, suc, ◌+◌, ◌<◌, ◌≤◌, Bool, true, false, ◌&&◌, cond, eqb, List, [], ◌∷◌, ◌++◌, length, map, Option, Some, None}
-use Rattle.std.proofs.Common.{refl, sym, ap, subst, ◌∙◌, append_assoc, append-nil, arith}
+use Rattle.std.proofs.Common.{◌≡◌, ℕ, zero, suc, ◌+◌, ◌<◌, Bool, true, false, ◌&&◌, cond, eqb, List, [], ◌∷◌, ◌++◌, length, map, Option, Some, None}
+use Rattle.std.proofs.Common.{refl, sym, ap, ◌∙◌, append_assoc, append-nil, arith}
 use Rattle.std.proofs.lemmas.Bool.{eq-eqb, eqb-true}
-use Rattle.std.proofs.lemmas.List.{length-append, length-map}
+use Rattle.std.proofs.lemmas.List.{length-map}
 use Rattle.std.proofs.lemmas.Option.{none-some, same_Some, slice_get-map, slice_get_within}
 use Rattle.std.specs.List.{range_with_len}
 use Rattle.std.specs.Option.{option_map}
@@ -11,7 +11,7 @@ use Rattle.types.specs.Forms.{FieldForm}
 use Rattle.types.specs.declared.form.OrdinalRange.{OrdinalRange}
 use Rattle.types.proofs.Growing.{slice_get-left, slice_get-right}
 use Rattle.leaf_rows.specs.Leaves.{Leaf, Leafed, LeafStep, Elements, FieldAt, begins, behind_elements, behind_field, fields_leaves}
-use Rattle.leaf_rows.specs.Leaves.{leaves_at, same_step, scalar}
+use Rattle.leaf_rows.specs.Leaves.{leaves_at}
 
 -- the numbers of the leaves under steps, the first leaf having a number
 abbrev pub leaves_under : List LeafStep → ℕ → List Leaf → List ℕ

@@ -1,24 +1,23 @@
 -- The rows of variables one behind another, and those under a part of one of them.
-use Rattle.std.proofs.Common.{◌≡◌, ⊎_elim, ℕ, zero, suc, ◌+◌, ◌<◌, ◌≤◌, ◌^◌, Bool, true, false, ◌&&◌, cond, eqb, List, [], ◌∷◌, ◌++◌, length, map, sum_by}
-use Rattle.std.proofs.Common.{Option, Some, None, refl, sym, ap, subst, ◌∙◌, append_assoc, append-nil, arith}
+use Rattle.std.proofs.Common.{◌≡◌, ℕ, zero, suc, ◌+◌, ◌<◌, ◌≤◌, ◌^◌, Bool, true, false, ◌&&◌, cond, eqb, List, [], ◌∷◌, ◌++◌, length, map, sum_by}
+use Rattle.std.proofs.Common.{Option, Some, None, refl, sym, ap, ◌∙◌, append-nil, arith}
 use Rattle.std.proofs.lemmas.Bool.{eq-eqb, eqb-true}
 use Rattle.std.proofs.lemmas.List.{length-append, length-map, map-append}
 use Rattle.std.proofs.lemmas.List.Sums.{sum_by-cons}
-use Rattle.std.proofs.lemmas.Option.{none-some, same_Some, slice_get-map, slice_get_within}
+use Rattle.std.proofs.lemmas.Option.{none-some, same_Some}
 use Rattle.std.specs.List.{range_with_len}
-use Rattle.std.specs.Option.{option_map}
 use Rattle.std.specs.Prelude.{flat_map, slice_get}
 use Rattle.types.specs.Forms.{FieldForm, Form}
 use Rattle.types.specs.Forms.{Integer, Boolean, Char, Enumeration, Subrange, Array, Record}
-use Rattle.types.specs.Types.{form_at, form_range}
+use Rattle.types.specs.Types.{form_at}
 use Rattle.types.specs.declared.form.OrdinalRange.{OrdinalRange}
 use Rattle.types.specs.declared.form.TypeId.{TypeId}
 use Rattle.typed_tree.specs.declared.tree.Tree.{Tree}
 use Rattle.typed_tree.specs.declared.tree.Variable.{Variable}
 use Rattle.leaf_rows.specs.declared.part.Part.{Part}
 use Rattle.leaf_rows.specs.declared.leaf.RowRanges.{RowRanges}
-use Rattle.leaf_rows.specs.Leaves.{Leaf, LeafStep, Elements, FieldAt, begins, behind_elements, fields_leaves, leaves_at, leaves_of, range_at, scalar}
-use Rattle.leaf_rows.specs.Rows.{Row, indexes_of, is_structured, rows_of, rows_under, is_under, numbers_where, rows_from, variable_rows}
+use Rattle.leaf_rows.specs.Leaves.{Leaf, LeafStep, Elements, FieldAt, begins, leaves_at, leaves_of, range_at, scalar}
+use Rattle.leaf_rows.specs.Rows.{Row, is_structured, rows_of, rows_under, is_under, numbers_where, rows_from, variable_rows}
 use Rattle.leaf_rows.specs.View.{AreKept, count_at, end_of, field_part, firsts_from, form_part, leaf_counts, next_part, own_type}
 use Rattle.leaf_rows.specs.View.{part_by, part_count, part_leaves, part_rows}
 use Rattle.leaf_rows.specs.View.{ranges_of, rows_count, typed_part, variable_part, variable_ranges}
@@ -344,8 +343,3 @@ pub found_kept : (tree : Tree) (counts firsts : List ℕ) (rows : List RowRanges
 found_kept tree counts firsts rows kept root =
     ap (λ l. part_by tree.types (slice_get tree.variables.items root) (slice_get l root)) kept.firsts_are
     ∙ sym (by_tables tree.types 0 tree.variables.items root)
-
--- the first indexes of rows, by what is kept of them
-pub indexes_kept : (rows : List Row) → map (λ (kept : RowRanges). kept.index) (map (λ row. ranges_of row.leaf) rows) ≡ indexes_of rows
-indexes_kept [] = refl
-indexes_kept (row ∷ rows) = ap (λ (rest : List (Option OrdinalRange)). row.leaf.index ∷ rest) (indexes_kept rows)

@@ -85,9 +85,6 @@ values_at rows number = option_and_then (λ row. row.leaf.values) (slice_get row
 abbrev pub index_at : List Row → ℕ → Option OrdinalRange
 index_at rows number = option_and_then (λ row. row.leaf.index) (slice_get rows number)
 
-abbrev pub indexes_of : List Row → List (Option OrdinalRange)
-indexes_of rows = map (λ row. row.leaf.index) rows
-
 -- ---- paths of certificates
 
 -- a part of a variable, or a part of each of its elements, and its type

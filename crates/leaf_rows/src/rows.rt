@@ -1,10 +1,9 @@
-ghost use Rattle.std.specs.Prelude.{◌≡◌, ◌<◌, ◌^◌, ◌++◌, [], IfOk, OnOk, slice_get};
+ghost use Rattle.std.specs.Prelude.{◌≡◌, ◌<◌, ◌^◌, ◌++◌, [], IfOk, OnOk, length, slice_get};
 ghost use Rattle.typed_tree.specs.declared.tree.Tree.{Tree};
 ghost use Rattle.certificate.specs.Contents.{said_path};
 ghost use Rattle.leaf_rows.specs.Leaves.{Elements, FieldAt};
-ghost use Rattle.leaf_rows.specs.Rows.{index_at, indexes_of, is_structured, leaf_step, part_named, rows_accessed};
-ghost use Rattle.leaf_rows.specs.Rows.{rows_of, rows_under};
-ghost use Rattle.leaf_rows.specs.Rows.{values_at};
+ghost use Rattle.leaf_rows.specs.Rows.{index_at, is_structured, leaf_step, part_named, rows_accessed};
+ghost use Rattle.leaf_rows.specs.Rows.{rows_of, rows_under, values_at};
 ghost use Rattle.leaf_rows.specs.View.{AreKept, IsAnswerOf, end_of, next_part, numbers, part_by, part_rows};
 ghost use Rattle.leaf_rows.specs.View.{variable_part, variable_ranges};
 
@@ -82,6 +81,13 @@ impl<'a> Rows<'a> {
         self.tree
     }
 
+    /// How many there are.
+    pub fn count(&self) -> usize
+        ensures { result ≡ length (rows_of self.now) }
+    {
+        self.rows.len()
+    }
+
     /// The values of the components of a row, if they are ordinal.
     pub fn values(&self, row: u32) -> Option<OrdinalRange>
         ensures { result ≡ values_at (rows_of self.now) row }
@@ -94,17 +100,6 @@ impl<'a> Rows<'a> {
         ensures { result ≡ index_at (rows_of self.now) row }
     {
         self.rows.get(row as usize)?.index
-    }
-
-    /// Those of each row.
-    pub fn indexes(&self, alloc: Global) -> Result<Vec<Option<OrdinalRange>>, AllocError>
-        ensures { IfOk result (λ indexes. indexes.items ≡ indexes_of (rows_of self.now)) }
-    {
-        let mut indexes = Vec::with_capacity(alloc, self.rows.len())?;
-        for row in &self.rows {
-            indexes.push(row.index)?;
-        }
-        Ok(indexes)
     }
 
     /// The rows under what is accessed, its indexes aside.

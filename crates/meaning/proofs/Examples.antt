@@ -1,6 +1,6 @@
 -- The definitions on small rows, worked out by hand.
 use Rattle.std.proofs.Common.{◌≡◌, inl, inr, ℕ, ℤ, ap, refl, true, false, pos, negsuc, List, [], ◌∷◌, Option, Some, None, Box, Vec, Global, codes, map}
-use Rattle.std.proofs.Common.{if◌then◌else◌, slice_get}
+use Rattle.std.proofs.Common.{if◌then◌else◌}
 use Rattle.typed_tree.specs.declared.tree.Dyadic.{Dyadic}
 use Rattle.typed_tree.specs.declared.tree.Relation.{Relation}
 use Rattle.typed_tree.specs.declared.tree.Direction.{Direction}
@@ -8,7 +8,6 @@ use Rattle.typed_tree.specs.declared.tree.Direction.TheVariants.{To, DownTo}
 use Rattle.typed_tree.specs.declared.tree.Dyadic.TheVariants as dyadic
 use Rattle.typed_tree.specs.declared.tree.Monadic.TheVariants as monadic
 use Rattle.typed_tree.specs.declared.tree.Relation.TheVariants.{Equal, Less}
-use Rattle.typed_tree.specs.declared.tree.Tree.{Tree}
 use Rattle.typed_tree.specs.declared.tree.Selector.{Selector}
 use Rattle.typed_tree.specs.declared.tree.Selector.TheVariants.{Element as SelectElement, Field as SelectField}
 use Rattle.typed_tree.specs.declared.tree.Expr.{Expr}
@@ -17,21 +16,25 @@ use Rattle.typed_tree.specs.declared.tree.Representation.{Representation}
 use Rattle.typed_tree.specs.declared.tree.Width.{Width}
 use Rattle.typed_tree.specs.declared.tree.Written.TheVariants.{Ordinal}
 use Rattle.types.specs.declared.form.OrdinalRange.{OrdinalRange}
-use Rattle.types.specs.declared.form.TypeId.{TypeId}
+use Rattle.types.specs.Types.{integer}
+use Rattle.typed_tree.specs.declared.tree.Heading.{Heading}
+use Rattle.typed_tree.specs.declared.tree.VariableKind.{VariableKind}
+use Rattle.typed_tree.specs.declared.tree.VariableKind.TheVariants as kind
 use Rattle.meaning.specs.declared.outcome.Ending.{Ending}
 use Rattle.meaning.specs.declared.outcome.Ending.TheVariants.{Error, Finished, More}
 use Rattle.meaning.specs.declared.store.Value.{Value}
 use Rattle.meaning.specs.declared.store.Value.TheVariants.{Number}
 use Rattle.types.specs.declared.form.Step.{Step}
 use Rattle.types.specs.declared.form.Step.TheVariants.{Element, Field}
-use Rattle.meaning.specs.Store.{Place, Environment, stored, written, undefined, overlap}
+use Rattle.meaning.specs.Store.{Place, stored, written, undefined, overlap}
 use Rattle.meaning.specs.Integers.{is_integer_number}
-use Rattle.meaning.specs.Effect.{State, Reply, Gives, Stops, Action, Round, looped, ◌>>=◌, and_then, give, enter, fetch, store, undefine, require, use_turn}
+use Rattle.meaning.specs.Effect.{State, Reply, Gives, Stops, Action, Round, looped, ◌>>=◌, and_then, give, stop, enter, fetch, store, undefine, require}
+use Rattle.meaning.specs.Effect.{use_turn}
 use Rattle.meaning.specs.Effect.{fetch_all, store_all, write, is_in, is_positive, places, boolean_text, char_text, row_text, text_of}
 use Rattle.meaning.specs.Meaning.{Evaluation, Combination, Execution, effect_step, is_so, alternative_of, combined, while_round, repeat_round, for_between}
 use Rattle.meaning.specs.Meaning.{selected, arm_of, Meaning, ended, link_step, in_turn, operated}
 use Rattle.meaning.specs.Meaning.{value_of, compared, order_of, default_width, width_of, written_of, completed, first_state}
-use Rattle.meaning.specs.Meaning.{home_of, program_environment}
+use Rattle.meaning.specs.Meaning.{Surroundings, OfValue, OfPlace, Activation, seen_from, own_place}
 use Rattle.meaning.specs.Laws.{Extends}
 
 abbrev place : ℕ → List Step → Place
@@ -108,23 +111,48 @@ line_end_supplied = refl
 no_line : completed [] ≡ []
 no_line = refl
 
--- where no variable is visible
-nowhere : Environment
-nowhere = record { variables = λ root. None; types = [] }
+-- where no variable is visible and nothing can be called
+nowhere : Surroundings
+nowhere = record { visible = record { variables = λ root. None; types = [] }; calls = λ number arguments caller. stop More }
 
--- a variable of the program's block lies in its activation; one that another block declares is not visible there
-of_its_block : (id : TypeId) → home_of 3 (Some (record { block = 0; type_id = id })) ≡ Some (place 3 [])
-of_its_block id = refl
+-- an activation of the routine of block 3, in the block 2 of the program's; its two parameters have the roots 5 and 6, and
+-- it is called with a value and with the place of root 8, where root 1 lies in the program's activation
+module _ (heading : Heading) (around : heading.around.items ≡ 0 ∷ 2 ∷ []) (parameters : heading.parameters.items ≡ 5 ∷ 6 ∷ []) where
+  abbrev activation : Activation
+  activation = record {
+    number = 9;
+    block = 3;
+    heading = heading;
+    arguments = OfValue (Number (pos 1)) ∷ OfPlace (Some (place 8 [])) ∷ [];
+    caller = record { variables = λ root. Some (place root []); types = [] };
+  }
 
-of_another_block : (id : TypeId) → home_of 3 (Some (record { block = 1; type_id = id })) ≡ None
-of_another_block id = refl
+  abbrev lies : ℕ → VariableKind → ℕ → Option Place
+  lies block how root = seen_from activation root (Some (record { block = block; type_id = integer; kind = how }))
 
-outside_the_program : (tree : Tree) (id : TypeId) → slice_get tree.variables.items 3 ≡ Some (record { block = 1; type_id = id }) →
-    (program_environment tree).variables 3 ≡ None
-outside_the_program tree id is = ap (home_of 3) is
+  -- a variable of its block and a value parameter lie in it, a variable parameter where the variable does that is passed
+  of_its_block : lies 3 kind.Local 7 ≡ Some (own_place 9 7)
+  of_its_block = refl
+
+  of_a_value : lies 3 kind.ValueParameter 5 ≡ Some (own_place 9 5)
+  of_a_value = refl
+
+  of_a_variable : lies 3 kind.VariableParameter 6 ≡ Some (place 8 [])
+  of_a_variable = rw parameters
+
+  -- what a block round its own declares lies where it does for the caller
+  of_the_program : lies 0 kind.Local 1 ≡ Some (place 1 [])
+  of_the_program = rw around
+
+  of_the_block_round_it : lies 2 kind.VariableParameter 4 ≡ Some (place 4 [])
+  of_the_block_round_it = rw around
+
+  -- what another block declares isn't visible
+  of_another_block : lies 1 kind.Local 4 ≡ None
+  of_another_block = rw around
 
 -- a variable that isn't visible can't get a value
-not_kept : store (nowhere.variables 0) (Number (pos 1)) (first_state [] 0) ≡ Gives tt (first_state [] 0)
+not_kept : store (nowhere.visible.variables 0) (Number (pos 1)) (first_state [] 0) ≡ Gives tt (first_state [] 0)
 unfolding nowhere
 not_kept = refl
 
@@ -146,7 +174,7 @@ abbrev nothing_there : Evaluation
 nothing_there environment = fetch (Some (place 0 [])) 7
 
 -- the value of a variable that isn't visible is an error at its site
-not_found : told (fetch (nowhere.variables 0) 7 (first_state [] 0)) ≡ End_of (Error 7)
+not_found : told (fetch (nowhere.visible.variables 0) 7 (first_state [] 0)) ≡ End_of (Error 7)
 unfolding nowhere
 not_found = refl
 
@@ -243,13 +271,13 @@ unfolding nowhere
 both_evaluated = refl
 
 -- a width of 0 is an error at its site
-no_width : (width : Width) (default : ℤ) (environment : Environment) (s t : State) → value_of width.value environment s ≡ Gives (Number (pos 0)) t →
+no_width : (width : Width) (default : ℤ) (environment : Surroundings) (s t : State) → value_of width.value environment s ≡ Gives (Number (pos 0)) t →
     width_of (Some width) default environment s ≡ Stops (Error width.site) t
 no_width width default environment s t zero =
     ap (λ (r : Reply Value). and_then r (λ w. require (is_positive w) width.site >>= λ _. give w)) zero
 
 -- where a value stops, its width isn't evaluated
-value_first : (value : Expr) (representation : Representation) (width : Option Width) (environment : Environment) (s t : State) (end : Ending) →
+value_first : (value : Expr) (representation : Representation) (width : Option Width) (environment : Surroundings) (s t : State) (end : Ending) →
     value_of value environment s ≡ Stops end t → written_of (Ordinal value representation) width environment s ≡ Stops end t
 value_first value representation width environment s t end stopped =
     let wide = width_of width (default_width representation) environment in
@@ -267,28 +295,28 @@ unfolding nowhere
 right_reached = refl
 
 -- where the condition is true the first statement is executed, and the other isn't
-first_branch : (condition : Expr) (one : Box Execution Global) (other : Option (Box Execution Global)) (environment : Environment) (s t : State) →
-    (enter 5 environment >>= λ _. value_of condition environment) s ≡ Gives (Number (pos 1)) t →
+first_branch : (condition : Expr) (one : Box Execution Global) (other : Option (Box Execution Global)) (environment : Surroundings) (s t : State) →
+    (enter 5 environment.visible >>= λ _. value_of condition environment) s ≡ Gives (Number (pos 1)) t →
     effect_step (If 5 condition one other) environment s ≡ one.value environment t
 first_branch condition one other environment s t so =
     ap (λ (r : Reply Value). and_then r (λ v. if is_so v then one.value environment else alternative_of other environment)) so
 
 -- where it is false the statement behind `else` is executed, and nothing where there is none
-second_branch : (condition : Expr) (one other : Box Execution Global) (environment : Environment) (s t : State) →
-    (enter 5 environment >>= λ _. value_of condition environment) s ≡ Gives (Number (pos 0)) t →
+second_branch : (condition : Expr) (one other : Box Execution Global) (environment : Surroundings) (s t : State) →
+    (enter 5 environment.visible >>= λ _. value_of condition environment) s ≡ Gives (Number (pos 0)) t →
     effect_step (If 5 condition one (Some other)) environment s ≡ other.value environment t
 second_branch condition one other environment s t so =
     ap (λ (r : Reply Value). and_then r (λ v. if is_so v then one.value environment else other.value environment)) so
 
-no_branch : (condition : Expr) (one : Box Execution Global) (environment : Environment) (s t : State) →
-    (enter 5 environment >>= λ _. value_of condition environment) s ≡ Gives (Number (pos 0)) t →
+no_branch : (condition : Expr) (one : Box Execution Global) (environment : Surroundings) (s t : State) →
+    (enter 5 environment.visible >>= λ _. value_of condition environment) s ≡ Gives (Number (pos 0)) t →
     effect_step (If 5 condition one None) environment s ≡ Gives tt t
 no_branch condition one environment s t so =
     ap (λ (r : Reply Value). and_then r (λ v. if is_so v then one.value environment else give tt)) so
 
 -- where the condition stops, no statement is executed
-stopped_before : (condition : Expr) (one : Box Execution Global) (other : Option (Box Execution Global)) (environment : Environment) (s t : State)
-    (end : Ending) → (enter 5 environment >>= λ _. value_of condition environment) s ≡ Stops end t →
+stopped_before : (condition : Expr) (one : Box Execution Global) (other : Option (Box Execution Global)) (environment : Surroundings) (s t : State)
+    (end : Ending) → (enter 5 environment.visible >>= λ _. value_of condition environment) s ≡ Stops end t →
     effect_step (If 5 condition one other) environment s ≡ Stops end t
 stopped_before condition one other environment s t end stopped =
     ap (λ (r : Reply Value). and_then r (λ v. if is_so v then one.value environment else alternative_of other environment)) stopped
@@ -380,8 +408,11 @@ unfolding nowhere
 repeat_wants_more = refl
 
 -- where each variable lies at the same place
-everywhere : Environment
-everywhere = record { variables = λ root. Some (place 0 []); types = [] }
+everywhere : Surroundings
+everywhere = record {
+  visible = record { variables = λ root. Some (place 0 []); types = [] };
+  calls = λ number arguments caller. stop More;
+}
 
 abbrev number_out : Value → Action (Unit {0})
 number_out (Number n) = write (places n ∷ [])
@@ -389,7 +420,7 @@ number_out (Number n) = write (places n ∷ [])
 -- writes the control variable, as a number without its sign
 abbrev written_out : Execution
 written_out environment = do
-  v ← fetch (environment.variables 0) 7
+  v ← fetch (environment.visible.variables 0) 7
   w ← operated monadic.Abs v
   number_out w
 
@@ -400,7 +431,7 @@ integers = record { first = negsuc 2147483646; last = pos 2147483647 }
 abbrev counts_out : OrdinalRange → Direction → ℤ → ℤ → Action (Unit {0})
 counts_out range direction first last = do
   _ ← for_between 0 (record { site = 8; range = range }) direction (record { site = 9; range = range }) written_out everywhere (Number first) (Number last)
-  undefine (everywhere.variables 0)
+  undefine (everywhere.visible.variables 0)
 
 abbrev of_for : OrdinalRange → Direction → ℤ → ℤ → ℕ → Meaning
 of_for range direction first last turns = ended (counts_out range direction first last (first_state [] turns))
@@ -449,7 +480,7 @@ unfolding everywhere
 undefined_behind = refl
 
 undefined_all_the_same :
-    ended ((store (everywhere.variables 0) (Number (pos 5)) >>= λ _. counts_out integers To (pos 1) (pos 0) >>= λ _. written_out everywhere)
+    ended ((store (everywhere.visible.variables 0) (Number (pos 5)) >>= λ _. counts_out integers To (pos 1) (pos 0) >>= λ _. written_out everywhere)
     (first_state [] 1)) ≡
     record { output = []; ending = Error 7 }
 unfolding everywhere

@@ -1,6 +1,11 @@
+pub mod Depths
 mod Examples
 pub mod Expressions
 mod LeftToRight
 pub mod Loops
 pub mod Replies
+pub mod Returns
+mod Routines
 pub mod Turns
+pub mod Used
+pub mod Walks

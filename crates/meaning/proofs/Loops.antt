@@ -5,9 +5,8 @@ use Rattle.typed_tree.specs.declared.tree.Direction.{Direction}
 use Rattle.meaning.specs.declared.outcome.Ending.TheVariants.{More}
 use Rattle.meaning.specs.declared.store.Value.{Value}
 use Rattle.meaning.specs.declared.store.Value.TheVariants.{Number}
-use Rattle.meaning.specs.Store.{Environment}
 use Rattle.meaning.specs.Effect.{State, Reply, Gives, Stops, Action, Round, ◌>>=◌, and_then, give, stop, take_turn, use_turn, another, looping, looped, store}
-use Rattle.meaning.specs.Meaning.{Evaluation, Execution, is_so, turn_if, while_round, repeat_round, for_round}
+use Rattle.meaning.specs.Meaning.{Surroundings, Evaluation, Execution, is_so, turn_if, while_round, repeat_round, for_round}
 use Rattle.meaning.specs.Counting.{value_behind}
 use Rattle.meaning.specs.Laws.{state_after}
 use Rattle.meaning.proofs.Turns.{Extended, extended_then, extended_give}
@@ -92,7 +91,7 @@ spent_turn_if false body s done = tt
 spent_turn_if true body s done = spent_turn (body >>= λ _. give (Some tt)) s (extended_then body (λ _. give (Some tt)) done (λ _. extended_give (Some tt)))
 
 -- each turn of a while is used
-pub while_uses : (condition : Evaluation) (body : Execution) (env : Environment) → Extended (condition env) → Extended (body env) →
+pub while_uses : (condition : Evaluation) (body : Execution) (env : Surroundings) → Extended (condition env) → Extended (body env) →
     UsesTurns (while_round condition body env)
 while_uses condition body env tested done = record {
   spent = λ start s. spent_then (condition env s) (λ v. turn_if (is_so v) (body env)) s.turns (tested.falls s)
@@ -100,7 +99,7 @@ while_uses condition body env tested done = record {
 }
 
 -- each turn of a repeat is used
-pub repeat_uses : (body : Execution) (condition : Evaluation) (env : Environment) → Extended (body env) → Extended (condition env) →
+pub repeat_uses : (body : Execution) (condition : Evaluation) (env : Surroundings) → Extended (body env) → Extended (condition env) →
     UsesTurns (repeat_round body condition env)
 repeat_uses body condition env done tested =
     let until : Value → Action (Option (Unit {0})) = λ v. give (if is_so v then None else Some tt) in
@@ -111,16 +110,16 @@ repeat_uses body condition env done tested =
     }
 
 -- a control variable gets a value, and then comes a turn
-pub counted_uses : (control : ℕ) (body : Execution) (env : Environment) (behind : ℤ → Option ℤ) → Extended (body env) →
-    UsesTurns (λ n. store (env.variables control) (Number n) >>= λ _. use_turn >>= λ _. body env >>= λ _. give (behind n))
+pub counted_uses : (control : ℕ) (body : Execution) (env : Surroundings) (behind : ℤ → Option ℤ) → Extended (body env) →
+    UsesTurns (λ n. store (env.visible.variables control) (Number n) >>= λ _. use_turn >>= λ _. body env >>= λ _. give (behind n))
 counted_uses control body env behind done =
     let next : ℤ → Action (Option ℤ) = λ n. give (behind n) in
     record {
-      spent = λ n s. spent_then (store (env.variables control) (Number n) s) (λ _. use_turn >>= λ _. body env >>= λ _. next n) s.turns (omega arith)
+      spent = λ n s. spent_then (store (env.visible.variables control) (Number n) s) (λ _. use_turn >>= λ _. body env >>= λ _. next n) s.turns (omega arith)
           (λ _ t. spent_turn (body env >>= λ _. next n) t (extended_then (body env) (λ _. next n) done (λ _. extended_give (behind n))));
     }
 
 -- each turn of a for is used
-pub for_uses : (control : ℕ) (direction : Direction) (last : ℤ) (body : Execution) (env : Environment) → Extended (body env) →
+pub for_uses : (control : ℕ) (direction : Direction) (last : ℤ) (body : Execution) (env : Surroundings) → Extended (body env) →
     UsesTurns (for_round control direction last body env)
 for_uses control direction last body env done = counted_uses control body env (value_behind direction last) done

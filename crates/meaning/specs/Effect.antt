@@ -29,6 +29,10 @@ pub record State : Type 0 where
   pub turns : ℕ
   pub activations : ℕ
   pub visited : List Visit
+  -- the blocks of the activations that last, by number, the latest first
+  pub living : List ℕ
+  -- where no turn was left for an activation: its block, and those that lasted then
+  pub starved : List ℕ
 
 -- a value and the state after it, or an ending and the state there
 pub data Reply (A : Type 0) : Type 0 where
@@ -74,6 +78,29 @@ take_turn (suc left) s = Gives tt (record s { turns = left })
 -- uses a turn: each start of a loop's body and of a routine's block does
 abbrev pub use_turn : Action (Unit {0})
 use_turn s = take_turn s.turns s
+
+-- goes on with an activation of a block more, which has the next number, and with one turn less than there were; or
+-- ends where there was none
+abbrev pub begin_with : ℕ → ℕ → Action ℕ
+begin_with zero block s = Stops ending.More (record s { starved = block ∷ s.living })
+begin_with (suc left) block s =
+    Gives s.activations (record s {
+      turns = left;
+      activations = suc s.activations;
+      living = block ∷ s.living;
+    })
+
+-- an activation of a block begins (6.2.3.2): it uses a turn, and has a number of its own
+abbrev pub begin : ℕ → Action ℕ
+begin block s = begin_with s.turns block s
+
+-- the blocks of the activations that last
+abbrev pub living_now : Action (List ℕ)
+living_now s = Gives s.living s
+
+-- an activation ends, and these last
+abbrev pub end_with : List ℕ → Action (Unit {0})
+end_with living s = Gives tt (record s { living = living })
 
 -- a round of a loop: it tells whether another follows, and from what
 abbrev pub Round : Type 0 → Type 0

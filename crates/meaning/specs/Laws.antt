@@ -1,19 +1,21 @@
 -- What holds of the meaning of every program (ISO 7185:1990, 6.7.2.1, 6.8): a run with more turns goes on from where
--- the shorter one was, and a chain of operators is calculated from left to right. It says nothing of what the single
--- steps are.
-use Rattle.std.specs.Prelude.{◌≡◌, ◌≢◌, ◌⊎◌, ℕ, ◌+◌, List, ◌++◌}
+-- the shorter one was, how deep activations may stand in one another never matters, a call that returns ends what it
+-- began, and a chain of operators is calculated from left to right. It says nothing of what the single steps are.
+use Rattle.std.specs.Prelude.{◌≡◌, ◌≢◌, ◌⊎◌, ℕ, ◌+◌, ◌<◌, List, ◌++◌}
 use Rattle.std.specs.declared.alloc.Global.{Global}
 use Rattle.std.specs.declared.boxed.Box.{Box}
 use Rattle.std.specs.declared.vec.Vec.{Vec}
 use Rattle.typed_tree.specs.declared.tree.Tree.{Tree}
 use Rattle.typed_tree.specs.declared.tree.Expr.{Expr}
 use Rattle.typed_tree.specs.declared.tree.Link.{Link}
+use Rattle.typed_tree.specs.declared.tree.Stmt.{Stmt}
 use Rattle.typed_tree.specs.declared.tree.Expr.TheVariants.{Chain}
 use Rattle.meaning.specs.declared.outcome.Ending.{Ending}
 use Rattle.meaning.specs.declared.outcome.Ending.TheVariants as ending
+use Rattle.meaning.specs.declared.store.Value.{Value}
 use Rattle.meaning.specs.Store.{Environment}
-use Rattle.meaning.specs.Effect.{State, Reply, Gives, Stops}
-use Rattle.meaning.specs.Meaning.{meaning, run, value_of}
+use Rattle.meaning.specs.Effect.{State, Reply, Gives, Stops, Action}
+use Rattle.meaning.specs.Meaning.{Argument, Surroundings, calls_of, effect_of, meaning, run, value_of}
 
 -- the same state with more turns left
 abbrev pub with_turns : ℕ → State → State
@@ -58,10 +60,40 @@ EndingsStay =
     (tree : Tree) (input : List ℕ) (turns more : ℕ) →
     (meaning tree input turns).ending ≢ ending.More → meaning tree input (turns + more) ≡ meaning tree input turns
 
+-- where the bound on how deep activations stand in one another is greater than the turns that are left, a greater bound
+-- changes nothing
+abbrev pub DepthsAreEnough : Type 0
+DepthsAreEnough =
+    (tree : Tree) (depth more number : ℕ) (arguments : List Argument) (caller : Environment) (s : State) →
+    s.turns < depth →
+    calls_of tree (depth + more) number arguments caller s ≡ calls_of tree depth number arguments caller s
+
+-- behind a call that returns, the activations last that lasted before it
+abbrev pub CallsReturn : Type 0
+CallsReturn =
+    (tree : Tree) (depth number : ℕ) (arguments : List Argument) (caller : Environment) (s t : State) (v : Value) →
+    calls_of tree depth number arguments caller s ≡ Gives v t → t.living ≡ s.living
+
+-- between two states a piece, which gave this, used some turns; and it does the same with those and whatever is left
+abbrev pub UsedTurns : {A : Type 0} → Action A → State → State → A → Type 0
+UsedTurns action s t a =
+    (used : ℕ) × (s.turns ≡ used + t.turns)
+    × ((left : ℕ) → action (record s { turns = used + left }) ≡ Gives a (record t { turns = left }))
+
+-- where a piece gives a value, as many turns as it used are enough, and none that are left change what it does
+abbrev pub UsesTurnsExactly : {A : Type 0} → Action A → Type 0
+UsesTurnsExactly {A} action = (s t : State) (a : A) → action s ≡ Gives a t → UsedTurns action s t a
+
+-- each statement does so, wherever it stands
+abbrev pub StatementsUseTurnsExactly : Type 0
+StatementsUseTurnsExactly =
+    (tree : Tree) (depth : ℕ) (visible : Environment) (statement : Stmt) →
+    UsesTurnsExactly (effect_of statement (record { visible = visible; calls = calls_of tree depth }))
+
 -- where the beginning of a chain stops, the chain stops there, whatever stands to the right
 abbrev pub ChainsGoLeftToRight : Type 0
 ChainsGoLeftToRight =
     (first : Box Expr Global) (rest longer : Vec Link Global) (more : List Link)
-    (env : Environment) (s t : State) (end : Ending)
+    (env : Surroundings) (s t : State) (end : Ending)
     → longer.items ≡ rest.items ++ more → value_of (Chain first rest) env s ≡ Stops end t
     → value_of (Chain first longer) env s ≡ Stops end t

@@ -3,19 +3,25 @@
 -- after their operand, an operator after its right one.
 -- It says nothing of code, of cells, or of what an implementation does where memory runs out.
 use Rattle.std.specs.Prelude.{ℕ, ℤ, pos, ◌+ℤ◌, ◌-ℤ◌, ◌*ℤ◌, neg_ℤ, int_div, int_le, int_lt, Bool, true, false, ◌&&◌}
-use Rattle.std.specs.Prelude.{◌||◌, negsuc, not, List, [], ◌∷◌, Option, Some, None, Vec, if◌then◌else◌, map, nat_eq}
-use Rattle.std.specs.Prelude.{slice_get}
+use Rattle.std.specs.Prelude.{◌||◌, zero, suc, negsuc, not, List, [], ◌∷◌, Option, Some, None, Vec, if◌then◌else◌, map}
+use Rattle.std.specs.Prelude.{nat_eq, slice_get}
 use Rattle.std.specs.List.{list_any}
 use Rattle.std.specs.declared.alloc.Global.{Global}
 use Rattle.std.specs.declared.boxed.Box.{Box}
 use Rattle.types.specs.declared.form.Step.TheVariants as step
 use Rattle.types.specs.Components.{components_of}
+use Rattle.types.specs.Forms.{Form}
 use Rattle.typed_tree.specs.declared.tree.Tree.{Tree}
 use Rattle.typed_tree.specs.declared.tree.Access.{Access}
 use Rattle.typed_tree.specs.declared.tree.Selector.{Selector}
 use Rattle.typed_tree.specs.declared.tree.Selector.TheVariants.{Element, Field}
 use Rattle.typed_tree.specs.declared.tree.Block.{Block}
+use Rattle.typed_tree.specs.declared.tree.Heading.{Heading}
+use Rattle.typed_tree.specs.declared.tree.FunctionResult.{FunctionResult}
+use Rattle.typed_tree.specs.declared.tree.Call.{Call}
 use Rattle.typed_tree.specs.declared.tree.Variable.{Variable as DeclaredVariable}
+use Rattle.typed_tree.specs.declared.tree.VariableKind.{VariableKind}
+use Rattle.typed_tree.specs.declared.tree.VariableKind.TheVariants as kind
 use Rattle.std.specs.Int.{int_rem_euclid}
 use Rattle.std.specs.Ordering.{int_eq}
 use Rattle.typed_tree.specs.declared.tree.Monadic.{Monadic}
@@ -36,16 +42,18 @@ use Rattle.typed_tree.specs.declared.tree.Whole.{Whole}
 use Rattle.typed_tree.specs.declared.tree.Whole.TheVariants.{Text, Variable as VariableOf}
 use Rattle.typed_tree.specs.declared.tree.Expr.{Expr}
 use Rattle.typed_tree.specs.declared.tree.Link.{Link}
-use Rattle.typed_tree.specs.declared.tree.Expr.TheOpen.{Expr-F, Link-F}
+use Rattle.typed_tree.specs.declared.tree.Passed.{Passed}
+use Rattle.typed_tree.specs.declared.tree.Expr.TheOpen.{Expr-F, Passed-F, Link-F}
 use Rattle.typed_tree.specs.declared.tree.Expr.TheOpen.Expr-F.{Constant, Variable, Monadic as MonadicOf, Chain}
-use Rattle.typed_tree.specs.declared.tree.Expr.TheOpen.Expr-F.{Compare}
-use Rattle.typed_tree.specs.declared.tree.Expr.TheFolds.{fold-Expr, fold-Link}
+use Rattle.typed_tree.specs.declared.tree.Expr.TheOpen.Expr-F.{Compare, Call as CallOf}
+use Rattle.typed_tree.specs.declared.tree.Expr.TheOpen.Passed-F.{Value as PassedValue, Whole as PassedWhole, Reference}
+use Rattle.typed_tree.specs.declared.tree.Expr.TheFolds.{fold-Expr, fold-Passed, fold-Link}
 use Rattle.typed_tree.specs.declared.tree.Stmt.{Stmt}
 use Rattle.typed_tree.specs.declared.tree.Stmt.TheOpen.{Stmt-F}
 use Rattle.typed_tree.specs.declared.tree.Stmt.TheOpen.Stmt-F.{Empty, Assign, Write, Compound, If, While, Repeat, For}
-use Rattle.typed_tree.specs.declared.tree.Stmt.TheOpen.Stmt-F.{Case, Copy}
+use Rattle.typed_tree.specs.declared.tree.Stmt.TheOpen.Stmt-F.{Case, Copy, Call as Calling}
 use Rattle.typed_tree.specs.declared.tree.Stmt.TheFolds.{fold-Stmt}
-use Rattle.typed_tree.specs.WellFormed.{length_of}
+use Rattle.typed_tree.specs.WellFormed.{is_one_of, length_of}
 use Rattle.meaning.specs.declared.outcome.Ending.{Ending}
 use Rattle.meaning.specs.declared.outcome.Ending.TheVariants as ending
 use Rattle.meaning.specs.declared.store.Value.{Value}
@@ -54,17 +62,37 @@ use Rattle.meaning.specs.Integers.{is_integer_number, is_within, truth, is_true,
 use Rattle.meaning.specs.Store.{Environment, Place, part}
 use Rattle.meaning.specs.Counting.{has_values, value_behind}
 use Rattle.meaning.specs.Effect.{State, Reply, Gives, Stops, Action, Round, ◌>>=◌, give, stop, require, enter, use_turn}
-use Rattle.meaning.specs.Effect.{looped}
+use Rattle.meaning.specs.Effect.{looped, begin, living_now, end_with}
 use Rattle.meaning.specs.Effect.{fetch, fetch_all, store, store_all, undefine, write, is_in, is_positive, number_of}
 use Rattle.meaning.specs.Effect.{row_text, text_of}
 
--- what an expression does in an environment: it gives its value
+-- what is passed to a formal parameter: an ordinal, the components of a structured value, or a place (6.6.3)
+pub data Argument : Type 0 where
+  OfValue : Value → Argument
+  OfRow : List ℤ → Argument
+  OfPlace : Option Place → Argument
+
+-- what calls of routines do: by the number of the routine's block, with what is passed and what is visible where it is
+-- called. The call of a procedure gives 0
+abbrev pub Calls : Type 0
+Calls = ℕ → List Argument → Environment → Action Value
+
+-- where a piece of a program stands in a run: what is visible there, and what calls do
+pub record Surroundings : Type 0 where
+  pub visible : Environment
+  pub calls : Calls
+
+-- what an expression does where it stands: it gives its value
 abbrev pub Evaluation : Type 0
-Evaluation = Environment → Action Value
+Evaluation = Surroundings → Action Value
 
 -- what an operator of a chain does with the value to its left
 abbrev pub Combination : Type 0
-Combination = Environment → Value → Action Value
+Combination = Surroundings → Value → Action Value
+
+-- what an actual parameter does: it gives what is passed
+abbrev pub Passing : Type 0
+Passing = Surroundings → Action Argument
 
 -- a result of type integer, or an error at the site (6.7.2.2)
 abbrev pub whole : ℕ → ℤ → Action Value
@@ -115,7 +143,7 @@ compared r row other = Number (truth (relates r (order_of row other) (pos 0)))
 
 -- the place of the component to which selectors lead from a place: each index is evaluated and tested at once, from
 -- left to right (6.5.3); an index that isn't there leads to no place
-abbrev pub selected : List Selector → List Evaluation → Environment → Option Place → Action (Option Place)
+abbrev pub selected : List Selector → List Evaluation → Surroundings → Option Place → Action (Option Place)
 selected [] indexes env place = give place
 selected (Field position offset ∷ selectors) indexes env place =
     selected selectors indexes env (part place (step.Field position ∷ []))
@@ -126,19 +154,19 @@ selected (Element fits cells ∷ selectors) (index ∷ indexes) env place = do
   selected selectors indexes env (part place (step.Element (number_of v) ∷ []))
 
 -- the place that is accessed (6.5.1)
-abbrev pub accessed : Access → List Evaluation → Environment → Action (Option Place)
+abbrev pub accessed : Access → List Evaluation → Surroundings → Action (Option Place)
 accessed access indexes env = do
-  _ ← enter access.number env
-  selected access.selectors.items indexes env (env.variables access.root)
+  _ ← enter access.number env.visible
+  selected access.selectors.items indexes env (env.visible.variables access.root)
 
 -- the numbers of the scalar components of a whole value
-abbrev pub whole_of : Whole → List Evaluation → Environment → Action (List ℤ)
+abbrev pub whole_of : Whole → List Evaluation → Surroundings → Action (List ℤ)
 whole_of (Text number characters) indexes env = do
-  _ ← enter number env
+  _ ← enter number env.visible
   give (map pos characters.items)
 whole_of (VariableOf access type_id cells defined) indexes env = do
   place ← accessed access indexes env
-  fetch_all place (components_of env.types type_id) defined
+  fetch_all place (components_of env.visible.types type_id) defined
 
 -- an operation on two operands: `div` cuts toward zero, and `mod` gives the remainder that is not negative (6.7.2.2);
 -- `and`, `or` (6.7.2.3)
@@ -157,9 +185,9 @@ combined dyadic.Or (Number a) (Number b) = give (Number (truth (is_true a || is_
 combined (dyadic.Relation r) (Number a) (Number b) = give (Number (truth (relates r a b)))
 
 -- the right operand, and then the operation
-abbrev pub link_step : Link-F Evaluation Combination → Combination
+abbrev pub link_step : Link-F Evaluation Passing Combination → Combination
 link_step link env left = do
-  _ ← enter link.number env
+  _ ← enter link.number env.visible
   right ← link.operand env
   combined link.operation left right
 
@@ -170,16 +198,44 @@ in_turn (link ∷ links) env v = do
   w ← link env v
   in_turn links env w
 
+-- an actual parameter: a value is tested, a variable is accessed (6.6.3.2, 6.6.3.3)
+abbrev pub passed_step : Passed-F Evaluation Passing Combination → Passing
+passed_step (PassedValue value fits) env = do
+  v ← value env
+  _ ← require (is_in fits.range v) fits.site
+  give (OfValue v)
+passed_step (PassedWhole type_id value indexes) env = do
+  numbers ← whole_of value indexes.items env
+  give (OfRow numbers)
+passed_step (Reference type_id access indexes) env = do
+  place ← accessed access indexes.items env
+  give (OfPlace place)
+
+-- actual parameters, from left to right
+abbrev pub all_passed : List Passing → Surroundings → Action (List Argument)
+all_passed [] env = give []
+all_passed (one ∷ others) env = do
+  argument ← one env
+  arguments ← all_passed others env
+  give (argument ∷ arguments)
+
+-- a call: it is entered, its actual parameters are passed, and then the routine's block is executed (6.7.3, 6.8.2.3)
+abbrev pub call_of : Call → List Passing → Evaluation
+call_of call actuals env = do
+  _ ← enter call.number env.visible
+  arguments ← all_passed actuals env
+  env.calls call.block arguments env.visible
+
 -- one layer of an expression: it is entered, and then its parts come
-abbrev pub value_step : Expr-F Evaluation Combination → Evaluation
+abbrev pub value_step : Expr-F Evaluation Passing Combination → Evaluation
 value_step (Constant number value) env = do
-  _ ← enter number env
+  _ ← enter number env.visible
   give (Number value)
 value_step (Variable access indexes defined) env = do
   place ← accessed access indexes.items env
   fetch place defined
 value_step (MonadicOf number operation operand) env = do
-  _ ← enter number env
+  _ ← enter number env.visible
   v ← operand.value env
   operated operation v
 value_step (Chain first rest) env = do
@@ -187,25 +243,30 @@ value_step (Chain first rest) env = do
   in_turn rest.items env v
 value_step (Compare number relation left left_indexes right right_indexes) env = do
   a ← whole_of left left_indexes.items env
-  _ ← enter number env
+  _ ← enter number env.visible
   b ← whole_of right right_indexes.items env
   give (compared relation a b)
+value_step (CallOf call actuals) env = call_of call actuals.items env
 
 -- the value of an expression
 abbrev pub value_of : Expr → Evaluation
-value_of = fold-Expr Evaluation Combination value_step link_step
+value_of = fold-Expr Evaluation Passing Combination value_step passed_step link_step
+
+-- what an actual parameter does
+abbrev pub passing_of : Passed → Passing
+passing_of = fold-Passed Evaluation Passing Combination value_step passed_step link_step
 
 -- what an operator of a chain does, with its right operand
 abbrev pub link_of : Link → Combination
-link_of = fold-Link Evaluation Combination value_step link_step
+link_of = fold-Link Evaluation Passing Combination value_step passed_step link_step
 
 -- the values of index expressions
 abbrev pub values_of : List Expr → List Evaluation
 values_of = map value_of
 
--- what a statement does in an environment
+-- what a statement does where it stands
 abbrev pub Execution : Type 0
-Execution = Environment → Action (Unit {0})
+Execution = Surroundings → Action (Unit {0})
 
 -- statements, or values that are written, one after another
 abbrev pub all_of : List Execution → Execution
@@ -265,13 +326,13 @@ turn_if true body = do
   give (Some tt)
 
 -- a round of a while: the condition, and then a turn (6.8.3.8)
-abbrev pub while_round : Evaluation → Execution → Environment → Round (Unit {0})
+abbrev pub while_round : Evaluation → Execution → Surroundings → Round (Unit {0})
 while_round condition body env start = do
   v ← condition env
   turn_if (is_so v) (body env)
 
 -- a round of a repeat: a turn, and then the condition, which ends it (6.8.3.7)
-abbrev pub repeat_round : Execution → Evaluation → Environment → Round (Unit {0})
+abbrev pub repeat_round : Execution → Evaluation → Surroundings → Round (Unit {0})
 repeat_round body condition env start = do
   _ ← use_turn
   _ ← body env
@@ -279,22 +340,22 @@ repeat_round body condition env start = do
   give (if is_so v then None else Some tt)
 
 -- a round of a for: its control variable gets a value, and then comes a turn (6.8.3.9)
-abbrev pub for_round : ℕ → Direction → ℤ → Execution → Environment → Round ℤ
+abbrev pub for_round : ℕ → Direction → ℤ → Execution → Surroundings → Round ℤ
 for_round control direction last body env n = do
-  _ ← store (env.variables control) (Number n)
+  _ ← store (env.visible.variables control) (Number n)
   _ ← use_turn
   _ ← body env
   give (value_behind direction last n)
 
 -- the rounds of a for whose bounds leave values; both bounds are tested before, the first one first
-abbrev pub for_rounds : ℕ → RangeTest → Direction → RangeTest → Execution → Environment → ℤ → ℤ → Action (Unit {0})
+abbrev pub for_rounds : ℕ → RangeTest → Direction → RangeTest → Execution → Surroundings → ℤ → ℤ → Action (Unit {0})
 for_rounds control first_fits direction last_fits body env first last = do
   _ ← require (is_in first_fits.range (Number first)) first_fits.site
   _ ← require (is_in last_fits.range (Number last)) last_fits.site
   looped (for_round control direction last body env) first
 
 -- a for from the values of its bounds
-abbrev pub for_between : ℕ → RangeTest → Direction → RangeTest → Execution → Environment → Value → Value
+abbrev pub for_between : ℕ → RangeTest → Direction → RangeTest → Execution → Surroundings → Value → Value
     → Action (Unit {0})
 for_between control first_fits direction last_fits body env (Number first) (Number last) =
     if has_values direction first last
@@ -315,43 +376,46 @@ arm_of site (row ∷ rows) (arm ∷ arms) n env =
 
 -- one layer of a statement
 abbrev pub effect_step : Stmt-F Execution → Execution
-effect_step (Empty number) env = enter number env
+effect_step (Empty number) env = enter number env.visible
 effect_step (Assign number becomes target indexes fits value) env = do
-  _ ← enter number env
+  _ ← enter number env.visible
   place ← accessed target (values_of indexes.items) env
   v ← value_of value env
   _ ← require (is_in fits.range v) fits.site
   store place v
 effect_step (Copy number becomes target indexes type_id value value_indexes) env = do
-  _ ← enter number env
+  _ ← enter number env.visible
   place ← accessed target (values_of indexes.items) env
   numbers ← whole_of value (values_of value_indexes.items) env
-  store_all place (components_of env.types type_id) numbers
+  store_all place (components_of env.visible.types type_id) numbers
 effect_step (Write number name parameters ends_line) env = do
-  _ ← enter number env
+  _ ← enter number env.visible
   _ ← all_of (map parameter_of parameters.items) env
   line_ended ends_line
+effect_step (Calling call actuals) env = do
+  _ ← call_of call (map passing_of actuals.items) env
+  give tt
 effect_step (Compound number statements) env = do
-  _ ← enter number env
+  _ ← enter number env.visible
   all_of statements.items env
 effect_step (If number condition consequence alternative) env = do
-  _ ← enter number env
+  _ ← enter number env.visible
   v ← value_of condition env
   if is_so v then consequence.value env else alternative_of alternative env
 effect_step (While number loop_number place condition body) env = do
-  _ ← enter number env
+  _ ← enter number env.visible
   looped (while_round (value_of condition) body.value env) tt
 effect_step (Repeat number loop_number place statements condition) env = do
-  _ ← enter number env
+  _ ← enter number env.visible
   looped (repeat_round (all_of statements.items) (value_of condition) env) tt
 effect_step (For number loop_number place control first first_fits direction last last_fits body) env = do
-  _ ← enter number env
+  _ ← enter number env.visible
   a ← value_of first env
   b ← value_of last env
   _ ← for_between control first_fits direction last_fits body.value env a b
-  undefine (env.variables control)
+  undefine (env.visible.variables control)
 effect_step (Case number site index constants arms) env = do
-  _ ← enter number env
+  _ ← enter number env.visible
   v ← value_of index env
   arm_of site constants.items arms.items (number_of v) env
 
@@ -367,19 +431,131 @@ completed (b ∷ c ∷ bytes) = b ∷ completed (c ∷ bytes)
 
 -- the state at the start of a run: nothing is defined, and the program's own activation is the first
 abbrev pub first_state : List ℕ → ℕ → State
-first_state input turns =
-    record { store = []; input = completed input; output = []; turns = turns; activations = 1; visited = [] }
+first_state input turns = record {
+  store = [];
+  input = completed input;
+  output = [];
+  turns = turns;
+  activations = 1;
+  visited = [];
+  living = 0 ∷ [];
+  starved = [];
+}
 
--- where a variable lies, if the program's block declares it
-abbrev pub home_of : ℕ → Option DeclaredVariable → Option Place
-home_of root None = None
-home_of root (Some variable) =
-    if nat_eq variable.block 0 then Some (record { activation = 0; variable = root; steps = [] }) else None
+-- where a variable of an activation lies, by its root
+abbrev pub own_place : ℕ → ℕ → Place
+own_place activation root = record { activation = activation; variable = root; steps = [] }
 
--- the variables of the program's block lie in its activation
-abbrev pub program_environment : Tree → Environment
-program_environment tree =
-    record { variables = λ root. home_of root (slice_get tree.variables.items root); types = tree.types }
+-- the place that is passed
+abbrev pub place_passed : Argument → Option Place
+place_passed (OfPlace place) = place
+place_passed (OfValue v) = None
+place_passed (OfRow numbers) = None
+
+-- the place that is passed to a formal parameter; each argument stands at the place of its parameter
+abbrev pub place_for : ℕ → List ℕ → List Argument → Option Place
+place_for root [] arguments = None
+place_for root (parameter ∷ parameters) [] = None
+place_for root (parameter ∷ parameters) (argument ∷ arguments) =
+    if nat_eq parameter root then place_passed argument else place_for root parameters arguments
+
+-- an activation that begins: its number, its block and the heading of that, what is passed to it, and what is visible
+-- where it is called
+pub record Activation : Type 0 where
+  pub number : ℕ
+  pub block : ℕ
+  pub heading : Heading
+  pub arguments : List Argument
+  pub caller : Environment
+
+-- where a variable lies that the block of an activation declares: a variable parameter where its actual one does
+abbrev pub home_of : Activation → ℕ → VariableKind → Option Place
+home_of activation root kind.VariableParameter =
+    place_for root activation.heading.parameters.items activation.arguments
+home_of activation root kind.Local = Some (own_place activation.number root)
+home_of activation root kind.ValueParameter = Some (own_place activation.number root)
+home_of activation root kind.Result = Some (own_place activation.number root)
+
+-- where a variable lies that is visible in an activation, if it is: what a block round its own declares lies where it
+-- does for the caller
+abbrev pub seen_from : Activation → ℕ → Option DeclaredVariable → Option Place
+seen_from activation root None = None
+seen_from activation root (Some variable) =
+    if nat_eq variable.block activation.block then home_of activation root variable.kind
+    else (if is_one_of activation.heading.around.items variable.block then activation.caller.variables root
+    else None)
+
+-- what is visible in an activation (6.2.2, 6.2.3)
+abbrev pub environment_of : Tree → Activation → Environment
+environment_of tree activation = record {
+  variables = λ root. seen_from activation root (slice_get tree.variables.items root);
+  types = tree.types;
+}
+
+-- what is passed is written to a value parameter (6.6.3.2)
+abbrev pub assign : List Form → Option Place → Option DeclaredVariable → Argument → Action (Unit {0})
+assign types place formal (OfValue v) = store place v
+assign types place None (OfRow numbers) = give tt
+assign types place (Some formal) (OfRow numbers) = store_all place (components_of types formal.type_id) numbers
+assign types place formal (OfPlace other) = give tt
+
+-- each value parameter gets what is passed to it, in their order
+abbrev pub assign_all : Tree → Environment → List ℕ → List Argument → Action (Unit {0})
+assign_all tree visible [] arguments = give tt
+assign_all tree visible (root ∷ roots) [] = give tt
+assign_all tree visible (root ∷ roots) (argument ∷ arguments) = do
+  _ ← assign tree.types (visible.variables root) (slice_get tree.variables.items root) argument
+  assign_all tree visible roots arguments
+
+-- the result of a function at its end, which has to be defined (6.6.2)
+abbrev pub result_of : Option FunctionResult → Environment → Action Value
+result_of None visible = give (Number (pos 0))
+result_of (Some result) visible = fetch (visible.variables result.root) result.defined
+
+-- an activation of a block: its value parameters are assigned, its statement is executed, and there is its result
+abbrev pub executed : Tree → Calls → Block → Activation → Action Value
+executed tree calls block activation =
+    let visible = environment_of tree activation in do
+      _ ← assign_all tree visible block.heading.parameters.items activation.arguments
+      _ ← effect_of block.body (record { visible = visible; calls = calls })
+      result_of block.heading.result visible
+
+-- an activation of a routine, from its begin to its end
+abbrev pub activated : Tree → Calls → ℕ → Option Block → List Argument → Environment → Action Value
+activated tree calls number None arguments caller = give (Number (pos 0))
+activated tree calls number (Some block) arguments caller = do
+  living ← living_now
+  activation ← begin number
+  v ← executed tree calls block (record {
+    number = activation;
+    block = number;
+    heading = block.heading;
+    arguments = arguments;
+    caller = caller;
+  })
+  _ ← end_with living
+  give v
+
+-- what calls do, where activations are at most so many deep in one another. Each uses a turn, so a depth of more than
+-- the turns that are left ends no run that its turns wouldn't end
+abbrev pub calls_of : Tree → ℕ → Calls
+calls_of tree zero number arguments caller = stop ending.More
+calls_of tree (suc depth) number arguments caller =
+    activated tree (calls_of tree depth) number (slice_get tree.blocks.items number) arguments caller
+
+-- nothing is visible round a program
+abbrev pub no_environment : Tree → Environment
+no_environment tree = record { variables = λ root. None; types = tree.types }
+
+-- the program's own activation
+abbrev pub program_activation : Tree → Heading → Activation
+program_activation tree heading =
+    record { number = 0; block = 0; heading = heading; arguments = []; caller = no_environment tree }
+
+-- where the statement of the program's block stands, for so many activations in one another
+abbrev pub program_surroundings : Tree → ℕ → Heading → Surroundings
+program_surroundings tree depth heading =
+    record { visible = environment_of tree (program_activation tree heading); calls = calls_of tree depth }
 
 -- what a program writes, and how it ends
 pub record Meaning : Type 0 where
@@ -391,14 +567,14 @@ abbrev pub ended : Reply (Unit {0}) → Meaning
 ended (Gives done s) = record { output = s.output; ending = ending.Finished }
 ended (Stops e s) = record { output = s.output; ending = e }
 
--- the whole run of a block's statement, in an environment
-abbrev pub run_of : Option Block → Environment → Action (Unit {0})
-run_of None env = give tt
-run_of (Some block) env = effect_of block.body env
+-- the whole run of a program's block, for so many activations in one another
+abbrev pub run_of : Tree → ℕ → Option Block → Action (Unit {0})
+run_of tree depth None = give tt
+run_of tree depth (Some block) = effect_of block.body (program_surroundings tree depth block.heading)
 
 -- the run of a program, for an input and a number of turns
 abbrev pub run : Tree → List ℕ → ℕ → Reply (Unit {0})
-run tree input turns = run_of (slice_get tree.blocks.items 0) (program_environment tree) (first_state input turns)
+run tree input turns = run_of tree (suc turns) (slice_get tree.blocks.items 0) (first_state input turns)
 
 -- what a program means, for an input and a number of turns
 abbrev pub meaning : Tree → List ℕ → ℕ → Meaning

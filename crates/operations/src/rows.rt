@@ -1,10 +1,11 @@
 ghost use Rattle.std.specs.Prelude.{◌≡◌, IfOk, map, pos};
+ghost use Rattle.typed_tree.specs.WellFormed.{length_of};
 ghost use Rattle.meaning.specs.Meaning.{compared, order_of};
 
 use crate::ordinals::is_related;
 use meaning::store::{Ordinal, Value};
 use std::alloc::{AllocError, Global};
-use typed_tree::tree::Relation;
+use typed_tree::tree::{Relation, Whole};
 
 /// The numbers of characters.
 pub fn row_of(alloc: Global, characters: &[u8]) -> Result<Vec<Ordinal>, AllocError>
@@ -15,6 +16,16 @@ pub fn row_of(alloc: Global, characters: &[u8]) -> Result<Vec<Ordinal>, AllocErr
         row.push(Ordinal::new(i32::from(*character)))?;
     }
     Ok(row)
+}
+
+/// How many components a whole value has.
+pub fn length_of(value: &Whole) -> usize
+    ensures { result ≡ length_of value.now }
+{
+    match value {
+        Whole::Text { characters, .. } => characters.len(),
+        Whole::Variable { cells, .. } => *cells as usize,
+    }
 }
 
 /// The value of a relation of two strings, by their components (ISO 7185:1990, 6.7.2.5).

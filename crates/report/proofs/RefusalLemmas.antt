@@ -19,7 +19,6 @@ use Rattle.certificate.specs.declared.fault.ReadFault.TheVariants as read
 use Rattle.certificate.specs.Text.{first_fault}
 use Rattle.code_generator.specs.declared.fault.GenFault.{GenFault}
 use Rattle.code_generator.specs.declared.fault.GenFault.TheVariants as generate
-use Rattle.code_scheme.specs.Code.{program_code}
 use Rattle.code_generator.specs.Large.{is_too_large}
 use Rattle.report.specs.declared.fault.Fault.{Fault}
 use Rattle.report.specs.Faults.{lexer_fault, parser_fault, typing_fault, certificate_fault, checker_fault, generator_fault}
@@ -71,7 +70,7 @@ checking-refusal source text tree certificate (check.Broken rule place) are h = 
 
 -- code is refused where there is too much of it
 pub generation-refusal : (source text : List ℕ) (tree : Tree) (certificate : CertificateRead) (fault : GenFault) → AreOf source text tree certificate
-    → (program_walk tree certificate).broken ≡ [] → (fault ≡ generate.TooLarge → is_too_large (program_code tree) ≡ true)
+    → (program_walk tree certificate).broken ≡ [] → (fault ≡ generate.TooLarge → is_too_large tree ≡ true)
     → IsRefusal source text (generator_fault fault)
 generation-refusal source text tree certificate generate.Memory are unbroken h = tt
 generation-refusal source text tree certificate generate.TooLarge are unbroken h = (tree, certificate, are, unbroken, h refl)

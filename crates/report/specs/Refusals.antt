@@ -18,7 +18,6 @@ use Rattle.expression_checker.specs.declared.fault.CheckFault.TheVariants as che
 use Rattle.cert_checker.specs.Promise.{IsRefusedFor}
 use Rattle.cert_checker.specs.Walk.{program_walk}
 use Rattle.code_generator.specs.declared.fault.GenFault.TheVariants as generate
-use Rattle.code_scheme.specs.Code.{program_code}
 use Rattle.code_generator.specs.Large.{is_too_large}
 use Rattle.report.specs.declared.fault.Fault.{Fault}
 use Rattle.report.specs.declared.fault.Fault.TheVariants.{Memory, Lex, Parse, Typing, Certificate, Check, Generate}
@@ -52,4 +51,4 @@ IsRefusal source text (Check fault) =
 IsRefusal source text (Generate generate.Memory) = ⊥
 IsRefusal source text (Generate generate.TooLarge) =
     (tree : Tree) × (certificate : CertificateRead) × AreOf source text tree certificate
-    × ((program_walk tree certificate).broken ≡ []) × (is_too_large (program_code tree) ≡ true)
+    × ((program_walk tree certificate).broken ≡ []) × (is_too_large tree ≡ true)

@@ -1,6 +1,6 @@
 ghost use Rattle.std.specs.Prelude.{◌≡◌, ℕ, List, length, map, IfOk, IfErr, MatchResult};
 ghost use Rattle.certificate.specs.Contents.{Spells};
-ghost use Rattle.cert_checker.specs.Promise.{Valid, StatesHold};
+ghost use Rattle.cert_checker.specs.Promise.{CallsChangeWhatTheyList, StatesHold, Valid};
 ghost use Rattle.code_scheme.specs.Code.{program_code};
 ghost use Rattle.code_generator.specs.Follows.{Follows};
 ghost use Rattle.code_generator.specs.Tables.{site_table, point_table};
@@ -64,6 +64,7 @@ pub fn compile(alloc: Global, source: &[u8], certificate: Option<&[u8]>) -> Resu
     // site, and the stripped code writes what that meaning writes and stops as it stops.
     ensures headline { IfOk result (λ c. Headline c.tree c.verdict.open_sites.items c.stripped) }
     ensures states_hold { IfOk result (λ c. StatesHold c.tree c.certificate) }
+    ensures calls_change { IfOk result (λ c. CallsChangeWhatTheyList c.tree c.certificate) }
 
     // With all its checks the code follows the program too.
     ensures follows { IfOk result (λ c. Follows c.full c.tree) }

@@ -3,8 +3,8 @@
 use crate::numbers::Numbers;
 use std::alloc::{AllocError, Global};
 
-// What may stand for a letter. The capital letters in it stand for further texts.
-static CHOICES: [(u8, &[&str]); 26] = [
+// What may stand for a letter or sign that has a row here; those in it stand for further texts.
+static CHOICES: [(u8, &[&str]); 33] = [
     // At most seven statements.
     (
         b'P',
@@ -25,6 +25,8 @@ static CHOICES: [(u8, &[&str]); 26] = [
             "F := Y; ",
             "h := E; ",
             "k := N; ",
+            "q(J, V); ",
+            "q(J, V); ",
             "write(YW, 'it''s'W); ",
             "if C then X; ",
             "if C then X else X; ",
@@ -62,7 +64,14 @@ static CHOICES: [(u8, &[&str]); 26] = [
     ),
     (
         b'M',
-        &["V := V - j; ", "write(j); ", "V := I; ", "V := V + 1; ", ""],
+        &[
+            "V := V - j; ",
+            "write(j); ",
+            "V := I; ",
+            "V := V + 1; ",
+            "q(j, V); ",
+            "",
+        ],
     ),
     // Branches of a case.
     (
@@ -102,7 +111,7 @@ static CHOICES: [(u8, &[&str]); 26] = [
         b'N',
         &[
             "maxint", "1", "(2 - 3)", "46341", "a", "i", "V", "V", "k", "succ(k)", "pred(V)",
-            "ord(Y)", "ord(E)",
+            "ord(Y)", "ord(E)", "s(V)",
         ],
     ),
     (b'V', &["a", "b", "c"]),
@@ -144,45 +153,97 @@ static CHOICES: [(u8, &[&str]); 26] = [
     (b'D', &["d", "e"]),
     (b'L', &[" and ", " or "]),
     (b'R', &[" = ", " <> ", " < ", " > ", " <= ", " >= "]),
+    // A statement of the function s, and an expression in it.
+    (
+        b'$',
+        &[
+            "",
+            "if m > 0 then s := s(m - 1); ",
+            "if C then s := ~; ",
+            "c := ~; ",
+            "m := m div 2; ",
+        ],
+    ),
+    (b'~', &["m", "V", "(mOV)", "(mON)", "J"]),
+    // Statements of the procedure q, and of the procedure r in it; an expression in both, and a variable.
+    (b'@', &["?", "??", "???"]),
+    (
+        b'?',
+        &[
+            "#",
+            "#",
+            "r; ",
+            "if n > 0 then q(n - 1, &); ",
+            "if C then begin # end; ",
+            "while n > 0 do begin n := n - 1; # end; ",
+        ],
+    ),
+    (
+        b'#',
+        &["t := %; ", "V := %; ", "write(%:3); ", "n := n - 1; ", ""],
+    ),
+    (b'%', &["n", "t", "V", "(nOt)", "(tOV)", "s(n)", "J"]),
+    (b'&', &["t", "t", "V"]),
 ];
 
-// Puts one of the texts for a letter behind the rest, its end first.
-fn choose(numbers: &mut Numbers, letter: u8, rest: &mut Vec<u8>) -> Result<(), AllocError> {
-    for byte in choice(numbers, letter).bytes().rev() {
+// Puts a text behind the rest, its end first.
+fn put(text: &str, rest: &mut Vec<u8>) -> Result<(), AllocError> {
+    for byte in text.bytes().rev() {
         rest.push(byte)?;
     }
     Ok(())
 }
 
-fn choice(numbers: &mut Numbers, letter: u8) -> &'static str {
+// One of the texts for a letter or sign, if there are any.
+fn choice(numbers: &mut Numbers, letter: u8) -> Option<&'static str> {
     for (own, texts) in &CHOICES {
         if *own == letter && !texts.is_empty() {
-            return texts[numbers.below(texts.len())];
+            return Some(texts[numbers.below(texts.len())]);
         }
     }
-    ""
+    None
 }
 
-const BEGIN: &[u8] = b"program p(output); var a, b, c: integer; d, e: Boolean; i, j: integer;
+const VARIABLES: &[u8] = b"program p(output); var a, b, c: integer; d, e: Boolean; i, j: integer;
 f, g: char; h: (red, green, blue); k: 1..9;
-begin a := 3; b := 7; d := true; e := odd(a); f := 'a'; g := 'm'; h := red; k := 1; ";
+";
 
-// A program of a few statements over five integers and two Booleans, two characters, a colour and a digit.
+const ROUTINES: &str = "function s(m: integer): integer; begin s := ~; $$end;
+procedure q(n: integer; var t: integer); procedure r; begin ##end; begin @end;
+";
+
+// The first of the program's own statements; none else begins so.
+const START: &[u8] = b"begin a := 3; b := 7; ";
+
+const BODY: &str =
+    "begin a := 3; b := 7; d := true; e := odd(a); f := 'a'; g := 'm'; h := red; k := 1; Pend.";
+
+// A program of a few statements over five integers and two Booleans, two characters, a colour and a digit, with a
+// function and two procedures, one in the other.
 pub(crate) fn program(alloc: Global, numbers: &mut Numbers) -> Result<Vec<u8>, AllocError> {
-    let mut text = Vec::from_slice(alloc, BEGIN)?;
+    let mut text = Vec::from_slice(alloc, VARIABLES)?;
     // What is still to be written, its end first.
-    let mut rest = Vec::from_slice(alloc, b".dneP")?;
+    let mut rest = Vec::new(alloc);
+    put(BODY, &mut rest)?;
+    put(ROUTINES, &mut rest)?;
     for _ in 0..10_000 {
         let Some(byte) = rest.pop() else {
             break;
         };
-        if byte.is_ascii_uppercase() {
-            choose(numbers, byte, &mut rest)?;
-        } else {
-            text.push(byte)?;
+        match choice(numbers, byte) {
+            Some(chosen) => put(chosen, &mut rest)?,
+            None => text.push(byte)?,
         }
     }
     Ok(text)
+}
+
+// Where the program's own statements begin.
+fn start(source: &[u8]) -> usize {
+    source
+        .windows(START.len())
+        .position(|piece| piece == START)
+        .unwrap_or(0)
 }
 
 // How many loops a program of these has: their words stand for nothing else in it.
@@ -211,30 +272,118 @@ const RANGES: [(i32, i32); 8] = [
     (3, 3),
 ];
 
-// A certificate for a program: of each loop the variables that it may change, now and then but one, and a few facts.
+// What a section of a block may say: the pair of each root with a variable parameter, if there is one; the roots that
+// change; those of which it may say that they are defined at the begin; the result, if it has one.
+struct Section {
+    parameter: Option<u32>,
+    changes: &'static [u32],
+    entries: &'static [u32],
+    result: Option<u32>,
+}
+
+// By block, from 1: of s, of q and of r. Roots from 11: the result and m of s, then n and t of q.
+static SECTIONS: [Section; 3] = [
+    Section {
+        parameter: None,
+        changes: &[2, 12],
+        entries: &[0, 1],
+        result: Some(11),
+    },
+    Section {
+        parameter: Some(14),
+        changes: &[0, 1, 2, 13, 14],
+        entries: &[0, 1, 14],
+        result: None,
+    },
+    Section {
+        parameter: None,
+        changes: &[0, 1, 2, 13, 14],
+        entries: &[0, 1, 14],
+        result: None,
+    },
+];
+
+// A certificate for a program: of each block which names may be one variable, what changes and a few facts, and of each
+// loop what may change and a few facts, now and then one thing less.
 pub(crate) fn certificate(
     alloc: Global,
     numbers: &mut Numbers,
     source: &[u8],
 ) -> Result<String, AllocError> {
     let mut text = String::from_str(alloc, "pcert 1\n")?;
-    let loops = loops(source);
-    if loops > 0 {
+    let all = loops(source);
+    // The loops of q, which stand first, and then the program's own.
+    let inner = loops(&source[..start(source).min(source.len())]);
+    if inner < all {
         text.push_str("proc 0\n")?;
     }
-    for number in 0..loops {
-        text.push_str(format!(in alloc; "loop {number}\n")?.as_str())?;
-        push_changes(alloc, numbers, &mut text)?;
+    for number in inner..all {
+        push_changes(alloc, numbers, &mut text, number, 11)?;
         push_facts(alloc, numbers, &mut text)?;
+    }
+    for (place, section) in SECTIONS.iter().enumerate() {
+        text.push_str(format!(in alloc; "proc {}\n", place + 1)?.as_str())?;
+        push_section(alloc, numbers, &mut text, section)?;
+        if section.parameter.is_some() {
+            for number in 0..inner {
+                push_changes(alloc, numbers, &mut text, number, 15)?;
+                if numbers.below(5) == 0 {
+                    push_facts(alloc, numbers, &mut text)?;
+                }
+            }
+        }
     }
     Ok(text)
 }
 
-fn push_changes(alloc: Global, numbers: &mut Numbers, text: &mut String) -> Result<(), AllocError> {
+// What a section says before its loops.
+fn push_section(
+    alloc: Global,
+    numbers: &mut Numbers,
+    text: &mut String,
+    section: &Section,
+) -> Result<(), AllocError> {
+    let forgotten = numbers.below(200);
+    if let Some(parameter) = section.parameter {
+        for root in 0..3usize {
+            if root + 100 != forgotten {
+                text.push_str(format!(in alloc; "alias v{root} v{parameter}\n")?.as_str())?;
+            }
+        }
+    }
+    for root in section.changes {
+        if *root as usize != forgotten {
+            text.push_str(format!(in alloc; "change v{root}\n")?.as_str())?;
+        }
+    }
+    for root in section.entries {
+        let often = if *root < 2 { 7 } else { 1 };
+        if numbers.below(8) < often {
+            text.push_str(format!(in alloc; "entry defined v{root}\n")?.as_str())?;
+        }
+    }
+    if let Some(root) = section.result
+        && numbers.below(25) == 0
+    {
+        let (least, greatest) = RANGES[numbers.below(8)];
+        text.push_str(format!(in alloc; "exit range v{root} {least} {greatest}\n")?.as_str())?;
+    }
+    Ok(())
+}
+
+// The line of a loop, and what it may change; roots from `limit` on aren't its own.
+fn push_changes(
+    alloc: Global,
+    numbers: &mut Numbers,
+    text: &mut String,
+    number: usize,
+    limit: usize,
+) -> Result<(), AllocError> {
+    text.push_str(format!(in alloc; "loop {number}\n")?.as_str())?;
     let forgotten = numbers.below(100);
-    for root in 0..11usize {
-        // The sixth and the seventh are control variables.
-        if root != forgotten && root != 5 && root != 6 {
+    for root in 0..limit {
+        // The sixth and the seventh are control variables, and two belong to s.
+        if ![5, 6, 11, 12, forgotten].contains(&root) {
             text.push_str(format!(in alloc; "change v{root}\n")?.as_str())?;
         }
     }

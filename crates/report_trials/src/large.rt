@@ -11,9 +11,9 @@ const LEAST: &str = "program p; begin end.";
 
 const COMPOUND: Parts = &[("program p; begin ", 1), (";", 100_000), (" end.", 1)];
 
-// Sources, and what each does on the machine and by the interpreter. A long chain and a long compound use no stack, and
-// output passes its piece.
-static LONG: [(Parts, Parts); 3] = [
+// Sources, and what each does on the machine and by the interpreter. A long chain, a long compound and activations deep
+// in one another use no stack, and output passes its piece.
+static LONG: [(Parts, Parts); 4] = [
     (
         &[
             ("program p(output); begin writeln(0", 1),
@@ -30,6 +30,15 @@ static LONG: [(Parts, Parts); 3] = [
             (" end.", 1),
         ],
         &[("|", 1), ("         1\n", 1_000), ("||0", 1)],
+    ),
+    // Each activation takes five cells.
+    (
+        &[(
+            "program p(output); procedure q(n: integer); begin if n > 0 then q(n - 1) end;
+            begin q(20000); writeln(1) end.",
+            1,
+        )],
+        &[("|         1\n||0", 1)],
     ),
 ];
 
@@ -50,7 +59,7 @@ fn long_sources_run(rt: HostRuntime) -> Result<(), Fail> {
 }
 
 // Sources, and how many statements and expressions they have.
-static VISITS: [(Parts, &str); 8] = [
+static VISITS: [(Parts, &str); 9] = [
     // 4 statements, 2 targets, 6 factors, 2 operators and 1 sign.
     (
         &[(
@@ -83,6 +92,14 @@ static VISITS: [(Parts, &str); 8] = [
     (
         &[(
             "program p; var i: integer; begin for i := 1 to 9 do end.",
+            1,
+        )],
+        "5",
+    ),
+    // 4 statements, and what is passed.
+    (
+        &[(
+            "program p; procedure q(n: integer); begin end; begin q(1) end.",
             1,
         )],
         "5",

@@ -4,6 +4,8 @@ use std::test::Fail;
 // A program of every form, in small, and its certificate.
 const EVERY_FORM: &str = "program p(output); const s = 'it''s'; type t = (one, two); u = 'a'..'z';
     var x, y: integer; b: boolean; c: char; d: t; e: u;
+    function f(m: integer): integer; begin f := m mod 10 + 1 end;
+    procedure q(var v: integer; w: integer); begin v := w end;
     begin
       x := 7 div 2; y := -x + sqr(x) * abs(3) mod 5;
       b := not (x < y) or odd(x) and true;
@@ -12,7 +14,7 @@ const EVERY_FORM: &str = "program p(output); const s = 'it''s'; type t = (one, t
       while x < 3 do x := x + 1;
       repeat y := x until true;
       for y := 1 to 2 do case y of 1: x := 4; 2: x := y + 3 end;
-      write(x:2);
+      write(x:2); q(x, f(x)); write(x:2);
       c := chr(ord('a') + 1); d := pred(succ(one)); e := succ(c);
       if (s > 'is a') or ('ab' < 'ac') then write(s:6, e, c:2, ord(d):2)
     end.";
@@ -27,11 +29,15 @@ loop 2
 change v0
 fact range v0 3 2147483647
 fact defined v0
+proc 2
+alias v0 v8
+change v8
 ";
 
 // By hand: x is 3; sqr(3) * abs(3) is 27 and mod 5 gives 2, so y is -1; 3 < -1 is false, so b is true. Then x is 2, and
-// 3 behind the while; the for makes it 4 and then 5. At last c is 'b', d is one, whose number is 0, and e is 'c'.
-const WRITTEN: &str = "  3 true -1tr\n 5  it'sc b 0";
+// 3 behind the while; the for makes it 4 and then 5, and q makes it f(5), which is 6. At last c is 'b', d is one, whose
+// number is 0, and e is 'c'.
+const WRITTEN: &str = "  3 true -1tr\n 5 6  it'sc b 0";
 
 // Whether a run that had ample memory did what it should, and one that had not said so and wrote nothing else.
 fn is_as_it_should(told: &Told) -> bool {

@@ -62,10 +62,10 @@ pub(crate) fn show(alloc: Global, source: &[u8], cells: u32, budget: u64) -> Res
     })
 }
 
-// What the reference interpreter does with a source that compiles.
+// What the reference interpreter does with a source that compiles, whose run ends.
 fn interpreted(alloc: Global, source: &[u8]) -> Result<Outcome, Fault> {
     let compiled = compile(alloc, source, None)?;
-    Ok(interpret(alloc, &compiled.tree, b"", 1_000)?)
+    Ok(interpret(alloc, &compiled.tree, b"", u64::MAX)?)
 }
 
 // Whether the interpreter writes what a run shows, and ends as it stops.

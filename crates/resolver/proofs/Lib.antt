@@ -1,7 +1,9 @@
+mod Arranged
 mod Branches
 mod CaseArms
 mod Files
 mod MadeRows
-mod Programs
 mod Tables
 mod Targets
+mod BlockForms
+mod Programs

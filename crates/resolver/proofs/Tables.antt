@@ -5,30 +5,33 @@ use Rattle.std.proofs.Math.Seq.{set-append_seam, drop-append_seam}
 use Rattle.typed_tree.specs.declared.tree.Loop.{Loop}
 use Rattle.typed_tree.specs.declared.tree.Stmt.{Stmt}
 use Rattle.typed_tree.specs.Loops.{Inside, no_loop, both_inside, all_inside, looped, controlled, inside_of}
-use Rattle.typed_tree.proofs.Insides.{inside_empty, inside_assign, inside_copy, inside_write, inside_compound, inside_if, inside_if_else, inside_while}
+use Rattle.typed_tree.proofs.Insides.{inside_empty, inside_assign, inside_call, inside_copy, inside_write, inside_compound, inside_if, inside_if_else}
+use Rattle.typed_tree.proofs.Insides.{inside_while}
 use Rattle.typed_tree.proofs.Insides.{inside_repeat, inside_for, inside_case}
 use Rattle.resolver.specs.Table.{Seen, row_of, rows_of, meets, opened, closed}
 
 pub meets_none : (s : Seen) → s ≡ meets no_loop s
-meets_none s = sym (ap₂ (λ r c. record { rows = r; controls = c }) (append-nil s.rows) (append-nil s.controls))
+meets_none s = sym (ap₂ (λ r c. record { block = s.block; rows = r; controls = c }) (append-nil s.rows) (append-nil s.controls))
 
 pub meets_both : (a b : Inside) (s : Seen) → meets b (meets a s) ≡ meets (both_inside a b) s
 meets_both a b s =
-    ap₂ (λ r c. record { rows = r; controls = c })
-    (append_assoc s.rows (rows_of a.loops) (rows_of b.loops) ∙ ap (λ l. s.rows ++ l) (sym (map-append (λ one. (0, one.1)) a.loops b.loops)))
+    ap₂ (λ r c. record { block = s.block; rows = r; controls = c })
+    (append_assoc s.rows (rows_of s.block a.loops) (rows_of s.block b.loops)
+    ∙ ap (λ l. s.rows ++ l) (sym (map-append (λ one. (s.block, one.1)) a.loops b.loops)))
     (append_assoc s.controls a.controls b.controls)
 
 pub meets_looped : (loop_number : ℕ) (inside : Inside) (s : Seen)
     → closed (length s.rows) (length s.controls) (meets inside (opened s)) ≡ meets (looped loop_number inside) s
 meets_looped loop_number inside s =
-    ap (λ r. record { rows = r; controls = s.controls ++ inside.controls })
-    (ap₂ (λ r c. set r (length s.rows) (0, c)) (append_assoc s.rows ((0, []) ∷ []) (rows_of inside.loops)) (drop-append_seam s.controls inside.controls)
-    ∙ set-append_seam s.rows (0, []) (rows_of inside.loops) (0, inside.controls))
+    ap (λ r. record { block = s.block; rows = r; controls = s.controls ++ inside.controls })
+    (ap₂ (λ r c. set r (length s.rows) (s.block, c)) (append_assoc s.rows ((s.block, []) ∷ []) (rows_of s.block inside.loops))
+    (drop-append_seam s.controls inside.controls)
+    ∙ set-append_seam s.rows (s.block, []) (rows_of s.block inside.loops) (s.block, inside.controls))
 
 pub meets_controlled : (control : ℕ) (inside : Inside) (s : Seen)
-    → meets inside (record { rows = s.rows; controls = s.controls ++ control ∷ [] }) ≡ meets (controlled control inside) s
+    → meets inside (record { block = s.block; rows = s.rows; controls = s.controls ++ control ∷ [] }) ≡ meets (controlled control inside) s
 meets_controlled control inside s =
-    ap (λ c. record { rows = s.rows ++ rows_of inside.loops; controls = c }) (append_assoc s.controls (control ∷ []) inside.controls)
+    ap (λ c. record { block = s.block; rows = s.rows ++ rows_of s.block inside.loops; controls = c }) (append_assoc s.controls (control ∷ []) inside.controls)
 
 -- a row is told
 pub row_told : (rows : List Loop) (row : ℕ) (told : Loop) → map row_of (set rows row told) ≡ set (map row_of rows) row (row_of told)
@@ -66,6 +69,7 @@ pub ruleset met_forms = (
   inside_assign,
   inside_copy,
   inside_write,
+  inside_call,
   inside_compound,
   inside_if,
   inside_if_else,
@@ -78,3 +82,7 @@ pub ruleset met_forms = (
   meets_looped,
   meets_controlled,
 )
+
+-- a block is met
+pub block_met : (inside : Inside) (old new : Seen) → new ≡ meets inside old → new.rows ≡ old.rows ++ rows_of old.block inside.loops
+block_met inside old new is = ap (λ (s : Seen). s.rows) is

@@ -17,10 +17,10 @@ use Rattle.typed_tree.specs.declared.tree.Expr.{Expr}
 use Rattle.typed_tree.specs.declared.tree.Selector.{Selector as TreeSelector}
 use Rattle.typed_tree.specs.Look.{Look, Mark, Access, Assign, look_expr, look_access}
 use Rattle.typing.specs.declared.typed.Typed.{Typed}
-use Rattle.typing.specs.Expressions.{Written, as_variable, selected, tests_ordinal}
+use Rattle.typing.specs.Expressions.{Written, as_routine, copied_cells, copying, selected, tests_ordinal}
 use Rattle.typing.specs.Outcomes.{IsFault}
-use Rattle.typing.specs.Passing.{Passed, Passing, after, and_then, behind_marks, given, mark, pure, ◌>>=◌, ◌>>◌}
-use Rattle.typing.specs.Statements.{assignment, target, target_mark, assigned, copied, copying, copied_cells}
+use Rattle.typing.specs.Passing.{Passed, Passing, after, and_then, behind_marks, mark, pure, ◌>>=◌, ◌>>◌}
+use Rattle.typing.specs.Statements.{assignment, target, target_mark, target_of, assigned, copied}
 use Rattle.typing.specs.Steps.{enter, enter_as, find, may_change}
 use Rattle.typing.proofs.Rows.{behind_nothing, behind_both}
 
@@ -79,33 +79,32 @@ module _ (name : Name) (selectors : List Selector) (indexes : List Written) wher
   behind_variable variable = may_change name.place variable.0 >> (enter_as Access >> behind_entry variable)
 
   abbrev behind_name : Denotation → Passing TypeId
-  behind_name d = given (as_variable name.place d) >>= behind_variable
+  behind_name d = target_of (as_routine d) name.place d >>= behind_variable
 
-  module _ (d : Denotation) (variable : ℕ × TypeId) (number : ℕ) (old first second third : Passed) where
-    behind_steps : find name old ≡ Ok (after d [] first) → as_variable name.place d ≡ Ok variable
-        → may_change name.place variable.0 first ≡ Ok (after tt [] second) → enter second ≡ Ok (after number [] third)
+  module _ (d : Denotation) (variable : ℕ × TypeId) (number : ℕ) (old first now second third : Passed) where
+    behind_steps : find name old ≡ Ok (after d [] first) → target_of (as_routine d) name.place d first ≡ Ok (after variable [] now)
+        → may_change name.place variable.0 now ≡ Ok (after tt [] second) → enter second ≡ Ok (after number [] third)
         → target name selectors indexes old
         ≡ behind_marks [] (behind_marks [] (behind_marks [] (behind_marks (Access number ∷ []) (behind_entry variable third))))
     unfolding target
     behind_steps finds is may enters =
         ap (λ r. and_then r (λ a. behind_marks a.look (behind_name a.answer a.passed))) finds
-        ∙ ap (λ r. behind_marks [] (and_then (and_then r (λ a. Ok (after a [] first)))
-        (λ a. behind_marks a.look (behind_variable a.answer a.passed)))) is
+        ∙ ap (λ r. behind_marks [] (and_then r (λ a. behind_marks a.look (behind_variable a.answer a.passed)))) is
         ∙ ap (λ r. behind_marks [] (behind_marks [] (and_then r
         (λ a. behind_marks a.look ((enter_as Access >> behind_entry variable) a.passed))))) may
         ∙ ap (λ r. behind_marks [] (behind_marks [] (behind_marks [] (and_then (and_then r
         (λ a. behind_marks a.look (mark (Access a.answer) a.passed))) (λ a. behind_marks a.look (behind_entry variable a.passed)))))) enters
 
     -- a component is selected
-    pub target_is : find name old ≡ Ok (after d [] first) → as_variable name.place d ≡ Ok variable
-        → may_change name.place variable.0 first ≡ Ok (after tt [] second) → enter second ≡ Ok (after number [] third)
-        → (component : List TreeSelector × TypeId) → (look : Look) → (now : Passed)
-        → selected [] variable.1 selectors indexes third ≡ Ok (after component look now)
+    pub target_is : find name old ≡ Ok (after d [] first) → target_of (as_routine d) name.place d first ≡ Ok (after variable [] now)
+        → may_change name.place variable.0 now ≡ Ok (after tt [] second) → enter second ≡ Ok (after number [] third)
+        → (component : List TreeSelector × TypeId) → (look : Look) → (last : Passed)
+        → selected [] variable.1 selectors indexes third ≡ Ok (after component look last)
         → target name selectors indexes old
         ≡ Ok (after component.1 (Access number
-        ∷ (look ++ (target_mark (is_ordinal now.types component.1) variable.0 component.0 component.1 ∷ []))) now)
+        ∷ (look ++ (target_mark (is_ordinal last.types component.1) variable.0 component.0 component.1 ∷ []))) last)
     unfolding tests_ordinal
-    target_is finds is may enters component look now passes =
+    target_is finds is may enters component look last passes =
         behind_steps finds is may enters
         ∙ ap (λ r. behind_marks [] (behind_marks [] (behind_marks [] (behind_marks (Access number ∷ [])
         (and_then r (λ a. behind_marks a.look (behind_component variable.0 a.answer a.passed))))))) passes

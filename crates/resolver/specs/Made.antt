@@ -1,7 +1,8 @@
 -- How the resolver's answers are what typing says of statements: what is made of a form looks so. It says nothing of
 -- what typing answers.
 use Rattle.std.specs.Prelude.{◌≡◌, ℕ, ℤ, Bool, List, [], ◌∷◌, ◌++◌, flat_map, length, Result, Ok, Err, Option, Some}
-use Rattle.std.specs.Prelude.{None, Vec}
+use Rattle.std.specs.Prelude.{None, Vec, IsPermutation, map}
+use Rattle.std.specs.List.Sorted.{IsNonDecreasingBy}
 use Rattle.std.specs.Borrow.{Bor}
 use Rattle.std.specs.declared.alloc.Global.{Global}
 use Rattle.std.specs.declared.boxed.Box.{Box}
@@ -18,7 +19,9 @@ use Rattle.typed_tree.specs.declared.tree.Written.{Written}
 use Rattle.typed_tree.specs.declared.tree.Whole.{Whole}
 use Rattle.types.specs.declared.form.TypeId.{TypeId}
 use Rattle.types.specs.Types.{is_ordinal}
-use Rattle.typed_tree.specs.Look.{Look, Mark, Fits, If, Then, Else, Do, For, Case, look_expr, look_stmt}
+use Rattle.typed_tree.specs.Look.{Look, Mark, Fits, If, Then, Else, Do, For, Case, blocks_of_look, look_block}
+use Rattle.typed_tree.specs.Look.{look_expr, look_stmt}
+use Rattle.typed_tree.specs.Look.{tree_look}
 use Rattle.typed_tree.specs.Look.{Copied, look_access, look_whole, look_written, look_parameter, look_width}
 use Rattle.typed_tree.specs.WellFormed.{length_of}
 use Rattle.typed_tree.specs.Accesses.{index_count}
@@ -31,6 +34,7 @@ use Rattle.resolver.specs.declared.typed.ForHead.{ForHead}
 use Rattle.resolver.specs.declared.typed.CaseHead.{CaseHead}
 use Rattle.resolver.specs.declared.typed.Target.{Target}
 use Rattle.resolver.specs.declared.typed.Rows.{Rows}
+use Rattle.resolver.specs.declared.typed.MadeBlock.{MadeBlock}
 
 -- a statement
 abbrev pub MakesStmt : Checked (After (Unit {0})) → Result Stmt TypeFault → Passed → Type 0
@@ -148,8 +152,35 @@ MakesWidth = Makes (λ made. tt) look_width
 abbrev pub MakesOwnWidth : Checked (After (Unit {0})) → Result Width TypeFault → Passed → Type 0
 MakesOwnWidth = Makes (λ made. tt) (λ made. look_width (Some made))
 
--- the typed tree of a program, which has one block
+-- ---- blocks
+
+-- how blocks look that were made, one after another
+abbrev pub look_made : List MadeBlock → Look
+look_made blocks = flat_map (λ made. look_block made.number made.block) blocks
+
+-- blocks that are made behind others
+abbrev pub MakesBlocks
+    : List MadeBlock → List MadeBlock → Checked (After (Unit {0})) → Result (Unit {0}) TypeFault → Passed → Type 0
+MakesBlocks old new outcome (Ok _) passed =
+    (own : List MadeBlock) × (new ≡ old ++ own) × (outcome ≡ Ok (after tt (look_made own) passed))
+MakesBlocks old new outcome (Err why) passed = IsFault outcome why
+
+-- the same, and then the statements of the block round them
+abbrev pub MakesBody
+    : List MadeBlock → List MadeBlock → Checked (After (Unit {0})) → Result Stmt TypeFault → Passed → Type 0
+MakesBody old new outcome (Ok made) passed =
+    (own : List MadeBlock) × (new ≡ old ++ own) × (outcome ≡ Ok (after tt (look_made own ++ look_stmt made) passed))
+MakesBody old new outcome (Err why) passed = IsFault outcome why
+
+-- blocks in the order of their numbers
+pub record AreArranged (made : List MadeBlock) (blocks : List Block) : Type 0 where
+  pub sorted : List MadeBlock
+  pub shuffled : IsPermutation made sorted
+  pub rise : IsNonDecreasingBy (λ one. one.number) sorted
+  pub are : blocks ≡ map (λ one. one.block) sorted
+
+-- the typed tree of a program, whose blocks are those that its look tells
 pub record IsResolved (program : Program) (tree : Tree) : Type 0 where
   pub is_typed : IsTyped program tree
-  pub block : Block
-  pub blocks : tree.blocks.items ≡ block ∷ []
+  pub count : length tree.blocks.items ≡ length is_typed.left.headings
+  pub bodies : tree.bodies.items ≡ blocks_of_look (tree_look tree)

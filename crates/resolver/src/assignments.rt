@@ -1,6 +1,7 @@
 ghost use Rattle.std.specs.Prelude.{◌≡◌, ◌∷◌, true, false, map};
 ghost use Rattle.typed_tree.specs.Look.{Assign};
-ghost use Rattle.typing.specs.Expressions.{expression};
+ghost use Rattle.typing.specs.Expressions.{as_routine, expression};
+ghost use Rattle.typing.specs.Outcomes.{Takes};
 ghost use Rattle.typing.specs.Passing.{behind_marks};
 ghost use Rattle.typing.specs.Statements as spec;
 ghost use Rattle.resolver.specs.Made.{MakesStmt, MakesFitted, MakesTarget, MakesCopied, IsCounted, look_target};
@@ -8,13 +9,14 @@ ghost use Rattle.resolver.specs.Made.{MakesStmt, MakesFitted, MakesTarget, Makes
 use crate::typed::{Fitted, Target};
 use expression_resolver::{expression, selected};
 use place::Place;
+use scopes::Denotation;
 use syntax_tree as syntax;
 use typed_tree::fault::TypeFault;
 use typed_tree::site::SiteKind;
 use typed_tree::tree::{Access, Expr, RangeTest, Stmt, Whole};
 use types::TypeId;
 use typing::Typer;
-use typing::rules::as_variable;
+use typing::rules::{as_routine, as_variable};
 
 /// An assignment: the target is accessed first, and then comes the value (6.8.2.2).
 #[tactic(auto, unfolding(typing::specs::Statements::assignment))]
@@ -48,7 +50,7 @@ fn target(
     ensures { MakesTarget (spec.target name.now selectors.now (map expression indexes.now) typer.old) result typer.new }
 {
     let denotation = typer.find(name)?;
-    let (root, type_id) = as_variable(name.place, denotation)?;
+    let (root, type_id) = target_of(typer, name.place, denotation)?;
     typer.may_change(name.place, root)?;
     let number = typer.enter()?;
     let component = selected(typer, type_id, selectors, indexes)?;
@@ -62,6 +64,21 @@ fn target(
         indexes: component.indexes,
         type_id: component.type_id,
     })
+}
+
+// The variable left of `:=` that a name at a place denotes, by its root and its type: the result of a function by the
+// function's name.
+fn target_of(
+    typer: &mut Typer,
+    place: Place,
+    denotation: Denotation,
+) -> Result<(u32, TypeId), TypeFault>
+    ensures { Takes (spec.target_of (as_routine denotation) place denotation typer.old) result typer.new }
+{
+    match as_routine(denotation) {
+        None => as_variable(place, denotation),
+        Some((block, _)) => typer.function_target(place, block),
+    }
 }
 
 // The assignment of a value to an ordinal.

@@ -3,6 +3,7 @@
 #![tactic(auto)]
 
 mod assignments;
+mod blocks;
 mod cases;
 mod program;
 mod statements;

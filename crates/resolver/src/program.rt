@@ -1,25 +1,32 @@
-ghost use Rattle.std.specs.Prelude.{◌≡◌, ◌≤◌, [], IfOk, IfErr, MatchResult, length, map, vec_len};
+ghost use Rattle.std.specs.Prelude.{◌≡◌, ◌≤◌, [], Ok, IfOk, IfErr, MatchResult, length, map, vec_len};
 ghost use Rattle.std.specs.List.{range_with_len};
 ghost use Rattle.place.specs.Place.{ArePlacesInOrder};
 ghost use Rattle.syntax_tree.specs.Places.{program_places};
-ghost use Rattle.typed_tree.specs.Entries.{entries_of};
+ghost use Rattle.typed_tree.specs.Entries.{AreNumbered};
 ghost use Rattle.typed_tree.specs.Ids.{AreInOrder, AreByPlace};
 ghost use Rattle.typed_tree.specs.Loops.{loops_of};
 ghost use Rattle.typed_tree.specs.WellFormed.{IsWellFormed};
 ghost use Rattle.typing.specs.Outcomes.{IsFault};
 ghost use Rattle.typing.specs.Sound.{IsTyped, stands};
+ghost use Rattle.typing.specs.Routines.{typed_block};
 ghost use Rattle.typing.specs.Typing.{typing};
+ghost use Rattle.declarations.specs.Known.{AreKnown};
+ghost use Rattle.declarations.specs.Parts.{declared};
 ghost use Rattle.typing.specs.declared.typer.TheConstants.{MOST_SITES};
 ghost use Rattle.typing_laws.specs.Lawful.{BeginWithRequired};
-ghost use Rattle.resolver.specs.Made.{IsResolved};
+ghost use Rattle.typing.specs.Passing.{after};
+ghost use Rattle.typed_tree.specs.declared.fault.TypeFault.TheVariants.{Memory};
+ghost use Rattle.resolver.specs.Made.{AreArranged, IsResolved, look_made};
 
-use crate::statements::compound;
+use crate::blocks::body;
 use crate::table::table_of;
-use declarations::declare_program;
+use crate::typed::MadeBlock;
+use declarations::begin_program;
 use std::alloc::Global;
 use syntax_tree::Program;
 use typed_tree::fault::TypeFault;
-use typed_tree::tree::{Block, Tree};
+use typed_tree::tree::{Block, Heading, Tree};
+use typing::Typer;
 
 /// The typed tree of a program, or the first rule of names and types that it breaks, with its place.
 #[tactic(auto, using(crate::proofs::Programs::has_it_all))]
@@ -31,7 +38,7 @@ pub fn resolve(alloc: Global, program: &Program) -> Result<Tree, TypeFault>
     ensures refused { IfErr result (IsFault (typing program.now)) }
 
     // Entries are numbered from 0, in the order of the text.
-    ensures numbered { IfOk result (λ tree. entries_of tree ≡ range_with_len 0 (length (entries_of tree))) }
+    ensures numbered { IfOk result AreNumbered }
 
     // So are loops, in the order of their first words.
     ensures loops_numbered { IfOk result (λ tree.
@@ -49,22 +56,77 @@ pub fn resolve(alloc: Global, program: &Program) -> Result<Tree, TypeFault>
 
     // Its types are the required ones, and then the program's own.
     ensures types { IfOk result (λ tree. BeginWithRequired tree.types) }
-    ensures one_block { IfOk result (λ tree. vec_len tree.blocks ≡ 1) }
 {
     typed_program(alloc, program)
 }
 
-// Its declarations, and then the statements of its block.
+// Its blocks, each in its place by its number.
 fn typed_program(alloc: Global, program: &Program) -> Result<Tree, TypeFault>
     ensures { MatchResult result (IsResolved program.now) (IsFault (typing program.now)) }
 {
-    let mut typer = declare_program(alloc, program)?;
-    let body = compound(&mut typer, &program.block.statements)?;
-    let loops = table_of(alloc, &body)?;
-    let mut blocks = Vec::new(alloc);
-    blocks.push(Block {
+    let mut typer = begin_program(alloc, program)?;
+    let mut made = Vec::new(alloc);
+    program_blocks(&mut typer, &mut made, program)?;
+    let loops = table_of(alloc, &made)?;
+    let bodies = numbers_of(alloc, &made)?;
+    let blocks = arranged(alloc, made)?;
+    Ok(typer.tree(blocks, bodies, loops))
+}
+
+// The numbers of blocks.
+fn numbers_of(alloc: Global, made: &[MadeBlock]) -> Result<Vec<u32>, TypeFault>
+    ensures { MatchResult result (λ numbers. numbers.items ≡ map (λ one. one.number) made.now) (λ why. why ≡ Memory) }
+{
+    let mut numbers = Vec::with_capacity(alloc, made.len())?;
+    for one in made {
+        numbers.push(one.number)?;
+    }
+    Ok(numbers)
+}
+
+// Blocks by their numbers.
+fn arranged(alloc: Global, made: Vec<MadeBlock>) -> Result<Vec<Block>, TypeFault>
+    ensures { MatchResult result (λ blocks. AreArranged made.items blocks.items) (λ why. why ≡ Memory) }
+{
+    let mut sorted = made;
+    sorted.sort_by_key(|one| one.number)?;
+    blocks_of(alloc, sorted)
+}
+
+// Blocks without their numbers.
+fn blocks_of(alloc: Global, made: Vec<MadeBlock>) -> Result<Vec<Block>, TypeFault>
+    ensures { MatchResult result (λ blocks. blocks.items ≡ map (λ one. one.block) made.items) (λ why. why ≡ Memory) }
+{
+    let mut blocks = Vec::with_capacity(alloc, made.len())?;
+    for one in made {
+        blocks.push(one.block)?;
+    }
+    Ok(blocks)
+}
+
+// Passes the block of a program, behind its parameters, and makes its blocks in the order of the text, its own last.
+fn program_blocks(
+    typer: &mut Typer,
+    made: &mut Vec<MadeBlock>,
+    program: &Program,
+) -> Result<(), TypeFault>
+    requires none { made.old.items ≡ [] }
+    requires begun { declared program.now ≡ Ok (after tt [] typer.old) }
+    requires known { AreKnown (typed_block program.now.block).names typer.old.regions }
+    ensures { MatchResult result (λ _. typing program.now ≡ Ok (after tt (look_made made.new.items) typer.new))
+        (IsFault (typing program.now)) }
+{
+    let body = body(typer, made, &program.block)?;
+    let heading = Heading {
+        around: Vec::new(typer.alloc),
+        parameters: Vec::new(typer.alloc),
+        result: None,
+    };
+    let block = Block {
+        heading,
         body,
         end: program.block.end,
-    })?;
-    Ok(typer.tree(blocks, loops))
+    };
+    made.push(MadeBlock { number: 0, block })?;
+    Ok(())
 }

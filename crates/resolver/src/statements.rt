@@ -14,17 +14,17 @@ ghost use Rattle.resolver.specs.Made.{IsWrittenAs};
 use crate::assignments::{assigned, assignment};
 use crate::cases::{case_head, case_row};
 use crate::typed::{CaseHead, Fitted, ForHead, Rows};
-use expression_resolver::{TypedExpr, Value, expression, first_place};
+use expression_resolver::{TypedExpr, Value, expression, first_place, routine_call};
 use indexmap::IndexSet;
 use place::Place;
-use scopes::RequiredProcedure;
+use scopes::{Denotation, RequiredProcedure};
 use syntax_tree as syntax;
 use typed_tree::fault::TypeFault;
 use typed_tree::site::SiteKind;
 use typed_tree::tree::{Expr, Stmt, Width, WriteParameter, Written};
 use types::{TypeId, TypeTable};
 use typing::Typer;
-use typing::rules::{as_procedure, as_variable, ends_line, is_output, way};
+use typing::rules::{as_procedure, as_routine, as_variable, ends_line, is_output, way};
 
 /// A statement.
 #[cycle(statements)]
@@ -255,6 +255,7 @@ fn for_head(
         return Err(TypeFault::Mismatch(variable.place));
     }
     typer.may_change(variable.place, control)?;
+    typer.may_control(variable.place, control)?;
     let (number, loop_number) = typer.enter_loop()?;
     Ok(ForHead {
         number,
@@ -318,8 +319,45 @@ fn procedure_call(
     ensures { MakesStmt (spec.procedure_call name.now actuals.now typer.old) result typer.new }
 {
     let denotation = typer.find(name)?;
+    match as_routine(denotation) {
+        None => required_call(typer, denotation, name, actuals),
+        Some((callee, is_function)) => declared_call(typer, callee, is_function, name, actuals),
+    }
+}
+
+// The call of a required procedure.
+#[tactic(auto, unfolding(typing::specs::Statements::required_call))]
+fn required_call(
+    typer: &mut Typer,
+    denotation: Denotation,
+    name: &syntax::Name,
+    actuals: &[syntax::Actual],
+) -> Result<Stmt, TypeFault>
+    ensures { MakesStmt (spec.required_call denotation name.now actuals.now typer.old) result typer.new }
+{
     let procedure = as_procedure(name.place, denotation)?;
     write(typer, name, actuals, procedure)
+}
+
+// The call of a procedure that a program declares (6.8.2.3): K3 at the name of a function.
+fn declared_call(
+    typer: &mut Typer,
+    callee: u32,
+    is_function: bool,
+    name: &syntax::Name,
+    actuals: &[syntax::Actual],
+) -> Result<Stmt, TypeFault>
+    ensures { MakesStmt (spec.declared_call callee is_function name.now (map written_actual actuals.now) typer.old)
+        result typer.new }
+{
+    if is_function {
+        return Err(TypeFault::WrongParameters(name.place));
+    }
+    let made = routine_call(typer, false, callee, name.place, actuals)?;
+    Ok(Stmt::Call {
+        call: made.call,
+        actuals: made.actuals,
+    })
 }
 
 // A write or writeln.

@@ -1,29 +1,44 @@
-ghost use Rattle.std.specs.Prelude.{◌≡◌, ◌<◌, IfOk, MatchResult, OnOk, drop, length, map};
+ghost use Rattle.std.specs.Prelude.{◌≡◌, ◌<◌, ◌++◌, IfOk, MatchResult, OnOk, drop, length, map};
 ghost use Rattle.typed_tree.specs.Loops.{all_inside, inside_of};
 ghost use Rattle.typed_tree.specs.declared.fault.TypeFault.TheVariants.{Memory};
-ghost use Rattle.resolver.specs.Table.{seen, opened, closed, meets, IsTableOf};
+ghost use Rattle.resolver.specs.Table.{seen, opened, closed, meets, rows_of_made, IsTableOf};
 
+use crate::typed::MadeBlock;
 use std::alloc::{AllocError, Global};
 use typed_tree::fault::TypeFault;
 use typed_tree::tree::{Loop, Stmt};
 
-/// The table of the loops of a program's block, by its body.
-pub(crate) fn table_of(alloc: Global, body: &Stmt) -> Result<Vec<Loop>, TypeFault>
-    ensures { MatchResult result (λ rows. IsTableOf body.now rows.items) (λ why. why ≡ Memory) }
+/// The table of the loops of blocks, which stand in the order of the text.
+pub(crate) fn table_of(alloc: Global, blocks: &[MadeBlock]) -> Result<Vec<Loop>, TypeFault>
+    ensures { MatchResult result (λ rows. IsTableOf blocks.now rows.items) (λ why. why ≡ Memory) }
 {
     let mut met = Met {
         alloc,
+        block: 0,
         loops: Vec::new(alloc),
         controls: Vec::new(alloc),
     };
-    meet(&mut met, body)?;
+    for made in blocks {
+        meet_block(&mut met, made)?;
+    }
     Ok(met.loops)
+}
+
+// Meets what stands inside a block.
+#[tactic(auto, using(crate::proofs::Tables::block_met))]
+fn meet_block(met: &mut Met, made: &MadeBlock) -> Result<(), AllocError>
+    ensures { OnOk result ((seen met.new).rows ≡ (seen met.old).rows ++ rows_of_made made.now) }
+{
+    met.block = made.number;
+    meet(met, &made.block.body)
 }
 
 // The rows of the loops, and the control variables, that were met so far.
 #[derive(Drop)]
 struct Met {
     alloc: Global,
+    // The number of the block whose loops are met.
+    block: u32,
     loops: Vec<Loop>,
     controls: Vec<u32>,
 }
@@ -35,7 +50,11 @@ fn meet(met: &mut Met, statement: &Stmt) -> Result<(), AllocError>
     ensures { OnOk result (seen met.new ≡ meets (inside_of statement.now) (seen met.old)) }
 {
     match statement {
-        Stmt::Empty { .. } | Stmt::Assign { .. } | Stmt::Copy { .. } | Stmt::Write { .. } => Ok(()),
+        Stmt::Empty { .. }
+        | Stmt::Assign { .. }
+        | Stmt::Copy { .. }
+        | Stmt::Write { .. }
+        | Stmt::Call { .. } => Ok(()),
         Stmt::Compound { statements, .. } => meet_all(met, statements),
         Stmt::If {
             consequence,
@@ -88,7 +107,7 @@ fn open(met: &mut Met) -> Result<(usize, usize), AllocError>
 {
     let row = met.loops.len();
     met.loops.push(Loop {
-        block: 0,
+        block: met.block,
         controls: Vec::new(met.alloc),
     })?;
     Ok((row, met.controls.len()))
@@ -101,7 +120,8 @@ fn close(met: &mut Met, row: usize, start: usize) -> Result<(), AllocError>
     ensures { OnOk result (seen met.new ≡ closed row start (seen met.old)) }
 {
     let controls = behind(met.alloc, &met.controls, start)?;
-    met.loops[row] = Loop { block: 0, controls };
+    let block = met.block;
+    met.loops[row] = Loop { block, controls };
     Ok(())
 }
 

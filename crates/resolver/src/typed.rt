@@ -1,6 +1,6 @@
 use indexmap::IndexSet;
 use place::Place;
-use typed_tree::tree::{Access, Direction, Expr, RangeTest};
+use typed_tree::tree::{Access, Block, Direction, Expr, RangeTest};
 use types::TypeId;
 
 /// An ordinal with its test: a bound of a for, or what is assigned.
@@ -45,4 +45,11 @@ pub(crate) struct Target {
     pub(crate) access: Access,
     pub(crate) indexes: Vec<Expr>,
     pub(crate) type_id: TypeId,
+}
+
+/// A block that was made, by its number.
+#[derive(Drop)]
+pub(crate) struct MadeBlock {
+    pub(crate) number: u32,
+    pub(crate) block: Block,
 }

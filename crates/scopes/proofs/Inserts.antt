@@ -1,6 +1,7 @@
 -- A table as the region that it is: what it says of a name, and what it is after an insert.
 use Rattle.std.proofs.Common.{◌≡◌, ℕ, ◌+◌, ◌-◌, ◌<◌, Bool, true, false, cond, if◌then◌else◌, List, [], ◌∷◌, ◌++◌, Option, Some, None, Vec, nat_eq, map, take}
-use Rattle.std.proofs.Common.{length, slice_index_or, slice_set, get_or, reverse, Ok, Err, refl, sym, ap, ◌∙◌, arith}
+use Rattle.std.proofs.Common.{length, slice_index_or, slice_set, get_or, reverse, Ok, Err, is_some, refl, sym, ap, ap₂, ◌∙◌, arith}
+use Rattle.std.specs.List.{AllZip}
 use Rattle.std.specs.Map.{lookup}
 use Rattle.std.specs.HashMap.{HashMap, get, get_by}
 use Rattle.std.specs.Cmp.Lexicographic.{pointwise}
@@ -10,7 +11,8 @@ use Rattle.std.proofs.lemmas.List.Sums.{fold-append}
 use Rattle.indexmap.specs.IndexMap.{insert_entry}
 use Rattle.scopes.specs.declared.denotation.Denotation.{Denotation}
 use Rattle.scopes.specs.declared.fault.ScopeFault.TheVariants as fault
-use Rattle.scopes.specs.Scopes.{Region, said, decided, found, put, opened, opened_with, is_defined, define, region_of}
+use Rattle.scopes.specs.Scopes.{Region, innermost, said, decided, found, put, opened, opened_beside, opened_with, is_defined, is_listed, listing, define}
+use Rattle.scopes.specs.Scopes.{region_of}
 
 -- a table of what a region says
 abbrev pub Table : Type 0 → Type 0
@@ -68,6 +70,62 @@ module _ {A B : Type 0} (f : A → B) where
       written : slice_set xs (n - 1) y ≡ take (n - 1) xs ++ y ∷ []
       written = sym (take_all (n - 1 + 1) (slice_set xs (n - 1) y) (omega (arith, length-set {A = A}))) ∙ take_more_set xs (n - 1) y (omega arith)
 
+module _ {X : Type 0} (Same : Option X → Option X → Type 0) where
+  -- alike are only values of one form
+  pub same_option : ((y : X) → Same None (Some y) → ⊥) → ((x : X) → Same (Some x) None → ⊥) → ((x y : X) → Same (Some x) (Some y) → y ≡ x)
+      → (p q : Option X) → Same p q → q ≡ p
+  same_option none some both None None h = refl
+  same_option none some both None (Some y) h = elim (none y h) [ ]
+  same_option none some both (Some x) None h = elim (some x h) [ ]
+  same_option none some both (Some x) (Some y) h = ap Some (both x y h)
+
+-- entries that are alike are those of one region
+pub same_entries : (Key : Vec ℕ Global → Vec ℕ Global → Type 0) (Says : Option Denotation → Option Denotation → Type 0)
+    → ((a b : Vec ℕ Global) → Key a b → b.items ≡ a.items) → ((p q : Option Denotation) → Says p q → q ≡ p)
+    → (es fs : List (Vec ℕ Global × Option Denotation)) → AllZip (λ e f. Key e.0 f.0 × Says e.1 f.1) es fs → map entry_of fs ≡ map entry_of es
+same_entries Key Says keys says [] [] h = refl
+same_entries Key Says keys says [] (f ∷ fs) h = elim h [ ]
+same_entries Key Says keys says (e ∷ es) [] h = elim h [ ]
+same_entries Key Says keys says (e ∷ es) (f ∷ fs) h =
+    ap₂ (λ x xs. x ∷ xs) (ap₂ (λ k s. (k, s)) (keys e.0 f.0 h.0.0) (says e.1 f.1 h.0.1)) (same_entries Key Says keys says es fs h.1)
+
+-- a region lists a name if its table has it
+listed_is_some : (says : Option (Option Denotation)) → is_listed says ≡ is_some says
+listed_is_some None = refl
+listed_is_some (Some says) = refl
+
+module _ {S : Type 0} (keys : List (Vec ℕ Global)) (i : ℕ) (parameters before after : Table S) where
+  -- a region of parameters and some names, and one name more
+  pub lists_more : i < length keys → (item : Vec ℕ Global) → item ≡ get_or keys i item
+      → region_of after ≡ listing (region_of before) item.items
+      → region_of before ≡ opened_beside (region_of parameters) (map (λ k. k.items) (take i keys))
+      → region_of after ≡ opened_beside (region_of parameters) (map (λ k. k.items) (take (i + 1) keys))
+  lists_more within item there lists was =
+      lists ∙ ap (λ k. listing (region_of before) k.items) there
+      ∙ ap (λ r. listing r (get_or keys i item).items) was
+      ∙ sym (fold-append listing (region_of parameters) (map (λ k. k.items) (take i keys)) ((get_or keys i item).items ∷ []))
+      ∙ ap (opened_beside (region_of parameters)) (sym (map-append (λ k. k.items) (take i keys) (get_or keys i item ∷ [])))
+      ∙ ap (λ ks. opened_beside (region_of parameters) (map (λ k. k.items) ks)) (sym (take_more keys i item within))
+
+module _ {S : Type 0} (table : Table S) (name : List ℕ) where
+  chosen : (b : Bool) → is_some (get_by (is_key name) table) ≡ b
+      → listing (region_of table) name ≡ (if b then region_of table else put (region_of table) name None)
+  chosen b is =
+      ap (λ c. if c then region_of table else put (region_of table) name None)
+      (listed_is_some (said (region_of table) name) ∙ ap is_some (said_of table name) ∙ is)
+
+  -- a name that a region lists is listed already
+  pub lists_already : is_some (get_by (is_key name) table) ≡ true → region_of table ≡ listing (region_of table) name
+  unfolding chosen
+  lists_already there = sym (chosen true there)
+
+  -- another is listed too
+  pub lists_new : (key : Vec ℕ Global) (after : Table S) → is_some (get_by (is_key name) table) ≡ false → key.items ≡ name
+      → after.entries ≡ insert_entry key_eq table.entries key None → region_of after ≡ listing (region_of table) name
+  unfolding chosen
+  lists_new key after new is entries =
+      ap (map entry_of) entries ∙ put_is_insert key None table.entries ∙ ap (λ n. put (region_of table) n None) is ∙ sym (chosen false new)
+
 module _ {S : Type 0} where
   -- the innermost region decides over a name
   pub decides_last : (tables outer : List (Table S)) (table : Table S) (name : List ℕ) → tables ≡ outer ++ table ∷ []
@@ -75,6 +133,12 @@ module _ {S : Type 0} where
   decides_last tables outer table name is =
       ap (λ ts. found (reverse (map region_of ts)) name) is ∙ ap (λ rs. found rs name) (reverse_more region_of outer table)
       ∙ ap (λ says. decided says (found (reverse (map region_of outer)) name)) (said_of table name)
+
+  -- what the innermost region says
+  pub says_last : (tables : List (Table S)) (n : ℕ) (table : Table S) (name : List ℕ) → n ≡ length tables → 0 < n → table ≡ slice_index_or tables (n - 1) table
+      → said (innermost (reverse (map region_of tables))) name ≡ get_by (is_key name) table
+  says_last tables n table name len some is =
+      ap (λ rs. said (innermost rs) name) (last_is_first region_of tables n table len some is) ∙ said_of table name
 
   -- a region of some names, and one name more
   pub opens_more : (keys : List (Vec ℕ Global)) (i : ℕ) (item key : Vec ℕ Global) (before after : Table S)

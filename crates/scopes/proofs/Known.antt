@@ -1,12 +1,14 @@
 -- Of regions: what one says after a definition, and that a name that is known stays known.
-use Rattle.std.proofs.Common.{◌≡◌, ℕ, Bool, true, false, cond, if◌then◌else◌, List, [], ◌∷◌, ◌++◌, Option, Some, None, IsSome, Ok, Err, IfOk, nat_eq, fold}
+use Rattle.std.proofs.Common.{◌≡◌, ℕ, Bool, true, false, cond, if◌then◌else◌, List, [], ◌∷◌, ◌++◌, Option, Some, None, IsSome, Ok, Err, IfOk, All, nat_eq, fold}
+use Rattle.std.proofs.Common.{map}
 use Rattle.std.proofs.Common.{refl, sym, subst, true≢false}
 use Rattle.std.specs.Map.{lookup}
 use Rattle.std.specs.Cmp.Lexicographic.{pointwise}
 use Rattle.std.proofs.lemmas.Slice.Eq.{bytes_eq-Decides}
 use Rattle.scopes.specs.declared.denotation.Denotation.{Denotation}
 use Rattle.scopes.specs.declared.fault.ScopeFault.TheVariants as fault
-use Rattle.scopes.specs.Scopes.{Region, said, put, Knows, define, is_defined}
+use Rattle.std.proofs.lemmas.List.Elements.{All-cons, All-nil}
+use Rattle.scopes.specs.Scopes.{Region, said, put, Knows, define, is_defined, is_listed, listing, opened, opened_beside}
 
 pub same_self : (a : List ℕ) → pointwise nat_eq a a ≡ true
 same_self a = (bytes_eq-Decides a a).1 refl
@@ -49,6 +51,45 @@ pub opened_knows : (before : List (List ℕ)) (name : List ℕ) (behind : List (
     → IsSome (said (fold (λ region name. put region name None) region (before ++ name ∷ behind)) name)
 opened_knows [] name behind region = put_all_keeps behind (put region name None) name (known_put region name None)
 opened_knows (other ∷ before) name behind region = opened_knows before name behind (put region other None)
+
+-- a region that comes of another by names that it lists too
+module _ (lists : Region → List ℕ → Region)
+    (keeps : (region : Region) (name other : List ℕ) → IsSome (said region other) → IsSome (said (lists region name) other))
+    (knows : (region : Region) (name : List ℕ) → IsSome (said (lists region name) name)) where
+  all_keep : (names : List (List ℕ)) (region : Region) (other : List ℕ) → IsSome (said region other) → IsSome (said (fold lists region names) other)
+  all_keep [] region other known = known
+  all_keep (name ∷ names) region other known = all_keep names (lists region name) other (keeps region name other known)
+
+  all_listed : {A : Type 0} (key : A → List ℕ) (forms : List A) (region : Region)
+      → All (λ form. IsSome (said (fold lists region (map key forms)) (key form))) forms
+  all_listed key [] region = All-nil (λ form. IsSome (said region (key form)))
+  all_listed key (form ∷ forms) region =
+      All-cons (λ f. IsSome (said (fold lists (lists region (key form)) (map key forms)) (key f))) form forms
+      (all_keep (map key forms) (lists region (key form)) (key form) (knows region (key form))) (all_listed key forms (lists region (key form)))
+
+-- the region of a block knows the names that it opened with
+pub opened_lists : {A : Type 0} (key : A → List ℕ) (forms : List A) → All (λ form. IsSome (said (opened (map key forms)) (key form))) forms
+opened_lists key forms =
+    all_listed (λ region name. put region name None) (λ region name. put_keeps region name None) (λ region name. known_put region name None) key forms []
+
+listing_keeps : (region : Region) (name other : List ℕ) → IsSome (said region other) → IsSome (said (listing region name) other)
+listing_keeps region name other known = by (is_listed (said region name))
+  where
+    by : (b : Bool) → IsSome (said (if b then region else put region name None) other)
+    by true = known
+    by false = put_keeps region name None other known
+
+listing_knows : (region : Region) (name : List ℕ) → IsSome (said (listing region name) name)
+listing_knows region name = by (said region name) refl
+  where
+    by : (says : Option (Option Denotation)) → said region name ≡ says → IsSome (said (if is_listed says then region else put region name None) name)
+    by None is = known_put region name None
+    by (Some one) is = subst IsSome (sym is) refl
+
+-- so does one beside parameters
+pub beside_lists : {A : Type 0} (key : A → List ℕ) (forms : List A) (parameters : Region)
+    → All (λ form. IsSome (said (opened_beside parameters (map key forms)) (key form))) forms
+beside_lists key forms parameters = all_listed listing listing_keeps listing_knows key forms parameters
 
 -- a name that is known stays known when a definition is passed
 pub define_keeps : (regions : List Region) (name : List ℕ) (denotation : Denotation) (other : List ℕ)

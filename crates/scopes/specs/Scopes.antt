@@ -15,6 +15,15 @@ use Rattle.scopes.specs.declared.fault.ScopeFault.TheVariants as fault
 abbrev pub Region : Type 0
 Region = List (List ℕ × Option Denotation)
 
+-- the innermost region, and those round it
+abbrev pub innermost : List Region → Region
+innermost [] = []
+innermost (region ∷ outer) = region
+
+abbrev pub outer : List Region → List Region
+outer [] = []
+outer (region ∷ regions) = regions
+
 -- what a region says of a name
 abbrev pub said : Region → List ℕ → Option (Option Denotation)
 said region name = lookup (pointwise nat_eq name) region
@@ -30,6 +39,11 @@ abbrev pub found : List Region → List ℕ → Result Denotation ScopeFault
 found [] name = Err fault.NotDeclared
 found (region ∷ outer) name = decided (said region name) (found outer name)
 
+-- a region lists a name
+abbrev pub is_listed : Option (Option Denotation) → Bool
+is_listed None = false
+is_listed (Some says) = true
+
 -- a region that says this of a name: where it lists the name already, at its place, and else behind all others
 abbrev pub put : Region → List ℕ → Option Denotation → Region
 put [] name says = (name, says) ∷ []
@@ -39,6 +53,14 @@ put (entry ∷ entries) name says =
 -- the region of a block that defines these names: all of them in order, each once, and none defined yet
 abbrev pub opened : List (List ℕ) → Region
 opened = fold (λ region name. put region name None) []
+
+-- a region that lists a name, which isn't defined yet if it is new
+abbrev pub listing : Region → List ℕ → Region
+listing region name = if is_listed (said region name) then region else put region name None
+
+-- the region of a block that defines these names beside those of its parameters, which are defined
+abbrev pub opened_beside : Region → List (List ℕ) → Region
+opened_beside parameters names = fold listing parameters names
 
 -- a region whose names are all defined
 abbrev pub opened_with : List (List ℕ × Denotation) → Region

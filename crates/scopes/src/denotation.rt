@@ -11,6 +11,8 @@ pub enum Denotation {
     Variable { root: u32, type_id: TypeId },
     Procedure(RequiredProcedure),
     Function(RequiredFunction),
+    /// A procedure, or a function, which a program declares: by the number of its block.
+    Routine { block: u32, is_function: bool },
     /// The file output, a program parameter.
     Output,
 }

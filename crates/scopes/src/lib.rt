@@ -7,4 +7,4 @@ mod regions;
 
 pub use denotation::{Denotation, RequiredFunction, RequiredProcedure};
 pub use fault::ScopeFault;
-pub use regions::Scopes;
+pub use regions::{Region, Scopes, copied};

@@ -2,7 +2,9 @@ ghost use Rattle.std.specs.Prelude.{◌≡◌, ◌⊎◌, ◌∷◌, List, [], O
 ghost use Rattle.std.specs.Prelude.{nat_eq, reverse};
 ghost use Rattle.std.specs.Cmp.Lexicographic.{pointwise};
 ghost use Rattle.std.specs.HashMap.{get_by};
-ghost use Rattle.scopes.specs.Scopes.{Region, is_defined, opened, opened_with, region_of};
+ghost use Rattle.scopes.specs.Scopes.{Region, innermost, is_defined, listing, opened, opened_beside, opened_with};
+ghost use Rattle.scopes.specs.Scopes.{outer};
+ghost use Rattle.scopes.specs.Scopes.{region_of, said};
 ghost use Rattle.scopes.specs.declared.fault.ScopeFault.TheVariants.{Memory};
 
 use crate::denotation::Denotation;
@@ -11,8 +13,8 @@ use indexmap::IndexMap;
 use std::alloc::{AllocError, Global};
 use std::marker::Model;
 
-// A region's names, each with what it denotes once its definition was passed.
-type Region = IndexMap<Vec<u8>, Option<Denotation>>;
+/// A region's names, in lower case, each with what it denotes once its definition was passed.
+pub type Region = IndexMap<Vec<u8>, Option<Denotation>>;
 
 /// The regions round a place of a program, the innermost first in its model. Names are in lower case.
 #[derive(Drop)]
@@ -64,11 +66,36 @@ impl Scopes {
         Ok(())
     }
 
-    /// Ends the innermost region.
-    pub fn close(&mut self)
-        ensures { self.new ≡ drop 1 self.old }
+    /// Begins a region with the names of parameters, as they are defined, and beside them with all names that its block
+    /// will define, each once. Without memory none begins.
+    pub fn open_beside(&mut self, parameters: Region, names: &[Vec<u8>]) -> Result<(), ScopeFault>
+        ensures opened { OnOk result
+            (self.new ≡ opened_beside (region_of parameters) (map (λ name. name.items) names.now) ∷ self.old) }
+        ensures refused { IfErr result (λ fault. fault ≡ Memory) }
+        ensures unchanged { OnErr result (self.new ≡ self.old) }
     {
-        let _ = self.blocks.pop();
+        let region = region_beside(parameters, names)?;
+        self.blocks.push(region)?;
+        Ok(())
+    }
+
+    /// Ends the innermost region; an empty one is told where there is none.
+    pub fn close(&mut self, alloc: Global) -> Region
+        ensures region { region_of result ≡ innermost self.old }
+        ensures closed { self.new ≡ outer self.old }
+    {
+        match self.blocks.pop() {
+            Some(region) => region,
+            None => IndexMap::new(alloc),
+        }
+    }
+
+    /// What the innermost region says of a name: nothing where it doesn't list it.
+    pub fn innermost_says(&self, name: &[u8]) -> Option<Option<Denotation>>
+        ensures { result ≡ said (innermost self.now) name.now }
+    {
+        let region = self.blocks.last()?;
+        region.get(name).copied()
     }
 
     /// Passes the definition of a name that the innermost region lists: once, or it is `DeclaredTwice`. A refusal
@@ -105,6 +132,13 @@ impl Scopes {
     }
 }
 
+/// A region with the same names, which say the same.
+pub fn copied(names: &Region) -> Result<Region, ScopeFault>
+    ensures { MatchResult result (λ region. region_of region ≡ region_of names.now) (λ fault. fault ≡ Memory) }
+{
+    Ok(names.clone()?)
+}
+
 // The region of a block that defines these names.
 fn region(alloc: Global, names: &[Vec<u8>]) -> Result<Region, ScopeFault>
     ensures { MatchResult result
@@ -116,6 +150,31 @@ fn region(alloc: Global, names: &[Vec<u8>]) -> Result<Region, ScopeFault>
         region.insert(name.clone()?, None)?;
     }
     Ok(region)
+}
+
+// The region of a block that defines these names beside parameters.
+fn region_beside(parameters: Region, names: &[Vec<u8>]) -> Result<Region, ScopeFault>
+    ensures { MatchResult result
+        (λ region. region_of region ≡ opened_beside (region_of parameters) (map (λ name. name.items) names.now))
+        (λ fault. fault ≡ Memory) }
+{
+    let mut region = parameters;
+    for name in names {
+        list(&mut region, name)?;
+    }
+    Ok(region)
+}
+
+// Lists a name too.
+fn list(region: &mut Region, name: &Vec<u8>) -> Result<(), ScopeFault>
+    ensures { MatchResult result
+        (λ _. region_of region.new ≡ listing (region_of region.old) name.now.items)
+        (λ fault. fault ≡ Memory) }
+{
+    if !region.contains_key(name.as_slice()) {
+        region.insert(name.clone()?, None)?;
+    }
+    Ok(())
 }
 
 // A region whose names are all defined.

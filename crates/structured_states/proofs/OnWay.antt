@@ -1,5 +1,5 @@
 -- What is known of a control variable on its way from one bound to another holds there.
-use Rattle.std.proofs.Common.{arith, ◌≡◌, ◌∙◌, sym, refl, subst, ℕ, ◌<◌, ℤ, pos, ◌+ℤ◌, ◌-ℤ◌, ◌≤ℤ◌, Bool, true, false, cond, List, [], Option, Some, None}
+use Rattle.std.proofs.Common.{arith, ◌≡◌, ◌∙◌, sym, refl, subst, ℕ, ◌<◌, ℤ, pos, ◌+ℤ◌, ◌-ℤ◌, ◌≤ℤ◌, Bool, true, false, cond, List, [], ◌∷◌, Option, Some, None}
 use Rattle.std.specs.Ordering.{int_eq}
 use Rattle.std.proofs.lemmas.Int.{ints, by_lt_z}
 use Rattle.typed_tree.specs.declared.tree.Direction.{Direction}
@@ -10,15 +10,15 @@ use Rattle.domain.specs.Facts.{Bound, Number, Plus}
 use Rattle.meaning.specs.declared.store.Value.TheVariants as value
 use Rattle.meaning.specs.Counting.{has_values, next_value}
 use Rattle.meaning.specs.Meaning.{relates}
-use Rattle.meaning.specs.Store.{Environment, Store, written}
+use Rattle.meaning.specs.Store.{Environment, Store}
 use Rattle.abstract_state.specs.State.{State, range_of}
 use Rattle.abstract_state.specs.Conditions.{related_forms}
 use Rattle.abstract_state.specs.Loops.{is_among}
 use Rattle.abstract_state.specs.Holds.{HasNumber, IsBound, value_at}
-use Rattle.abstract_state.specs.Knows.{IsKept, IsOfForm, Knows, Shows, moment}
+use Rattle.abstract_state.specs.Knows.{IsKept, IsOfForm, Knows, moment}
 use Rattle.abstract_state.proofs.Bounded.{bound-here, narrowed-known, order-known, related-known, root-here}
-use Rattle.abstract_state.proofs.Changed.{assigned-known}
-use Rattle.abstract_state.proofs.Knows.{defined-known, nonempty-known, place_of}
+use Rattle.abstract_state.proofs.Changed.{assigned-known, none-loose}
+use Rattle.abstract_state.proofs.Knows.{defined-known, nonempty-known}
 use Rattle.structured_states.specs.Ways.{Way, in_order, met, moved_on, next, on_way, own, present, relation_of, single, step, turn_begun, turn_ended}
 use Rattle.structured_states.specs.Ways.{unless_touched, values_behind, where_counts}
 
@@ -155,28 +155,26 @@ behind-in DownTo last range x y n inside between apart here =
     difference-has (at_least (last.first +ℤ pos 1) range) single n (pos 1) (at_least-has (last.first +ℤ pos 1) range n here (omega (arith, ints)))
     (omega (arith, ints), omega (arith, ints))
 
-next-of_form : (env : Environment) (store : Store) (control : ℕ) (direction : Direction) (n : ℤ) → HasNumber (moment env store) control n
+pub next-of_form : (env : Environment) (store : Store) (control : ℕ) (direction : Direction) (n : ℤ) → HasNumber (moment env store) control n
     → IsOfForm (moment env store) (Some (Plus control (step direction))) (value.Number (next_value direction n))
 next-of_form env store control To n has = (n +ℤ pos 1, refl, (n, has, refl))
 next-of_form env store control DownTo n has = (n -ℤ pos 1, refl, (n, has, omega (arith, ints)))
 
--- where a turn ends and another follows: the control variable gets its next value
-pub ended-known : (variables : ℕ) (env : Environment) → Shows variables env → (way : Way) (state : State) (store : Store) (x y n : ℤ)
-    → way.control < variables → HasNumber (moment env store) way.control n → HasMember way.last.values y → Between way.direction x y n
-    → int_eq n y ≡ false
-    → HasNumber (moment env (written store (place_of env way.control) (value.Number (next_value way.direction n)))) way.control (next_value way.direction n)
-    → MayBe env (written store (place_of env way.control) (value.Number (next_value way.direction n))) way.last.form y → Knows variables env state store
-    → Knows variables env (turn_ended way state) (written store (place_of env way.control) (value.Number (next_value way.direction n)))
-ended-known variables env shows way state store x y n within has other between apart has_next last known =
+-- where a turn ends and another follows: the control variable gets its next value, and no other changes
+pub ended-known : (variables : ℕ) (env : Environment) (way : Way) (state : State) (before after : Store) (x y n : ℤ)
+    → way.control < variables → IsKept env (way.control ∷ []) [] before after → HasNumber (moment env before) way.control n
+    → HasMember way.last.values y → Between way.direction x y n → int_eq n y ≡ false
+    → HasNumber (moment env after) way.control (next_value way.direction n) → MayBe env after way.last.form y → Knows variables env state before
+    → Knows variables env (turn_ended way state) after
+ended-known variables env way state before after x y n within kept has other between apart has_next last known =
     let m = next_value way.direction n in
-    let later = written store (place_of env way.control) (value.Number m) in
     let range = values_behind way.direction way.last.values (range_of state way.control) in
     let inside = behind-in way.direction way.last.values (range_of state way.control) x y n other between apart
-    (root-here variables env store state way.control n known has) in
-    let assigned = assigned-known variables env shows state store way.control range (next way) (value.Number m) within known inside
-    (next-of_form env store way.control way.direction n has) in
-    let moved = nonempty-known variables env range _ later (value.Number m) inside assigned in
-    in-order_known variables env later way.direction (own way) way.last.form m y (moved_on way range state) (own-may variables env later way m has_next) last
+    (root-here variables env before state way.control n known has) in
+    let assigned = assigned-known variables env [] state before after way.control range (next way) (value.Number m) within kept has_next known
+    (none-loose env state after) inside (next-of_form env before way.control way.direction n has) (λ root k is. refl) in
+    let moved = nonempty-known variables env range _ after (value.Number m) inside assigned in
+    in-order_known variables env after way.direction (own way) way.last.form m y (moved_on way range state) (own-may variables env after way m has_next) last
     (next-between way.direction x y n between apart).1 moved
 
 -- ---- bounds that turns leave as they are

@@ -1,6 +1,6 @@
 -- What a loop lists and touches, with the control variable of a for statement and without it.
-use Rattle.std.proofs.Common.{◌≡◌, ◌∙◌, sym, ap, ap₂, refl, ℕ, Bool, true, false, not, ◌&&◌, ◌||◌, cond, nat_eq, List, [], ◌∷◌, Option, Some, None, Result, Ok}
-use Rattle.std.proofs.Common.{Err}
+use Rattle.std.proofs.Common.{◌≡◌, ◌∙◌, sym, ap, ap₂, refl, ℕ, Bool, true, false, not, ◌&&◌, ◌||◌, cond, nat_eq, List}
+use Rattle.std.proofs.Common.{[], ◌∷◌, ◌++◌, Option, Some, None, Result, Ok, Err}
 use Rattle.std.proofs.lemmas.Bool.{eq-eqb, eqb-true}
 use Rattle.std.proofs.lemmas.List.Folds.{list_any-append}
 use Rattle.std.specs.Prelude.{IfOk}
@@ -49,38 +49,47 @@ pub kept_controls : (own : Option ℕ) (round : Round) (root : ℕ)
 kept_controls None round root = refl
 kept_controls (Some control) round root = among-but root control round.controls
 
+either-parts : (root : ℕ) (round : Round) → is_among root (touched round)
+    ≡ (is_among root round.controls || (is_among root round.changes || is_among root round.aliases))
+either-parts root round =
+    list_any-append (λ other. nat_eq other root) round.controls (round.changes ++ round.aliases)
+    ∙ ap (λ t. is_among root round.controls || t) (list_any-append (λ other. nat_eq other root) round.changes round.aliases)
+
 pub touched_parts : (own : Option ℕ) (round : Round) (root : ℕ)
-    → is_among root (touched (with_own own round)) ≡ (is_own root own || (is_among root round.controls || is_among root round.changes))
-touched_parts None round root = list_any-append (λ other. nat_eq other root) round.controls round.changes
-touched_parts (Some control) round root =
-    ap (λ t. nat_eq control root || t) (list_any-append (λ other. nat_eq other root) round.controls round.changes)
+    → is_among root (touched (with_own own round))
+    ≡ (is_own root own || (is_among root round.controls || (is_among root round.changes || is_among root round.aliases)))
+touched_parts None round root = either-parts root round
+touched_parts (Some control) round root = ap (λ t. nat_eq control root || t) (either-parts root round)
 
 -- ---- inside the loop of a for statement
 
-neither : (e a b : Bool) → (e || (a || b)) ≡ false → ((not e && a) || (not e && b)) ≡ false
-neither false a b is = is
-neither true a b is = absurd (cc)
+neither : (e a b d : Bool) → (e || (a || (b || d))) ≡ false → ((not e && a) || ((not e && b) || (not e && d))) ≡ false
+neither false a b d is = is
+neither true a b d is = absurd (cc)
 
 nor-one : (e a : Bool) → (e || a) ≡ false → (not e && a) ≡ false
 nor-one false a is = is
 nor-one true a is = absurd (cc)
 
-neither-own : (e a b : Bool) → e ≡ true → ((not e && a) || (not e && b)) ≡ false
-neither-own true a b is = refl
-neither-own false a b is = absurd (cc)
+neither-own : (e a b d : Bool) → e ≡ true → ((not e && a) || ((not e && b) || (not e && d))) ≡ false
+neither-own true a b d is = refl
+neither-own false a b d is = absurd (cc)
 
-inside-parts : (control : ℕ) (loop : Round) (root : ℕ) → is_among root (touched (without_own (Some control) loop))
-    ≡ ((not (nat_eq control root) && is_among root loop.controls) || (not (nat_eq control root) && is_among root loop.changes))
+pub inside-parts : (control : ℕ) (loop : Round) (root : ℕ) → is_among root (touched (without_own (Some control) loop))
+    ≡ ((not (nat_eq control root) && is_among root loop.controls)
+    || ((not (nat_eq control root) && is_among root loop.changes) || (not (nat_eq control root) && is_among root loop.aliases)))
 inside-parts control loop root =
-    list_any-append (λ other. nat_eq other root) (all_but control loop.controls) (all_but control loop.changes)
-    ∙ ap₂ (λ a b. a || b) (among-but root control loop.controls) (among-but root control loop.changes)
+    either-parts root (without_own (Some control) loop)
+    ∙ ap₂ (λ a b. a || b) (among-but root control loop.controls)
+    (ap₂ (λ a b. a || b) (among-but root control loop.changes) (among-but root control loop.aliases))
 
 -- what isn't touched at the head isn't touched inside
 pub inside-untouched : (control : ℕ) (loop : Round) (root : ℕ) → is_among root (touched (with_own (Some control) loop)) ≡ false
     → is_among root (touched (without_own (Some control) loop)) ≡ false
 inside-untouched control loop root apart =
     inside-parts control loop root
-    ∙ neither (nat_eq control root) (is_among root loop.controls) (is_among root loop.changes) (sym (touched_parts (Some control) loop root) ∙ apart)
+    ∙ neither (nat_eq control root) (is_among root loop.controls) (is_among root loop.changes) (is_among root loop.aliases)
+    (sym (touched_parts (Some control) loop root) ∙ apart)
 
 pub inside-uncontrolled : (control : ℕ) (loop : Round) (root : ℕ) → is_among root (with_own (Some control) loop).controls ≡ false
     → is_among root (without_own (Some control) loop).controls ≡ false
@@ -91,7 +100,8 @@ inside-uncontrolled control loop root apart =
 pub own-untouched : (control : ℕ) (loop : Round) → is_among control (touched (without_own (Some control) loop)) ≡ false
 own-untouched control loop =
     inside-parts control loop control
-    ∙ neither-own (nat_eq control control) (is_among control loop.controls) (is_among control loop.changes) (eq-eqb control control refl)
+    ∙ neither-own (nat_eq control control) (is_among control loop.controls) (is_among control loop.changes) (is_among control loop.aliases)
+    (eq-eqb control control refl)
 
 or-first : (a b : Bool) → a ≡ true → (a || b) ≡ true
 or-first true b is = refl

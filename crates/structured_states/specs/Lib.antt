@@ -1,3 +1,4 @@
+pub mod Pairs
 pub mod Cases
 pub mod Loops
 pub mod View

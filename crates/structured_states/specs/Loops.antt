@@ -20,6 +20,7 @@ use Rattle.leaf_rows.specs.Rows.{Named, Row, index_at, part_named, rows_of, rows
 use Rattle.component_states.specs.Components as components
 use Rattle.component_states.specs.Components.{ComponentFact, Stretched}
 use Rattle.component_states.specs.States.{State, all_of_row, gives_components}
+use Rattle.structured_states.specs.Pairs.{all_aliases}
 
 -- what is claimed of a loop: the variables that it changes, and facts that hold whenever a turn begins
 pub record Claims : Type 0 where
@@ -113,10 +114,12 @@ all_claims tree certificate = map (claims_on certificate) (range_with_len 0 (len
 abbrev pub claims_at : List Claims → ℕ → Claims
 claims_at claims number = slice_index_or claims number no_claims
 
--- a loop round a point: the variables that its claims list, and the control variables of the for statements in it
+-- a loop round a point: the variables that its claims list, the control variables of the for statements in it, and the
+-- aliases of both
 pub record Round : Type 0 where
   pub changes : List ℕ
   pub controls : List ℕ
+  pub aliases : List ℕ
 
 -- the control variables of the for statements inside a loop, by its row in the table; none where it has no row
 abbrev pub controls_of : Option Loop → List ℕ
@@ -126,10 +129,12 @@ controls_of (Some row) = row.controls.items
 abbrev pub controls_inside : Tree → ℕ → List ℕ
 controls_inside tree number = controls_of (slice_get tree.loops.items number)
 
--- the loop of a number, by the claims on all loops
-abbrev pub round_of : Tree → List Claims → ℕ → Round
-round_of tree claims number =
-    record { changes = (claims_at claims number).changes; controls = controls_inside tree number }
+-- the loop of a number, by the claims on all loops and by the listed pairs
+abbrev pub round_of : Tree → List (ℕ × ℕ) → List Claims → ℕ → Round
+round_of tree pairs claims number =
+    let changes = (claims_at claims number).changes in
+    let controls = controls_inside tree number in
+    record { changes = changes; controls = controls; aliases = all_aliases pairs (controls ++ changes) }
 
 -- a loop at its head: a for statement has a control variable of its own
 abbrev pub with_own : Option ℕ → Round → Round
@@ -143,12 +148,15 @@ all_but root roots = filter (λ other. not (nat_eq other root)) roots
 -- a loop round its body: nothing in the body of a for statement changes the control variable
 abbrev pub without_own : Option ℕ → Round → Round
 without_own None round = round
-without_own (Some control) round =
-    record { changes = all_but control round.changes; controls = all_but control round.controls }
+without_own (Some control) round = record {
+  changes = all_but control round.changes;
+  controls = all_but control round.controls;
+  aliases = all_but control round.aliases;
+}
 
 -- what a loop touches
 abbrev pub touched : Round → List ℕ
-touched round = round.controls ++ round.changes
+touched round = round.controls ++ (round.changes ++ round.aliases)
 
 -- the values of a type; those of integer, where the tree doesn't tell it
 abbrev pub limits_or_integer : Option OrdinalRange → Interval

@@ -1,6 +1,10 @@
 -- The loops and ways of the program as the definitions see them. It does not say what is known of them.
-use Rattle.std.specs.Prelude.{ℕ, ◌≡◌, ◌<◌, Bool, true, false, List, [], Option, Some, None, get_or, length, nat_eq}
+use Rattle.std.specs.Prelude.{ℕ, ◌≡◌, ◌<◌, Bool, true, false, List, [], ◌++◌, Option, Some, None, get_or, length, map}
+use Rattle.std.specs.Prelude.{nat_eq}
+use Rattle.std.specs.Global.{Vec}
+use Rattle.std.specs.List.{range_with_len}
 use denote.Ref.{Bor}
+use Rattle.certificate.specs.declared.AliasPair.{AliasPair}
 use Rattle.certificate.specs.declared.LoopClaims.{LoopClaims as KeptClaims}
 use Rattle.certificate.specs.Contents.{LoopClaims, loop_of}
 use Rattle.domain.specs.Facts.{Fact, Range, Defined, Stretch, Order}
@@ -14,8 +18,9 @@ use Rattle.abstract_state.specs.View.{said_form}
 use Rattle.structured_states.specs.declared.rounds.Round.{Round as KeptRound}
 use Rattle.structured_states.specs.declared.ways.End.{End as KeptEnd}
 use Rattle.structured_states.specs.declared.ways.Way.{Way as KeptWay}
-use Rattle.structured_states.specs.Loops.{Claims, Round, claims_of, or_else, rows_named}
+use Rattle.structured_states.specs.Loops.{Claims, Round, claims_of, or_else, round_of, rows_named}
 use Rattle.structured_states.specs.Loops.{with_own, without_own}
+use Rattle.structured_states.specs.Pairs.{aliases_of, partner}
 use Rattle.structured_states.specs.Ways.{End, Way}
 
 -- claims that the checker has found, as the definitions see them
@@ -52,9 +57,45 @@ pub record AreFound (old new : List (Option (Bor KeptClaims))) (found : ℕ → 
   pub each : (number : ℕ) → number < length old
       → found_as (get_or new number None) ≡ or_else (found_as (get_or old number None)) (found number)
 
+-- the pairs that a certificate lists, as the definitions see them
+abbrev pub said_pair : AliasPair → ℕ × ℕ
+said_pair pair = (pair.first, pair.second)
+
+abbrev pub said_pairs : List AliasPair → List (ℕ × ℕ)
+said_pairs pairs = map said_pair pairs
+
+-- what rows of variables hold, and the row of a number; one that isn't there has none
+abbrev pub partners_at : List (Vec ℕ) → ℕ → List ℕ
+partners_at rows root = get_or (map (λ row. row.items) rows) root []
+
+-- rows have the aliases of each variable by pairs
+abbrev pub ArePartners : List (ℕ × ℕ) → List (Vec ℕ) → Type 0
+ArePartners pairs rows = (root : ℕ) → partners_at rows root ≡ aliases_of pairs root
+
+-- each variable of a pair has the other more
+abbrev pub HaveEntered : AliasPair → (old new : List (Vec ℕ)) → Type 0
+HaveEntered pair old new = (root : ℕ) → partners_at new root ≡ partners_at old root ++ partner root (said_pair pair)
+
+-- rows are as many as are wanted, and hold what they held
+pub record AreWidened (number : ℕ) (old new : List (Vec ℕ)) : Type 0 where
+  pub enough : number < length new
+  pub same : (root : ℕ) → partners_at new root ≡ partners_at old root
+
+-- the aliases of what a loop changes, by its number, and those of each loop
+abbrev pub loop_aliases : Tree → List (ℕ × ℕ) → List Claims → ℕ → List ℕ
+loop_aliases tree pairs claims number = (round_of tree pairs claims number).aliases
+
+abbrev pub all_loop_aliases : Tree → List (ℕ × ℕ) → List Claims → List (List ℕ)
+all_loop_aliases tree pairs claims =
+    map (loop_aliases tree pairs claims) (range_with_len 0 (length tree.loops.items))
+
 -- a loop of the checker: the loop itself, at its head, and round its body
 abbrev pub loop_of_round : KeptRound → Round
-loop_of_round round = record { changes = (said_claims round.claims).changes; controls = round.controls.now }
+loop_of_round round = record {
+  changes = (said_claims round.claims).changes;
+  controls = round.controls.now;
+  aliases = round.aliases.now;
+}
 
 abbrev pub head_round : KeptRound → Round
 head_round round = with_own round.own (loop_of_round round)

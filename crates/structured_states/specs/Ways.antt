@@ -5,6 +5,7 @@ use Rattle.typed_tree.specs.declared.tree.Direction.{Direction}
 use Rattle.typed_tree.specs.declared.tree.Direction.TheVariants.{To, DownTo}
 use Rattle.typed_tree.specs.declared.tree.Expr.{Expr}
 use Rattle.typed_tree.specs.declared.tree.RangeTest.{RangeTest}
+use Rattle.typed_tree.specs.Calls.{holds_call}
 use Rattle.typed_tree.specs.declared.tree.Relation.{Relation}
 use Rattle.typed_tree.specs.declared.tree.Relation.TheVariants as relation
 use Rattle.domain.specs.Interval.{Interval, at_least, at_most, difference, sum}
@@ -33,12 +34,16 @@ pub record Way : Type 0 where
 abbrev pub end_of : Expr → RangeTest → Known → End
 end_of expression fits (Ordinal values) = record { form = bound_form expression; fits = fits; values = values }
 
+-- the form of an expression behind which another was evaluated
+abbrev pub form_before : Expr → (later : Expr) → Option Bound
+form_before expression later = if holds_call later then None else bound_form expression
+
 -- the way between two expressions
 abbrev pub way_of : ℕ → Direction → (first : Expr) → RangeTest → (last : Expr) → RangeTest → (from to : Known) → Way
 way_of control direction first first_fits last last_fits from to = record {
   control = control;
   direction = direction;
-  first = end_of first first_fits from;
+  first = record (end_of first first_fits from) { form = form_before first last };
   last = end_of last last_fits to;
 }
 

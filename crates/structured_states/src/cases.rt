@@ -33,12 +33,15 @@ pub fn covers(alloc: Global, constants: &[i32], range: Interval) -> Result<bool,
 }
 
 /// What is known where the index, perhaps an entire variable, is one of some constants.
-fn at_constants(state: &mut State, index: Option<u32>, constants: &[i32])
-    ensures { viewed state.new ≡ at_constants index constants.now (viewed state.old) }
+fn at_constants(state: &mut State, index: Option<u32>, constants: &[i32]) -> Result<(), AllocError>
+    ensures { IfOk result (λ _. viewed state.new ≡ at_constants index constants.now (viewed state.old)) }
 {
-    if let Some(root) = index {
-        let range = state.range(root).meet(&Interval::hull(constants));
-        state.narrow(root, range);
+    match index {
+        None => Ok(()),
+        Some(root) => {
+            let range = state.range(root).meet(&Interval::hull(constants));
+            state.narrow(root, range)
+        }
     }
 }
 
@@ -56,7 +59,7 @@ pub fn arm_start(
         None => Ok(State::Dead),
         Some(row) => {
             let mut start = state.copied(alloc)?;
-            at_constants(&mut start, index, row);
+            at_constants(&mut start, index, row)?;
             Ok(start)
         }
     }

@@ -28,7 +28,7 @@ pub fn is_ordinal_variable(tree: &Tree, root: u32) -> bool
 }
 
 /// Whether a path names an entire variable of an ordinal type.
-fn names_entire(tree: &Tree, path: &Path) -> bool
+pub fn names_entire(tree: &Tree, path: &Path) -> bool
     ensures { result ≡ names_entire tree.now (said_path path.now) }
 {
     path.steps.is_empty() && is_ordinal_variable(tree, path.root)
@@ -60,11 +60,7 @@ fn plain(tree: &Tree, claim: &Claim) -> Option<Fact>
 }
 
 /// The claims of entire variables of ordinal types.
-pub(crate) fn plain_facts(
-    alloc: Global,
-    tree: &Tree,
-    claims: &[Claim],
-) -> Result<Vec<Fact>, AllocError>
+pub fn plain_facts(alloc: Global, tree: &Tree, claims: &[Claim]) -> Result<Vec<Fact>, AllocError>
     ensures { IfOk result (λ facts. map said facts.items ≡ plain_facts tree.now (map said_fact claims.now)) }
 {
     let mut facts = Vec::new(alloc);
@@ -108,7 +104,7 @@ fn rows_claimed(rows: &Rows, claim: &Claim) -> Span
 }
 
 /// The rows under what a path names; none where it names nothing.
-fn rows_named(rows: &Rows, path: &Path) -> Span
+pub fn rows_named(rows: &Rows, path: &Path) -> Span
     ensures { numbers result ≡ rows_named rows.now (said_path path.now) }
 {
     match rows.named(path) {
@@ -148,7 +144,7 @@ fn push_claims(facts: &mut Vec<ComponentFact>, rows: &Rows, claim: &Claim) -> Re
 }
 
 /// What claims say of components.
-pub(crate) fn component_facts(
+pub fn component_facts(
     alloc: Global,
     rows: &Rows,
     claims: &[Claim],

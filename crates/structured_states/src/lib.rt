@@ -4,5 +4,6 @@
 
 pub mod cases;
 pub mod kept_claims;
+pub mod pairs;
 pub mod rounds;
 pub mod ways;

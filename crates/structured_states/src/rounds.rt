@@ -1,4 +1,4 @@
-ghost use Rattle.std.specs.Prelude.{◌≡◌, ◌∷◌, ◌++◌, [], IfOk, map};
+ghost use Rattle.std.specs.Prelude.{◌≡◌, ◌∷◌, ◌++◌, ℕ, List, [], IfOk, get_or, length, map};
 ghost use Rattle.std.specs.List.{list_all};
 ghost use Rattle.abstract_state.specs.Loops as variables;
 ghost use Rattle.abstract_state.specs.Loops.{is_among};
@@ -11,10 +11,13 @@ ghost use Rattle.component_states.specs.View.{said_component, viewed};
 ghost use Rattle.certificate.specs.Contents.{loop_of, said_fact};
 ghost use Rattle.structured_states.specs.Loops.{all_claims, all_limits, claims_at, controls_inside, found_among};
 ghost use Rattle.structured_states.specs.Loops.{gives_claims, head_of, limits_at, limits_or_integer, plain_facts};
-ghost use Rattle.structured_states.specs.Loops.{row_limits, touched, type_limits};
-ghost use Rattle.structured_states.specs.View.{AreFound, head_round, is_own, kept_round, said_claims};
+ghost use Rattle.structured_states.specs.Loops.{round_of, row_limits, touched, type_limits};
+ghost use Rattle.structured_states.specs.View.{AreFound, all_loop_aliases, head_round, is_own, kept_round};
+ghost use Rattle.structured_states.specs.View.{loop_of_round, said_claims};
+ghost use Rattle.structured_states.specs.Pairs.{all_aliases};
 
 use crate::kept_claims::{component_facts, components_are_given, plain_are_given, plain_facts};
+use crate::pairs::Pairs;
 use abstract_state::limits;
 use certificate::{Certificate, Fact as Claim, LoopClaims};
 use component_states::{ComponentFact, State};
@@ -31,11 +34,37 @@ pub struct Round<'a> {
     pub claims: Option<&'a LoopClaims>,
     /// The control variables of the for statements inside it.
     pub controls: &'a [u32],
+    /// The aliases of what it changes, and of these control variables.
+    pub aliases: &'a [u32],
     /// Its own control variable, if it is a for statement.
     pub own: Option<u32>,
 }
 
 impl<'a> Round<'a> {
+    /// The loop of a number, perhaps of a for statement with a control variable, by the claims on all loops and by the
+    /// aliases of what each changes.
+    pub fn of(
+        tree: &'a Tree,
+        claims: &[Option<&'a LoopClaims>],
+        aliases: &'a [Vec<u32>],
+        number: u32,
+        own: Option<u32>,
+    ) -> Round<'a>
+        ensures loop_is { (pairs : List (ℕ × ℕ))
+            → length claims.now ≡ length tree.now.loops.items
+            → map (λ row. row.items) aliases.now ≡ all_loop_aliases tree.now pairs (map said_claims claims.now)
+            → loop_of_round result ≡ round_of tree.now pairs (map said_claims claims.now) number }
+        ensures claims_are { said_claims result.claims ≡ claims_at (map said_claims claims.now) number }
+        ensures own_is { result.own ≡ own }
+    {
+        Round {
+            claims: claims_at(claims, number),
+            controls: controls_inside(tree, number),
+            aliases: aliases_at(aliases, number),
+            own,
+        }
+    }
+
     /// Whether its body changes a variable.
     #[tactic(auto, using(crate::proofs::Touched::kept_changes))]
     fn lists(&self, root: u32) -> bool
@@ -57,7 +86,10 @@ impl<'a> Round<'a> {
     pub fn touches(&self, root: u32) -> bool
         ensures { result ≡ is_among root (touched (head_round self.now)) }
     {
-        self.is_own(root) || is_among(self.controls, root) || is_among(self.changes(), root)
+        self.is_own(root)
+            || is_among(self.controls, root)
+            || is_among(self.changes(), root)
+            || is_among(self.aliases, root)
     }
 
     /// Whether a variable is its own control variable.
@@ -133,12 +165,14 @@ impl<'a> Round<'a> {
         state.variables.head(limits, touched, controls, &facts)
     }
 
-    /// Its control variables, and the variables that its claims list.
+    /// Its control variables, the variables that its claims list, and the aliases of both.
     fn all_touched(&self, alloc: Global, controls: &[u32]) -> Result<Vec<u32>, AllocError>
-        ensures { IfOk result (λ touched. touched.items ≡ controls.now ++ (said_claims self.now.claims).changes) }
+        ensures { IfOk result (λ touched. touched.items
+            ≡ controls.now ++ ((said_claims self.now.claims).changes ++ self.now.aliases.now)) }
     {
         let mut touched = Vec::from_slice(alloc, controls)?;
         touched.extend_from_slice(self.changes())?;
+        touched.extend_from_slice(self.aliases)?;
         Ok(touched)
     }
 
@@ -166,27 +200,29 @@ fn components_head(
         touched.now (rows_touched (rows_of rows.now) touched.now) (map said_component claims.now)) (viewed state.old)) }
 {
     state.touch_roots(touched);
-    touch_rows(state, rows, touched);
+    touch_rows(state, rows, touched)?;
     state.claim_all(claims)
 }
 
 /// Each row of several variables may have other values of its type.
-fn touch_rows(state: &mut State, rows: &Rows, touched: &[u32])
-    ensures { viewed state.new ≡ over_components (λ _. with_touched (row_limits (rows_of rows.now))
-        (rows_touched (rows_of rows.now) touched.now)) (viewed state.old) }
+fn touch_rows(state: &mut State, rows: &Rows, touched: &[u32]) -> Result<(), AllocError>
+    ensures { IfOk result (λ _. viewed state.new ≡ over_components (λ _. with_touched (row_limits (rows_of rows.now))
+        (rows_touched (rows_of rows.now) touched.now)) (viewed state.old)) }
 {
     for root in touched {
-        touch_span(state, rows, rows.of_variable(*root));
+        touch_span(state, rows, rows.of_variable(*root))?;
     }
+    Ok(())
 }
 
-fn touch_span(state: &mut State, rows: &Rows, span: Span)
-    ensures { viewed state.new ≡ over_components (λ _. with_touched (row_limits (rows_of rows.now)) (numbers span))
-        (viewed state.old) }
+fn touch_span(state: &mut State, rows: &Rows, span: Span) -> Result<(), AllocError>
+    ensures { IfOk result (λ _. viewed state.new
+        ≡ over_components (λ _. with_touched (row_limits (rows_of rows.now)) (numbers span)) (viewed state.old)) }
 {
     for row in span.first..span.end() {
-        state.touch_row(row, row_limits(rows, row));
+        state.touch_row(row, row_limits(rows, row))?;
     }
+    Ok(())
 }
 
 /// The values of the type of a row's components.
@@ -221,7 +257,13 @@ pub fn all_control(rounds: &[Round], root: u32) -> bool
 pub fn controls_inside(tree: &Tree, number: u32) -> &[u32]
     ensures { result.now ≡ controls_inside tree.now number }
 {
-    match tree.loops.get(number as usize) {
+    controls_at(tree, number as usize)
+}
+
+fn controls_at(tree: &Tree, number: usize) -> &[u32]
+    ensures { result.now ≡ controls_inside tree.now number }
+{
+    match tree.loops.get(number) {
         None => &[],
         Some(row) => &row.controls,
     }
@@ -272,6 +314,59 @@ pub fn claims_at<'a>(claims: &[Option<&'a LoopClaims>], number: u32) -> Option<&
     }
 }
 
+/// The aliases of what each loop of a program changes, by the numbers of the loops.
+pub fn all_loop_aliases(
+    alloc: Global,
+    tree: &Tree,
+    pairs: &Pairs,
+    claims: &[Option<&LoopClaims>],
+) -> Result<Vec<Vec<u32>>, AllocError>
+    ensures { IfOk result (λ found. map (λ row. row.items) found.items
+        ≡ all_loop_aliases tree.now pairs.now (map said_claims claims.now)) }
+{
+    let mut found = Vec::with_capacity(alloc, tree.loops.len())?;
+    for number in 0..tree.loops.len() {
+        let controls = controls_at(tree, number);
+        found.push(both_aliases(alloc, pairs, controls, changes_at(claims, number))?)?;
+    }
+    Ok(found)
+}
+
+/// The aliases of control variables and of variables that are listed.
+fn both_aliases(
+    alloc: Global,
+    pairs: &Pairs,
+    controls: &[u32],
+    changes: &[u32],
+) -> Result<Vec<u32>, AllocError>
+    ensures { IfOk result (λ aliases. aliases.items ≡ all_aliases pairs.now (controls.now ++ changes.now)) }
+{
+    let mut aliases = Vec::new(alloc);
+    pairs.add_aliases(&mut aliases, controls)?;
+    pairs.add_aliases(&mut aliases, changes)?;
+    Ok(aliases)
+}
+
+/// The variables that the claims on the loop of a number list.
+fn changes_at<'a>(claims: &[Option<&'a LoopClaims>], number: usize) -> &'a [u32]
+    ensures { result.now ≡ (claims_at (map said_claims claims.now) number).changes }
+{
+    match claims.get(number) {
+        Some(Some(found)) => &found.changes,
+        _ => &[],
+    }
+}
+
+/// The aliases of what the loop of a number changes by those of each.
+fn aliases_at(aliases: &[Vec<u32>], number: u32) -> &[u32]
+    ensures { result.now ≡ get_or (map (λ row. row.items) aliases.now) number [] }
+{
+    match aliases.get(number as usize) {
+        None => &[],
+        Some(found) => found.as_slice(),
+    }
+}
+
 /// The values of the type of each variable, by root number.
 pub fn all_limits(alloc: Global, tree: &Tree) -> Result<Vec<Interval>, AllocError>
     ensures { IfOk result (λ found. found.items ≡ all_limits tree.now) }
@@ -291,7 +386,7 @@ fn type_limits(types: &TypeTable, variable: Variable) -> Interval
 }
 
 /// The values of a type; those of integer, where the tree doesn't tell it.
-fn limits_or_integer(range: Option<OrdinalRange>) -> Interval
+pub fn limits_or_integer(range: Option<OrdinalRange>) -> Interval
     ensures { result ≡ limits_or_integer range }
 {
     match range {

@@ -5,15 +5,16 @@ ghost use Rattle.abstract_state.specs.State.{bound_range};
 ghost use Rattle.abstract_state.specs.View.{said_form, viewed};
 ghost use Rattle.structured_states.specs.Loops.{touched};
 ghost use Rattle.structured_states.specs.View.{head_round, said_end, said_way};
-ghost use Rattle.structured_states.specs.Ways.{end_of, in_order, met, next, on_way, own, relation_of, steady};
-ghost use Rattle.structured_states.specs.Ways.{turn_begun, turn_ended, unless_touched, values_behind, where_counts};
-ghost use Rattle.structured_states.specs.Ways.{with_values};
+ghost use Rattle.structured_states.specs.Ways.{end_of, form_before, in_order, met, next, on_way, own, relation_of};
+ghost use Rattle.structured_states.specs.Ways.{steady, turn_begun, turn_ended, unless_touched, values_behind};
+ghost use Rattle.structured_states.specs.Ways.{where_counts, with_values};
 
 use crate::rounds::Round;
 use abstract_state::{Known, State, bound_form};
 use domain::facts::Bound;
 use domain::interval::Interval;
 use std::alloc::AllocError;
+use typed_tree::calls::holds_call;
 use typed_tree::tree::{Direction, Expr, RangeTest, Relation};
 
 /// A bound of a for statement.
@@ -37,6 +38,18 @@ impl End {
         }
     }
 
+    /// An expression as a bound behind which another was evaluated.
+    pub fn before(expression: &Expr, later: &Expr, fits: RangeTest, known: Known) -> End
+        ensures { said_end result
+            ≡ record (end_of expression.now fits known) { form = form_before expression.now later.now } }
+    {
+        End {
+            form: form_before(expression, later),
+            fits,
+            values: known.range(),
+        }
+    }
+
     /// Where its value lies, met with what a state knows of its form.
     pub fn met(&self, state: &State) -> Interval
         ensures { result ≡ met (said_form self.now.form) (viewed state.now) self.now.values }
@@ -46,6 +59,16 @@ impl End {
             Some(bound) => near(self.values, state, bound),
         }
     }
+}
+
+/// The form of an expression behind which another was evaluated: one that holds a call may have changed what it says.
+fn form_before(expression: &Expr, later: &Expr) -> Option<Bound>
+    ensures { said_form result ≡ form_before expression.now later.now }
+{
+    if holds_call(later) {
+        return None;
+    }
+    bound_form(expression)
 }
 
 /// The numbers of a range that a bound may be.
@@ -136,8 +159,8 @@ impl Way {
         ensures { IfOk result (λ _. viewed state.new ≡ turn_begun (said_way self.now) (viewed state.old)) }
     {
         let range = self.values(state.range(self.control));
-        state.narrow(self.control, range);
-        state.define(self.control);
+        state.narrow(self.control, range)?;
+        state.define(self.control)?;
         in_order(state, self.direction, self.first.form, self.own())?;
         in_order(state, self.direction, self.own(), self.last.form)
     }

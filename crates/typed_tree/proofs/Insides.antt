@@ -8,7 +8,9 @@ use Rattle.typed_tree.specs.declared.tree.Direction.{Direction}
 use Rattle.types.specs.declared.form.TypeId.{TypeId}
 use Rattle.typed_tree.specs.declared.tree.WriteParameter.{WriteParameter}
 use Rattle.typed_tree.specs.declared.tree.Whole.{Whole}
+use Rattle.typed_tree.specs.declared.tree.Call.{Call}
 use Rattle.typed_tree.specs.declared.tree.Expr.{Expr}
+use Rattle.typed_tree.specs.declared.tree.Passed.{Passed}
 use Rattle.typed_tree.specs.declared.tree.Stmt.{Stmt}
 use Rattle.typed_tree.specs.declared.tree.Stmt.TheVariants as stmt
 use Rattle.typed_tree.specs.declared.tree.Stmt.TheOpen as layer
@@ -40,6 +42,9 @@ pub inside_write : (number : ℕ) (name : Place) (parameters : Vec WriteParamete
     → inside_of (stmt.Write number name parameters ends_line) ≡ no_loop
 inside_write number name parameters ends_line =
     rolled (stmt.Write number name parameters ends_line) (layer.Write number name parameters ends_line) (stmt.rolls-Write number name parameters ends_line)
+
+pub inside_call : (call : Call) (actuals : Vec Passed Global) → inside_of (stmt.Call call actuals) ≡ no_loop
+inside_call call actuals = rolled (stmt.Call call actuals) (layer.Call call actuals) (stmt.rolls-Call call actuals)
 
 pub inside_compound : (number : ℕ) (statements : Vec Stmt Global) → inside_of (stmt.Compound number statements) ≡ all_inside (map inside_of statements.items)
 inside_compound number statements = rolled (stmt.Compound number statements) (layer.Compound number statements) (stmt.rolls-Compound number statements)
@@ -83,12 +88,12 @@ inside_case number site index constants arms =
 
 -- ---- rows of loops
 
-module _ (rows : List Loop) where
-  pub loops_joined : (first second : List (ℕ × List ℕ)) → AreLoops rows first → AreLoops rows second → AreLoops rows (first ++ second)
+module _ (rows : List Loop) (block : ℕ) where
+  pub loops_joined : (first second : List (ℕ × List ℕ)) → AreLoops rows block first → AreLoops rows block second → AreLoops rows block (first ++ second)
   loops_joined [] second one more = more
   loops_joined (l ∷ first) second one more = (one.0, loops_joined first second one.1 more)
 
-  pub loops_split : (first second : List (ℕ × List ℕ)) → AreLoops rows (first ++ second) → AreLoops rows first × AreLoops rows second
+  pub loops_split : (first second : List (ℕ × List ℕ)) → AreLoops rows block (first ++ second) → AreLoops rows block first × AreLoops rows block second
   loops_split [] second all = (tt, all)
   loops_split (l ∷ first) second all =
       let rest = loops_split first second all.1 in

@@ -1,6 +1,6 @@
 -- How the forms of a typed tree look, as code builds them; and that the look of a tree tells its entries, and whether its
 -- blocks are well formed.
-use Rattle.std.proofs.Common.{◌≡◌, ℕ, ℤ, Bool, [], ◌∷◌, ◌++◌, length, map, Some, None, sym, ap, ◌∙◌}
+use Rattle.std.proofs.Common.{◌≡◌, ℕ, ℤ, Bool, true, false, [], ◌∷◌, ◌++◌, length, map, Some, None, sym, ap, ◌∙◌}
 use Rattle.std.proofs.Common.{Box, Vec}
 use Rattle.std.specs.Prelude.{flat_map}
 use Rattle.std.specs.declared.alloc.Global.{Global}
@@ -16,46 +16,54 @@ use Rattle.typed_tree.specs.declared.tree.Relation.{Relation}
 use Rattle.typed_tree.specs.declared.tree.Dyadic.TheVariants as dyadic
 use Rattle.typed_tree.specs.declared.tree.WriteParameter.{WriteParameter}
 use Rattle.typed_tree.specs.declared.tree.Whole.{Whole}
+use Rattle.typed_tree.specs.declared.tree.Call.{Call}
 use Rattle.typed_tree.specs.declared.tree.Expr.{Expr}
+use Rattle.typed_tree.specs.declared.tree.Passed.{Passed}
+use Rattle.typed_tree.specs.declared.tree.Passed.TheVariants as actual
 use Rattle.typed_tree.specs.declared.tree.Link.{Link}
 use Rattle.typed_tree.specs.declared.tree.Expr.TheVariants as tree
 use Rattle.typed_tree.specs.declared.tree.Expr.TheOpen as layer
 use Rattle.typed_tree.specs.declared.tree.Expr.TheViews.{roll-Link, out-Link}
-use Rattle.typed_tree.specs.declared.tree.Expr.TheFolds.{fold-roll-Expr, fold-roll-Link, fold_out-Link}
+use Rattle.typed_tree.specs.declared.tree.Expr.TheFolds.{fold-roll-Expr, fold-roll-Passed, fold-roll-Link, fold_out-Link}
 use Rattle.typed_tree.specs.declared.tree.Stmt.{Stmt}
 use Rattle.typed_tree.specs.declared.tree.Stmt.TheVariants as stmt
 use Rattle.typed_tree.specs.declared.tree.Stmt.TheOpen as stmt_layer
 use Rattle.typed_tree.specs.declared.tree.Stmt.TheFolds.{fold-roll-Stmt}
+use Rattle.typed_tree.specs.Look.{passed_look, look_call, look_passed, ForValue, ForWhole, ForVariable}
 use Rattle.typed_tree.specs.Look.{Look, link_look, expression_look, look_expr, look_link, look_parameter, statement_look, look_stmt, Constant, Value}
 use Rattle.typed_tree.specs.Look.{Operation, Applied, Begins, Operator, Ends, Empty, Assign, Target, Fits, Write, Compound, If, Then, Else, While, Do, Repeat}
 use Rattle.typed_tree.specs.Look.{Until, For, Case, arms_look, look_whole, look_access, Compared, WholeTarget, Copied}
 use Rattle.typed_tree.specs.WellFormed.{length_of}
-pub use Rattle.typed_tree.proofs.Measured.{entries_are, formed_are}
+pub use Rattle.typed_tree.proofs.Measured.{entries_are}
+
+-- how an actual parameter looks, for a callee and the place of a formal one
+abbrev Passing : Type 0
+Passing = ℕ → ℕ → Look
 
 -- ---- expressions
 
 pub look_constant : (number : ℕ) (value : ℤ) → look_expr (tree.Constant number value) ≡ Constant number value ∷ []
 look_constant number value =
-    ap look_expr (sym (tree.rolls-Constant number value)) ∙ fold-roll-Expr Look Look expression_look link_look (layer.Constant number value)
+    ap look_expr (sym (tree.rolls-Constant number value)) ∙ fold-roll-Expr Look Passing Look expression_look passed_look link_look (layer.Constant number value)
 
 pub look_variable : (access : Access) (indexes : Vec Expr Global) (defined : ℕ)
     → look_expr (tree.Variable access indexes defined)
     ≡ look_access access indexes.items (Value access.root access.selectors.items (length indexes.items) defined)
 look_variable access indexes defined =
     ap look_expr (sym (tree.rolls-Variable access indexes defined))
-    ∙ fold-roll-Expr Look Look expression_look link_look (layer.Variable access indexes defined)
+    ∙ fold-roll-Expr Look Passing Look expression_look passed_look link_look (layer.Variable access indexes defined)
     ∙ ap (λ count. look_access access indexes.items (Value access.root access.selectors.items count defined)) (length-map indexes.items look_expr)
 
 pub look_monadic : (number : ℕ) (operation : MonadicOperation) (operand : Box Expr Global)
     → look_expr (tree.Monadic number operation operand) ≡ Operation number ∷ (look_expr operand.value ++ (Applied operation ∷ []))
 look_monadic number operation operand =
     ap look_expr (sym (tree.rolls-Monadic number operation operand))
-    ∙ fold-roll-Expr Look Look expression_look link_look (layer.Monadic number operation operand)
+    ∙ fold-roll-Expr Look Passing Look expression_look passed_look link_look (layer.Monadic number operation operand)
 
 pub look_chain : (first : Box Expr Global) (rest : Vec Link Global)
     → look_expr (tree.Chain first rest) ≡ Begins ∷ (look_expr first.value ++ (flat_map look_link rest.items ++ (Ends ∷ [])))
 look_chain first rest =
-    ap look_expr (sym (tree.rolls-Chain first rest)) ∙ fold-roll-Expr Look Look expression_look link_look (layer.Chain first rest)
+    ap look_expr (sym (tree.rolls-Chain first rest)) ∙ fold-roll-Expr Look Passing Look expression_look passed_look link_look (layer.Chain first rest)
     ∙ ap (λ links. Begins ∷ (look_expr first.value ++ (links ++ (Ends ∷ [])))) (flat_map-map (λ (row : Look). row) look_link rest.items)
 
 pub look_compare : (number : ℕ) (relation : Relation) (left : Whole) (left_indexes : Vec Expr Global) (right : Whole) (right_indexes : Vec Expr Global)
@@ -66,15 +74,44 @@ pub look_compare : (number : ℕ) (relation : Relation) (left : Whole) (left_ind
     ∷ (look_whole right right_indexes.items ++ (Compared (length_of left) (length_of right) ∷ Ends ∷ []))))
 look_compare number relation left left_indexes right right_indexes =
     ap look_expr (sym (tree.rolls-Compare number relation left left_indexes right right_indexes))
-    ∙ fold-roll-Expr Look Look expression_look link_look (layer.Compare number relation left left_indexes right right_indexes)
+    ∙ fold-roll-Expr Look Passing Look expression_look passed_look link_look (layer.Compare number relation left left_indexes right right_indexes)
+
+pub look_function_call : (call : Call) (actuals : Vec Passed Global) → look_expr (tree.Call call actuals) ≡ look_call true call actuals.items
+look_function_call call actuals =
+    ap look_expr (sym (tree.rolls-Call call actuals))
+    ∙ fold-roll-Expr Look Passing Look expression_look passed_look link_look (layer.Call call actuals)
+
+-- ---- actual parameters, for a callee and the place of a formal one
+
+pub look_passed_value : (value : Expr) (fits : RangeTest) (callee position : ℕ)
+    → look_passed (actual.Value value fits) callee position ≡ look_expr value ++ (ForValue fits callee position ∷ [])
+look_passed_value value fits callee position =
+    ap (λ p. look_passed p callee position) (sym (actual.rolls-Value value fits))
+    ∙ ap (λ look. look callee position) (fold-roll-Passed Look Passing Look expression_look passed_look link_look (layer.Value value fits))
+
+pub look_passed_whole : (type_id : TypeId) (value : Whole) (indexes : Vec Expr Global) (callee position : ℕ)
+    → look_passed (actual.Whole type_id value indexes) callee position
+    ≡ look_whole value indexes.items ++ (ForWhole type_id (length_of value) callee position ∷ [])
+look_passed_whole type_id value indexes callee position =
+    ap (λ p. look_passed p callee position) (sym (actual.rolls-Whole type_id value indexes))
+    ∙ ap (λ look. look callee position) (fold-roll-Passed Look Passing Look expression_look passed_look link_look (layer.Whole type_id value indexes))
+
+pub look_passed_variable : (type_id : TypeId) (access : Access) (indexes : Vec Expr Global) (callee position : ℕ)
+    → look_passed (actual.Reference type_id access indexes) callee position
+    ≡ look_access access indexes.items (ForVariable type_id access.root access.selectors.items (length indexes.items) callee position)
+look_passed_variable type_id access indexes callee position =
+    ap (λ p. look_passed p callee position) (sym (actual.rolls-Reference type_id access indexes))
+    ∙ ap (λ look. look callee position) (fold-roll-Passed Look Passing Look expression_look passed_look link_look (layer.Reference type_id access indexes))
+    ∙ ap (λ count. look_access access indexes.items (ForVariable type_id access.root access.selectors.items count callee position))
+    (length-map indexes.items look_expr)
 
 -- an operator and its right operand, as they are made
-pub look_linked : (link : layer.Link-F Expr Link) → look_link (roll-Link link) ≡ Operator link.number link.operation ∷ look_expr link.operand
-look_linked link = fold-roll-Link Look Look expression_look link_look link
+pub look_linked : (link : layer.Link-F Expr Passed Link) → look_link (roll-Link link) ≡ Operator link.number link.operation ∷ look_expr link.operand
+look_linked link = fold-roll-Link Look Passing Look expression_look passed_look link_look link
 
 -- the same, as they are read
 pub look_link_out : (link : Link) → look_link link ≡ Operator (out-Link link).number (out-Link link).operation ∷ look_expr (out-Link link).operand
-look_link_out link = fold_out-Link Look Look expression_look link_look link
+look_link_out link = fold_out-Link Look Passing Look expression_look passed_look link_look link
 
 -- ---- statements
 
@@ -104,6 +141,10 @@ pub look_write : (number : ℕ) (name : Place) (parameters : Vec WriteParameter 
 look_write number name parameters ends_line =
     ap look_stmt (sym (stmt.rolls-Write number name parameters ends_line))
     ∙ fold-roll-Stmt Look statement_look (stmt_layer.Write number name parameters ends_line)
+
+pub look_procedure_call : (call : Call) (actuals : Vec Passed Global) → look_stmt (stmt.Call call actuals) ≡ look_call false call actuals.items
+look_procedure_call call actuals =
+    ap look_stmt (sym (stmt.rolls-Call call actuals)) ∙ fold-roll-Stmt Look statement_look (stmt_layer.Call call actuals)
 
 pub look_compound : (number : ℕ) (statements : Vec Stmt Global)
     → look_stmt (stmt.Compound number statements) ≡ Compound number ∷ (flat_map look_stmt statements.items ++ (Ends ∷ []))

@@ -1,11 +1,15 @@
 -- The entries of a typed tree in the order of entry (ISO 7185:1990, 6.7, 6.8):
--- each statement, the empty one too, each factor, sign and operator between operands, and each variable left of `:=`.
+-- each statement, the empty one too, each factor, sign and operator between operands, each variable left of `:=`, and
+-- each variable that is passed to a variable parameter.
 -- It says nothing of what happens at an entry.
-use Rattle.std.specs.Prelude.{ℕ, ◌++◌, List, [], ◌∷◌, Option, Some, None, flat_map, map}
+use Rattle.std.specs.Prelude.{◌≡◌, ℕ, ◌++◌, List, [], ◌∷◌, Option, Some, None, flat_map, length, map, slice_get}
+use Rattle.std.specs.List.{range_with_len}
 use Rattle.std.specs.declared.alloc.Global.{Global}
 use Rattle.std.specs.declared.boxed.Box.{Box}
 use Rattle.typed_tree.specs.declared.tree.Tree.{Tree}
 use Rattle.typed_tree.specs.declared.tree.Access.{Access}
+use Rattle.typed_tree.specs.declared.tree.Block.{Block}
+use Rattle.typed_tree.specs.declared.tree.Call.{Call}
 use Rattle.typed_tree.specs.declared.tree.Width.{Width}
 use Rattle.typed_tree.specs.declared.tree.WriteParameter.{WriteParameter}
 use Rattle.typed_tree.specs.declared.tree.Written.{Written}
@@ -13,14 +17,16 @@ use Rattle.typed_tree.specs.declared.tree.Written.TheVariants.{Ordinal, String}
 use Rattle.typed_tree.specs.declared.tree.Whole.{Whole}
 use Rattle.typed_tree.specs.declared.tree.Whole.TheVariants.{Text, Variable as VariableOf}
 use Rattle.typed_tree.specs.declared.tree.Expr.{Expr}
-use Rattle.typed_tree.specs.declared.tree.Expr.TheOpen.{Expr-F, Link-F}
+use Rattle.typed_tree.specs.declared.tree.Passed.{Passed}
+use Rattle.typed_tree.specs.declared.tree.Expr.TheOpen.{Expr-F, Passed-F, Link-F}
 use Rattle.typed_tree.specs.declared.tree.Expr.TheOpen.Expr-F.{Constant, Variable, Monadic as MonadicOf, Chain}
-use Rattle.typed_tree.specs.declared.tree.Expr.TheOpen.Expr-F.{Compare}
-use Rattle.typed_tree.specs.declared.tree.Expr.TheFolds.{fold-Expr}
+use Rattle.typed_tree.specs.declared.tree.Expr.TheOpen.Expr-F.{Compare, Call as CallOf}
+use Rattle.typed_tree.specs.declared.tree.Expr.TheOpen.Passed-F.{Value, Whole as WholeOf, Reference}
+use Rattle.typed_tree.specs.declared.tree.Expr.TheFolds.{fold-Expr, fold-Passed}
 use Rattle.typed_tree.specs.declared.tree.Stmt.{Stmt}
 use Rattle.typed_tree.specs.declared.tree.Stmt.TheOpen.{Stmt-F}
 use Rattle.typed_tree.specs.declared.tree.Stmt.TheOpen.Stmt-F.{Empty, Assign, Write, Compound, If, While, Repeat, For}
-use Rattle.typed_tree.specs.declared.tree.Stmt.TheOpen.Stmt-F.{Case, Copy}
+use Rattle.typed_tree.specs.declared.tree.Stmt.TheOpen.Stmt-F.{Case, Copy, Call as Calling}
 use Rattle.typed_tree.specs.declared.tree.Stmt.TheFolds.{fold-Stmt}
 
 -- several rows as one
@@ -37,20 +43,35 @@ whole_entries (Text number characters) indexes = number ∷ []
 whole_entries (VariableOf access type_id cells defined) indexes = access_entries access indexes
 
 -- an operator is entered before its right operand
-abbrev pub link_entries : Link-F (List ℕ) (List ℕ) → List ℕ
+abbrev pub link_entries : Link-F (List ℕ) (List ℕ) (List ℕ) → List ℕ
 link_entries link = link.number ∷ link.operand
 
-abbrev pub expression_entries : Expr-F (List ℕ) (List ℕ) → List ℕ
+-- an actual parameter is entered as the expression or the variable that it is
+abbrev pub passed_entries : Passed-F (List ℕ) (List ℕ) (List ℕ) → List ℕ
+passed_entries (Value value fits) = value
+passed_entries (WholeOf type_id value indexes) = whole_entries value indexes.items
+passed_entries (Reference type_id access indexes) = access_entries access indexes.items
+
+-- a call is entered before its actual parameters
+abbrev pub call_entries : Call → List (List ℕ) → List ℕ
+call_entries call actuals = call.number ∷ joined actuals
+
+abbrev pub expression_entries : Expr-F (List ℕ) (List ℕ) (List ℕ) → List ℕ
 expression_entries (Constant number value) = number ∷ []
 expression_entries (Variable access indexes defined) = access_entries access indexes.items
 expression_entries (MonadicOf number operation operand) = number ∷ operand.value
 expression_entries (Chain first rest) = first.value ++ joined rest.items
 expression_entries (Compare number relation left left_indexes right right_indexes) =
     whole_entries left left_indexes.items ++ (number ∷ whole_entries right right_indexes.items)
+expression_entries (CallOf call actuals) = call_entries call actuals.items
 
 -- the numbers of an expression's entries
 abbrev pub entries_of_expression : Expr → List ℕ
-entries_of_expression = fold-Expr (List ℕ) (List ℕ) expression_entries link_entries
+entries_of_expression = fold-Expr (List ℕ) (List ℕ) (List ℕ) expression_entries passed_entries link_entries
+
+-- the same of an actual parameter
+abbrev pub entries_of_passed : Passed → List ℕ
+entries_of_passed = fold-Passed (List ℕ) (List ℕ) (List ℕ) expression_entries passed_entries link_entries
 
 -- the same of the index expressions of an access, or of a whole value
 abbrev pub index_entries : List Expr → List (List ℕ)
@@ -82,6 +103,7 @@ statement_entries (Copy number becomes target indexes type_id value value_indexe
     number
     ∷ (access_entries target (index_entries indexes.items) ++ whole_entries value (index_entries value_indexes.items))
 statement_entries (Write number name parameters ends_line) = number ∷ flat_map entries_of_parameter parameters.items
+statement_entries (Calling call actuals) = call_entries call (map entries_of_passed actuals.items)
 statement_entries (Compound number statements) = number ∷ joined statements.items
 statement_entries (If number condition consequence alternative) =
     number ∷ (entries_of_expression condition ++ (consequence.value ++ alternative_entries alternative))
@@ -98,6 +120,28 @@ statement_entries (Case number site index constants arms) =
 abbrev pub entries_of_statement : Stmt → List ℕ
 entries_of_statement = fold-Stmt (List ℕ) statement_entries
 
--- the numbers of a program's entries
+-- the numbers of a block's entries
+abbrev pub entries_of_block : Block → List ℕ
+entries_of_block block = entries_of_statement block.body
+
+-- the numbers of a program's entries, block by block
 abbrev pub entries_of : Tree → List ℕ
-entries_of tree = flat_map (λ block. entries_of_statement block.body) tree.blocks.items
+entries_of tree = flat_map entries_of_block tree.blocks.items
+
+-- what a block of a number has, if it is there
+abbrev pub of_block : {A : Type 0} → (ℕ → Block → List A) → ℕ → Option Block → List A
+of_block part number None = []
+of_block part number (Some block) = part number block
+
+-- what the blocks have, in the order in which the text has their statements
+abbrev pub in_text : {A : Type 0} → (ℕ → Block → List A) → Tree → List A
+in_text part tree =
+    flat_map (λ number. of_block part number (slice_get tree.blocks.items number)) tree.bodies.items
+
+-- the numbers of a program's entries, in the order of the text
+abbrev pub entries_in_text : Tree → List ℕ
+entries_in_text = in_text (λ number. entries_of_block)
+
+-- from 0, one after another in the order of the text
+abbrev pub AreNumbered : Tree → Type 0
+AreNumbered tree = entries_in_text tree ≡ range_with_len 0 (length (entries_in_text tree))

@@ -5,3 +5,4 @@ pub mod Look
 pub mod Loops
 pub mod Accesses
 pub mod WellFormed
+pub mod Calls

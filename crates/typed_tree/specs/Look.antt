@@ -1,19 +1,20 @@
 -- How a typed tree looks: its forms in the order of the text, each told by what is decided of it: its number in the
 -- order of entry, the variable, the operation, its sites and places. What encloses others tells where it ends, so two
 -- trees that look alike are alike. It says nothing of which tree a program has.
-use Rattle.std.specs.Prelude.{ℕ, ℤ, ◌++◌, ◌&&◌, Bool, true, List, [], ◌∷◌, Option, Some, None, Vec, flat_map, map}
-use Rattle.std.specs.Prelude.{nat_lt, nat_eq, length}
+use Rattle.std.specs.Prelude.{ℕ, ℤ, ◌++◌, ◌&&◌, Bool, true, false, List, []}
+use Rattle.std.specs.Prelude.{◌∷◌, Option, Some, None, Vec, flat_map, map, nat_lt, nat_eq, length}
 use Rattle.std.specs.List.{list_all}
 use Rattle.std.specs.declared.alloc.Global.{Global}
 use Rattle.std.specs.declared.boxed.Box.{Box}
 use Rattle.place.specs.declared.Place.{Place}
 use Rattle.typed_tree.specs.declared.tree.Tree.{Tree}
-use Rattle.types.specs.Forms.{Form}
 use Rattle.types.specs.declared.form.TypeId.{TypeId}
 use Rattle.typed_tree.specs.declared.tree.Access.{Access as VariableAccess}
 use Rattle.typed_tree.specs.declared.tree.Selector.{Selector}
-use Rattle.typed_tree.specs.declared.tree.Variable.{Variable as DeclaredVariable}
 use Rattle.typed_tree.specs.declared.tree.Block.{Block}
+use Rattle.typed_tree.specs.declared.tree.Call.{Call}
+use Rattle.typed_tree.specs.declared.tree.Heading.{Heading}
+use Rattle.typed_tree.specs.declared.tree.FunctionResult.{FunctionResult}
 use Rattle.typed_tree.specs.declared.tree.Monadic.{Monadic}
 use Rattle.typed_tree.specs.declared.tree.Dyadic.{Dyadic}
 use Rattle.typed_tree.specs.declared.tree.Dyadic.TheVariants as dyadic
@@ -28,22 +29,25 @@ use Rattle.typed_tree.specs.declared.tree.Whole.{Whole}
 use Rattle.typed_tree.specs.declared.tree.Whole.TheVariants.{Text as TextOf, Variable as WholeOf}
 use Rattle.typed_tree.specs.declared.tree.Expr.{Expr}
 use Rattle.typed_tree.specs.declared.tree.Link.{Link}
-use Rattle.typed_tree.specs.declared.tree.Expr.TheOpen.{Expr-F, Link-F}
+use Rattle.typed_tree.specs.declared.tree.Passed.{Passed}
+use Rattle.typed_tree.specs.declared.tree.Expr.TheOpen.{Expr-F, Passed-F, Link-F}
 use Rattle.typed_tree.specs.declared.tree.Expr.TheOpen.Expr-F.{Constant as ConstantOf, Variable as VariableOf}
 use Rattle.typed_tree.specs.declared.tree.Expr.TheOpen.Expr-F.{Monadic as MonadicOf, Chain as ChainOf}
-use Rattle.typed_tree.specs.declared.tree.Expr.TheOpen.Expr-F.{Compare as CompareOf}
-use Rattle.typed_tree.specs.declared.tree.Expr.TheFolds.{fold-Expr, fold-Link}
+use Rattle.typed_tree.specs.declared.tree.Expr.TheOpen.Expr-F.{Compare as CompareOf, Call as CallOf}
+use Rattle.typed_tree.specs.declared.tree.Expr.TheOpen.Passed-F.{Value as PassedValue, Whole as PassedWhole, Reference}
+use Rattle.typed_tree.specs.declared.tree.Expr.TheFolds.{fold-Expr, fold-Passed, fold-Link}
 use Rattle.typed_tree.specs.declared.tree.Stmt.{Stmt}
 use Rattle.typed_tree.specs.declared.tree.Stmt.TheOpen.{Stmt-F}
 use Rattle.typed_tree.specs.declared.tree.Stmt.TheOpen.Stmt-F.{Empty as EmptyOf, Assign as AssignOf, Write as WriteOf}
 use Rattle.typed_tree.specs.declared.tree.Stmt.TheOpen.Stmt-F.{Compound as CompoundOf, If as IfOf, While as WhileOf}
 use Rattle.typed_tree.specs.declared.tree.Stmt.TheOpen.Stmt-F.{Repeat as RepeatOf, For as ForOf, Case as CaseOf}
-use Rattle.typed_tree.specs.declared.tree.Stmt.TheOpen.Stmt-F.{Copy as CopyOf}
+use Rattle.typed_tree.specs.declared.tree.Stmt.TheOpen.Stmt-F.{Copy as CopyOf, Call as Calling}
 use Rattle.typed_tree.specs.declared.tree.Stmt.TheFolds.{fold-Stmt}
-use Rattle.typed_tree.specs.Entries.{joined}
-use Rattle.typed_tree.specs.WellFormed.{is_whole, are_characters, length_of, monadic_is_well_formed}
-use Rattle.typed_tree.specs.WellFormed.{dyadic_is_well_formed, is_well_formed_test, leads_to_ordinal, leads_to_whole}
-use Rattle.typed_tree.specs.WellFormed.{is_value_of, may_copy}
+use Rattle.typed_tree.specs.Entries.{in_text, joined}
+use Rattle.typed_tree.specs.WellFormed.{Outline, is_whole, are_characters, length_of, monadic_is_well_formed, placed}
+use Rattle.typed_tree.specs.WellFormed.{dyadic_is_well_formed, is_control, is_well_formed_test, leads_to_ordinal}
+use Rattle.typed_tree.specs.WellFormed.{leads_to_whole, is_value_of, may_call, may_copy, passes_value, passes_variable}
+use Rattle.typed_tree.specs.WellFormed.{passes_whole}
 
 -- a form, or where one ends; numbers are those of entries, roots those of variables
 pub data Mark : Type 0 where
@@ -64,6 +68,16 @@ pub data Mark : Type 0 where
   Begins : Mark
   -- an operator between operands
   Operator : ℕ → Dyadic → Mark
+  -- a call: its number, the place of its name, and the block that is called
+  Calls : ℕ → Place → ℕ → Mark
+  -- the value, or the whole value of so many cells, before it is passed to the block that is called, to the formal
+  -- parameter at this place; and so is what was accessed before it: its type, the variable's root, the selectors, and
+  -- how many index expressions they take
+  ForValue : RangeTest → ℕ → ℕ → Mark
+  ForWhole : TypeId → ℕ → ℕ → ℕ → Mark
+  ForVariable : TypeId → ℕ → List Selector → ℕ → ℕ → ℕ → Mark
+  -- a function, or else a procedure, is called: this block, with so many actual parameters
+  Called : Bool → ℕ → ℕ → Mark
   -- a chain, a write, a compound statement, an if, a loop or a case ends
   Ends : Mark
   Empty : ℕ → Mark
@@ -106,8 +120,9 @@ pub data Mark : Type 0 where
   -- a case: its number, and its site; an arm begins, behind these constants
   Case : ℕ → ℕ → Mark
   Arm : List ℤ → Mark
-  -- a block ends, at its last `end`
-  BlockEnds : Place → Mark
+  -- a block ends, of this number and with this heading: the blocks round it, its parameters, its result; at its last
+  -- `end`
+  BlockEnds : ℕ → List ℕ → List ℕ → Option FunctionResult → Place → Mark
 
 abbrev pub Look : Type 0
 Look = List Mark
@@ -122,10 +137,25 @@ whole_look (WholeOf access type_id cells defined) indexes =
     access_look access indexes
     (WholeValue access.root access.selectors.items (length indexes) type_id cells defined)
 
-abbrev pub link_look : Link-F Look Look → Look
+abbrev pub link_look : Link-F Look (ℕ → ℕ → Look) Look → Look
 link_look link = Operator link.number link.operation ∷ link.operand
 
-abbrev pub expression_look : Expr-F Look Look → Look
+-- an actual parameter, for the block that is called and the place of the formal one
+abbrev pub passed_look : Passed-F Look (ℕ → ℕ → Look) Look → ℕ → ℕ → Look
+passed_look (PassedValue value fits) callee position = value ++ (ForValue fits callee position ∷ [])
+passed_look (PassedWhole type_id value indexes) callee position =
+    whole_look value indexes.items ++ (ForWhole type_id (length_of value) callee position ∷ [])
+passed_look (Reference type_id access indexes) callee position =
+    access_look access indexes.items
+    (ForVariable type_id access.root access.selectors.items (length indexes.items) callee position)
+
+-- a call of a function, or of a procedure
+abbrev pub call_look : Bool → Call → List (ℕ → ℕ → Look) → Look
+call_look is_function call actuals =
+    Calls call.number call.name call.block
+    ∷ (joined (placed call.block 0 actuals) ++ (Called is_function call.block (length actuals) ∷ []))
+
+abbrev pub expression_look : Expr-F Look (ℕ → ℕ → Look) Look → Look
 expression_look (ConstantOf number value) = Constant number value ∷ []
 expression_look (VariableOf access indexes defined) =
     access_look access indexes.items (Value access.root access.selectors.items (length indexes.items) defined)
@@ -136,14 +166,23 @@ expression_look (CompareOf number relation left left_indexes right right_indexes
     ∷ (whole_look left left_indexes.items
     ++ (Operator number (dyadic.Relation relation)
     ∷ (whole_look right right_indexes.items ++ (Compared (length_of left) (length_of right) ∷ Ends ∷ []))))
+expression_look (CallOf call actuals) = call_look true call actuals.items
 
 -- how an expression looks
 abbrev pub look_expr : Expr → Look
-look_expr = fold-Expr Look Look expression_look link_look
+look_expr = fold-Expr Look (ℕ → ℕ → Look) Look expression_look passed_look link_look
+
+-- how an actual parameter looks
+abbrev pub look_passed : Passed → ℕ → ℕ → Look
+look_passed = fold-Passed Look (ℕ → ℕ → Look) Look expression_look passed_look link_look
+
+-- how a call looks with its actual parameters
+abbrev pub look_call : Bool → Call → List Passed → Look
+look_call is_function call actuals = call_look is_function call (map look_passed actuals)
 
 -- how an operator and its right operand look
 abbrev pub look_link : Link → Look
-look_link = fold-Link Look Look expression_look link_look
+look_link = fold-Link Look (ℕ → ℕ → Look) Look expression_look passed_look link_look
 
 -- how the index expressions of an access look
 abbrev pub look_indexes : List Expr → List Look
@@ -194,6 +233,7 @@ statement_look (CopyOf number becomes target indexes type_id value value_indexes
     ++ (look_whole value value_indexes.items ++ (Copied type_id (length_of value) ∷ [])))
 statement_look (WriteOf number name parameters ends_line) =
     Write number name ends_line ∷ (flat_map look_parameter parameters.items ++ (Ends ∷ []))
+statement_look (Calling call actuals) = look_call false call actuals.items
 statement_look (CompoundOf number statements) = Compound number ∷ (joined statements.items ++ (Ends ∷ []))
 statement_look (IfOf number condition consequence alternative) =
     If number
@@ -213,12 +253,17 @@ statement_look (CaseOf number site index constants arms) =
 abbrev pub look_stmt : Stmt → Look
 look_stmt = fold-Stmt Look statement_look
 
-abbrev pub look_block : Block → Look
-look_block block = look_stmt block.body ++ (BlockEnds block.end ∷ [])
+-- how a block of a number ends
+abbrev pub heading_look : ℕ → Heading → Place → Mark
+heading_look number heading end = BlockEnds number heading.around.items heading.parameters.items heading.result end
 
--- how a tree looks
+-- how a block of a number looks
+abbrev pub look_block : ℕ → Block → Look
+look_block number block = look_stmt block.body ++ (heading_look number block.heading block.end ∷ [])
+
+-- how a tree looks: its blocks in the order in which the text has their statements
 abbrev pub tree_look : Tree → Look
-tree_look tree = flat_map look_block tree.blocks.items
+tree_look = in_text look_block
 
 -- the number of an entry
 abbrev pub mark_entries : Mark → List ℕ
@@ -230,6 +275,11 @@ mark_entries (Operation number) = number ∷ []
 mark_entries (Applied operation) = []
 mark_entries Begins = []
 mark_entries (Operator number operation) = number ∷ []
+mark_entries (Calls number name block) = number ∷ []
+mark_entries (ForValue fits callee position) = []
+mark_entries (ForWhole type_id cells callee position) = []
+mark_entries (ForVariable type_id root selectors indexes callee position) = []
+mark_entries (Called is_function callee count) = []
 mark_entries Ends = []
 mark_entries (Empty number) = number ∷ []
 mark_entries (Assign number becomes) = number ∷ []
@@ -254,7 +304,7 @@ mark_entries Until = []
 mark_entries (For number loop_number place control direction) = number ∷ []
 mark_entries (Case number site) = number ∷ []
 mark_entries (Arm constants) = []
-mark_entries (BlockEnds end) = []
+mark_entries (BlockEnds number around parameters result end) = []
 
 -- the numbers of the entries of what looks so
 abbrev pub entries_of_look : Look → List ℕ
@@ -271,45 +321,72 @@ mark_loops other = []
 abbrev pub loops_of_look : Look → List ℕ
 loops_of_look = flat_map mark_loops
 
--- with these variables and types, and so many sites, a form alone is well formed
-abbrev pub is_formed_mark : List DeclaredVariable → List Form → ℕ → Mark → Bool
-is_formed_mark variables types sites (Constant number value) = is_whole value
-is_formed_mark variables types sites (Access number) = true
-is_formed_mark variables types sites (Value root selectors indexes defined) =
-    leads_to_ordinal variables types sites root selectors indexes && nat_lt defined sites
-is_formed_mark variables types sites (WholeValue root selectors indexes type_id cells defined) =
-    leads_to_whole variables types sites type_id root selectors indexes
-    && (is_value_of variables types sites type_id cells && nat_lt defined sites)
-is_formed_mark variables types sites (Operation number) = true
-is_formed_mark variables types sites (Applied operation) = monadic_is_well_formed variables types sites operation
-is_formed_mark variables types sites Begins = true
-is_formed_mark variables types sites (Operator number operation) = dyadic_is_well_formed variables types sites operation
-is_formed_mark variables types sites Ends = true
-is_formed_mark variables types sites (Empty number) = true
-is_formed_mark variables types sites (Assign number becomes) = true
-is_formed_mark variables types sites (Target root selectors indexes) =
-    leads_to_ordinal variables types sites root selectors indexes
-is_formed_mark variables types sites (WholeTarget root selectors indexes type_id) =
-    leads_to_whole variables types sites type_id root selectors indexes
-is_formed_mark variables types sites (Copied type_id cells) =
-    may_copy variables types sites type_id cells
-is_formed_mark variables types sites (Fits fits) = is_well_formed_test variables types sites fits
-is_formed_mark variables types sites (Write number name ends_line) = true
-is_formed_mark variables types sites (Text number characters) = are_characters characters
-is_formed_mark variables types sites (Compared left right) = nat_eq left right
-is_formed_mark variables types sites (Written representation) = true
-is_formed_mark variables types sites WrittenString = true
-is_formed_mark variables types sites (Width site) = nat_lt site sites
-is_formed_mark variables types sites (Compound number) = true
-is_formed_mark variables types sites (If number) = true
-is_formed_mark variables types sites Then = true
-is_formed_mark variables types sites Else = true
-is_formed_mark variables types sites (While number loop_number place) = true
-is_formed_mark variables types sites Do = true
-is_formed_mark variables types sites (Repeat number loop_number place) = true
-is_formed_mark variables types sites Until = true
-is_formed_mark variables types sites (For number loop_number place control direction) =
-    leads_to_ordinal variables types sites control [] 0
-is_formed_mark variables types sites (Case number site) = nat_lt site sites
-is_formed_mark variables types sites (Arm constants) = list_all is_whole constants
-is_formed_mark variables types sites (BlockEnds end) = true
+-- with what a program declares, a form alone is well formed in a block of this number
+abbrev pub is_formed_mark : Outline → ℕ → Mark → Bool
+is_formed_mark outline block (Constant number value) = is_whole value
+is_formed_mark outline block (Access number) = true
+is_formed_mark outline block (Value root selectors indexes defined) =
+    leads_to_ordinal outline block root selectors indexes && nat_lt defined outline.sites
+is_formed_mark outline block (WholeValue root selectors indexes type_id cells defined) =
+    leads_to_whole outline block type_id root selectors indexes
+    && (is_value_of outline block type_id cells && nat_lt defined outline.sites)
+is_formed_mark outline block (Operation number) = true
+is_formed_mark outline block (Applied operation) = monadic_is_well_formed outline block operation
+is_formed_mark outline block Begins = true
+is_formed_mark outline block (Operator number operation) = dyadic_is_well_formed outline block operation
+is_formed_mark outline block (Calls number name callee) = true
+is_formed_mark outline block (ForValue fits callee position) = passes_value outline block fits callee position
+is_formed_mark outline block (ForWhole type_id cells callee position) =
+    passes_whole outline block type_id cells callee position
+is_formed_mark outline block (ForVariable type_id root selectors indexes callee position) =
+    passes_variable outline block type_id root selectors indexes callee position
+is_formed_mark outline block (Called is_function callee count) = may_call outline block is_function callee count
+is_formed_mark outline block Ends = true
+is_formed_mark outline block (Empty number) = true
+is_formed_mark outline block (Assign number becomes) = true
+is_formed_mark outline block (Target root selectors indexes) =
+    leads_to_ordinal outline block root selectors indexes
+is_formed_mark outline block (WholeTarget root selectors indexes type_id) =
+    leads_to_whole outline block type_id root selectors indexes
+is_formed_mark outline block (Copied type_id cells) =
+    may_copy outline block type_id cells
+is_formed_mark outline block (Fits fits) = is_well_formed_test outline block fits
+is_formed_mark outline block (Write number name ends_line) = true
+is_formed_mark outline block (Text number characters) = are_characters characters
+is_formed_mark outline block (Compared left right) = nat_eq left right
+is_formed_mark outline block (Written representation) = true
+is_formed_mark outline block WrittenString = true
+is_formed_mark outline block (Width site) = nat_lt site outline.sites
+is_formed_mark outline block (Compound number) = true
+is_formed_mark outline block (If number) = true
+is_formed_mark outline block Then = true
+is_formed_mark outline block Else = true
+is_formed_mark outline block (While number loop_number place) = true
+is_formed_mark outline block Do = true
+is_formed_mark outline block (Repeat number loop_number place) = true
+is_formed_mark outline block Until = true
+is_formed_mark outline block (For number loop_number place control direction) =
+    is_control outline block control
+is_formed_mark outline block (Case number site) = nat_lt site outline.sites
+is_formed_mark outline block (Arm constants) = list_all is_whole constants
+is_formed_mark outline block (BlockEnds number around parameters result end) = true
+
+-- the number of a block that ends
+abbrev pub mark_blocks : Mark → List ℕ
+mark_blocks (BlockEnds number around parameters result end) = number ∷ []
+mark_blocks other = []
+
+-- the numbers of the blocks that end in what looks so
+abbrev pub blocks_of_look : Look → List ℕ
+blocks_of_look = flat_map mark_blocks
+
+-- the first of these, which are the blocks that end next
+abbrev pub next_of : List ℕ → ℕ
+next_of [] = 0
+next_of (number ∷ numbers) = number
+
+-- with what a program declares, each form alone is well formed in the block that ends next
+abbrev pub are_formed : Outline → Look → Bool
+are_formed outline [] = true
+are_formed outline (mark ∷ marks) =
+    is_formed_mark outline (next_of (blocks_of_look (mark ∷ marks))) mark && are_formed outline marks

@@ -1,15 +1,17 @@
 -- The loops of a typed tree, its repetitive statements (ISO 7185:1990, 6.8.3.6), in the order of their first words: the
 -- number of each, and the control variables of the for statements inside it. It says nothing of what a loop does.
-use Rattle.std.specs.Prelude.{◌≡◌, ℕ, ◌++◌, List, [], ◌∷◌, Option, Some, None, flat_map, slice_get}
+use Rattle.std.specs.Prelude.{◌≡◌, ℕ, suc, ◌++◌, List, [], ◌∷◌, Option, Some, None, flat_map, map, slice_get}
 use Rattle.std.specs.declared.alloc.Global.{Global}
 use Rattle.std.specs.declared.boxed.Box.{Box}
+use Rattle.typed_tree.specs.declared.tree.Block.{Block}
 use Rattle.typed_tree.specs.declared.tree.Tree.{Tree}
 use Rattle.typed_tree.specs.declared.tree.Loop.{Loop}
 use Rattle.typed_tree.specs.declared.tree.Stmt.{Stmt}
 use Rattle.typed_tree.specs.declared.tree.Stmt.TheOpen.{Stmt-F}
 use Rattle.typed_tree.specs.declared.tree.Stmt.TheOpen.Stmt-F.{Empty, Assign, Write, Compound, If, While, Repeat, For}
-use Rattle.typed_tree.specs.declared.tree.Stmt.TheOpen.Stmt-F.{Case, Copy}
+use Rattle.typed_tree.specs.declared.tree.Stmt.TheOpen.Stmt-F.{Case, Copy, Call}
 use Rattle.typed_tree.specs.declared.tree.Stmt.TheFolds.{fold-Stmt}
+use Rattle.typed_tree.specs.Entries.{in_text}
 
 -- what stands inside a statement
 pub record Inside : Type 0 where
@@ -47,6 +49,7 @@ statement_inside (Empty number) = no_loop
 statement_inside (Assign number becomes target indexes fits value) = no_loop
 statement_inside (Copy number becomes target indexes type_id value value_indexes) = no_loop
 statement_inside (Write number name parameters ends_line) = no_loop
+statement_inside (Call call actuals) = no_loop
 statement_inside (Compound number statements) = all_inside statements.items
 statement_inside (If number condition consequence alternative) =
     both_inside consequence.value (alternative_inside alternative)
@@ -68,15 +71,38 @@ loops_of_statement statement = (inside_of statement).loops
 abbrev pub controls_of : Stmt → List ℕ
 controls_of statement = (inside_of statement).controls
 
--- the loops of a program
-abbrev pub loops_of : Tree → List (ℕ × List ℕ)
-loops_of tree = flat_map (λ block. loops_of_statement block.body) tree.blocks.items
+-- the loops of a block
+abbrev pub loops_of_block : Block → List (ℕ × List ℕ)
+loops_of_block block = loops_of_statement block.body
 
--- a loop has a row in the table, with the control variables of the for statements inside it
-abbrev pub IsLoop : List Loop → ℕ × List ℕ → Type 0
-IsLoop rows one = (row : Loop) × (slice_get rows one.0 ≡ Some row) × (row.controls.items ≡ one.1)
+-- the loops of a program, in the order of the text
+abbrev pub loops_of : Tree → List (ℕ × List ℕ)
+loops_of = in_text (λ number. loops_of_block)
+
+-- what a row of the table tells: the block of a loop, and the control variables of the for statements inside it
+abbrev pub loop_row : Loop → ℕ × List ℕ
+loop_row row = (row.block, row.controls.items)
+
+-- the rows of the loops of a block of a number
+abbrev pub loop_rows_of_block : ℕ → Block → List (ℕ × List ℕ)
+loop_rows_of_block number block = map (λ one. (number, one.1)) (loops_of_block block)
+
+-- the rows of the loops of a program, in the order of the text
+abbrev pub loop_rows : Tree → List (ℕ × List ℕ)
+loop_rows = in_text loop_rows_of_block
+
+-- a loop has a row in the table, with its block and the control variables of the for statements inside it
+abbrev pub IsLoop : List Loop → ℕ → ℕ × List ℕ → Type 0
+IsLoop rows block one =
+    (row : Loop) × (slice_get rows one.0 ≡ Some row) × (row.block ≡ block) × (row.controls.items ≡ one.1)
 
 -- each of these has
-abbrev pub AreLoops : List Loop → List (ℕ × List ℕ) → Type 0
-AreLoops rows [] = Unit {0}
-AreLoops rows (one ∷ others) = IsLoop rows one × AreLoops rows others
+abbrev pub AreLoops : List Loop → ℕ → List (ℕ × List ℕ) → Type 0
+AreLoops rows block [] = Unit {0}
+AreLoops rows block (one ∷ others) = IsLoop rows block one × AreLoops rows block others
+
+-- each loop of these blocks, which are numbered from one on
+abbrev pub AreLoopsOf : List Loop → ℕ → List Block → Type 0
+AreLoopsOf rows number [] = Unit {0}
+AreLoopsOf rows number (block ∷ blocks) =
+    AreLoops rows number (loops_of_block block) × AreLoopsOf rows (suc number) blocks

@@ -1,21 +1,31 @@
 -- Well formed trees: each constant and each range of a test lies in that of integer (ISO 7185:1990, 6.4.2.2), each
--- variable is one of the program's (6.2.2), which its block declares, selectors lead to a component of the type that is
--- wanted (6.5.3), what is copied is as long as its target, each test names a site of the table, each loop stands in the
--- table of loops, there is a block, and its variables take no more cells than a block has. It does not say that a tree
--- is that of a program.
-use Rattle.std.specs.Prelude.{◌≡◌, ℕ, ℤ, ◌<◌, ◌≤◌, pos, neg_ℤ, ◌&&◌, Bool, true, List, [], Option, Some, None, Vec}
-use Rattle.std.specs.Prelude.{int_le, nat_lt, nat_le, nat_eq, not, length, map, sum_by}
-use Rattle.std.specs.List.{list_all}
+-- variable that a block names is one that it or a block round it declares (6.2.2), selectors lead to a component of the
+-- type that is wanted (6.5.3), what is copied is as long as its target, a call passes to each formal parameter what it
+-- takes (6.6.3), a control variable is a local one (6.8.3.9), each test names a site of the table, each loop stands in
+-- the table of loops, and the variables of a block take no more cells than a block has. It does not say that a tree is
+-- that of a program.
+use Rattle.std.specs.Prelude.{◌≡◌, ℕ, zero, suc, ℤ, ◌<◌, ◌≤◌, pos, neg_ℤ, ◌&&◌, ◌||◌, ◌++◌, Bool, true, false, List, []}
+use Rattle.std.specs.Prelude.{Option, Some, None, Vec, IsPermutation, int_le, nat_lt, nat_le, nat_eq, not, length, map}
+use Rattle.std.specs.Prelude.{◌∷◌, filter, if◌then◌else◌, slice_get, sum_by}
+use Rattle.std.specs.Cmp.Lexicographic.{pointwise}
+use Rattle.std.specs.List.{list_all, list_any, range_with_len}
+use Rattle.std.specs.Option.{option_and_then}
 use Rattle.std.specs.declared.alloc.Global.{Global}
 use Rattle.std.specs.declared.boxed.Box.{Box}
 use Rattle.types.specs.Forms.{Form}
+use Rattle.types.specs.declared.form.OrdinalRange.{OrdinalRange}
 use Rattle.types.specs.declared.form.TypeId.{TypeId}
-use Rattle.types.specs.Types.{cells_of, is_ordinal, is_same, most_cells}
+use Rattle.types.specs.Types.{cells_of, is_ordinal, is_same, most_cells, range_of}
 use Rattle.typed_tree.specs.declared.tree.Tree.{Tree}
 use Rattle.typed_tree.specs.declared.tree.Selector.{Selector}
 use Rattle.typed_tree.specs.declared.tree.Selector.TheVariants.{Element, Field}
 use Rattle.typed_tree.specs.declared.tree.Variable.{Variable as DeclaredVariable}
+use Rattle.typed_tree.specs.declared.tree.VariableKind.{VariableKind}
+use Rattle.typed_tree.specs.declared.tree.VariableKind.TheVariants as kind
 use Rattle.typed_tree.specs.declared.tree.Block.{Block}
+use Rattle.typed_tree.specs.declared.tree.Heading.{Heading}
+use Rattle.typed_tree.specs.declared.tree.FunctionResult.{FunctionResult}
+use Rattle.typed_tree.specs.declared.tree.Call.{Call}
 use Rattle.typed_tree.specs.declared.tree.Monadic.{Monadic}
 use Rattle.typed_tree.specs.declared.tree.Monadic.TheVariants as monadic
 use Rattle.typed_tree.specs.declared.tree.Dyadic.{Dyadic}
@@ -29,17 +39,19 @@ use Rattle.typed_tree.specs.declared.tree.Whole.{Whole}
 use Rattle.typed_tree.specs.declared.tree.Whole.TheVariants.{Text, Variable as VariableOf}
 use Rattle.typed_tree.specs.declared.tree.Expr.{Expr}
 use Rattle.typed_tree.specs.declared.tree.Link.{Link}
-use Rattle.typed_tree.specs.declared.tree.Expr.TheOpen.{Expr-F, Link-F}
+use Rattle.typed_tree.specs.declared.tree.Passed.{Passed}
+use Rattle.typed_tree.specs.declared.tree.Expr.TheOpen.{Expr-F, Passed-F, Link-F}
 use Rattle.typed_tree.specs.declared.tree.Expr.TheOpen.Expr-F.{Constant, Variable, Monadic as MonadicOf, Chain}
-use Rattle.typed_tree.specs.declared.tree.Expr.TheOpen.Expr-F.{Compare}
-use Rattle.typed_tree.specs.declared.tree.Expr.TheFolds.{fold-Expr, fold-Link}
+use Rattle.typed_tree.specs.declared.tree.Expr.TheOpen.Expr-F.{Compare, Call as CallOf}
+use Rattle.typed_tree.specs.declared.tree.Expr.TheOpen.Passed-F.{Value, Whole as WholeOf, Reference}
+use Rattle.typed_tree.specs.declared.tree.Expr.TheFolds.{fold-Expr, fold-Passed, fold-Link}
 use Rattle.typed_tree.specs.declared.tree.Stmt.{Stmt}
 use Rattle.typed_tree.specs.declared.tree.Stmt.TheOpen.{Stmt-F}
 use Rattle.typed_tree.specs.declared.tree.Stmt.TheOpen.Stmt-F.{Empty, Assign, Write, Compound, If, While, Repeat, For}
-use Rattle.typed_tree.specs.declared.tree.Stmt.TheOpen.Stmt-F.{Case, Copy}
+use Rattle.typed_tree.specs.declared.tree.Stmt.TheOpen.Stmt-F.{Case, Copy, Call as Calling}
 use Rattle.typed_tree.specs.declared.tree.Stmt.TheFolds.{fold-Stmt}
-use Rattle.typed_tree.specs.Accesses.{accessed, index_count, is_type}
-use Rattle.typed_tree.specs.Loops.{loops_of, AreLoops}
+use Rattle.typed_tree.specs.Accesses.{accessed, are_values_of, index_count, is_type}
+use Rattle.typed_tree.specs.Loops.{AreLoopsOf}
 
 -- a program has no more variables
 abbrev pub most_variables : ℕ
@@ -75,11 +87,125 @@ whole_indexes (VariableOf access type_id cells defined) indexes = indexes
 abbrev pub are_whole : Vec ℤ Global → Bool
 are_whole constants = list_all is_whole constants.items
 
--- with these variables and types, and so many sites
-module _ (variables : List DeclaredVariable) (types : List Form) (sites : ℕ) where
+-- what a program declares, by which its forms are measured
+pub record Outline : Type 0 where
+  pub variables : List DeclaredVariable
+  pub types : List Form
+  -- how many sites there are
+  pub sites : ℕ
+  -- by block number
+  pub headings : List Heading
+
+abbrev pub heading_of : Block → Heading
+heading_of block = block.heading
+
+abbrev pub outline_of : Tree → Outline
+outline_of tree = record {
+  variables = tree.variables.items;
+  types = tree.types;
+  sites = length tree.sites.items;
+  headings = map heading_of tree.blocks.items;
+}
+
+-- a test holds of what is there
+abbrev pub of_one : {A : Type 0} → (A → Bool) → Option A → Bool
+of_one test None = false
+of_one test (Some one) = test one
+
+-- a block is one of these
+abbrev pub is_one_of : List ℕ → ℕ → Bool
+is_one_of blocks block = list_any (λ one. nat_eq one block) blocks
+
+-- a block is that of a number, which has this heading, or stands round it
+abbrev pub encloses : ℕ → ℕ → Heading → Bool
+encloses block number heading = nat_eq block number || is_one_of heading.around.items block
+
+-- a block is that of a number, or stands round it (6.2.2)
+abbrev pub is_round : Outline → ℕ → ℕ → Bool
+is_round outline number block = of_one (encloses block number) (slice_get outline.headings number)
+
+-- a variable is declared in a block or round it
+abbrev pub is_visible : Outline → ℕ → ℕ → Bool
+is_visible outline number root =
+    of_one (λ variable. is_round outline number variable.block) (slice_get outline.variables root)
+
+abbrev pub is_local_kind : VariableKind → Bool
+is_local_kind kind.Local = true
+is_local_kind other = false
+
+abbrev pub is_value_kind : VariableKind → Bool
+is_value_kind kind.ValueParameter = true
+is_value_kind other = false
+
+abbrev pub is_variable_kind : VariableKind → Bool
+is_variable_kind kind.VariableParameter = true
+is_variable_kind other = false
+
+abbrev pub is_result_kind : VariableKind → Bool
+is_result_kind kind.Result = true
+is_result_kind other = false
+
+-- a variable is declared by a block in this way
+abbrev pub is_declared : Outline → ℕ → (VariableKind → Bool) → ℕ → Bool
+is_declared outline number is_kind root =
+    of_one (λ variable. nat_eq variable.block number && is_kind variable.kind) (slice_get outline.variables root)
+
+-- a formal parameter of a block, by its place from 0
+abbrev pub formal_of : Outline → ℕ → ℕ → Option DeclaredVariable
+formal_of outline number position =
+    option_and_then (λ root. slice_get outline.variables root)
+    (option_and_then (λ heading. slice_get heading.parameters.items position) (slice_get outline.headings number))
+
+-- the range of a type is this one
+abbrev pub is_range_of : OrdinalRange → Option OrdinalRange → Bool
+is_range_of range None = false
+is_range_of range (Some other) = are_values_of range other
+
+-- a value that is tested so may be passed to a value parameter of an ordinal type (6.6.3.2)
+abbrev pub takes_value : Outline → RangeTest → DeclaredVariable → Bool
+takes_value outline fits formal =
+    is_value_kind formal.kind
+    && (is_ordinal outline.types formal.type_id && is_range_of fits.range (range_of outline.types formal.type_id))
+
+-- a copy of so many cells may be passed to a value parameter of this structured type
+abbrev pub takes_whole : Outline → TypeId → ℕ → DeclaredVariable → Bool
+takes_whole outline type_id cells formal =
+    is_value_kind formal.kind
+    && (is_same type_id formal.type_id
+    && (not (is_ordinal outline.types type_id) && nat_eq (cells_of outline.types type_id) cells))
+
+-- a variable of this type may be passed to a variable parameter (6.6.3.3)
+abbrev pub takes_variable : TypeId → DeclaredVariable → Bool
+takes_variable type_id formal = is_variable_kind formal.kind && is_same type_id formal.type_id
+
+-- the block that declares a routine is the innermost of those round it; the program's block is no routine's
+abbrev pub declarer : List ℕ → Option ℕ
+declarer [] = None
+declarer (block ∷ []) = Some block
+declarer (block ∷ inner ∷ blocks) = declarer (inner ∷ blocks)
+
+-- a function has a result, a procedure has none
+abbrev pub is_kind_of : Bool → Option FunctionResult → Bool
+is_kind_of true (Some result) = true
+is_kind_of false None = true
+is_kind_of is_function result = false
+
+-- a routine with this heading may be called in a block, with so many actual parameters (6.2.2, 6.6.3)
+abbrev pub is_callable : Outline → ℕ → Bool → ℕ → Heading → Bool
+is_callable outline block is_function count heading =
+    of_one (is_round outline block) (declarer heading.around.items)
+    && (is_kind_of is_function heading.result && nat_eq count (length heading.parameters.items))
+
+-- each of these is at its place of a list, the first at this one, for a callee
+abbrev pub placed : {A : Type 0} → ℕ → ℕ → List (ℕ → ℕ → A) → List A
+placed callee position [] = []
+placed callee position (one ∷ others) = one callee position ∷ placed callee (suc position) others
+
+-- with what a program declares, in a block of this number
+module _ (outline : Outline) (block : ℕ) where
   -- the test of a value
   abbrev pub is_well_formed_test : RangeTest → Bool
-  is_well_formed_test test = nat_lt test.site sites && (is_whole test.range.first && is_whole test.range.last)
+  is_well_formed_test test = nat_lt test.site outline.sites && (is_whole test.range.first && is_whole test.range.last)
 
   abbrev pub is_well_formed_selector : Selector → Bool
   is_well_formed_selector (Element fits cells) = is_well_formed_test fits
@@ -88,56 +214,99 @@ module _ (variables : List DeclaredVariable) (types : List Form) (sites : ℕ) w
   -- an access with so many index expressions leads to a component whose type is wanted
   abbrev pub leads_to : (TypeId → Bool) → ℕ → List Selector → ℕ → Bool
   leads_to wanted root selectors indexes =
-      nat_eq indexes (index_count selectors)
-      && (list_all is_well_formed_selector selectors && is_type wanted (accessed variables types root selectors))
+      is_visible outline block root
+      && (nat_eq indexes (index_count selectors)
+      && (list_all is_well_formed_selector selectors
+      && is_type wanted (accessed outline.variables outline.types root selectors)))
 
   -- to an ordinal
   abbrev pub leads_to_ordinal : ℕ → List Selector → ℕ → Bool
-  leads_to_ordinal = leads_to (is_ordinal types)
+  leads_to_ordinal = leads_to (is_ordinal outline.types)
+
+  -- to a component of a type
+  abbrev pub leads_to_type : TypeId → ℕ → List Selector → ℕ → Bool
+  leads_to_type type_id = leads_to (λ id. is_same id type_id)
 
   -- to a structured value of a type
   abbrev pub leads_to_whole : TypeId → ℕ → List Selector → ℕ → Bool
-  leads_to_whole type_id = leads_to (λ id. is_same id type_id && not (is_ordinal types id))
+  leads_to_whole type_id = leads_to (λ id. is_same id type_id && not (is_ordinal outline.types id))
 
   -- a structured value of a type, of so many cells
   abbrev pub is_value_of : TypeId → ℕ → Bool
-  is_value_of type_id cells = nat_eq cells (cells_of types type_id) && nat_le cells most_cells
+  is_value_of type_id cells = nat_eq cells (cells_of outline.types type_id) && nat_le cells most_cells
 
   -- a value of so many cells may be copied to a target of a type
   abbrev pub may_copy : TypeId → ℕ → Bool
-  may_copy target cells = nat_eq (cells_of types target) cells
+  may_copy target cells = nat_eq (cells_of outline.types target) cells
 
   abbrev pub is_well_formed_whole : Whole → ℕ → Bool
   is_well_formed_whole (Text number characters) indexes = are_characters characters.items
   is_well_formed_whole (VariableOf access type_id cells defined) indexes =
       leads_to_whole type_id access.root access.selectors.items indexes
-      && (is_value_of type_id cells && nat_lt defined sites)
+      && (is_value_of type_id cells && nat_lt defined outline.sites)
 
   abbrev pub monadic_is_well_formed : Monadic → Bool
-  monadic_is_well_formed (monadic.Sqr overflow) = nat_lt overflow sites
-  monadic_is_well_formed (monadic.Chr no_char) = nat_lt no_char sites
-  monadic_is_well_formed (monadic.Succ no_successor last) = nat_lt no_successor sites && is_whole last
-  monadic_is_well_formed (monadic.Pred no_predecessor first) = nat_lt no_predecessor sites && is_whole first
+  monadic_is_well_formed (monadic.Sqr overflow) = nat_lt overflow outline.sites
+  monadic_is_well_formed (monadic.Chr no_char) = nat_lt no_char outline.sites
+  monadic_is_well_formed (monadic.Succ no_successor last) = nat_lt no_successor outline.sites && is_whole last
+  monadic_is_well_formed (monadic.Pred no_predecessor first) = nat_lt no_predecessor outline.sites && is_whole first
   monadic_is_well_formed other = true
 
   abbrev pub dyadic_is_well_formed : Dyadic → Bool
-  dyadic_is_well_formed (dyadic.Plus overflow) = nat_lt overflow sites
-  dyadic_is_well_formed (dyadic.Minus overflow) = nat_lt overflow sites
-  dyadic_is_well_formed (dyadic.Times overflow) = nat_lt overflow sites
-  dyadic_is_well_formed (dyadic.Div by_zero) = nat_lt by_zero sites
-  dyadic_is_well_formed (dyadic.Mod by_zero_or_less) = nat_lt by_zero_or_less sites
+  dyadic_is_well_formed (dyadic.Plus overflow) = nat_lt overflow outline.sites
+  dyadic_is_well_formed (dyadic.Minus overflow) = nat_lt overflow outline.sites
+  dyadic_is_well_formed (dyadic.Times overflow) = nat_lt overflow outline.sites
+  dyadic_is_well_formed (dyadic.Div by_zero) = nat_lt by_zero outline.sites
+  dyadic_is_well_formed (dyadic.Mod by_zero_or_less) = nat_lt by_zero_or_less outline.sites
   dyadic_is_well_formed dyadic.And = true
   dyadic_is_well_formed dyadic.Or = true
   dyadic_is_well_formed (dyadic.Relation relation) = true
 
-  abbrev pub link_is_well_formed : Link-F Bool Bool → Bool
+  -- a procedure or a function may be called here, with so many actual parameters
+  abbrev pub may_call : Bool → ℕ → ℕ → Bool
+  may_call is_function callee count =
+      of_one (is_callable outline block is_function count) (slice_get outline.headings callee)
+
+  -- what is passed fits the formal parameter of a callee at a place
+  abbrev pub is_passed_to : (DeclaredVariable → Bool) → ℕ → ℕ → Bool
+  is_passed_to takes callee position = of_one takes (formal_of outline callee position)
+
+  -- a test of a value that is passed, a copy of so many cells, and a variable
+  abbrev pub passes_value : RangeTest → ℕ → ℕ → Bool
+  passes_value fits callee position =
+      is_well_formed_test fits && is_passed_to (takes_value outline fits) callee position
+
+  abbrev pub passes_whole : TypeId → ℕ → ℕ → ℕ → Bool
+  passes_whole type_id cells callee position = is_passed_to (takes_whole outline type_id cells) callee position
+
+  abbrev pub passes_variable : TypeId → ℕ → List Selector → ℕ → ℕ → ℕ → Bool
+  passes_variable type_id root selectors indexes callee position =
+      leads_to_type type_id root selectors indexes && is_passed_to (takes_variable type_id) callee position
+
+  -- a call of a procedure or of a function, with its actual parameters
+  abbrev pub is_well_formed_call : Bool → Call → List (ℕ → ℕ → Bool) → Bool
+  is_well_formed_call is_function call actuals =
+      may_call is_function call.block (length actuals) && all_hold (placed call.block 0 actuals)
+
+  abbrev pub link_is_well_formed : Link-F Bool (ℕ → ℕ → Bool) Bool → Bool
   link_is_well_formed link = dyadic_is_well_formed link.operation && link.operand
 
-  abbrev pub expr_is_well_formed : Expr-F Bool Bool → Bool
+  -- an actual parameter is well formed, for a callee and the place of a formal parameter
+  abbrev pub passed_is_well_formed : Passed-F Bool (ℕ → ℕ → Bool) Bool → ℕ → ℕ → Bool
+  passed_is_well_formed (Value value fits) callee position = value && passes_value fits callee position
+  passed_is_well_formed (WholeOf type_id value indexes) callee position =
+      all_hold (whole_indexes value indexes.items)
+      && (is_well_formed_whole value (length indexes.items)
+      && passes_whole type_id (length_of value) callee position)
+  passed_is_well_formed (Reference type_id access indexes) callee position =
+      all_hold indexes.items
+      && passes_variable type_id access.root access.selectors.items (length indexes.items) callee position
+
+  abbrev pub expr_is_well_formed : Expr-F Bool (ℕ → ℕ → Bool) Bool → Bool
   expr_is_well_formed (Constant number value) = is_whole value
   expr_is_well_formed (Variable access indexes defined) =
       all_hold indexes.items
-      && (leads_to_ordinal access.root access.selectors.items (length indexes.items) && nat_lt defined sites)
+      && (leads_to_ordinal access.root access.selectors.items (length indexes.items) && nat_lt defined outline.sites)
   expr_is_well_formed (MonadicOf number operation operand) = monadic_is_well_formed operation && operand.value
   expr_is_well_formed (Chain first rest) = first.value && all_hold rest.items
   expr_is_well_formed (Compare number relation left left_indexes right right_indexes) =
@@ -145,14 +314,22 @@ module _ (variables : List DeclaredVariable) (types : List Form) (sites : ℕ) w
       && (is_well_formed_whole left (length left_indexes.items)
       && (all_hold (whole_indexes right right_indexes.items)
       && (is_well_formed_whole right (length right_indexes.items) && nat_eq (length_of left) (length_of right))))
+  expr_is_well_formed (CallOf call actuals) = is_well_formed_call true call actuals.items
 
   -- an expression is well formed
   abbrev pub is_well_formed_expr : Expr → Bool
-  is_well_formed_expr = fold-Expr Bool Bool expr_is_well_formed link_is_well_formed
+  is_well_formed_expr =
+      fold-Expr Bool (ℕ → ℕ → Bool) Bool expr_is_well_formed passed_is_well_formed link_is_well_formed
+
+  -- the same of an actual parameter
+  abbrev pub is_well_formed_passed : Passed → ℕ → ℕ → Bool
+  is_well_formed_passed =
+      fold-Passed Bool (ℕ → ℕ → Bool) Bool expr_is_well_formed passed_is_well_formed link_is_well_formed
 
   -- the same of an operator and its right operand
   abbrev pub is_well_formed_link : Link → Bool
-  is_well_formed_link = fold-Link Bool Bool expr_is_well_formed link_is_well_formed
+  is_well_formed_link =
+      fold-Link Bool (ℕ → ℕ → Bool) Bool expr_is_well_formed passed_is_well_formed link_is_well_formed
 
   -- the index expressions of an access
   abbrev pub are_well_formed : List Expr → Bool
@@ -165,7 +342,7 @@ module _ (variables : List DeclaredVariable) (types : List Form) (sites : ℕ) w
 
   abbrev pub is_well_formed_width : Option Width → Bool
   is_well_formed_width None = true
-  is_well_formed_width (Some width) = nat_lt width.site sites && is_well_formed_expr width.value
+  is_well_formed_width (Some width) = nat_lt width.site outline.sites && is_well_formed_expr width.value
 
   -- a value that is written
   abbrev pub is_well_formed_written : Written → Bool
@@ -181,6 +358,10 @@ module _ (variables : List DeclaredVariable) (types : List Form) (sites : ℕ) w
   alternative_is_well_formed None = true
   alternative_is_well_formed (Some well) = well.value
 
+  -- a control variable is an ordinal one of the variable declaration part of the block (6.8.3.9)
+  abbrev pub is_control : ℕ → Bool
+  is_control root = is_declared outline block is_local_kind root && leads_to_ordinal root [] 0
+
   abbrev pub stmt_is_well_formed : Stmt-F Bool → Bool
   stmt_is_well_formed (Empty number) = true
   stmt_is_well_formed (Assign number becomes target indexes fits value) =
@@ -193,6 +374,8 @@ module _ (variables : List DeclaredVariable) (types : List Form) (sites : ℕ) w
       && (is_well_formed_value value value_indexes.items && may_copy type_id (length_of value)))
   stmt_is_well_formed (Write number name parameters ends_line) =
       all_hold (map is_well_formed_parameter parameters.items)
+  stmt_is_well_formed (Calling call actuals) =
+      is_well_formed_call false call (map is_well_formed_passed actuals.items)
   stmt_is_well_formed (Compound number statements) = all_hold statements.items
   stmt_is_well_formed (If number condition consequence alternative) =
       is_well_formed_expr condition && (consequence.value && alternative_is_well_formed alternative)
@@ -200,34 +383,108 @@ module _ (variables : List DeclaredVariable) (types : List Form) (sites : ℕ) w
   stmt_is_well_formed (Repeat number loop_number place statements condition) =
       all_hold statements.items && is_well_formed_expr condition
   stmt_is_well_formed (For number loop_number place control first first_fits direction last last_fits body) =
-      leads_to_ordinal control [] 0
+      is_control control
       && (is_well_formed_expr first
       && (is_well_formed_test first_fits
       && (is_well_formed_expr last && (is_well_formed_test last_fits && body.value))))
   stmt_is_well_formed (Case number site index constants arms) =
-      nat_lt site sites
+      nat_lt site outline.sites
       && (is_well_formed_expr index && (list_all are_whole constants.items && all_hold arms.items))
 
   -- a statement is well formed
   abbrev pub is_well_formed_stmt : Stmt → Bool
   is_well_formed_stmt = fold-Stmt Bool stmt_is_well_formed
 
-  -- the body of a block
-  abbrev pub is_well_formed_block : Block → Bool
-  is_well_formed_block block = is_well_formed_stmt block.body
+-- the variables that a block declares
+abbrev pub variables_of : ℕ → List DeclaredVariable → List DeclaredVariable
+variables_of block variables = filter (λ variable. nat_eq variable.block block) variables
+
+-- they take no more cells than a block has
+abbrev pub are_few_cells : Outline → ℕ → Bool
+are_few_cells outline block =
+    nat_le
+    (sum_by (λ variable. cells_of outline.types variable.type_id) (variables_of block outline.variables)) most_cells
+
+-- the roots of the variables of which a test holds, where the first has this root
+abbrev pub roots_where : (DeclaredVariable → Bool) → ℕ → List DeclaredVariable → List ℕ
+roots_where test root [] = []
+roots_where test root (variable ∷ variables) =
+    if test variable then root ∷ roots_where test (suc root) variables else roots_where test (suc root) variables
+
+-- these are the roots of the variables that a block declares in this way, in their order
+abbrev pub are_all : Outline → ℕ → (VariableKind → Bool) → List ℕ → Bool
+are_all outline block is_kind roots =
+    pointwise nat_eq roots
+    (roots_where (λ variable. nat_eq variable.block block && is_kind variable.kind) 0 outline.variables)
+
+abbrev pub is_parameter_kind : VariableKind → Bool
+is_parameter_kind one = is_value_kind one || is_variable_kind one
+
+abbrev pub result_roots : Option FunctionResult → List ℕ
+result_roots None = []
+result_roots (Some result) = result.root ∷ []
+
+-- a result is an ordinal, whose test names a site
+abbrev pub is_result : Outline → FunctionResult → Bool
+is_result outline result =
+    nat_lt result.defined outline.sites
+    && is_type (is_ordinal outline.types) (accessed outline.variables outline.types result.root [])
+
+abbrev pub is_result_or_none : Outline → Option FunctionResult → Bool
+is_result_or_none outline None = true
+is_result_or_none outline (Some result) = is_result outline result
+
+-- blocks are at most so many deep in one another, the program's among them
+abbrev pub most_blocks : ℕ
+most_blocks = 16
+
+-- the blocks round a routine are those round its declarer, whose number is lower, and the declarer
+abbrev pub is_declared_by : Outline → ℕ → List ℕ → ℕ → Bool
+is_declared_by outline block around last =
+    nat_lt last block
+    && of_one (λ heading. pointwise nat_eq around (heading.around.items ++ last ∷ []))
+    (slice_get outline.headings last)
+
+-- nothing stands round the program's block, which has neither parameters nor a result
+abbrev pub is_placed : Outline → ℕ → Heading → Bool
+is_placed outline zero heading =
+    pointwise nat_eq heading.around.items []
+    && (pointwise nat_eq heading.parameters.items [] && pointwise nat_eq (result_roots heading.result) [])
+is_placed outline (suc block) heading =
+    nat_lt (length heading.around.items) most_blocks
+    && of_one (is_declared_by outline (suc block) heading.around.items) (declarer heading.around.items)
+
+-- a block has this heading, whose parameters and result it declares
+abbrev pub is_heading : Outline → ℕ → Heading → Bool
+is_heading outline block heading =
+    is_placed outline block heading
+    && (are_all outline block is_parameter_kind heading.parameters.items
+    && (are_all outline block is_result_kind (result_roots heading.result)
+    && is_result_or_none outline heading.result))
+
+-- a block is well formed
+abbrev pub is_well_formed_block : Outline → ℕ → Block → Bool
+is_well_formed_block outline number block =
+    is_heading outline number block.heading
+    && (are_few_cells outline number && is_well_formed_stmt outline number block.body)
+
+-- these blocks, which are numbered from one on
+abbrev pub are_well_formed_blocks : Outline → ℕ → List Block → Bool
+are_well_formed_blocks outline number [] = true
+are_well_formed_blocks outline number (block ∷ blocks) =
+    is_well_formed_block outline number block && are_well_formed_blocks outline (suc number) blocks
 
 -- a tree is well formed
 pub record IsWellFormed (tree : Tree) : Type 0 where
   -- by their roots
   pub few_variables : length tree.variables.items ≤ most_variables
-  -- those of the program's block take no more cells than a block has
-  pub few_cells : sum_by (λ variable. cells_of tree.types variable.type_id) tree.variables.items ≤ most_cells
-  -- until routines declare others, each is one that the program's block declares
-  pub declared : list_all (λ variable. nat_eq variable.block 0) tree.variables.items ≡ true
+  -- each is one that a block declares
+  pub declared :
+      list_all (λ variable. nat_lt variable.block (length tree.blocks.items)) tree.variables.items ≡ true
   -- the program's block is there
   pub a_block : 0 < length tree.blocks.items
-  pub blocks :
-      list_all (is_well_formed_block tree.variables.items tree.types (length tree.sites.items)) tree.blocks.items ≡ true
-  -- each loop has its row in the table; until routines come, each stands in the program's block
-  pub loops : AreLoops tree.loops.items (loops_of tree)
-  pub in_program : list_all (λ row. nat_eq row.block 0) tree.loops.items ≡ true
+  pub blocks : are_well_formed_blocks (outline_of tree) 0 tree.blocks.items ≡ true
+  -- each loop has its row in the table
+  pub loops : AreLoopsOf tree.loops.items 0 tree.blocks.items
+  -- the text has the statements of each block once
+  pub bodies : IsPermutation (range_with_len 0 (length tree.blocks.items)) tree.bodies.items

@@ -19,8 +19,8 @@ pub enum TypeFault {
     /// S3, at a name that isn't declared.
     #[error("{0}: not declared")]
     NotDeclared(Place),
-    /// S4, at the name of a procedure or function whose block is nested too deep.
-    #[error("{0}: a block that is nested too deep")]
+    /// S4, at the name of a routine whose block would be nested over 16 deep, the program's being the first.
+    #[error("{0}: blocks nested too deep")]
     NestedTooDeep(Place),
     /// K1, where types or kinds of things don't fit.
     #[error("{0}: types that don't fit")]
@@ -31,15 +31,26 @@ pub enum TypeFault {
     /// K3, where the parameters of a call are wrong.
     #[error("{0}: wrong parameters")]
     WrongParameters(Place),
-    /// K5, at the name of a control variable that the statement of its for statement assigns, or uses as another one.
-    #[error("{0}: a control variable is assigned or used again inside its statement")]
+    /// K4, at a component of a packed variable that is passed to a variable parameter.
+    #[error("{0}: a component of a packed variable as variable parameter")]
+    PackedComponent(Place),
+    /// K5, at the name of a control variable that is none of the variable declaration part of its block, or that the
+    /// statement of its for statement or a routine of the block assigns, passes to a variable parameter, or uses as
+    /// another one; or where the statement does so.
+    #[error("{0}: a control variable is not local, or may be changed inside its statement")]
     Threatened(Place),
     /// K6, at a case constant that was there before, or is not of the index's type.
     #[error("{0}: a case constant that is repeated or of another type")]
     CaseConstant(Place),
+    /// K7, at the name of a function whose block assigns it nowhere.
+    #[error("{0}: a function is never assigned")]
+    NeverAssigned(Place),
     /// K8, at a write or writeln without the program parameter output, and at another program parameter.
     #[error("{0}: input or output is no program parameter")]
     NotProgramParameter(Place),
+    /// K9, at the name of a routine that is declared with the directive forward and whose block is missing.
+    #[error("{0}: a routine declared forward has no block")]
+    NotCompleted(Place),
     /// K10, over 1,000,000 sites, or over 4,000,000 statements and expressions.
     #[error("{0}: too many sites, statements or expressions")]
     TooMany(Place),

@@ -7,8 +7,11 @@ use types::{OrdinalRange, TypeId, TypeTable};
 /// A program with its names bound and its types known.
 #[derive(Drop)]
 pub struct Tree {
-    /// By block number, the program's block first.
+    /// By block number, in the order of their first headings, the program's block first.
     pub blocks: Vec<Block>,
+    /// The block numbers in the order in which the text has their statements: a routine's stand before those of the
+    /// block that declares it.
+    pub bodies: Vec<u32>,
     /// By root number.
     pub variables: Vec<Variable>,
     /// By id: in the order of places and then of kinds.
@@ -29,13 +32,34 @@ pub struct Loop {
     pub controls: Vec<u32>,
 }
 
-/// The body of a block.
+/// A block (ISO 7185:1990, 6.2.1): that of the program, or of a routine, which is a procedure or a function.
 #[derive(Drop)]
 pub struct Block {
+    pub heading: Heading,
     /// Its compound statement.
     pub body: Stmt,
     /// Its last `end`.
     pub end: Place,
+}
+
+/// What the heading of a block tells (6.6.1, 6.6.2); the program's has no parameters and no result.
+#[derive(Drop)]
+pub struct Heading {
+    /// The numbers of the blocks round it, the program's first: 15 at most.
+    pub around: Vec<u32>,
+    /// The root numbers of its formal parameters, in their order.
+    pub parameters: Vec<u32>,
+    /// A function has a result.
+    pub result: Option<FunctionResult>,
+}
+
+/// The result of a function (6.6.2), an ordinal.
+#[derive(Clone, Copy)]
+pub struct FunctionResult {
+    /// Its root number.
+    pub root: u32,
+    /// The site at which the function ends without a result (undefined result).
+    pub defined: u32,
 }
 
 /// A declared variable, by its number in the order of declarations over the program.
@@ -44,6 +68,31 @@ pub struct Variable {
     /// The number of the block that declares it.
     pub block: u32,
     pub type_id: TypeId,
+    pub kind: VariableKind,
+}
+
+/// How a block declares a variable.
+#[derive(Clone, Copy)]
+pub enum VariableKind {
+    /// In its variable declaration part (6.2.1).
+    Local,
+    /// As a value parameter (6.6.3.2).
+    ValueParameter,
+    /// As a variable parameter (6.6.3.3).
+    VariableParameter,
+    /// As the result of a function.
+    Result,
+}
+
+/// A call of a routine (6.7.3, 6.8.2.3), an entry of its own where it is an expression.
+#[derive(Clone, Copy)]
+pub struct Call {
+    /// Its number in the order of entry over the program.
+    pub number: u32,
+    /// The place of the routine's name.
+    pub name: Place,
+    /// The number of the routine's block.
+    pub block: u32,
 }
 
 /// A variable access (ISO 7185:1990, 6.5.1): an entry of its own. Its index expressions stand beside it.
@@ -107,6 +156,11 @@ pub enum Stmt {
         name: Place,
         parameters: Vec<WriteParameter>,
         ends_line: bool,
+    },
+    /// A procedure is called: its actual parameters are passed from left to right, and then its block is executed.
+    Call {
+        call: Call,
+        actuals: Vec<Passed>,
     },
     Compound {
         number: u32,
@@ -288,6 +342,34 @@ pub enum Expr {
         left_indexes: Vec<Expr>,
         right: Whole,
         right_indexes: Vec<Expr>,
+    },
+    /// A function is called: its actual parameters are passed from left to right, and then its block is executed.
+    Call {
+        call: Call,
+        actuals: Vec<Passed>,
+    },
+}
+
+/// An actual parameter (6.6.3), as it is passed.
+#[cycle(expression)]
+#[derive(Drop)]
+pub enum Passed {
+    /// To a value parameter of an ordinal type: the value is tested (subrange).
+    Value {
+        value: Expr,
+        fits: RangeTest,
+    },
+    /// To a value parameter of a structured type, this one: a copy of the value.
+    Whole {
+        type_id: TypeId,
+        value: Whole,
+        indexes: Vec<Expr>,
+    },
+    /// To a variable parameter of this type: the variable or the component that is accessed.
+    Reference {
+        type_id: TypeId,
+        access: Access,
+        indexes: Vec<Expr>,
     },
 }
 

@@ -16,10 +16,10 @@ use Rattle.types.specs.Forms.{FieldForm, Enumeration, Subrange, Array, Record}
 use Rattle.types.specs.declared.form.TypeId.{TypeId}
 use Rattle.types.specs.Types.{required_forms, integer, boolean, char, range_of, range, field_of}
 use Rattle.typing.specs.Names.{folded, required_region}
-use Rattle.typing.specs.Expressions.{typed, typed_whole, result_type, applied, field_named, or_not_declared}
+use Rattle.typing.specs.Expressions.{copying, fitting, typed, typed_whole, result_type, applied, field_named, or_not_declared}
 use Rattle.typing.specs.declared.typed.Typed.{Typed}
 use Rattle.typing.specs.Constants.{as_constant, behind_sign, constant_place}
-use Rattle.typing.specs.Statements.{fitting, copying, own_constant}
+use Rattle.typing.specs.Statements.{own_constant}
 use Rattle.typing.specs.Denoters.{named_type, between, named_fields}
 use Rattle.typing.specs.Steps.{value_of}
 use Rattle.typing.specs.Strings.{string_characters}

@@ -5,3 +5,7 @@ pub mod Rows
 pub mod Selectors
 pub mod Written
 mod SiteIds
+mod WaitingRows
+pub mod Stays
+pub mod StayingForms
+pub mod Collected

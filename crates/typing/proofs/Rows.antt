@@ -6,7 +6,7 @@ use Rattle.typed_tree.specs.declared.fault.TypeFault.{TypeFault}
 use Rattle.typed_tree.specs.declared.site.Site.{Site}
 use Rattle.typed_tree.specs.Look.{Look}
 use Rattle.typing.specs.Sound.{stands}
-use Rattle.typing.specs.Passing.{Passed, Checked, After, Passing, after, and_then, behind_marks, each}
+use Rattle.typing.specs.Passing.{Passed, Checked, After, Passing, after, and_then, behind_marks, each, ◌>>=◌}
 use Rattle.typing.specs.Outcomes.{IsFault}
 
 -- one site more
@@ -68,5 +68,22 @@ module _ {A : Type 0} (step : A → Passing (Unit {0})) (forms : List A) (old : 
   pub each_ends : (i : ℕ) (done : Look) (now : Passed) → length forms ≤ i → IsLeftFrom i done now → each step forms old ≡ Ok (after tt done now)
   each_ends i done now all left =
       left ∙ at_drop_all (λ fs. behind_marks done (each step fs now)) forms i all ∙ ap (λ look. Ok (after tt look now)) (append-nil done)
+
+-- what comes behind two steps comes behind the second
+pub then_assoc : {A B C : Type 0} (first : Passing A) (second : A → Passing B) (third : B → Passing C) (s : Passed)
+    → ((first >>= second) >>= third) s ≡ (first >>= (λ a. second a >>= third)) s
+then_assoc {A} {B} {C} first second third s = by (first s)
+  where
+    inner : (look : Look) (outcome : Checked (After B))
+        → and_then (behind_marks look outcome) (λ b. behind_marks b.look (third b.answer b.passed))
+        ≡ behind_marks look (and_then outcome (λ b. behind_marks b.look (third b.answer b.passed)))
+    inner look (Err why) = refl
+    inner look (Ok b) = sym (behind_both look b.look (third b.answer b.passed))
+
+    by : (outcome : Checked (After A))
+        → and_then (and_then outcome (λ a. behind_marks a.look (second a.answer a.passed))) (λ b. behind_marks b.look (third b.answer b.passed))
+        ≡ and_then outcome (λ a. behind_marks a.look (and_then (second a.answer a.passed) (λ b. behind_marks b.look (third b.answer b.passed))))
+    by (Err why) = refl
+    by (Ok a) = inner a.look (second a.answer a.passed)
 
 pub ruleset one_site_more = (site_added, sites_counted)

@@ -1,6 +1,6 @@
 -- The folds of typing over syntax trees, form by form.
 use denote.Ref.{Bor}
-use Rattle.std.proofs.Common.{◌≡◌, ℕ, Bool, List, [], ◌++◌, map, flat_map, Option, None, Some, option_map, refl, Box, Vec, sym, ap, ◌∙◌}
+use Rattle.std.proofs.Common.{◌≡◌, ℕ, Bool, List, [], ◌∷◌, ◌++◌, map, flat_map, Option, None, Some, option_map, refl, Box, Vec, sym, ap, ap₂, ◌∙◌}
 use Rattle.std.specs.declared.alloc.Global.{Global}
 use Rattle.place.specs.declared.Place.{Place}
 use Rattle.syntax_tree.specs.declared.Name.{Name}
@@ -25,8 +25,15 @@ use Rattle.syntax_tree.specs.declared.Stmt.{Stmt}
 use Rattle.syntax_tree.specs.declared.Stmt.TheVariants as stmt
 use Rattle.syntax_tree.specs.declared.Stmt.TheOpen as stmt_layer
 use Rattle.syntax_tree.specs.declared.Stmt.TheFolds.{map-Stmt, fold-roll-Stmt}
+use Rattle.syntax_tree.specs.declared.Block.{Block}
+use Rattle.syntax_tree.specs.declared.Routine.{Routine}
+use Rattle.syntax_tree.specs.declared.Block.TheViews.{out-Block, out-Routine}
+use Rattle.syntax_tree.specs.declared.Block.TheFolds.{map-Block, map-Routine, fold_out-Block, fold_out-Routine}
+use Rattle.typing.specs.Names.{heading_names, names_defined}
+use Rattle.typing.specs.Routines.{TypedBlock, TypedRoutine, typed_block, typed_routine, block_step, routine_step}
 use Rattle.typing.specs.Passing.{Passing}
-use Rattle.typing.specs.Expressions.{Written, WrittenActual, WrittenLink, written, expression_step, actual_step, link_step, expression, written_link}
+use Rattle.typing.specs.Expressions.{Written, WrittenActual, WrittenLink, written, written_variable, expression_step, actual_step, link_step, expression}
+use Rattle.typing.specs.Expressions.{written_link}
 use Rattle.typing.specs.Expressions.{written_actual, number, string, named, component, call, parenthesized, negation, signed, chain, link}
 use Rattle.typing.specs.Statements.{statement, statement_step, assignment, procedure_call, compound, choice, while_loop, repeat_loop, for_loop, case_statement}
 use Rattle.typing.specs.Denoters.{WrittenDenoter, written_denoter, denoter_step, type_of_name, enumeration, subrange, array, record_type}
@@ -43,12 +50,12 @@ rolled w d is = ap expression (sym is) ∙ fold-roll-Expr Written WrittenActual 
 pub typing_number : (value : ℕ) (place : Place) → expression (syntax.Number value place) ≡ written place (number value place)
 typing_number value place = rolled (syntax.Number value place) (layer.Number value place) (syntax.rolls-Number value place)
 
-pub typing_name : (name : Name) → expression (syntax.Name name) ≡ written name.place (named name)
+pub typing_name : (name : Name) → expression (syntax.Name name) ≡ written_variable name [] [] (named name)
 typing_name name = rolled (syntax.Name name) (layer.Name name) (syntax.rolls-Name name)
 
 pub typing_component : (name : Name) (selectors : Vec Selector Global) (indexes : Vec Expr Global)
     → expression (syntax.Component name selectors indexes)
-    ≡ written name.place (component name selectors.items (map expression indexes.items))
+    ≡ written_variable name selectors.items (map expression indexes.items) (component name selectors.items (map expression indexes.items))
 typing_component name selectors indexes =
     rolled (syntax.Component name selectors indexes) (layer.Component name selectors indexes) (syntax.rolls-Component name selectors indexes)
 
@@ -224,3 +231,31 @@ names_of_record packed place rows denoters semicolon =
 
 -- those of all denoters
 pub ruleset names_of_denoters = (names_of_name, names_of_enumerated, names_of_subrange, names_of_array, names_of_record)
+
+-- ---- blocks
+
+-- a block, as it is read
+pub typing_block : (b : Block) → typed_block b ≡ block_step (map-Block Block Routine TypedBlock TypedRoutine typed_block typed_routine (out-Block b))
+typing_block b = fold_out-Block TypedBlock TypedRoutine block_step routine_step b
+
+-- a routine, as it is read
+pub typing_routine : (r : Routine) → typed_routine r ≡ routine_step
+    (map-Routine Block Routine TypedBlock TypedRoutine typed_block typed_routine (out-Routine r))
+typing_routine r = fold_out-Routine TypedBlock TypedRoutine block_step routine_step r
+
+-- the name of a routine, if its heading is the first
+pub routine_names_are : (r : Routine) → (typed_routine r).names ≡ heading_names (out-Routine r).heading
+routine_names_are r = ap (λ (t : TypedRoutine). t.names) (typing_routine r)
+
+-- the names that a block defines
+pub block_names_are : (b : Block)
+    → (typed_block b).names
+    ≡ names_defined (out-Block b).constants.items (out-Block b).types.items (out-Block b).variables.items
+    (flat_map (λ r. heading_names (out-Routine r).heading) (out-Block b).routines.items)
+block_names_are b =
+    ap (λ (t : TypedBlock). t.names) (typing_block b)
+    ∙ ap (names_defined (out-Block b).constants.items (out-Block b).types.items (out-Block b).variables.items) (by (out-Block b).routines.items)
+  where
+    by : (rs : List Routine) → flat_map (λ (t : TypedRoutine). t.names) (map typed_routine rs) ≡ flat_map (λ r. heading_names (out-Routine r).heading) rs
+    by [] = refl
+    by (r ∷ rs) = ap₂ (λ l m. l ++ m) (routine_names_are r) (by rs)

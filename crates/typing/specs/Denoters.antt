@@ -39,6 +39,7 @@ named_type names name (Ok (denotes.Text number type_id)) = Err (fault.Mismatch n
 named_type names name (Ok (denotes.Variable root type_id)) = Err (fault.Mismatch name.place)
 named_type names name (Ok (denotes.Procedure procedure)) = Err (fault.Mismatch name.place)
 named_type names name (Ok (denotes.Function function)) = Err (fault.Mismatch name.place)
+named_type names name (Ok (denotes.Routine block is_function)) = Err (fault.Mismatch name.place)
 named_type names name (Ok denotes.Output) = Err (fault.Mismatch name.place)
 named_type names name (Err scope.UsedBeforeDeclared) =
     Err (if is_among names name then fault.Mismatch name.place else fault.UsedBeforeDeclared name.place)

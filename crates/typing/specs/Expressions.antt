@@ -2,8 +2,9 @@
 -- typed form looks, and its sites. What asks for a site of its own at an expression's first token (a width) hands its
 -- kind in, as the leading kind: that site stands behind the token's own, and before all others. It says nothing of what
 -- a program does.
-use Rattle.std.specs.Prelude.{ℕ, ◌&&◌, ◌||◌, Bool, true, false, List, [], ◌∷◌, ◌++◌, Option, Some, None, is_none, Ok}
-use Rattle.std.specs.Prelude.{Err, pos, neg_ℤ, if◌then◌else◌, nat_eq, nat_le, length}
+use Rattle.std.specs.Prelude.{ℕ, ◌+◌, ◌&&◌, ◌||◌, Bool, true, false, not, List, [], ◌∷◌, ◌++◌, Option, Some, None}
+use Rattle.std.specs.Prelude.{is_none, Ok, Err, pos, neg_ℤ, if◌then◌else◌, nat_eq, nat_le, length, option_map}
+use Rattle.std.specs.Prelude.{slice_get}
 use Rattle.place.specs.declared.Place.{Place}
 use Rattle.syntax_tree.specs.declared.Name.{Name}
 use Rattle.syntax_tree.specs.declared.Sign.{Sign}
@@ -21,13 +22,13 @@ use Rattle.syntax_tree.specs.declared.Expr.TheOpen.Expr-F.{Parenthesized as Pare
 use Rattle.syntax_tree.specs.declared.Expr.TheOpen.Expr-F.{Signed as SignedOf, Chain as ChainOf, String as StringOf}
 use Rattle.syntax_tree.specs.declared.Expr.TheOpen.Expr-F.{Component as ComponentOf}
 use Rattle.syntax_tree.specs.declared.Expr.TheFolds.{fold-Expr, fold-Link, fold-Actual}
-use Rattle.types.specs.Forms.{Form, Record}
+use Rattle.types.specs.Forms.{Form, Array, Record}
 use Rattle.types.specs.declared.form.RecordField.{RecordField}
 use Rattle.types.specs.declared.form.ArrayElement.{ArrayElement}
 use Rattle.types.specs.declared.form.TypeId.{TypeId}
 use Rattle.types.specs.declared.form.OrdinalRange.{OrdinalRange}
-use Rattle.types.specs.Types.{integer, boolean, char, is_same, is_compatible, is_ordinal, is_string, range_of, form_at}
-use Rattle.types.specs.Types.{field_of, element_of, cells_of}
+use Rattle.types.specs.Types.{integer, boolean, char, is_same, is_assignable, is_compatible, is_ordinal, is_string}
+use Rattle.types.specs.Types.{cells_of, element_of, field_of, form_at, range_of}
 use Rattle.scopes.specs.declared.denotation.Denotation.{Denotation}
 use Rattle.scopes.specs.declared.denotation.Denotation.TheVariants as denotes
 use Rattle.scopes.specs.declared.denotation.RequiredFunction.{RequiredFunction}
@@ -42,12 +43,15 @@ use Rattle.typed_tree.specs.declared.tree.Dyadic.TheVariants as dyadic
 use Rattle.typed_tree.specs.declared.tree.Relation.TheVariants as relation
 use Rattle.typed_tree.specs.declared.tree.Selector.{Selector as TreeSelector}
 use Rattle.typed_tree.specs.declared.tree.Selector.TheVariants as tree
+use Rattle.typed_tree.specs.declared.tree.Variable.{Variable}
 use Rattle.typed_tree.specs.Accesses.{index_count}
+use Rattle.typed_tree.specs.WellFormed.{is_variable_kind}
 use Rattle.typed_tree.specs.Look.{Constant, Text, Access, Value, WholeValue, Operation, Applied, Begins, Compared, Ends}
-use Rattle.typed_tree.specs.Look.{Operator as OperatorMark}
+use Rattle.typed_tree.specs.Look.{Calls, Called, ForValue, ForVariable, ForWhole, Operator as OperatorMark}
 use Rattle.typing.specs.declared.typed.Typed.{Typed}
 use Rattle.typing.specs.Passing.{Checked, Passing, pure, fail, given, by_types, mark, ◌>>=◌, ◌>>◌, ◌>>?◌}
-use Rattle.typing.specs.Steps.{fits, or_mismatch, pass, enter_as, site, find, host_type, text_at}
+use Rattle.typing.specs.Steps.{fits, or_mismatch, pass, enter_as, site, find, heading_at, host_type, may_change}
+use Rattle.typing.specs.Steps.{text_at, variable_at}
 use Rattle.typing.specs.Names.{folded}
 use Rattle.typing.specs.Strings.{string_characters, string_type}
 
@@ -63,10 +67,12 @@ typed_whole type_id length site = record { type_id = type_id; length = Some leng
 abbrev pub is_of : TypeId → Typed → Bool
 is_of type_id t = is_none t.length && is_same t.type_id type_id
 
--- an expression as it is typed: its first token, and by the leading kind what it is
+-- an expression as it is typed: its first token, by the leading kind what it is, and how it is passed to a variable
+-- parameter of a type, of the callee's block and at a place among its parameters
 pub record Written : Type 0 where
   pub first : Place
   pub typing : Option SiteKind → Passing Typed
+  pub passing : TypeId → ℕ → ℕ → Passing (Unit {0})
 
 -- an actual: its value, and its width if there is one
 pub record WrittenActual : Type 0 where
@@ -119,6 +125,7 @@ as_variable place (denotes.Text number type_id) = Err (fault.NotVariable place)
 as_variable place (denotes.TypeName type_id) = Err (fault.NotVariable place)
 as_variable place (denotes.Procedure procedure) = Err (fault.NotVariable place)
 as_variable place (denotes.Function function) = Err (fault.NotVariable place)
+as_variable place (denotes.Routine block is_function) = Err (fault.NotVariable place)
 as_variable place denotes.Output = Err (fault.NotVariable place)
 
 abbrev pub or_not_declared : Place → Option RecordField → Checked RecordField
@@ -191,9 +198,154 @@ component name selectors indexes lead = do
   variable ← given (as_variable name.place d)
   accessed variable.0 variable.1 selectors indexes name.place lead
 
+-- ---- variables that are passed
+
+-- a type is packed
+abbrev pub is_packed : Option Form → Bool
+is_packed (Some (Array packed index element)) = packed
+is_packed (Some (Record packed fields)) = packed
+is_packed form = false
+
+abbrev pub is_packed_at : List Form → Option TypeId → Bool
+is_packed_at types None = false
+is_packed_at types (Some id) = is_packed (form_at types id)
+
+-- the type of the field at a place in a record of a form
+abbrev pub type_of_field : ℕ → Option Form → Option TypeId
+type_of_field position (Some (Record packed fields)) = option_map (λ field. field.type_id) (slice_get fields position)
+type_of_field position form = None
+
+-- the type of what a selector selects from a value of a type
+abbrev pub type_selected : List Form → Option TypeId → TreeSelector → Option TypeId
+type_selected types None selector = None
+type_selected types (Some id) (tree.Element fits cells) = option_map (λ element. element.type_id) (element_of types id)
+type_selected types (Some id) (tree.Field position offset) = type_of_field position (form_at types id)
+
+-- the last of selectors, from a value of a type on, selects from a packed value; or else what stands before them does
+abbrev pub is_of_packed : List Form → Option TypeId → Bool → List TreeSelector → Bool
+is_of_packed types id before [] = before
+is_of_packed types id before (selector ∷ selectors) =
+    is_of_packed types (type_selected types id selector) (is_packed_at types id) selectors
+
+-- a variable or a component of a type is passed where one of a type is needed: K1 where it isn't the same, K4 at a
+-- component of a packed variable (6.6.3.3)
+abbrev pub passable : List Form → TypeId → TypeId → List TreeSelector → TypeId → Place → Checked (Unit {0})
+passable types wanted type_id selectors component place =
+    if not (is_same wanted component) then Err (fault.Mismatch place)
+    else if is_of_packed types (Some type_id) false selectors then Err (fault.PackedComponent place)
+    else Ok tt
+
+-- what is accessed is passed to a variable parameter of a type
+unfoldable pub passed_variable : Name → List Selector → List Written → TypeId → ℕ → ℕ → Passing (Unit {0})
+passed_variable name selectors indexes wanted callee position = do
+  d ← find name
+  variable ← given (as_variable name.place d)
+  may_change name.place variable.0
+  enter_as Access
+  component ← selected [] variable.1 selectors indexes
+  by_types (λ types. passable types wanted variable.1 component.0 component.1 name.place)
+  mark (ForVariable wanted variable.0 component.0 (index_count component.0) callee position)
+
+-- what is no variable isn't: K2 at its first token
+unfoldable pub no_variable : Place → TypeId → ℕ → ℕ → Passing (Unit {0})
+no_variable place wanted callee position = fail (fault.NotVariable place)
+
+-- ---- calls
+
+-- an actual parameter has no width; K3 at its first token where it has
+abbrev pub unless_width : Place → Option Written → Checked (Unit {0})
+unless_width place None = Ok tt
+unless_width place (Some width) = Err (fault.WrongParameters place)
+
+-- the values of a type, if an ordinal value may be assigned to it (6.4.6)
+abbrev pub fitting : List Form → TypeId → Typed → Option OrdinalRange
+fitting types target value =
+    if is_none value.length && is_assignable types target value.type_id then range_of types target else None
+
+-- how many cells a structured value has, if it may be assigned to a target of a type, which has as many (6.4.6)
+abbrev pub copied_cells : List Form → TypeId → Typed → Option ℕ → Option ℕ
+copied_cells types target value None = None
+copied_cells types target value (Some cells) =
+    if is_assignable types target value.type_id && nat_eq (cells_of types target) cells then Some cells else None
+
+abbrev pub copying : List Form → TypeId → Typed → Option ℕ
+copying types target value = copied_cells types target value value.length
+
+-- a value for a value parameter of an ordinal type; its site stands at its first token, before those of its own
+unfoldable pub passed_ordinal : TypeId → Written → ℕ → ℕ → Passing (Unit {0})
+passed_ordinal type_id w callee position = do
+  id ← site kind.Subrange w.first
+  range ← w.typing None >>? (λ types t. or_mismatch w.first (fitting types type_id t))
+  mark (ForValue (record { site = id; range = range }) callee position)
+
+-- the same of a structured type
+unfoldable pub passed_whole : TypeId → Written → ℕ → ℕ → Passing (Unit {0})
+passed_whole type_id w callee position = do
+  cells ← w.typing None >>? (λ types t. or_mismatch w.first (copying types type_id t))
+  mark (ForWhole type_id cells callee position)
+
+unfoldable pub passed_value : TypeId → Written → ℕ → ℕ → Passing (Unit {0})
+passed_value type_id w callee position = do
+  ordinal ← tests_ordinal type_id
+  (if ordinal then passed_ordinal else passed_whole) type_id w callee position
+
+-- an actual parameter, by what the formal one is; there is no other at its place
+abbrev pub passed_to : Option Variable → Written → ℕ → ℕ → Passing (Unit {0})
+passed_to None w callee position = fail (fault.WrongParameters w.first)
+passed_to (Some formal) w callee position =
+    (if is_variable_kind formal.kind then w.passing formal.type_id
+    else passed_value formal.type_id w) callee position
+
+unfoldable pub actual : WrittenActual → ℕ → ℕ → ℕ → Passing (Unit {0})
+actual a root callee position = do
+  given (unless_width a.value.first a.width)
+  formal ← variable_at root
+  passed_to formal a.value callee position
+
+-- actual parameters for formal ones, by their roots, from a place on; there are as many
+abbrev pub actuals_for : List ℕ → List WrittenActual → ℕ → ℕ → Passing (Unit {0})
+actuals_for [] actuals callee position = pure tt
+actuals_for (root ∷ roots) [] callee position = pure tt
+actuals_for (root ∷ roots) (a ∷ actuals) callee position =
+    actual a root callee position >> actuals_for roots actuals callee (position + 1)
+
+abbrev pub are_as_many : Place → ℕ → ℕ → Checked (Unit {0})
+are_as_many place actuals formals = if nat_eq actuals formals then Ok tt else Err (fault.WrongParameters place)
+
+-- a call of a block, a function's or a procedure's: K3 at the name where the number of actual parameters is wrong
+unfoldable pub routine_call : Bool → ℕ → Place → List WrittenActual → Passing (Option ℕ)
+routine_call is_function callee place actuals = do
+  enter_as (λ n. Calls n place callee)
+  heading ← heading_at callee
+  given (are_as_many place (length actuals) (length heading.parameters))
+  actuals_for heading.parameters actuals callee 0
+  mark (Called is_function callee (length actuals))
+  pure heading.result
+
+abbrev pub or_no_result : Place → Option Variable → Checked Variable
+or_no_result place (Some result) = Ok result
+or_no_result place None = Err (fault.WrongParameters place)
+
+-- the variable that is the result of a function
+abbrev pub result_variable : Option ℕ → Passing (Option Variable)
+result_variable None = pure None
+result_variable (Some root) = variable_at root
+
+-- the value of a function, which is of the host type (6.7.3); K3 at the name of a procedure
+unfoldable pub function_value : ℕ → Bool → Place → List WrittenActual → Option SiteKind → Passing Typed
+function_value callee false place actuals lead = fail (fault.WrongParameters place)
+function_value callee true place actuals lead = do
+  pass place
+  id ← behind lead place
+  root ← routine_call true callee place actuals
+  found ← result_variable root
+  result ← given (or_no_result place found)
+  host ← host_type result.type_id
+  pure (typed host id)
+
 -- ---- names
 
--- a name as an expression: a constant, or a variable
+-- a name as an expression: a constant, a variable, or a function without parameters
 unfoldable pub denoted : Denotation → Place → Option SiteKind → Passing Typed
 denoted (denotes.Constant value type_id) place lead = do
   id ← behind lead place
@@ -207,6 +359,7 @@ denoted (denotes.Text number type_id) place lead = do
 denoted (denotes.Variable root type_id) place lead = accessed root type_id [] [] place lead
 denoted (denotes.Procedure procedure) place lead = fail (fault.WrongParameters place)
 denoted (denotes.Function function) place lead = fail (fault.WrongParameters place)
+denoted (denotes.Routine block is_function) place lead = function_value block is_function place [] lead
 denoted (denotes.TypeName type_id) place lead = fail (fault.Mismatch place)
 denoted denotes.Output place lead = fail (fault.Mismatch place)
 
@@ -331,6 +484,7 @@ chain first rest lead = do
 abbrev pub as_function : Place → Denotation → Checked RequiredFunction
 as_function place (denotes.Function function) = Ok function
 as_function place (denotes.Procedure procedure) = Err (fault.WrongParameters place)
+as_function place (denotes.Routine block is_function) = Err (fault.WrongParameters place)
 as_function place (denotes.Constant value type_id) = Err (fault.Mismatch place)
 as_function place (denotes.Text number type_id) = Err (fault.Mismatch place)
 as_function place (denotes.Variable root type_id) = Err (fault.Mismatch place)
@@ -391,10 +545,9 @@ only place [] = Err (fault.WrongParameters place)
 only place (actual ∷ []) = without_width place actual.value actual.width
 only place (actual ∷ another ∷ others) = Err (fault.WrongParameters place)
 
--- the call of a function; what it does depends on its argument's type, and is told behind that
-unfoldable pub call : Name → List WrittenActual → Option SiteKind → Passing Typed
-call name actuals lead = do
-  d ← find name
+-- the call of a required function; what it does depends on its argument's type, and is told behind that
+unfoldable pub required_call : Denotation → Name → List WrittenActual → Option SiteKind → Passing Typed
+required_call d name actuals lead = do
   f ← given (as_function name.place d)
   operation ← function_operation f name.place
   id ← behind lead name.place
@@ -404,8 +557,27 @@ call name actuals lead = do
   mark (Applied does.0)
   pure (typed does.1 id)
 
+-- the routine that a name denotes, if a program declares it: its block, and whether it is a function
+abbrev pub as_routine : Denotation → Option (ℕ × Bool)
+as_routine (denotes.Routine block is_function) = Some (block, is_function)
+as_routine d = None
+
+abbrev pub call_by : Option (ℕ × Bool) → Denotation → Name → List WrittenActual → Option SiteKind → Passing Typed
+call_by None d name actuals lead = required_call d name actuals lead
+call_by (Some routine) d name actuals lead = function_value routine.0 routine.1 name.place actuals lead
+
+-- the call of a function
+unfoldable pub call : Name → List WrittenActual → Option SiteKind → Passing Typed
+call name actuals lead = find name >>= (λ d. call_by (as_routine d) d name actuals lead)
+
+-- an expression that is no variable
 abbrev pub written : Place → (Option SiteKind → Passing Typed) → Written
-written first typing = record { first = first; typing = typing }
+written first typing = record { first = first; typing = typing; passing = no_variable first }
+
+-- a variable, or a component of one
+abbrev pub written_variable : Name → List Selector → List Written → (Option SiteKind → Passing Typed) → Written
+written_variable name selectors indexes typing =
+    record { first = name.place; typing = typing; passing = passed_variable name selectors indexes }
 
 abbrev pub actual_step : Actual-F Written WrittenActual WrittenLink → WrittenActual
 actual_step actual = record { value = actual.value; width = actual.width }
@@ -415,9 +587,9 @@ link_step l = link l.operator l.place l.operand
 
 abbrev pub expression_step : Expr-F Written WrittenActual WrittenLink → Written
 expression_step (NumberOf value place) = written place (number value place)
-expression_step (NameOf name) = written name.place (named name)
+expression_step (NameOf name) = written_variable name [] [] (named name)
 expression_step (ComponentOf name selectors indexes) =
-    written name.place (component name selectors.items indexes.items)
+    written_variable name selectors.items indexes.items (component name selectors.items indexes.items)
 expression_step (StringOf text place) = written place (string text.now place)
 expression_step (CallOf name actuals) = written name.place (call name actuals.items)
 expression_step (ParenthesizedOf place inner) = written place (parenthesized place inner.value)

@@ -6,6 +6,9 @@ pub mod Constants
 pub mod Denoters
 pub mod Expressions
 pub mod Statements
+pub mod Routines
 pub mod Typing
+pub mod View
+pub mod Blocks
 pub mod Outcomes
 pub mod Sound

@@ -1,18 +1,13 @@
 -- The names of a program (ISO 7185:1990, 6.1.3, 6.2.2, 6.10): small and capital letters are alike; the required
 -- identifiers stand in a region round the program, and its block defines its parameters, its constants, its types, the
--- constants of enumerated types, its variables, and its procedures and functions.
+-- constants of enumerated types, and its variables.
 -- It says nothing of the order in which definitions are passed.
 use Rattle.std.specs.Prelude.{ℕ, pos, ◌+◌, ◌&&◌, ◌++◌, Bool, List, [], ◌∷◌, Some, if◌then◌else◌, nat_le, nat_eq, map}
 use Rattle.std.specs.Prelude.{codes, flat_map}
 use Rattle.std.specs.List.{list_any}
 use Rattle.std.specs.Cmp.Lexicographic.{pointwise}
-use Rattle.syntax_tree.specs.declared.Block.{Block}
-use Rattle.syntax_tree.specs.declared.Block.TheViews.{out-Block, out-Routine}
-use Rattle.syntax_tree.specs.declared.Routine.{Routine}
-use Rattle.syntax_tree.specs.declared.Heading.{Heading}
-use Rattle.syntax_tree.specs.declared.Heading.TheVariants as heading
-use Rattle.syntax_tree.specs.declared.Program.{Program}
 use Rattle.syntax_tree.specs.declared.Name.{Name}
+use Rattle.syntax_tree.specs.declared.ConstantDefinition.{ConstantDefinition}
 use Rattle.syntax_tree.specs.declared.TypeDefinition.{TypeDefinition}
 use Rattle.syntax_tree.specs.declared.TypeDenoter.{TypeDenoter}
 use Rattle.syntax_tree.specs.declared.TypeDenoter.TheOpen.{TypeDenoter-F}
@@ -21,10 +16,14 @@ use Rattle.syntax_tree.specs.declared.TypeDenoter.TheOpen.TypeDenoter-F.{Array, 
 use Rattle.syntax_tree.specs.declared.TypeDenoter.TheFolds.{fold-TypeDenoter}
 use Rattle.syntax_tree.specs.Places.{fields_of}
 use Rattle.syntax_tree.specs.declared.VariableGroup.{VariableGroup}
+use Rattle.syntax_tree.specs.declared.FormalGroup.{FormalGroup}
+use Rattle.syntax_tree.specs.declared.Heading.{Heading}
+use Rattle.syntax_tree.specs.declared.Heading.TheVariants.{Procedure, Function, Resumed}
 use Rattle.types.specs.Types.{integer, boolean, char}
 use Rattle.scopes.specs.Scopes.{Region}
 use Rattle.scopes.specs.declared.denotation.Denotation.{Denotation}
-use Rattle.scopes.specs.declared.denotation.Denotation.TheVariants.{TypeName, Constant, Procedure, Function}
+use Rattle.scopes.specs.declared.denotation.Denotation.TheVariants.{TypeName, Constant}
+use Rattle.scopes.specs.declared.denotation.Denotation.TheVariants as denotes
 use Rattle.scopes.specs.declared.denotation.RequiredProcedure.TheVariants.{Write, Writeln}
 use Rattle.scopes.specs.declared.denotation.RequiredFunction.TheVariants.{Abs, Sqr, Odd, Ord, Chr, Succ, Pred}
 
@@ -50,10 +49,11 @@ required =
     (codes "integer", TypeName integer) ∷ (codes "boolean", TypeName boolean) ∷ (codes "char", TypeName char)
     ∷ (codes "maxint", Constant (pos 2147483647) integer)
     ∷ (codes "false", Constant (pos 0) boolean) ∷ (codes "true", Constant (pos 1) boolean)
-    ∷ (codes "abs", Function Abs) ∷ (codes "sqr", Function Sqr) ∷ (codes "odd", Function Odd)
-    ∷ (codes "ord", Function Ord) ∷ (codes "chr", Function Chr)
-    ∷ (codes "succ", Function Succ) ∷ (codes "pred", Function Pred)
-    ∷ (codes "write", Procedure Write) ∷ (codes "writeln", Procedure Writeln) ∷ []
+    ∷ (codes "abs", denotes.Function Abs) ∷ (codes "sqr", denotes.Function Sqr)
+    ∷ (codes "odd", denotes.Function Odd) ∷ (codes "ord", denotes.Function Ord)
+    ∷ (codes "chr", denotes.Function Chr) ∷ (codes "succ", denotes.Function Succ)
+    ∷ (codes "pred", denotes.Function Pred) ∷ (codes "write", denotes.Procedure Write)
+    ∷ (codes "writeln", denotes.Procedure Writeln) ∷ []
 
 -- their region: all of them are defined
 unfoldable pub required_region : Region
@@ -79,22 +79,18 @@ type_names d = denoter_names d.denoter ++ d.name ∷ []
 abbrev pub group_names : VariableGroup → List Name
 group_names group = denoter_names group.denoter ++ group.names.items
 
--- the name of a procedure or function
-abbrev pub heading_name : Heading → Name
-heading_name (heading.Procedure name formals) = name
-heading_name (heading.Function name formals result) = name
-heading_name (heading.Resumed name) = name
+-- that of a routine where it is declared first
+abbrev pub heading_names : Heading → List Name
+heading_names (Procedure name formals) = name ∷ []
+heading_names (Function name formals result) = name ∷ []
+heading_names (Resumed name) = []
 
-abbrev pub routine_name : Routine → Name
-routine_name routine = heading_name (out-Routine routine).heading
+-- those of formal parameters that are declared together
+abbrev pub formal_names : FormalGroup → List Name
+formal_names group = group.names.items
 
--- the names of a block's constants, types, variables, procedures and functions, in the order in which they are defined
-abbrev pub block_names : Block → List Name
-block_names block =
-    map (λ d. d.name) (out-Block block).constants.items
-    ++ (flat_map type_names (out-Block block).types.items
-    ++ (flat_map group_names (out-Block block).variables.items ++ map routine_name (out-Block block).routines.items))
-
--- the names that the program's block defines
-abbrev pub defined_names : Program → List Name
-defined_names program = program.parameters.items ++ block_names program.block
+-- the names of a block's constants, types, variables and routines, in the order in which they are defined
+abbrev pub names_defined : List ConstantDefinition → List TypeDefinition → List VariableGroup → List Name → List Name
+names_defined constants types variables routines =
+    map (λ d. d.name) constants
+    ++ (flat_map type_names types ++ (flat_map group_names variables ++ routines))

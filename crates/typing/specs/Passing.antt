@@ -1,7 +1,7 @@
 -- Typing as a computation: it passes the forms of a program in the order of the text, and either meets the first broken
 -- rule, or answers what a form is, how its typed form looks, and what is then known of the program.
 -- It says nothing of what the rules are.
-use Rattle.std.specs.Prelude.{ℕ, ◌++◌, Bool, List, [], ◌∷◌, Result, Ok, Err}
+use Rattle.std.specs.Prelude.{ℕ, ◌++◌, Bool, List, [], ◌∷◌, Option, Result, Ok, Err}
 use Rattle.place.specs.declared.Place.{Place}
 use Rattle.types.specs.Forms.{Form}
 use Rattle.scopes.specs.Scopes.{Region}
@@ -9,6 +9,24 @@ use Rattle.typed_tree.specs.declared.fault.TypeFault.{TypeFault}
 use Rattle.typed_tree.specs.declared.tree.Variable.{Variable}
 use Rattle.typed_tree.specs.Ids.{Stands}
 use Rattle.typed_tree.specs.Look.{Mark, Look}
+
+-- a heading that was passed: the blocks round its block, the program's first; the roots of its parameters, and of its
+-- result, if it is a function; the region of its parameters; and the cells that all of these take
+pub record Headed : Type 0 where
+  pub around : List ℕ
+  pub parameters : List ℕ
+  pub result : Option ℕ
+  pub region : Region
+  pub cells : ℕ
+
+-- a block that is passed: its number, the blocks round it, the cells that its variables take so far, and the routines
+-- that it declared with the directive forward or whose blocks came: each with the place of its name while it waits for
+-- its block
+pub record Enclosing : Type 0 where
+  pub block : ℕ
+  pub around : List ℕ
+  pub cells : ℕ
+  pub waiting : List (ℕ × Option Place)
 
 -- what is known at a place of a program
 pub record Passed : Type 0 where
@@ -20,8 +38,10 @@ pub record Passed : Type 0 where
   pub texts : List (List ℕ)
   -- the variables that are declared, by root number
   pub variables : List Variable
-  -- the cells that those of the block take
-  pub cells : ℕ
+  -- the headings that were passed, by the numbers of their blocks
+  pub headings : List Headed
+  -- the block round the place
+  pub enclosing : Enclosing
   -- output is a program parameter
   pub has_output : Bool
   -- the sites, by id
@@ -32,6 +52,10 @@ pub record Passed : Type 0 where
   pub loops : ℕ
   -- the control variables of the for statements round the place, by root number, the outermost first
   pub controls : List ℕ
+  -- the variables of blocks round others that those may change, by root number
+  pub threatened : List ℕ
+  -- the results that are assigned, by root number
+  pub assigned : List ℕ
   -- the latest token that was passed
   pub latest : Place
 

@@ -1,13 +1,14 @@
 -- What a typed tree has of what is known behind its program, and whether it is the program's typed tree.
 -- It says nothing of what typing answers.
-use Rattle.std.specs.Prelude.{◌≡◌, true, [], Ok, map, nat_eq}
-use Rattle.std.specs.List.{list_all}
+use Rattle.std.specs.Prelude.{◌≡◌, ℕ, List, [], Ok, map}
 use Rattle.syntax_tree.specs.declared.Program.{Program}
 use Rattle.typed_tree.specs.declared.site.Site.{Site}
 use Rattle.typed_tree.specs.declared.tree.Tree.{Tree}
 use Rattle.typed_tree.specs.Ids.{Stands, AreInOrder}
 use Rattle.typed_tree.specs.Look.{tree_look}
-use Rattle.typed_tree.specs.Loops.{loops_of}
+use Rattle.typed_tree.specs.declared.tree.Block.{Block}
+use Rattle.typed_tree.specs.Entries.{in_text}
+use Rattle.typed_tree.specs.Loops.{loops_of_block}
 use Rattle.typing.specs.Passing.{Passed, after}
 use Rattle.typing.specs.Typing.{typing}
 
@@ -23,10 +24,13 @@ pub record IsLeft (passed : Passed) (tree : Tree) : Type 0 where
   pub types : tree.types ≡ passed.types
   pub points : tree.points.items ≡ []
 
--- the table of loops says which control variables are inside each; each loop stands in the program's block
-pub record HasLoops (tree : Tree) : Type 0 where
-  pub rows : map (λ row. row.controls.items) tree.loops.items ≡ map (λ one. one.1) (loops_of tree)
-  pub in_program : list_all (λ row. nat_eq row.block 0) tree.loops.items ≡ true
+-- the loops of a block of a number: of each the block, and the control variables inside it
+abbrev pub rows_of_block : ℕ → Block → List (ℕ × List ℕ)
+rows_of_block number block = map (λ one. (number, one.1)) (loops_of_block block)
+
+-- the table of loops says where each stands, and which control variables are inside it
+abbrev pub HasLoops : Tree → Type 0
+HasLoops tree = map (λ row. (row.block, row.controls.items)) tree.loops.items ≡ in_text rows_of_block tree
 
 -- a program breaks no rule of names and types, and this is its typed tree
 pub record IsTyped (program : Program) (tree : Tree) : Type 0 where

@@ -4,7 +4,7 @@ use Rattle.std.specs.List.{list_any}
 use Rattle.std.specs.Ordering.{int_eq}
 use Rattle.std.specs.Prelude.{ℕ, ℤ, Bool, true, false, not, ◌&&◌, ◌++◌, List, [], ◌∷◌, Option, Some, None, Ok}
 use Rattle.std.specs.Prelude.{Err, if◌then◌else◌, map}
-use Rattle.std.specs.Prelude.{is_none, nat_eq, option_map}
+use Rattle.std.specs.Prelude.{is_none, option_map}
 use Rattle.place.specs.declared.Place.{Place}
 use Rattle.syntax_tree.specs.declared.Name.{Name}
 use Rattle.syntax_tree.specs.declared.Expr.{Expr}
@@ -30,9 +30,7 @@ use Rattle.syntax_tree.specs.declared.Stmt.TheFolds.{fold-Stmt}
 use Rattle.types.specs.Forms.{Form}
 use Rattle.types.specs.Forms as form
 use Rattle.types.specs.declared.form.TypeId.{TypeId}
-use Rattle.types.specs.declared.form.OrdinalRange.{OrdinalRange}
-use Rattle.types.specs.Types.{integer, boolean, is_compatible, is_assignable, is_ordinal, is_string, form_at, range_of}
-use Rattle.types.specs.Types.{cells_of}
+use Rattle.types.specs.Types.{integer, boolean, is_compatible, is_ordinal, is_string, form_at}
 use Rattle.scopes.specs.declared.denotation.Denotation.{Denotation}
 use Rattle.scopes.specs.declared.denotation.Denotation.TheVariants as denotes
 use Rattle.scopes.specs.declared.denotation.RequiredProcedure.{RequiredProcedure}
@@ -44,41 +42,54 @@ use Rattle.typed_tree.specs.declared.tree.Direction.TheVariants as direction
 use Rattle.typed_tree.specs.declared.tree.Representation.{Representation}
 use Rattle.typed_tree.specs.declared.tree.Representation.TheVariants as representation
 use Rattle.typed_tree.specs.declared.tree.Selector.{Selector as TreeSelector}
+use Rattle.typed_tree.specs.declared.tree.Variable.{Variable}
 use Rattle.typed_tree.specs.Accesses.{index_count}
+use Rattle.typed_tree.specs.WellFormed.{is_one_of}
 use Rattle.typed_tree.specs.Look.{Mark, Access, Assign, Target, WholeTarget, Copied, Fits, Write}
 use Rattle.typed_tree.specs.Look.{Written as WrittenMark, WrittenString, Width}
 use Rattle.typed_tree.specs.Look.{Empty, Compound, If, Then, Else, While, Do, Repeat, Until, For, Case, Arm, Ends}
-use Rattle.typing.specs.Passing.{Checked, Passing, and_then, pure, given, by_types, mark, each, ◌>>=◌, ◌>>◌, ◌>>?◌}
-use Rattle.typing.specs.Steps.{fits, or_mismatch, pass, enter_as, enter_loop, site, find, may_change, begin_control}
-use Rattle.typing.specs.Steps.{end_control, wants_output}
+use Rattle.typing.specs.Passing.{Checked, Passing, and_then, pure, fail, given, by_types, mark, each, ◌>>=◌, ◌>>◌}
+use Rattle.typing.specs.Passing.{◌>>?◌}
+use Rattle.typing.specs.Steps.{assign_result, fits, or_mismatch, pass, enter_as, enter_loop, site, find, heading_at}
+use Rattle.typing.specs.Steps.{may_change, may_control, begin_control, end_control, enclosing_now, variable_at}
+use Rattle.typing.specs.Steps.{wants_output}
 use Rattle.typing.specs.Constants.{ordinal_constant, constant_place}
 use Rattle.typing.specs.declared.typed.Typed.{Typed}
-use Rattle.typing.specs.Expressions.{Written, WrittenActual, is_of, as_variable, selected, tests_ordinal, expression}
-use Rattle.typing.specs.Expressions.{written_actual}
-
--- the values of a target's type, if an ordinal value may be assigned to it (6.4.6)
-abbrev pub fitting : List Form → TypeId → Typed → Option OrdinalRange
-fitting types target value =
-    if is_none value.length && is_assignable types target value.type_id then range_of types target else None
-
--- how many cells a structured value has, if it may be assigned to a target of a type, which has as many (6.4.6)
-abbrev pub copied_cells : List Form → TypeId → Typed → Option ℕ → Option ℕ
-copied_cells types target value None = None
-copied_cells types target value (Some cells) =
-    if is_assignable types target value.type_id && nat_eq (cells_of types target) cells then Some cells else None
-
-abbrev pub copying : List Form → TypeId → Typed → Option ℕ
-copying types target value = copied_cells types target value value.length
+use Rattle.typing.specs.Expressions.{Written, WrittenActual, is_of, as_routine, as_variable, copying, expression}
+use Rattle.typing.specs.Expressions.{fitting, routine_call, selected, tests_ordinal, written_actual}
 
 abbrev pub target_mark : Bool → ℕ → List TreeSelector → TypeId → Mark
 target_mark true root selectors type_id = Target root selectors (index_count selectors)
 target_mark false root selectors type_id = WholeTarget root selectors (index_count selectors) type_id
 
+-- the result of a function is assigned by its name, inside its block alone, nested ones included (6.7.3, 6.8.2.2)
+abbrev pub result_target : Place → Bool → Option ℕ → Passing ℕ
+result_target place true (Some root) = assign_result root >> pure root
+result_target place inside result = fail (fault.NotVariable place)
+
+abbrev pub or_no_variable : Place → Option Variable → Checked TypeId
+or_no_variable place (Some variable) = Ok variable.type_id
+or_no_variable place None = Err (fault.NotVariable place)
+
+unfoldable pub function_target : Place → ℕ → Passing (ℕ × TypeId)
+function_target place block = do
+  enclosing ← enclosing_now
+  heading ← heading_at block
+  root ← result_target place (is_one_of (enclosing.block ∷ enclosing.around) block) heading.result
+  found ← variable_at root
+  type_id ← given (or_no_variable place found)
+  pure (root, type_id)
+
+-- the variable left of `:=` that a name denotes: its root and its type
+abbrev pub target_of : Option (ℕ × Bool) → Place → Denotation → Passing (ℕ × TypeId)
+target_of None place d = given (as_variable place d)
+target_of (Some routine) place d = function_target place routine.0
+
 -- what is accessed left of `:=`, by its type
 unfoldable pub target : Name → List Selector → List Written → Passing TypeId
 target name selectors indexes = do
   d ← find name
-  variable ← given (as_variable name.place d)
+  variable ← target_of (as_routine d) name.place d
   may_change name.place variable.0
   enter_as Access
   component ← selected [] variable.1 selectors indexes
@@ -112,6 +123,7 @@ assignment name selectors indexes becomes value = do
 abbrev pub as_procedure : Place → Denotation → Checked RequiredProcedure
 as_procedure place (denotes.Procedure procedure) = Ok procedure
 as_procedure place (denotes.Function function) = Err (fault.WrongParameters place)
+as_procedure place (denotes.Routine block is_function) = Err (fault.WrongParameters place)
 as_procedure place (denotes.Constant value type_id) = Err (fault.Mismatch place)
 as_procedure place (denotes.Text number type_id) = Err (fault.Mismatch place)
 as_procedure place (denotes.Variable root type_id) = Err (fault.Mismatch place)
@@ -130,6 +142,7 @@ is_output (denotes.Text number type_id) = false
 is_output (denotes.Variable root type_id) = false
 is_output (denotes.Procedure procedure) = false
 is_output (denotes.Function function) = false
+is_output (denotes.Routine block is_function) = false
 
 -- whether a value is the name of the file output
 abbrev pub names_file : Expr-F Expr Actual Link → Passing Bool
@@ -205,12 +218,22 @@ write name actuals procedure = do
   each parameter (map written_actual values)
   mark Ends
 
+-- the call of a required procedure
+unfoldable pub required_call : Denotation → Name → List Actual → Passing (Unit {0})
+required_call d name actuals = given (as_procedure name.place d) >>= write name actuals
+
+-- the call of a procedure that a program declares (6.8.2.3); K3 at the name of a function
+unfoldable pub declared_call : ℕ → Bool → Name → List WrittenActual → Passing (Unit {0})
+declared_call callee true name actuals = fail (fault.WrongParameters name.place)
+declared_call callee false name actuals = routine_call false callee name.place actuals >> pure tt
+
+abbrev pub call_by : Option (ℕ × Bool) → Denotation → Name → List Actual → Passing (Unit {0})
+call_by None d name actuals = required_call d name actuals
+call_by (Some routine) d name actuals = declared_call routine.0 routine.1 name (map written_actual actuals)
+
 -- the call of a procedure
 unfoldable pub procedure_call : Name → List Actual → Passing (Unit {0})
-procedure_call name actuals = do
-  d ← find name
-  p ← given (as_procedure name.place d)
-  write name actuals p
+procedure_call name actuals = find name >>= (λ d. call_by (as_routine d) d name actuals)
 
 -- statements between begin and end
 unfoldable pub compound : List (Passing (Unit {0})) → Passing (Unit {0})
@@ -283,6 +306,7 @@ for_head place variable first direction last = do
   control ← given (as_variable variable.place d)
   by_types (λ types. fits (is_ordinal types control.1) variable.place (tt {0}))
   may_change variable.place control.0
+  may_control variable.place control.0
   enter_loop (λ n l. For n l place control.0 (way direction))
   bound control.1 first
   bound control.1 last

@@ -1,7 +1,8 @@
 -- The steps of typing: a token that is passed, a form that is entered, a loop, a site, a name that is found, a control
--- variable, a region, a definition, a type, a variable. It says nothing of the forms that take them.
-use Rattle.std.specs.Prelude.{ℕ, ℤ, pos, ◌+◌, ◌-◌, ◌++◌, Bool, true, false, List, [], ◌∷◌, Option, Some, None}
-use Rattle.std.specs.Prelude.{Result, Ok, Err, if◌then◌else◌, nat_eq, nat_le, nat_lt, length, take, get_or}
+-- variable, a region, a definition, a type, a variable, a block. It says nothing of the forms that take them.
+use Rattle.std.specs.Prelude.{ℕ, ℤ, pos, ◌+◌, ◌-◌, ◌++◌, Bool, true, false, not, ◌&&◌, List, [], ◌∷◌, Option, Some}
+use Rattle.std.specs.Prelude.{None}
+use Rattle.std.specs.Prelude.{Result, Ok, Err, if◌then◌else◌, nat_eq, nat_le, nat_lt, length, slice_get, take, get_or}
 use Rattle.std.specs.List.{list_any}
 use Rattle.place.specs.declared.Place.{Place}
 use Rattle.syntax_tree.specs.declared.Name.{Name}
@@ -10,7 +11,8 @@ use Rattle.types.specs.declared.form.TypeId.{TypeId}
 use Rattle.types.specs.declared.refusal.TypeRefusal.{TypeRefusal}
 use Rattle.types.specs.declared.refusal.TypeRefusal.TheVariants as refusal
 use Rattle.types.specs.Types.{admitted, cells_of, host_of, most_cells, required_forms}
-use Rattle.scopes.specs.Scopes.{found, opened, define}
+pub use Rattle.scopes.specs.Scopes.{innermost, outer}
+use Rattle.scopes.specs.Scopes.{Region, found, opened, opened_beside, define}
 use Rattle.scopes.specs.declared.denotation.Denotation.{Denotation}
 use Rattle.scopes.specs.declared.fault.ScopeFault.{ScopeFault}
 use Rattle.scopes.specs.declared.fault.ScopeFault.TheVariants as scope
@@ -18,9 +20,11 @@ use Rattle.typed_tree.specs.declared.fault.TypeFault.{TypeFault}
 use Rattle.typed_tree.specs.declared.fault.TypeFault.TheVariants as fault
 use Rattle.typed_tree.specs.declared.site.SiteKind.{SiteKind}
 use Rattle.typed_tree.specs.Look.{Mark}
-use Rattle.typed_tree.specs.WellFormed.{most_variables}
+use Rattle.typed_tree.specs.declared.tree.VariableKind.{VariableKind}
+use Rattle.typed_tree.specs.declared.tree.Variable.{Variable}
+use Rattle.typed_tree.specs.WellFormed.{is_local_kind, most_blocks, most_variables}
 use Rattle.typing.specs.Names.{folded, required_region}
-use Rattle.typing.specs.Passing.{Passed, Checked, Passing, after, and_then, pure, mark, ◌>>=◌}
+use Rattle.typing.specs.Passing.{Headed, Enclosing, Passed, Checked, Passing, after, and_then, pure, mark, ◌>>=◌}
 
 -- the most sites of a program
 abbrev pub most_sites : ℕ
@@ -30,6 +34,14 @@ most_sites = 1000000
 abbrev pub most_entries : ℕ
 most_entries = 4000000
 
+-- the heading of the program's block
+abbrev pub program_heading : Headed
+program_heading = record { around = []; parameters = []; result = None; region = []; cells = 0 }
+
+-- the program's block
+abbrev pub program_block : Enclosing
+program_block = record { block = 0; around = []; cells = 0; waiting = [] }
+
 -- what is known before a program, which begins here
 abbrev pub begins : Place → Passed
 begins start = record {
@@ -37,12 +49,15 @@ begins start = record {
   types = required_forms;
   texts = [];
   variables = [];
-  cells = 0;
+  headings = program_heading ∷ [];
+  enclosing = program_block;
   has_output = false;
   sites = [];
   entries = 0;
   loops = 0;
   controls = [];
+  threatened = [];
+  assigned = [];
   latest = start;
 }
 
@@ -55,17 +70,9 @@ abbrev pub or_mismatch : {A : Type 0} → Place → Option A → Checked A
 or_mismatch place (Some answer) = Ok answer
 or_mismatch place None = Err (fault.Mismatch place)
 
--- how deep blocks may be nested, of which that of the program is the first
-abbrev pub most_blocks : ℕ
-most_blocks = 1
-
 -- a number as a value, which is at most maxint
 abbrev pub value_of : ℕ → Place → Checked ℤ
 value_of number place = fits (nat_le number 2147483647) place (pos number)
-
--- a block is nested so deep, that of the program being the first; one too deep is S4 at the place
-unfoldable pub nest : ℕ → Place → Passing (Unit {0})
-nest depth place = λ s. if nat_le depth most_blocks then Ok (after tt [] s) else Err (fault.NestedTooDeep place)
 
 -- a token is passed
 unfoldable pub pass : Place → Passing (Unit {0})
@@ -117,11 +124,39 @@ find name = λ s.
     and_then (told name.place (found s.regions (folded name.text.now)))
     (λ denotation. Ok (after denotation [] (record s { latest = name.place })))
 
+-- the block round the place declares a variable
+abbrev pub is_own : ℕ → Option Variable → Bool
+is_own block None = false
+is_own block (Some variable) = nat_eq variable.block block
+
+-- one more of them, unless it is there
+abbrev pub with_one : List ℕ → ℕ → List ℕ
+with_one roots root = if list_any (nat_eq root) roots then roots else roots ++ root ∷ []
+
+-- one more of them, if it is none of the block's own
+abbrev pub with_threatened : ℕ → Passed → Passed
+with_threatened root s =
+    if is_own s.enclosing.block (slice_get s.variables root) then s
+    else record s { threatened = with_one s.threatened root }
+
 -- a variable may be changed, if it isn't the control variable of a for statement round the place; else it is K5 at its
--- name
+-- name. One of a block round this block is no control variable from here on
 unfoldable pub may_change : Place → ℕ → Passing (Unit {0})
 may_change place root = λ s.
-    if list_any (λ control. nat_eq control root) s.controls then Err (fault.Threatened place) else Ok (after tt [] s)
+    if list_any (λ control. nat_eq control root) s.controls then Err (fault.Threatened place)
+    else Ok (after tt [] (with_threatened root s))
+
+abbrev pub is_local : ℕ → Option Variable → Bool
+is_local block None = false
+is_local block (Some variable) = nat_eq variable.block block && is_local_kind variable.kind
+
+-- a variable may be a control variable: one of the variable declaration part of the block that no routine of the block
+-- changes (6.8.3.9); else it is K5 at its name
+unfoldable pub may_control : Place → ℕ → Passing (Unit {0})
+may_control place root = λ s.
+    if is_local s.enclosing.block (slice_get s.variables root)
+    && not (list_any (nat_eq root) s.threatened)
+    then Ok (after tt [] s) else Err (fault.Threatened place)
 
 -- the statement of a for begins, of this control variable
 unfoldable pub begin_control : ℕ → Passing (Unit {0})
@@ -134,6 +169,14 @@ end_control = λ s. Ok (after tt [] (record s { controls = take (length s.contro
 -- the region of a block that defines these names, in small letters
 unfoldable pub open_block : List (List ℕ) → Passing (Unit {0})
 open_block names = λ s. Ok (after tt [] (record s { regions = opened names ∷ s.regions }))
+
+-- the region of a block that defines these names, in small letters, beside parameters
+unfoldable pub open_beside : Region → List (List ℕ) → Passing (Unit {0})
+open_beside parameters names = λ s. Ok (after tt [] (record s { regions = opened_beside parameters names ∷ s.regions }))
+
+-- the innermost region ends
+unfoldable pub close_block : Passing Region
+close_block = λ s. Ok (after (innermost s.regions) [] (record s { regions = outer s.regions }))
 
 -- the region of the required identifiers
 unfoldable pub open_required : Passing (Unit {0})
@@ -192,11 +235,52 @@ next_root place = λ s.
     if nat_le most_variables (length s.variables) then Err (fault.TooMany place)
     else Ok (after (length s.variables) [] s)
 
--- the cells of one variable more; where the block has no room for them it is told at the variable's name
-unfoldable pub reserve : Place → TypeId → Passing (Unit {0})
-reserve place type_id = λ s.
-    if nat_lt most_cells (s.cells + cells_of s.types type_id) then Err (fault.TooManyCells place)
+-- a variable more of a block, where the block has room for its cells; else it is told at the variable's name
+unfoldable pub reserve : Place → ℕ → VariableKind → TypeId → Passing (Unit {0})
+reserve place block kind type_id = λ s.
+    if nat_lt most_cells (s.enclosing.cells + cells_of s.types type_id) then Err (fault.TooManyCells place)
     else Ok (after tt [] (record s {
-      variables = s.variables ++ record { block = 0; type_id = type_id } ∷ [];
-      cells = s.cells + cells_of s.types type_id;
+      variables = s.variables ++ record { block = block; type_id = type_id; kind = kind } ∷ [];
+      enclosing = record (s.enclosing) { cells = s.enclosing.cells + cells_of s.types type_id };
     }))
+
+-- ---- blocks
+
+-- the block round the place
+unfoldable pub enclosing_now : Passing Enclosing
+enclosing_now = λ s. Ok (after s.enclosing [] s)
+
+-- another block is passed from here on, or again
+unfoldable pub with_enclosing : Enclosing → Passing (Unit {0})
+with_enclosing enclosing = λ s. Ok (after tt [] (record s { enclosing = enclosing }))
+
+-- a routine may be declared in a block, if the blocks are not nested too deep then; else it is told at its name
+unfoldable pub may_nest : Place → Passing (Unit {0})
+may_nest place = λ s.
+    if nat_lt (length s.enclosing.around + 1) most_blocks then Ok (after tt [] s) else Err (fault.NestedTooDeep place)
+
+-- the number of the next block; a program has no more blocks than statements, and one too many is told at its name
+unfoldable pub next_block : Place → Passing ℕ
+next_block place = λ s.
+    if nat_le most_entries (length s.headings) then Err (fault.TooMany place) else Ok (after (length s.headings) [] s)
+
+-- a heading was passed
+unfoldable pub add_heading : Headed → Passing (Unit {0})
+add_heading heading = λ s. Ok (after tt [] (record s { headings = s.headings ++ heading ∷ [] }))
+
+-- the heading of a block, by its number
+unfoldable pub heading_at : ℕ → Passing Headed
+heading_at number = λ s. Ok (after (get_or s.headings number program_heading) [] s)
+
+-- the variable of a root
+unfoldable pub variable_at : ℕ → Passing (Option Variable)
+variable_at root = λ s. Ok (after (slice_get s.variables root) [] s)
+
+-- a result is assigned
+unfoldable pub assign_result : ℕ → Passing (Unit {0})
+assign_result root = λ s. Ok (after tt [] (record s { assigned = with_one s.assigned root }))
+
+-- a result is assigned somewhere before the place; else it is told at the function's name
+unfoldable pub is_assigned : Place → ℕ → Passing (Unit {0})
+is_assigned place root = λ s.
+    if list_any (nat_eq root) s.assigned then Ok (after tt [] s) else Err (fault.NeverAssigned place)

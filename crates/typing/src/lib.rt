@@ -2,19 +2,23 @@
 //! pass a program by them.
 #![tactic(auto)]
 
+mod blocks;
 mod components;
 mod constants;
 mod denoters;
 mod fields;
 mod names;
 mod operations;
+mod passing;
 pub mod rules;
 mod steps;
 mod strings;
 mod typed;
 mod typer;
 mod variables;
+mod waiting;
 
+pub use blocks::{BegunBlock, Callee, EnclosingBlock};
 pub use constants::constant_place;
 pub use denoters::value_of;
 pub use fields::add_fields;

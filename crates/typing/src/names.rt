@@ -1,5 +1,6 @@
 ghost use Rattle.std.specs.Prelude.{◌≡◌, IfOk, OnOk};
-ghost use Rattle.typing.specs.Names.{folded, heading_name, is_among};
+ghost use Rattle.typing.specs.Names.{folded, is_among};
+ghost use Rattle.typing.specs.Routines.{heading_name};
 
 use scopes::{Denotation, RequiredFunction, RequiredProcedure};
 use std::alloc::{AllocError, Global};

@@ -112,14 +112,14 @@ impl Typer {
 
     /// The values of a target's type, if an ordinal value may be assigned to it (6.4.6).
     pub fn fitting(&self, target: TypeId, value: Typed) -> Option<OrdinalRange>
-        ensures { result ≡ statements.fitting self.now.types target value }
+        ensures { result ≡ spec.fitting self.now.types target value }
     {
         fitting(&self.types, target, value)
     }
 
     /// How many cells a structured value has, if it may be assigned to a target of a type (6.4.6), which has as many.
     pub fn copying(&self, target: TypeId, value: Typed) -> Option<usize>
-        ensures { result ≡ statements.copying self.now.types target value }
+        ensures { result ≡ spec.copying self.now.types target value }
     {
         copying(&self.types, target, value)
     }

@@ -2,8 +2,8 @@
 ghost use Rattle.std.specs.Prelude.{◌≡◌, nat_eq};
 ghost use Rattle.typing.specs.Steps.{told};
 ghost use Rattle.typing.specs.Expressions.{sign_operation, both_of, compared, result_type, function_type, as_function};
-ghost use Rattle.typing.specs.Expressions.{takes, on_range, applied, as_variable};
-ghost use Rattle.typing.specs.Statements.{as_procedure, fitting, copying, ends_line, is_output};
+ghost use Rattle.typing.specs.Expressions.{takes, on_range, applied, as_routine, as_variable, fitting, copying};
+ghost use Rattle.typing.specs.Statements.{as_procedure, ends_line, is_output};
 ghost use Rattle.typing.specs.Statements.{representation_of, way};
 
 use crate::typed::Typed;
@@ -143,7 +143,9 @@ pub fn as_function(place: Place, denotation: Denotation) -> Result<RequiredFunct
 {
     match denotation {
         Denotation::Function(function) => Ok(function),
-        Denotation::Procedure(_) => Err(TypeFault::WrongParameters(place)),
+        Denotation::Procedure(_) | Denotation::Routine { .. } => {
+            Err(TypeFault::WrongParameters(place))
+        }
         _ => Err(TypeFault::Mismatch(place)),
     }
 }
@@ -154,7 +156,9 @@ pub fn as_procedure(place: Place, denotation: Denotation) -> Result<RequiredProc
 {
     match denotation {
         Denotation::Procedure(procedure) => Ok(procedure),
-        Denotation::Function(_) => Err(TypeFault::WrongParameters(place)),
+        Denotation::Function(_) | Denotation::Routine { .. } => {
+            Err(TypeFault::WrongParameters(place))
+        }
         _ => Err(TypeFault::Mismatch(place)),
     }
 }
@@ -166,6 +170,16 @@ pub fn as_variable(place: Place, denotation: Denotation) -> Result<(u32, TypeId)
     match denotation {
         Denotation::Variable { root, type_id } => Ok((root, type_id)),
         _ => Err(TypeFault::NotVariable(place)),
+    }
+}
+
+/// The routine that a name denotes, if a program declares it: its block, and whether it is a function.
+pub fn as_routine(denotation: Denotation) -> Option<(u32, bool)>
+    ensures { result ≡ as_routine denotation }
+{
+    match denotation {
+        Denotation::Routine { block, is_function } => Some((block, is_function)),
+        _ => None,
     }
 }
 

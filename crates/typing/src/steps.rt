@@ -1,16 +1,19 @@
-ghost use Rattle.std.specs.Prelude.{◌≡◌, [], Ok, IfErr, map};
-ghost use Rattle.scopes.specs.Scopes.{Knows};
+ghost use Rattle.std.specs.Prelude.{◌≡◌, [], Ok, IfErr, MatchResult, map, nat_eq, slice_get};
+ghost use Rattle.std.specs.List.{list_any};
+ghost use Rattle.scopes.specs.Scopes.{Knows, region_of};
 ghost use Rattle.typing.specs.Names.{folded};
+ghost use Rattle.typed_tree.specs.declared.fault.TypeFault.TheVariants.{Memory};
 ghost use Rattle.typing.specs.Passing.{after};
 
 use crate::names::{REQUIRED, fold_into, folded};
 use crate::rules::placed;
-use crate::typer::{MOST_BLOCKS, MOST_ENTRIES, MOST_SITES, Typer};
+use crate::typer::{MOST_ENTRIES, MOST_SITES, Typer};
 use place::Place;
-use scopes::Denotation;
+use scopes::{Denotation, Region};
 use syntax_tree::Name;
 use typed_tree::fault::TypeFault;
 use typed_tree::site::{Site, SiteKind};
+use typed_tree::tree::VariableKind;
 
 impl Typer {
     ghost use Rattle.typing.specs.Outcomes.{Takes, Tells};
@@ -22,17 +25,6 @@ impl Typer {
         ensures { spec.pass place self.old ≡ Ok (after tt [] self.new) }
     {
         self.latest = place;
-    }
-
-    /// S4 at the place, where a block that is nested so deep, that of the program being the first, is too deep.
-    #[tactic(auto, unfolding(crate::specs::Steps::nest))]
-    pub fn nest(&self, depth: u32, place: Place) -> Result<(), TypeFault>
-        ensures { Tells (spec.nest depth place self.now) result self.now }
-    {
-        if depth > MOST_BLOCKS {
-            return Err(TypeFault::NestedTooDeep(place));
-        }
-        Ok(())
     }
 
     /// The number of the statement or expression that is entered.
@@ -85,15 +77,67 @@ impl Typer {
     }
 
     /// A variable may be changed, if it isn't the control variable of a for statement round the place (6.8.3.9); else
-    /// it is K5 at its name.
+    /// it is K5 at its name. One of a block round this block is no control variable from here on.
     #[tactic(auto, unfolding(crate::specs::Steps::may_change))]
-    pub fn may_change(&self, place: Place, root: u32) -> Result<(), TypeFault>
-        ensures { Tells (spec.may_change place root self.now) result self.now }
+    pub fn may_change(&mut self, place: Place, root: u32) -> Result<(), TypeFault>
+        ensures { Takes (spec.may_change place root self.old) result self.new }
     {
-        if self.controls.contains(&root) {
+        if self.is_control(root) {
+            return Err(TypeFault::Threatened(place));
+        }
+        self.threaten(root)
+    }
+
+    // A variable is the control variable of a for statement round the place.
+    fn is_control(&self, root: u32) -> bool
+        ensures { result ≡ list_any (λ control. nat_eq control root) self.now.controls }
+    {
+        self.controls.contains(&root)
+    }
+
+    // A variable is no control variable from here on, if it is one of a block round this block.
+    fn threaten(&mut self, root: u32) -> Result<(), TypeFault>
+        ensures { MatchResult result (λ _. self.new ≡ spec.with_threatened root self.old) (λ why. why ≡ Memory) }
+    {
+        if !self.is_own(root) {
+            self.threatened.insert(root)?;
+        }
+        Ok(())
+    }
+
+    // The block round the place declares a variable.
+    fn is_own(&self, root: u32) -> bool
+        ensures { result ≡ spec.is_own self.now.enclosing.block (slice_get self.now.variables root) }
+    {
+        match self.variables.get(root as usize) {
+            None => false,
+            Some(variable) => variable.block == self.enclosing.block,
+        }
+    }
+
+    /// A variable may be a control variable: one of the variable declaration part of the block that no routine of the
+    /// block changes (6.8.3.9); else it is K5 at its name.
+    #[tactic(auto, unfolding(crate::specs::Steps::may_control))]
+    pub fn may_control(&self, place: Place, root: u32) -> Result<(), TypeFault>
+        ensures { Tells (spec.may_control place root self.now) result self.now }
+    {
+        if !self.is_local(root) || self.threatened.contains(&root) {
             return Err(TypeFault::Threatened(place));
         }
         Ok(())
+    }
+
+    // A variable is one of the variable declaration part of the block round the place.
+    fn is_local(&self, root: u32) -> bool
+        ensures { result ≡ spec.is_local self.now.enclosing.block (slice_get self.now.variables root) }
+    {
+        match self.variables.get(root as usize) {
+            None => false,
+            Some(variable) => {
+                variable.block == self.enclosing.block
+                    && matches!(variable.kind, VariableKind::Local)
+            }
+        }
     }
 
     /// The statement of a for begins, of this control variable.
@@ -131,6 +175,14 @@ impl Typer {
         self.scopes
             .open(self.alloc, names)
             .map_err(|_| TypeFault::Memory)
+    }
+
+    /// The innermost region ends.
+    #[tactic(auto, unfolding(crate::specs::Steps::close_block))]
+    pub fn close_block(&mut self) -> Region
+        ensures { spec.close_block self.old ≡ Ok (after (region_of result) [] self.new) }
+    {
+        self.scopes.close(self.alloc)
     }
 
     /// Passes the definition of a name of the innermost block.

@@ -3,9 +3,11 @@ ghost use Rattle.typed_tree.specs.Ids.{AreInOrder};
 ghost use Rattle.typed_tree.specs.declared.fault.TypeFault.TheVariants.{Memory};
 ghost use Rattle.typing.specs.Passing.{Passed};
 ghost use Rattle.typing.specs.Sound.{stands};
+ghost use Rattle.typing.specs.View.{headed_of, enclosing_of};
 ghost use Rattle.typing.specs.declared.typer.TheConstants.{MOST_SITES, MOST_ENTRIES};
-ghost use Rattle.types.specs.Types.{most_cells};
 
+use crate::blocks::{EnclosingBlock, PassedHeading};
+use indexmap::IndexSet;
 use place::Place;
 use scopes::Scopes;
 use std::alloc::Global;
@@ -19,7 +21,7 @@ use types::TypeTable;
 pub const MOST_SITES: usize = 1_000_000;
 
 /// How deep blocks may be nested, of which that of the program is the first.
-pub const MOST_BLOCKS: u32 = 1;
+pub const MOST_BLOCKS: usize = 16;
 
 /// The most variables of a program.
 pub const MOST_VARIABLES: usize = 1_000_000;
@@ -37,8 +39,10 @@ pub struct Typer {
     pub(crate) texts: Vec<Vec<u8>>,
     // By root number.
     pub(crate) variables: Vec<Variable>,
-    // The cells that those of the block take.
-    pub(crate) cells: u32,
+    // By block number.
+    pub(crate) headings: Vec<PassedHeading>,
+    // The block round the place.
+    pub(crate) enclosing: EnclosingBlock,
     pub(crate) has_output: bool,
     // By id.
     pub(crate) sites: Vec<Site>,
@@ -48,6 +52,10 @@ pub struct Typer {
     pub(crate) loops: u32,
     // Those of the for statements round the place, by root number, the outermost first.
     pub(crate) controls: Vec<u32>,
+    // Variables of blocks round others, which those may change, by root number.
+    pub(crate) threatened: IndexSet<u32>,
+    // Results that are assigned, by root number.
+    pub(crate) assigned: IndexSet<u32>,
     // The place of the latest token that the syntax tree tells.
     pub(crate) latest: Place,
     // The name that was looked up last, in small letters. It is kept, so that the use of a name asks for no memory.
@@ -56,7 +64,6 @@ pub struct Typer {
     ghost few_sites: { vec_len sites ≤ MOST_SITES },
     ghost few_entries: { entries ≤ MOST_ENTRIES },
     ghost few_loops: { loops ≤ entries },
-    ghost few_cells: { cells ≤ most_cells },
 }
 
 impl Model for Typer {
@@ -67,12 +74,15 @@ impl Model for Typer {
       types = t.types;
       texts = map (λ text. text.items) t.texts.items;
       variables = t.variables.items;
-      cells = t.cells;
+      headings = map headed_of t.headings.items;
+      enclosing = enclosing_of t.enclosing;
       has_output = t.has_output;
       sites = map stands t.sites.items;
       entries = t.entries;
       loops = t.loops;
       controls = t.controls.items;
+      threatened = t.threatened.keys;
+      assigned = t.assigned.keys;
       latest = t.latest;
     } };
 }
@@ -85,32 +95,40 @@ impl Typer {
     pub fn new(alloc: Global, start: Place) -> Result<Typer, TypeFault>
         ensures { MatchResult result (λ typer. typer ≡ begins start) (λ fault. fault ≡ Memory) }
     {
+        let mut headings = Vec::new(alloc);
+        headings.push(PassedHeading::nothing(alloc))?;
         Ok(Typer {
             alloc,
             scopes: Scopes::new(alloc),
             types: TypeTable::required(alloc)?,
             texts: Vec::new(alloc),
             variables: Vec::new(alloc),
-            cells: 0,
+            headings,
+            enclosing: EnclosingBlock::of_program(alloc),
             has_output: false,
             sites: Vec::new(alloc),
             entries: 0,
             loops: 0,
             controls: Vec::new(alloc),
+            threatened: IndexSet::new(alloc),
+            assigned: IndexSet::new(alloc),
             latest: start,
             key: Vec::new(alloc),
         })
     }
 
-    /// The typed tree of the program that was passed, by its blocks and its table of loops.
-    pub fn tree(self, blocks: Vec<Block>, loops: Vec<Loop>) -> Tree
+    /// The typed tree of the program that was passed, by its blocks, the order of their statements in the text, and its
+    /// table of loops.
+    pub fn tree(self, blocks: Vec<Block>, bodies: Vec<u32>, loops: Vec<Loop>) -> Tree
         ensures blocks { result.blocks ≡ blocks }
+        ensures bodies { result.bodies ≡ bodies }
         ensures loops { result.loops ≡ loops }
         ensures left { IsLeft self result }
     {
         let points = Vec::new(self.alloc);
         Tree {
             blocks,
+            bodies,
             variables: self.variables,
             sites: self.sites,
             points,

@@ -6,24 +6,68 @@ use place::Place;
 use scopes::Denotation;
 use syntax_tree::Name;
 use typed_tree::fault::TypeFault;
-use typed_tree::tree::Variable;
+use typed_tree::tree::{Variable, VariableKind};
 use types::{MOST_CELLS, TypeId};
 
 impl Typer {
+    ghost use Rattle.std.specs.Prelude.{◌≡◌, slice_get};
     ghost use Rattle.typing.specs.Outcomes.{Takes, Tells};
     ghost use Rattle.typing.specs.Steps as step;
-    ghost use Rattle.typing.specs.Typing as spec;
+    ghost use Rattle.typing.specs.Routines as spec;
 
-    /// A variable of a type: its number (K10 where there are too many), its definition (S1 where it comes twice), and
-    /// then its cells (Y2 where there is no room).
-    #[tactic(auto, unfolding(crate::specs::Typing::variable))]
-    pub fn variable(&mut self, type_id: TypeId, name: &Name) -> Result<(), TypeFault>
+    /// A variable of a type, which a block declares so, by its number (K10 where there are too many), its definition
+    /// (S1 where it comes twice), and then its cells (Y2 where there is no room).
+    #[tactic(auto, unfolding(crate::specs::Routines::declared))]
+    pub fn variable(
+        &mut self,
+        block: u32,
+        kind: VariableKind,
+        type_id: TypeId,
+        name: &Name,
+    ) -> Result<u32, TypeFault>
         requires known { Knows self.old.regions (folded name.now.text.now) }
-        ensures { Takes (spec.variable type_id name.now self.old) result self.new }
+        ensures { Takes (spec.declared block kind type_id name.now self.old) result self.new }
     {
         let root = self.next_root(name.place)?;
         self.declare(name, Denotation::Variable { root, type_id })?;
-        self.reserve(name.place, type_id)
+        self.reserve(name.place, block, kind, type_id)?;
+        Ok(root)
+    }
+
+    /// One of the variable declaration part of the block round the place.
+    #[tactic(auto, unfolding(crate::specs::Routines::local, crate::specs::Steps::enclosing_now))]
+    pub fn local(&mut self, type_id: TypeId, name: &Name) -> Result<(), TypeFault>
+        requires known { Knows self.old.regions (folded name.now.text.now) }
+        ensures { Takes (spec.local type_id name.now self.old) result self.new }
+    {
+        let block = self.enclosing.block;
+        self.variable(block, VariableKind::Local, type_id, name)?;
+        Ok(())
+    }
+
+    /// The result of a block's function, if it is one, at the place of its name.
+    #[tactic(auto, unfolding(crate::specs::Routines::result))]
+    pub fn result(
+        &mut self,
+        block: u32,
+        place: Place,
+        type_id: Option<TypeId>,
+    ) -> Result<Option<u32>, TypeFault>
+        ensures { Takes (spec.result block place type_id self.old) result self.new }
+    {
+        let Some(type_id) = type_id else {
+            return Ok(None);
+        };
+        let root = self.next_root(place)?;
+        self.reserve(place, block, VariableKind::Result, type_id)?;
+        Ok(Some(root))
+    }
+
+    /// The variable of a root.
+    pub fn variable_at(&self, root: u32) -> Option<Variable>
+        ensures { result ≡ slice_get self.now.variables root }
+    {
+        self.variables.get(root as usize).copied()
     }
 
     // The root number of the next variable.
@@ -37,17 +81,27 @@ impl Typer {
         Ok(self.variables.len() as u32)
     }
 
-    // The cells of one variable more.
+    // The cells of one variable more of a block.
     #[tactic(auto, unfolding(crate::specs::Steps::reserve))]
-    fn reserve(&mut self, place: Place, type_id: TypeId) -> Result<(), TypeFault>
-        ensures { Takes (step.reserve place type_id self.old) result self.new }
+    fn reserve(
+        &mut self,
+        place: Place,
+        block: u32,
+        kind: VariableKind,
+        type_id: TypeId,
+    ) -> Result<(), TypeFault>
+        ensures { Takes (step.reserve place block kind type_id self.old) result self.new }
     {
         let cells = self.types.cells(type_id);
-        if cells > MOST_CELLS - self.cells {
+        if cells > MOST_CELLS - self.enclosing.cells {
             return Err(TypeFault::TooManyCells(place));
         }
-        self.variables.push(Variable { block: 0, type_id })?;
-        self.cells += cells;
+        self.variables.push(Variable {
+            block,
+            type_id,
+            kind,
+        })?;
+        self.enclosing.cells += cells;
         Ok(())
     }
 }

@@ -1,8 +1,7 @@
 -- What accesses of variables do: selectors lead from a variable to a component, and each index has its site before those
 -- of its first token.
-use Rattle.std.proofs.Common.{◌≡◌, ℕ, ℤ, ◌<◌, ◌≤◌, Bool, true, false, ◌&&◌, not, nat_eq, nat_le, cond, if◌then◌else◌, List, [], ◌∷◌, ◌++◌, length}
-use Rattle.std.proofs.Common.{Option, Some, None, Ok}
-use Rattle.std.proofs.Common.{is_none, option_map, slice_get, refl, sym, ap, subst, ◌∙◌, arith}
+use Rattle.std.proofs.Common.{◌≡◌, ℕ, ℤ, ◌<◌, ◌≤◌, Bool, true, false, ◌&&◌, ◌||◌, not, nat_eq, nat_le, cond, if◌then◌else◌, List, [], ◌∷◌, ◌++◌, length, Option}
+use Rattle.std.proofs.Common.{Some, None, Ok, is_none, slice_get, refl, sym, ap, subst, ◌∙◌, arith}
 use Rattle.std.specs.List.{list_all}
 use Rattle.std.specs.Ordering.{int_eq}
 use Rattle.std.specs.Option.{option_and_then}
@@ -30,19 +29,22 @@ use Rattle.typed_tree.specs.declared.tree.Selector.TheVariants as tree
 use Rattle.typed_tree.specs.declared.tree.Variable.{Variable}
 use Rattle.typed_tree.specs.Accesses.{index_count, element_type, field_type, selected as selects, led as led_by, accessed as leads, is_type}
 use Rattle.typed_tree.specs.Look.{Access, Value, WholeValue}
-use Rattle.typed_tree.specs.WellFormed.{is_well_formed_selector, leads_to, leads_to_whole, leads_to_ordinal}
+use Rattle.typed_tree.specs.WellFormed.{Outline, encloses, is_one_of, is_round, is_visible, is_well_formed_selector, leads_to, leads_to_whole, leads_to_ordinal}
+use Rattle.typed_tree.specs.WellFormed.{of_one}
 use Rattle.typing.specs.Names.{folded}
 use Rattle.typing.specs.Passing.{Checked}
 use Rattle.typing.specs.Steps.{or_mismatch}
 use Rattle.typing.specs.Expressions.{Written, typed, typed_whole, or_not_declared, field_in, field_named, index, selected, tests_ordinal, ordinal_value}
 use Rattle.typing.specs.Expressions.{whole_value, accessed}
-use Rattle.typing_laws.proofs.Sound.{type_of}
-use Rattle.typing_laws.proofs.Tables.{AreLawful, stands_longer, is_ordinal_longer, cells_of_longer, element_of_longer, field_of_longer}
 use Rattle.typing_laws.proofs.Covers.{Covers, covers_none, covers_skip, covers_both, leads_first, leads_more}
-use Rattle.typing_laws.proofs.Grown.{Reached, IsFurther, further_still, both_true}
+use Rattle.typing_laws.proofs.Grown.{both_true}
+use Rattle.typing_laws.proofs.Reached.{Signature, signature_of, Reached, whole_of, IsFurther, further_still, Here, is_round_here, StandsIn, get_longer}
+use Rattle.typing_laws.proofs.Reached.{get_mapped}
+use Rattle.typing_laws.proofs.Sound.{IsVariable}
 use Rattle.typing_laws.proofs.Strings.{fit_is, there}
-use Rattle.typing_laws.proofs.Steps.{Does, Nothing, joins, quietly, last, checks, sited, mark_does, pass_does, pure_does, by_types_does, fail_does}
-use Rattle.typing_laws.proofs.Steps.{enter_does, host_type_does, site_does, led, IsKnown, behind_does}
+use Rattle.typing_laws.proofs.Steps.{Does, Nothing, joins, quietly, last, checks, sited, mark_does, pass_does, pure_does, by_types_does, fail_does, enter_does}
+use Rattle.typing_laws.proofs.Steps.{host_type_does, site_does, led, IsKnown, behind_does}
+use Rattle.typing_laws.proofs.Tables.{AreLawful, stands_longer, is_ordinal_longer, cells_of_longer, element_of_longer, field_of_longer}
 use Rattle.typing_laws.proofs.Leading.{IsLed, Types, known_later, lt_true, LawfulWritten, covers_test, led_covers, led_behind}
 
 -- ---- selectors
@@ -87,40 +89,54 @@ element_selects found e is =
     same_value : (z : ℤ) → int_eq z z ≡ true
     same_value z = grind (arith, ints)
 
-module _ (variables : List Variable) where
+module _ (here : Here) where
   -- selectors lead from a variable to a component of a type, which stands in the table
   pub record LeadsTo (root : ℕ) (selectors : List TreeSelector) (id : TypeId) (now : Reached) : Type 0 where
-    pub formed : (n : Reached) → IsFurther now n → list_all (is_well_formed_selector variables n.types n.sites) selectors ≡ true
-    pub leads_there : (n : Reached) → IsFurther now n → leads variables n.types root selectors ≡ Some id
+    pub formed : (o : Outline) → IsFurther now (whole_of o) → list_all (is_well_formed_selector o here.block) selectors ≡ true
+    pub leads_there : (n : Reached) → IsFurther now n → leads n.variables n.types root selectors ≡ Some id
+    pub visible : (o : Outline) → IsFurther now (whole_of o) → is_visible o here.block root ≡ true
     pub stands : id.index < length now.types
 
   pub leads_later : (root : ℕ) (selectors : List TreeSelector) (id : TypeId) (now next : Reached) → IsFurther now next → LeadsTo root selectors id now
       → LeadsTo root selectors id next
   leads_later root selectors id now next more l = record {
-    formed = λ n h. l.formed n (further_still more h);
+    formed = λ o h. l.formed o (further_still more h);
     leads_there = λ n h. l.leads_there n (further_still more h);
+    visible = λ o h. l.visible o (further_still more h);
     stands = stands_longer more.types id l.stands;
   }
 
+  -- a block that stands round this one does so in the program
+  pub round_formed : (now : Reached) (o : Outline) → StandsIn here now → IsFurther now (whole_of o) → (block : ℕ) → is_round_here here block ≡ true
+      → is_round o here.block block ≡ true
+  round_formed now o stands more block is =
+      let at = get_mapped signature_of o.headings here.block stands.0 (get_longer more.headings here.block stands.0 stands.1) in
+      let around : at.0.around.items ≡ here.around = ap (λ (s : Signature). s.around) at.2 ∙ stands.2 in
+      ap (of_one (encloses block here.block)) at.1 ∙ ap (λ blocks. nat_eq block here.block || is_one_of blocks block) around ∙ is
+
   -- to the variable itself
-  pub leads_nowhere : (root : ℕ) (id : TypeId) (now : Reached) → type_of variables root ≡ Some id → id.index < length now.types → LeadsTo root [] id now
-  leads_nowhere root id now is within = record { formed = λ n h. refl; leads_there = λ n h. by n.types (slice_get variables root) is; stands = within }
-    where
-      by : (types : List Form) (found : Option Variable) → option_map (λ (v : Variable). v.type_id) found ≡ Some id
-          → option_and_then (λ (v : Variable). led_by types [] v.type_id) found ≡ Some id
-      by types (Some v) h = h
-      by types None h = absurd cc
+  pub leads_nowhere : (root : ℕ) (id : TypeId) (now : Reached) → IsVariable here now.variables now.types root id → StandsIn here now → LeadsTo root [] id now
+  leads_nowhere root id now v stands = record {
+    formed = λ o h. refl;
+    leads_there = λ n h.
+        ap (option_and_then (λ (v : Variable). led_by n.types [] v.type_id)) (get_longer h.variables root v.variable v.is_there) ∙ ap Some v.of_type;
+    visible = λ o h.
+        ap (of_one (λ (v : Variable). is_round o here.block v.block)) (get_longer h.variables root v.variable v.is_there)
+        ∙ round_formed now o stands h v.variable.block v.is_visible;
+    stands = v.stands;
+  }
 
   -- to a component of what they lead to
   leads_on : (root : ℕ) (before : List TreeSelector) (s : TreeSelector) (id part : TypeId) (now : Reached) → LeadsTo root before id now
-      → ((n : Reached) → IsFurther now n → is_well_formed_selector variables n.types n.sites s ≡ true)
+      → ((o : Outline) → IsFurther now (whole_of o) → is_well_formed_selector o here.block s ≡ true)
       → ((n : Reached) → IsFurther now n → selects n.types s id ≡ Some part) → part.index < id.index → LeadsTo root (before ++ s ∷ []) part now
   leads_on root before s id part now l well_formed is smaller = record {
-    formed = λ n h.
-        list_all-append (is_well_formed_selector variables n.types n.sites) before (s ∷ [])
-        ∙ both_true _ _ (l.formed n h) (both_true _ true (well_formed n h) refl);
+    formed = λ o h.
+        list_all-append (is_well_formed_selector o here.block) before (s ∷ [])
+        ∙ both_true _ _ (l.formed o h) (both_true _ true (well_formed o h) refl);
+    visible = l.visible;
     leads_there = λ n h.
-        by n.types (slice_get variables root) ∙ ap (option_and_then (selects n.types s)) (l.leads_there n h) ∙ is n h;
+        by n.types (slice_get n.variables root) ∙ ap (option_and_then (selects n.types s)) (l.leads_there n h) ∙ is n h;
     stands = omega (arith, smaller, l.stands);
   }
     where
@@ -145,17 +161,17 @@ module _ (variables : List Variable) where
       let element = there place (element_of now.types id) e is in
       let array = is_array now.types id e element in
       leads_on root before (tree.Element (record { site = site; range = e.range }) e.cells) id e.type_id next (leads_later root before id now next more l)
-      (λ n h. both_true _ _ (lt_true site n.sites (omega (arith, known, h.sites))) (lawful.whole e.index e.range array.range))
+      (λ o h. both_true _ _ (lt_true site o.sites (omega (arith, known, h.sites))) (lawful.whole e.index e.range array.range))
       (λ n h. element_selects (element_of n.types id) e (element_of_longer (further_still more h).types id l.stands ∙ element))
       array.type_before
 
   -- ---- indexes
 
-  index_does : {least : Reached} (e : ArrayElement) (places : List Place) (w : Written) → LawfulWritten variables places w
-      → Does variables least (Covers 0 places) (index e w) (λ id now. id < now.sites)
+  index_does : {least : Reached} (e : ArrayElement) (places : List Place) (w : Written) → LawfulWritten here places w
+      → Does here least (Covers 0 places) (index e w) (λ id now. id < now.sites)
   unfolding index
   index_does e places w law =
-      joins (covers_test variables kind.Index (omega arith) (omega arith) places w law) (site_does kind.Index w.first) λ id now _ known.
+      joins (covers_test here kind.Index (omega arith) (omega arith) places w law) (site_does kind.Index w.first) λ id now _ known.
       checks (law.types now None tt) λ types t b n more is _.
       let fit = fit_is (is_none t.length && is_compatible types e.index t.type_id) w.first id b is in
       subst (λ z. z < n.sites) fit.1 (omega (arith, known, more.sites))
@@ -165,7 +181,7 @@ module _ (variables : List Variable) where
   AreLawfulRows [] [] = Unit {0}
   AreLawfulRows [] (w ∷ ws) = ⊥
   AreLawfulRows (row ∷ rows) [] = ⊥
-  AreLawfulRows (row ∷ rows) (w ∷ ws) = LawfulWritten variables row w × AreLawfulRows rows ws
+  AreLawfulRows (row ∷ rows) (w ∷ ws) = LawfulWritten here row w × AreLawfulRows rows ws
 
   -- ---- accesses
 
@@ -174,7 +190,7 @@ module _ (variables : List Variable) where
 
   pub selected_does : {least : Reached} (root : ℕ) (before : List TreeSelector) (id : TypeId) (selectors : List Selector) (rows : List (List Place))
       (ws : List Written) → AreLawfulRows rows ws → LeadsTo root before id least
-      → Does variables least (Covers 0 (selector_places selectors rows)) (selected before id selectors ws) (Selects root)
+      → Does here least (Covers 0 (selector_places selectors rows)) (selected before id selectors ws) (Selects root)
   selected_does {least} root before id [] rows ws laws l =
       sited (λ sites none. subst (Covers 0 (joined_places rows)) (sym none) (covers_none 0 (joined_places rows)))
       (pure_does (before, id) (λ n h. leads_later root before id least n h l))
@@ -202,55 +218,56 @@ module _ (variables : List Variable) where
   tested now id ordinal is = cc
 
   pub tests_ordinal_does : {least : Reached} (id : TypeId)
-      → Does variables least Nothing (tests_ordinal id) (λ ordinal now. AreLawful now.types × IsTested now id ordinal)
+      → Does here least Nothing (tests_ordinal id) (λ ordinal now. AreLawful now.types × IsTested now id ordinal)
   unfolding tests_ordinal
   tests_ordinal_does id = by_types_does (λ types. Ok (is_ordinal types id))
 
   -- what is accessed is of a type that is wanted
   pub leads_formed : (root : ℕ) (selectors : List TreeSelector) (id : TypeId) (now : Reached) → LeadsTo root selectors id now
-      → (wanted : TypeId → Bool) (n : Reached) → IsFurther now n → wanted id ≡ true
-      → leads_to variables n.types n.sites wanted root selectors (index_count selectors) ≡ true
-  leads_formed root selectors id now l wanted n h is =
-      both_true _ _ (eq-eqb (index_count selectors) (index_count selectors) refl)
-      (both_true _ _ (l.formed n h) (ap (is_type wanted) (l.leads_there n h) ∙ is))
+      → (wanted : TypeId → Bool) (o : Outline) → IsFurther now (whole_of o) → wanted id ≡ true
+      → leads_to o here.block wanted root selectors (index_count selectors) ≡ true
+  leads_formed root selectors id now l wanted o h is =
+      both_true _ _ (l.visible o h)
+      (both_true _ _ (eq-eqb (index_count selectors) (index_count selectors) refl)
+      (both_true _ _ (l.formed o h) (ap (is_type wanted) (l.leads_there (whole_of o) h) ∙ is)))
 
-  pub ordinal_formed : (root : ℕ) (selectors : List TreeSelector) (id : TypeId) (now n : Reached) → LeadsTo root selectors id now
-      → is_ordinal now.types id ≡ true → IsFurther now n
-      → leads_to_ordinal variables n.types n.sites root selectors (index_count selectors) ≡ true
-  ordinal_formed root selectors id now n l is h =
-      leads_formed root selectors id now l (is_ordinal n.types) n h (is_ordinal_longer h.types id l.stands ∙ is)
+  pub ordinal_formed : (root : ℕ) (selectors : List TreeSelector) (id : TypeId) (now : Reached) (o : Outline) → LeadsTo root selectors id now
+      → is_ordinal now.types id ≡ true → IsFurther now (whole_of o)
+      → leads_to_ordinal o here.block root selectors (index_count selectors) ≡ true
+  ordinal_formed root selectors id now o l is h =
+      leads_formed root selectors id now l (is_ordinal o.types) o h (is_ordinal_longer h.types id l.stands ∙ is)
 
-  pub whole_formed : (root : ℕ) (selectors : List TreeSelector) (id : TypeId) (now n : Reached) → LeadsTo root selectors id now
-      → is_ordinal now.types id ≡ false → IsFurther now n
-      → leads_to_whole variables n.types n.sites id root selectors (index_count selectors) ≡ true
-  whole_formed root selectors id now n l is h =
-      leads_formed root selectors id now l (λ other. is_same other id && not (is_ordinal n.types other)) n h
+  pub whole_formed : (root : ℕ) (selectors : List TreeSelector) (id : TypeId) (now : Reached) (o : Outline) → LeadsTo root selectors id now
+      → is_ordinal now.types id ≡ false → IsFurther now (whole_of o)
+      → leads_to_whole o here.block id root selectors (index_count selectors) ≡ true
+  whole_formed root selectors id now o l is h =
+      leads_formed root selectors id now l (λ other. is_same other id && not (is_ordinal o.types other)) o h
       (both_true _ _ (eq-eqb id.index id.index refl) (ap not (is_ordinal_longer h.types id l.stands ∙ is)))
 
   -- ---- values of accesses
 
   ordinal_value_does : {least : Reached} (root : ℕ) (selectors : List TreeSelector) (id : TypeId) (defined : ℕ) (lead : Option ℕ)
       → LeadsTo root selectors id least → is_ordinal least.types id ≡ true → defined < least.sites → IsKnown lead least
-      → Does variables least Nothing (ordinal_value root selectors id defined lead) Types
+      → Does here least Nothing (ordinal_value root selectors id defined lead) Types
   unfolding ordinal_value
   ordinal_value_does {least} root selectors id defined lead l ordinal test known =
-      quietly (mark_does (Value root selectors (index_count selectors) defined) refl refl
-      (λ n h. both_true _ _ (ordinal_formed root selectors id least n l ordinal h) (lt_true defined n.sites (omega (arith, test, h.sites))))) λ _ _ one _.
+      quietly (mark_does (Value root selectors (index_count selectors) defined) refl refl refl refl
+      (λ o h. both_true _ _ (ordinal_formed root selectors id least o l ordinal h) (lt_true defined o.sites (omega (arith, test, h.sites))))) λ _ _ one _.
       quietly (host_type_does id) λ host _ two _.
       pure_does (typed host lead) (λ n h. known_later lead least n (further_still one (further_still two h)) known)
 
   whole_value_does : {least : Reached} (root : ℕ) (selectors : List TreeSelector) (id : TypeId) (defined : ℕ) (lead : Option ℕ)
       → LeadsTo root selectors id least → is_ordinal least.types id ≡ false → defined < least.sites → IsKnown lead least
-      → Does variables least Nothing (whole_value root selectors id defined lead) Types
+      → Does here least Nothing (whole_value root selectors id defined lead) Types
   unfolding whole_value
   whole_value_does {least} root selectors id defined lead l structured test known =
       quietly (by_types_does (λ types. Ok (cells_of types id))) λ cells now one is.
-      quietly (mark_does (WholeValue root selectors (index_count selectors) id cells defined) refl refl
-      (λ n h.
+      quietly (mark_does (WholeValue root selectors (index_count selectors) id cells defined) refl refl refl refl
+      (λ o h.
       let as_many = counted now cells is.1 in
-      both_true _ _ (whole_formed root selectors id least n l structured (further_still one h))
-      (both_true _ _ (value_formed now n cells (leads_later root selectors id least now one l).stands as_many is.0 h)
-      (lt_true defined n.sites (omega (arith, test, one.sites, h.sites)))))) λ _ _ two _.
+      both_true _ _ (whole_formed root selectors id least o l structured (further_still one h))
+      (both_true _ _ (value_formed now (whole_of o) cells (leads_later root selectors id least now one l).stands as_many is.0 h)
+      (lt_true defined o.sites (omega (arith, test, one.sites, h.sites)))))) λ _ _ two _.
       pure_does (typed_whole id cells lead) (λ n h. known_later lead least n (further_still one (further_still two h)) known)
     where
       counted : (now : Reached) (cells : ℕ) → ◌≡◌ {A = Checked ℕ} (Ok (cells_of now.types id)) (Ok cells) → cells ≡ cells_of now.types id
@@ -267,23 +284,23 @@ module _ (variables : List Variable) where
 
   value_does : {least : Reached} (ordinal : Bool) (root : ℕ) (selectors : List TreeSelector) (id : TypeId) (defined : ℕ) (lead : Option ℕ)
       → LeadsTo root selectors id least → is_ordinal least.types id ≡ ordinal → defined < least.sites → IsKnown lead least
-      → Does variables least Nothing ((if ordinal then ordinal_value else whole_value) root selectors id defined lead) Types
+      → Does here least Nothing ((if ordinal then ordinal_value else whole_value) root selectors id defined lead) Types
   value_does true root selectors id defined lead l is test known = ordinal_value_does root selectors id defined lead l is test known
   value_does false root selectors id defined lead l is test known = whole_value_does root selectors id defined lead l is test known
 
   pub accessed_does : {least : Reached} (root : ℕ) (type_id : TypeId) (selectors : List Selector) (rows : List (List Place)) (ws : List Written)
       (place : Place) (lead : Option SiteKind)
-      → IsLed lead → AreLawfulRows rows ws → type_of variables root ≡ Some type_id → type_id.index < length least.types
-      → Does variables least (Covers 2 (place ∷ selector_places selectors rows)) (accessed root type_id selectors ws place lead) Types
+      → IsLed lead → AreLawfulRows rows ws → LeadsTo root [] type_id least
+      → Does here least (Covers 2 (place ∷ selector_places selectors rows)) (accessed root type_id selectors ws place lead) Types
   unfolding accessed
-  accessed_does root type_id selectors rows ws place lead is laws of_type within =
+  accessed_does root type_id selectors rows ws place lead is laws leads_to_it =
       let places = selector_places selectors rows in
-      led_covers variables 2 place places (kind.UndefinedVariable ∷ led lead) (led_behind kind.UndefinedVariable lead (omega arith) (omega arith) is)
+      led_covers here 2 place places (kind.UndefinedVariable ∷ led lead) (led_behind kind.UndefinedVariable lead (omega arith) (omega arith) is)
       (joins (leads_more place (kind.UndefinedVariable ∷ []) (led lead) places) (site_does kind.UndefinedVariable place) λ defined there one test.
       joins (leads_first 0 place (led lead) places) (behind_does lead place) λ id now two known.
-      quietly (enter_does Access (λ n. refl) (λ n. refl) (λ n m h. refl)) λ _ entered three _.
-      let stands = stands_longer (further_still one (further_still two three)).types type_id within in
-      last (selected_does root [] type_id selectors rows ws laws (leads_nowhere root type_id entered of_type stands)) λ component met four l.
+      quietly (enter_does Access (λ n. refl) (λ n. refl) (λ n. refl) (λ n. refl) (λ n o h. refl)) λ _ entered three _.
+      let start = leads_later root [] type_id _ entered (further_still one (further_still two three)) leads_to_it in
+      last (selected_does root [] type_id selectors rows ws laws start) λ component met four l.
       quietly (tests_ordinal_does component.1) λ ordinal next five ordered.
       value_does ordinal root component.0 component.1 defined id (leads_later root component.0 component.1 met next five l)
       (tested next component.1 ordinal ordered.1)

@@ -26,8 +26,9 @@ use Rattle.typing.specs.Strings.{string_characters}
 use Rattle.typing.specs.Constants.{as_constant, as_ordinal, unsigned_constant, signed_value, behind_sign, constant, ordinal_constant, constant_place}
 use Rattle.typing.specs.Statements.{own_constant, case_constant, constant_row}
 use Rattle.typing_laws.proofs.Sound.{IsSound}
-use Rattle.typing_laws.proofs.Grown.{Reached, both_true}
-use Rattle.typing_laws.proofs.Steps.{Does, Nothing, quietly, checks, pass_does, pure_does, given_does, find_does}
+use Rattle.typing_laws.proofs.Reached.{Head, Here, Reached}
+use Rattle.typing_laws.proofs.Grown.{heads_of, both_true}
+use Rattle.typing_laws.proofs.Steps.{Does, Nothing, IsSoundThen, quietly, checks, pass_does, pure_does, given_does, find_does}
 use Rattle.typing_laws.proofs.Strings.{fit_is, all_of_char, string_constant_does}
 
 abbrev pub IsWhole : ℤ → Type 0
@@ -46,6 +47,7 @@ constant_is place (denotes.Variable root type_id) c is = absurd cc
 constant_is place (denotes.TypeName type_id) c is = absurd cc
 constant_is place (denotes.Procedure procedure) c is = absurd cc
 constant_is place (denotes.Function function) c is = absurd cc
+constant_is place (denotes.Routine block is_function) c is = absurd cc
 constant_is place denotes.Output c is = absurd cc
 
 negative_whole : (value : ℤ) → IsWhole value → IsWhole (neg_ℤ value)
@@ -72,66 +74,72 @@ own_whole types type_id before place (Some c) value is whole =
 
 -- ---- constants
 
-module _ (variables : List Variable) where
-  module _ (types : List Form) where
-    pub behind_sound : (s : Option SignAt) (c made : Denotation) → behind_sign s c ≡ Ok made → IsSound variables types c → IsSound variables types made
-    behind_sound None c made is sound = let same : c ≡ made = cc in subst (IsSound variables types) same sound
+module _ (here : Here) where
+  module _ (variables : List Variable) (types : List Form) (heads : List Head) where
+    pub behind_sound : (s : Option SignAt) (c made : Denotation) → behind_sign s c ≡ Ok made → IsSound here variables types heads c
+        → IsSound here variables types heads made
+    behind_sound None c made is sound = let same : c ≡ made = cc in subst (IsSound here variables types heads) same sound
     behind_sound (Some at) (denotes.Constant value type_id) made is sound =
         let made_is = fit_is (is_same type_id integer && is_whole value) at.place (denotes.Constant (signed_value at.sign value) integer) made is in
-        subst (IsSound variables types) made_is.1 (signed_whole at.sign value sound)
+        subst (IsSound here variables types heads) made_is.1 (signed_whole at.sign value sound)
     behind_sound (Some at) (denotes.Text number type_id) made is sound = absurd cc
     behind_sound (Some at) (denotes.Variable root type_id) made is sound = absurd cc
     behind_sound (Some at) (denotes.TypeName type_id) made is sound = absurd cc
     behind_sound (Some at) (denotes.Procedure procedure) made is sound = absurd cc
     behind_sound (Some at) (denotes.Function function) made is sound = absurd cc
+    behind_sound (Some at) (denotes.Routine block is_function) made is sound = absurd cc
     behind_sound (Some at) denotes.Output made is sound = absurd cc
 
-    pub ordinal_whole : (d : Denotation) → IsSound variables types d → IsWholeOrdinal (as_ordinal d)
+    pub ordinal_whole : (d : Denotation) → IsSound here variables types heads d → IsWholeOrdinal (as_ordinal d)
     ordinal_whole (denotes.Constant value type_id) sound = sound
     ordinal_whole (denotes.Text number type_id) sound = tt
     ordinal_whole (denotes.Variable root type_id) sound = tt
     ordinal_whole (denotes.TypeName type_id) sound = tt
     ordinal_whole (denotes.Procedure procedure) sound = tt
     ordinal_whole (denotes.Function function) sound = tt
+    ordinal_whole (denotes.Routine block is_function) sound = tt
     ordinal_whole denotes.Output sound = tt
 
     pub number_sound : (number : ℕ) (place : Place) (c : Denotation)
-        → fits (nat_le number 2147483647) place (denotes.Constant (pos number) integer) ≡ Ok c → IsSound variables types c
+        → fits (nat_le number 2147483647) place (denotes.Constant (pos number) integer) ≡ Ok c → IsSound here variables types heads c
     number_sound number place c is =
         let fit = fit_is (nat_le number 2147483647) place (denotes.Constant (pos number) integer) c is in
-        subst (IsSound variables types) fit.1 (number_whole number fit.0)
+        subst (IsSound here variables types heads) fit.1 (number_whole number fit.0)
 
-  unsigned_does : {least : Reached} (v : ConstantValue) → Does variables least Nothing (unsigned_constant v) (λ d now. IsSound variables now.types d)
+  unsigned_does : {least : Reached} (v : ConstantValue) → Does here least Nothing (unsigned_constant v) (λ d now. IsSoundThen here d now)
   unfolding unsigned_constant
-  unsigned_does (value.Number number place) = checks (pass_does place) λ types _ c now _ is _. number_sound now.types number place c is
+  unsigned_does (value.Number number place) = checks (pass_does place) λ types _ c now _ is _.
+      number_sound now.variables now.types (heads_of now) number place c is
   unsigned_does (value.String text place) =
       quietly (quietly (pass_does place) λ _ _ _ _. given_does (string_characters place text.now)) λ cs _ _ is.
       string_constant_does place cs (all_of_char place text.now cs is)
   unsigned_does (value.Name name) =
-      checks (find_does name) λ types d c now _ is sound. subst (IsSound variables now.types) (constant_is name.place d c is) sound
+      checks (find_does name) λ types d c now _ is sound. subst (λ z. IsSoundThen here z now) (constant_is name.place d c is) sound.0
 
-  constant_does : {least : Reached} (c : Constant) → Does variables least Nothing (constant c) (λ d now. IsSound variables now.types d)
+  constant_does : {least : Reached} (c : Constant) → Does here least Nothing (constant c) (λ d now. IsSoundThen here d now)
   unfolding constant
-  constant_does c = checks (unsigned_does c.value) λ types unsigned made now _ is sound. behind_sound now.types c.sign unsigned made is sound
+  constant_does c = checks (unsigned_does c.value) λ types unsigned made now _ is sound.
+      behind_sound now.variables now.types (heads_of now) c.sign unsigned made is sound
 
-  ordinal_does : {least : Reached} (c : Constant) → Does variables least Nothing (ordinal_constant c) (λ one now. IsWholeOrdinal one)
+  ordinal_does : {least : Reached} (c : Constant) → Does here least Nothing (ordinal_constant c) (λ one now. IsWholeOrdinal one)
   unfolding ordinal_constant
-  ordinal_does c = checks (constant_does c) λ types d one now _ is sound. by now.types d one is sound
+  ordinal_does c = checks (constant_does c) λ types d one now _ is sound. by now d one is sound
     where
-      by : (types : List Form) (d : Denotation) (one : Option (ℤ × TypeId)) → ◌≡◌ {A = Checked (Option (ℤ × TypeId))} (Ok (as_ordinal d)) (Ok one)
-          → IsSound variables types d
+      by : (now : Reached) (d : Denotation) (one : Option (ℤ × TypeId)) → ◌≡◌ {A = Checked (Option (ℤ × TypeId))} (Ok (as_ordinal d)) (Ok one)
+          → IsSoundThen here d now
           → IsWholeOrdinal one
-      by types d one is sound = let same : as_ordinal d ≡ one = cc in subst IsWholeOrdinal same (ordinal_whole types d sound)
+      by now d one is sound =
+          let same : as_ordinal d ≡ one = cc in subst IsWholeOrdinal same (ordinal_whole now.variables now.types (heads_of now) d sound)
 
   case_constant_does : {least : Reached} (type_id : TypeId) (before : List ℤ) (c : Constant)
-      → Does variables least Nothing (case_constant type_id before c) (λ value now. IsWhole value)
+      → Does here least Nothing (case_constant type_id before c) (λ value now. IsWhole value)
   unfolding case_constant
   case_constant_does type_id before c =
       checks (ordinal_does c) λ types one value now _ is whole. own_whole types type_id before (constant_place c) one value is whole
 
   -- those before an arm
   pub row_does : {least : Reached} (type_id : TypeId) (before row : List ℤ) (cs : List Constant) → list_all is_whole row ≡ true
-      → Does variables least Nothing (constant_row type_id before row cs) (λ made now. list_all is_whole made ≡ true)
+      → Does here least Nothing (constant_row type_id before row cs) (λ made now. list_all is_whole made ≡ true)
   row_does type_id before row [] whole = pure_does row (λ n h. whole)
   row_does type_id before row (c ∷ cs) whole =
       quietly (case_constant_does type_id (before ++ row) c) λ value _ _ is.

@@ -9,39 +9,27 @@ use Rattle.syntax_tree.specs.declared.Expr.TheViews.{roll-Expr, roll-Link, roll-
 use Rattle.syntax_tree.specs.declared.Expr.TheFolds.{map-Expr, map-Link, map-Actual, fold-roll-Expr, fold-roll-Link, fold-roll-Actual, ind-Expr, ind-Actual}
 use Rattle.syntax_tree.specs.Places.{Places, joined_places, width_places, expr_places, actual_places, link_places, expression_step as expression_row}
 use Rattle.syntax_tree.specs.Places.{actual_step as actual_row, link_step as link_row}
-use Rattle.typed_tree.specs.declared.tree.Variable.{Variable}
 use Rattle.typing.specs.declared.typed.Typed.{Typed}
 use Rattle.typing.specs.Expressions.{Written, WrittenActual, WrittenLink, expression, written_actual, written_link, expression_step, actual_step, link_step}
 use Rattle.typing.specs.Expressions.{links, only, without_width}
 use Rattle.typing_laws.proofs.Covers.{Covers, covers_more}
-use Rattle.typing_laws.proofs.Steps.{Does, IsKnown, sited}
-use Rattle.typing_laws.proofs.Grown.{Reached}
+use Rattle.typing_laws.proofs.Steps.{Does, Anything, IsKnown, sited}
+use Rattle.typing_laws.proofs.Reached.{Here, Reached}
 use Rattle.typing_laws.proofs.Leading.{LawfulWritten, LawfulLink, Types}
 use Rattle.typing_laws.proofs.Accesses.{AreLawfulRows}
+use Rattle.typing_laws.proofs.Calls.{IsLawfulWidth, LawfulActual, AreLawfulActuals}
 use Rattle.typing_laws.proofs.Expressions.{number_does, string_does, named_does, component_does, parenthesized_does, negation_does, signed_does}
 use Rattle.typing_laws.proofs.Operators.{link_does, links_none, links_more, chain_does, call_does}
 
-module _ (variables : List Variable) where
-  abbrev pub IsLawfulWidth : List Place → Option Written → Type 0
-  IsLawfulWidth places None = Unit {0}
-  IsLawfulWidth places (Some width) = LawfulWritten variables places width
-
-  -- an actual: its value, and then its width
-  pub record LawfulActual (places : List Place) (a : WrittenActual) : Type 0 where
-    pub of_value : List Place
-    pub of_width : List Place
-    pub places_are : places ≡ of_value ++ of_width
-    pub value : LawfulWritten variables of_value a.value
-    pub width : IsLawfulWidth of_width a.width
-
+module _ (here : Here) where
   abbrev pub LawfulExpr : Expr → Type 0
-  LawfulExpr w = LawfulWritten variables (expr_places w) (expression w)
+  LawfulExpr w = LawfulWritten here (expr_places w) (expression w)
 
   abbrev pub LawfulActualOf : Actual → Type 0
-  LawfulActualOf w = LawfulActual (actual_places w) (written_actual w)
+  LawfulActualOf w = LawfulActual here (actual_places w) (written_actual w)
 
   abbrev LawfulLinkOf : Link → Type 0
-  LawfulLinkOf w = LawfulLink variables (link_places w) (written_link w)
+  LawfulLinkOf w = LawfulLink here (link_places w) (written_link w)
 
   abbrev WithExpr : Type 0
   WithExpr = (w : Expr) × LawfulExpr w
@@ -62,17 +50,17 @@ module _ (variables : List Variable) where
   bare_link y = map-Link WithExpr WithActual WithLink Expr Actual Link (λ w. w.0) (λ w. w.0) (λ w. w.0) y
 
   from_layer : (d : layer.Expr-F Expr Actual Link)
-      → LawfulWritten variables (expression_row (map-Expr Expr Actual Link Places Places Places expr_places actual_places link_places d))
+      → LawfulWritten here (expression_row (map-Expr Expr Actual Link Places Places Places expr_places actual_places link_places d))
       (expression_step (map-Expr Expr Actual Link Written WrittenActual WrittenLink expression written_actual written_link d))
       → LawfulExpr (roll-Expr d)
   from_layer d law =
       let places = fold-roll-Expr Places Places Places expression_row actual_row link_row d in
       let forms = fold-roll-Expr Written WrittenActual WrittenLink expression_step actual_step link_step d in
-      subst (λ p. LawfulWritten variables p (expression (roll-Expr d))) (sym places) (subst (LawfulWritten variables _) (sym forms) law)
+      subst (λ p. LawfulWritten here p (expression (roll-Expr d))) (sym places) (subst (LawfulWritten here _) (sym forms) law)
 
   -- the one actual of a function
-  one_lawful : (place : Place) (places : List Place) (a : WrittenActual) (w : Written) → LawfulActual places a → without_width place a.value a.width ≡ Ok w
-      → LawfulWritten variables (places ++ []) w
+  one_lawful : (place : Place) (places : List Place) (a : WrittenActual) (w : Written) → LawfulActual here places a → without_width place a.value a.width ≡ Ok w
+      → LawfulWritten here (places ++ []) w
   one_lawful place places a w law is =
       let same = by a.value a.width is in
       record {
@@ -85,7 +73,12 @@ module _ (variables : List Variable) where
         types = λ least lead led.
             sited (λ sites has.
             covers_more 2 places [] sites (subst (λ p. Covers 2 p sites) (sym law.places_are) (covers_more 2 law.of_value law.of_width sites has)))
-            (subst (λ (z : Written). Does variables least (Covers 2 law.of_value) (z.typing lead) Types) same (law.value.types least lead led));
+            (subst (λ (z : Written). Does here least (Covers 2 law.of_value) (z.typing lead) Types) same (law.value.types least lead led));
+        passes = λ least callee position formal at is.
+            sited (λ sites has.
+            covers_more 2 places [] sites (subst (λ p. Covers 2 p sites) (sym law.places_are) (covers_more 2 law.of_value law.of_width sites has)))
+            (subst (λ (z : Written). Does here least (Covers 2 law.of_value) (z.passing formal.type_id callee position) Anything) same
+            (law.value.passes least callee position formal at is));
       }
     where
       by : (value : Written) (width : Option Written) → without_width place value width ≡ Ok w → value ≡ w
@@ -93,41 +86,47 @@ module _ (variables : List Variable) where
       by value (Some width) h = absurd cc
 
   only_lawful : (place : Place) (ys : List WithActual) (w : Written) → only place (map written_actual (map (λ (y : WithActual). y.0) ys)) ≡ Ok w
-      → LawfulWritten variables (joined_places (map actual_places (map (λ (y : WithActual). y.0) ys))) w
+      → LawfulWritten here (joined_places (map actual_places (map (λ (y : WithActual). y.0) ys))) w
   only_lawful place [] w is = absurd cc
   only_lawful place (y ∷ z ∷ ys) w is = absurd cc
   only_lawful place (y ∷ []) w is = one_lawful place (actual_places y.0) (written_actual y.0) w y.1 is
+
+  actuals_lawful : (ys : List WithActual)
+      → AreLawfulActuals here (map actual_places (map (λ (y : WithActual). y.0) ys)) (map written_actual (map (λ (y : WithActual). y.0) ys))
+  actuals_lawful [] = tt
+  actuals_lawful (y ∷ ys) = (y.1, actuals_lawful ys)
 
   abbrev bare_links : List WithLink → List Link
   bare_links ys = map (λ (y : WithLink). y.0) ys
 
   links_lawful : (ys : List WithLink) (now : Reached) (t : Typed) → IsKnown t.site now
-      → Does variables now (Covers 2 (joined_places (map link_places (bare_links ys)))) (links t (map written_link (bare_links ys))) Types
-  links_lawful [] now t known = links_none variables t known
+      → Does here now (Covers 2 (joined_places (map link_places (bare_links ys)))) (links t (map written_link (bare_links ys))) Types
+  links_lawful [] now t known = links_none here t known
   links_lawful (y ∷ ys) now t known =
-      links_more variables t (written_link y.0) (map written_link (bare_links ys)) (link_places y.0) (joined_places (map link_places (bare_links ys))) known y.1
+      links_more here t (written_link y.0) (map written_link (bare_links ys)) (link_places y.0) (joined_places (map link_places (bare_links ys))) known y.1
       (links_lawful ys)
 
   abbrev bare_exprs : List WithExpr → List Expr
   bare_exprs ys = map (λ (y : WithExpr). y.0) ys
 
-  rows_lawful : (ys : List WithExpr) → AreLawfulRows variables (map expr_places (bare_exprs ys)) (map expression (bare_exprs ys))
+  rows_lawful : (ys : List WithExpr) → AreLawfulRows here (map expr_places (bare_exprs ys)) (map expression (bare_exprs ys))
   rows_lawful [] = tt
   rows_lawful (y ∷ ys) = (y.1, rows_lawful ys)
 
   expression_layer : (y : layer.Expr-F WithExpr WithActual WithLink) → LawfulExpr (roll-Expr (bare y))
-  expression_layer (layer.Number value place) = from_layer (layer.Number value place) (number_does variables value place)
-  expression_layer (layer.Name name) = from_layer (layer.Name name) (named_does variables name)
+  expression_layer (layer.Number value place) = from_layer (layer.Number value place) (number_does here value place)
+  expression_layer (layer.Name name) = from_layer (layer.Name name) (named_does here name)
   expression_layer (layer.Component name selectors indexes) =
       from_layer (bare (layer.Component name selectors indexes))
-      (component_does variables name selectors.items _ _ (rows_lawful indexes.items))
-  expression_layer (layer.String text place) = from_layer (layer.String text place) (string_does variables text.now place)
-  expression_layer (layer.Call name actuals) = from_layer (bare (layer.Call name actuals)) (call_does variables name _ _ (only_lawful name.place actuals.items))
+      (component_does here name selectors.items _ _ (rows_lawful indexes.items))
+  expression_layer (layer.String text place) = from_layer (layer.String text place) (string_does here text.now place)
+  expression_layer (layer.Call name actuals) = from_layer (bare (layer.Call name actuals)) (call_does here name _ _ (only_lawful name.place actuals.items)
+      (actuals_lawful actuals.items))
   expression_layer (layer.Parenthesized place inner) =
-      from_layer (bare (layer.Parenthesized place inner)) (parenthesized_does variables place _ _ inner.value.1)
-  expression_layer (layer.Not place operand) = from_layer (bare (layer.Not place operand)) (negation_does variables place _ _ operand.value.1)
-  expression_layer (layer.Signed s place term) = from_layer (bare (layer.Signed s place term)) (signed_does variables s place _ _ term.value.1)
-  expression_layer (layer.Chain first rest) = from_layer (bare (layer.Chain first rest)) (chain_does variables _ _ _ _ first.value.1 (links_lawful rest.items))
+      from_layer (bare (layer.Parenthesized place inner)) (parenthesized_does here place _ _ inner.value.1)
+  expression_layer (layer.Not place operand) = from_layer (bare (layer.Not place operand)) (negation_does here place _ _ operand.value.1)
+  expression_layer (layer.Signed s place term) = from_layer (bare (layer.Signed s place term)) (signed_does here s place _ _ term.value.1)
+  expression_layer (layer.Chain first rest) = from_layer (bare (layer.Chain first rest)) (chain_does here _ _ _ _ first.value.1 (links_lawful rest.items))
 
   abbrev width_row : WithExpr → Option WithExpr → Option Places
   width_row value width =
@@ -138,7 +137,7 @@ module _ (variables : List Variable) where
       let d = bare_actual (record { value = value; width = width }) in
       (map-Actual Expr Actual Link Written WrittenActual WrittenLink expression written_actual written_link d).width
 
-  width_lawful : (value : WithExpr) (width : Option WithExpr) → IsLawfulWidth (width_places (width_row value width)) (width_form value width)
+  width_lawful : (value : WithExpr) (width : Option WithExpr) → IsLawfulWidth here (width_places (width_row value width)) (width_form value width)
   width_lawful value None = tt
   width_lawful value (Some w) = w.1
 
@@ -147,8 +146,8 @@ module _ (variables : List Variable) where
       let d = bare_actual y in
       let places = fold-roll-Actual Places Places Places expression_row actual_row link_row d in
       let forms = fold-roll-Actual Written WrittenActual WrittenLink expression_step actual_step link_step d in
-      subst (λ p. LawfulActual p (written_actual (roll-Actual d))) (sym places)
-      (subst (LawfulActual _) (sym forms) (record {
+      subst (λ p. LawfulActual here p (written_actual (roll-Actual d))) (sym places)
+      (subst (LawfulActual here _) (sym forms) (record {
         of_value = expr_places y.value.0;
         of_width = width_places (width_row y.value y.width);
         places_are = refl;
@@ -161,8 +160,8 @@ module _ (variables : List Variable) where
       let d = bare_link y in
       let places = fold-roll-Link Places Places Places expression_row actual_row link_row d in
       let forms = fold-roll-Link Written WrittenActual WrittenLink expression_step actual_step link_step d in
-      subst (λ p. LawfulLink variables p (written_link (roll-Link d))) (sym places)
-      (subst (LawfulLink variables _) (sym forms) (link_does variables y.operator y.place _ _ y.operand.1))
+      subst (λ p. LawfulLink here p (written_link (roll-Link d))) (sym places)
+      (subst (LawfulLink here _) (sym forms) (link_does here y.operator y.place _ _ y.operand.1))
 
   -- every expression
   pub expression_lawful : (w : Expr) → LawfulExpr w
@@ -181,6 +180,11 @@ module _ (variables : List Variable) where
       (λ x y is. subst (λ z. LawfulLinkOf (roll-Link z)) is (link_layer y))
 
   -- the index expressions of an access
-  pub indexes_lawful : (ws : List Expr) → AreLawfulRows variables (map expr_places ws) (map expression ws)
+  pub indexes_lawful : (ws : List Expr) → AreLawfulRows here (map expr_places ws) (map expression ws)
   indexes_lawful [] = tt
   indexes_lawful (w ∷ ws) = (expression_lawful w, indexes_lawful ws)
+
+  -- the actual parameters of a call
+  pub every_actual_lawful : (ws : List Actual) → AreLawfulActuals here (map actual_places ws) (map written_actual ws)
+  every_actual_lawful [] = tt
+  every_actual_lawful (w ∷ ws) = (actual_lawful w, every_actual_lawful ws)

@@ -1,5 +1,7 @@
 -- What expressions do, form by form.
-use Rattle.std.proofs.Common.{◌≡◌, ℕ, ◌<◌, true, nat_le, List, [], ◌∷◌, length, Option, Some, None, Ok, pos, refl, subst}
+use Rattle.std.proofs.Common.{◌≡◌, ℕ, Bool, true, false, not, nat_le, if◌then◌else◌, List, [], ◌∷◌, length, Option, Some, None, Ok, Err, pos, refl, sym, ap}
+use Rattle.std.proofs.Common.{subst, ◌∙◌}
+use Rattle.std.proofs.lemmas.Bool.{eq-eqb, eqb-true}
 use Rattle.std.specs.List.{list_all}
 use Rattle.place.specs.declared.Place.{Place}
 use Rattle.syntax_tree.specs.declared.Name.{Name}
@@ -9,150 +11,195 @@ use Rattle.syntax_tree.specs.declared.Sign.TheVariants as sign
 use Rattle.syntax_tree.specs.Places.{selector_places}
 use Rattle.types.specs.Forms.{Form}
 use Rattle.types.specs.declared.form.TypeId.{TypeId}
-use Rattle.types.specs.Types.{integer, boolean, char}
+use Rattle.types.specs.Types.{integer, boolean, char, is_same}
 use Rattle.scopes.specs.declared.denotation.Denotation.{Denotation}
 use Rattle.scopes.specs.declared.denotation.Denotation.TheVariants as denotes
 use Rattle.typed_tree.specs.declared.fault.TypeFault.TheVariants as fault
 use Rattle.typed_tree.specs.declared.site.SiteKind.{SiteKind}
 use Rattle.typed_tree.specs.declared.tree.Monadic.TheVariants as monadic
+use Rattle.typed_tree.specs.declared.tree.Selector.{Selector as TreeSelector}
 use Rattle.typed_tree.specs.declared.tree.Variable.{Variable}
-use Rattle.typed_tree.specs.WellFormed.{monadic_is_well_formed, is_character}
-use Rattle.typed_tree.specs.Look.{Constant, Text, Operation, Applied}
+use Rattle.typed_tree.specs.Accesses.{index_count}
+use Rattle.typed_tree.specs.WellFormed.{Outline, monadic_is_well_formed, is_character, is_variable_kind, of_one, takes_variable}
+use Rattle.typed_tree.specs.Look.{Access, Constant, Text, Operation, Applied, ForVariable}
 use Rattle.typing.specs.Passing.{Checked, pure, ◌>>=◌, ◌>>◌}
 use Rattle.typing.specs.Steps.{fits, enter_as}
 use Rattle.typing.specs.Strings.{string_characters, string_type}
 use Rattle.typing.specs.declared.typed.Typed.{Typed}
-use Rattle.typing.specs.Expressions.{Written, typed, typed_whole, number, spelled, string, as_variable, component, denoted, named, parenthesized, negation}
-use Rattle.typing.specs.Expressions.{signed, sign_operation}
-use Rattle.typing_laws.proofs.Sound.{IsSound, type_of}
-use Rattle.typing_laws.proofs.Tables.{stands_longer}
+use Rattle.typing.specs.Expressions.{Written, written, written_variable, typed, typed_whole, number, spelled, string, as_variable, component, denoted, named}
+use Rattle.typing.specs.Expressions.{parenthesized, negation, signed, sign_operation, is_of_packed, passable, passed_variable}
+use Rattle.typing_laws.proofs.Reached.{Reached, IsFurther, further_still, Here}
+use Rattle.typing_laws.proofs.Kept.{change_later}
+use Rattle.typing_laws.proofs.Sound.{IsVariable, variable_later}
 use Rattle.typing_laws.proofs.Covers.{Covers, Leads, leads_first}
-use Rattle.typing_laws.proofs.Grown.{Reached, IsFurther, further_still, both_true}
+use Rattle.typing_laws.proofs.Grown.{both_true}
 use Rattle.typing_laws.proofs.Strings.{fit_is, all_of_char, char_whole, string_type_does}
-use Rattle.typing_laws.proofs.Steps.{Does, Anything, Nothing, joins, quietly, last, checks, mark_does, text_at_does, pass_does, pure_does, given_does}
-use Rattle.typing_laws.proofs.Steps.{fail_does, find_does, enter_does, led, IsKnown, behind_does}
-use Rattle.typing_laws.proofs.Leading.{IsLed, Types, led_alone, known_later, LawfulWritten, led_covers}
-use Rattle.typing_laws.proofs.Accesses.{AreLawfulRows, accessed_does}
+use Rattle.typing_laws.proofs.Steps.{Does, Anything, Nothing, IsSoundThen, IsFound, joins, quietly, last, checks, sited, mark_does, change_does, text_at_does}
+use Rattle.typing_laws.proofs.Steps.{pass_does, pure_does, given_does, by_types_does, fail_does, find_does, enter_does, may_change_does, led, IsKnown}
+use Rattle.typing_laws.proofs.Steps.{behind_does}
+use Rattle.typing_laws.proofs.Leading.{IsLed, Types, led_alone, known_later, IsFormalAt, formal_later, formal_is, LawfulWritten, no_variable_lawful, led_covers}
+use Rattle.typing_laws.proofs.Accesses.{AreLawfulRows, accessed_does, leads_nowhere, leads_later, leads_formed, selected_does}
+use Rattle.typing_laws.proofs.Calls.{function_does}
 
--- a variable that a name denotes is one of the program
-pub variable_is : (variables : List Variable) (types : List Form) (place : Place) (d : Denotation) (variable : ℕ × TypeId)
-    → as_variable place d ≡ Ok variable → IsSound variables types d
-    → (type_of variables variable.0 ≡ Some variable.1) × (variable.1.index < length types)
-variable_is variables types place (denotes.Variable root type_id) variable is sound =
+-- a variable that a name denotes is one that the block or one round it declares
+pub variable_is : (here : Here) (now : Reached) (place : Place) (d : Denotation) (variable : ℕ × TypeId)
+    → as_variable place d ≡ Ok variable → IsSoundThen here d now → IsVariable here now.variables now.types variable.0 variable.1
+variable_is here now place (denotes.Variable root type_id) variable is sound =
     let same : (root, type_id) ≡ variable = cc in
-    subst (λ (v : ℕ × TypeId). (type_of variables v.0 ≡ Some v.1) × (v.1.index < length types)) same sound
-variable_is variables types place (denotes.Constant value type_id) variable is sound = absurd cc
-variable_is variables types place (denotes.Text number type_id) variable is sound = absurd cc
-variable_is variables types place (denotes.TypeName type_id) variable is sound = absurd cc
-variable_is variables types place (denotes.Procedure procedure) variable is sound = absurd cc
-variable_is variables types place (denotes.Function function) variable is sound = absurd cc
-variable_is variables types place denotes.Output variable is sound = absurd cc
+    subst (λ (v : ℕ × TypeId). IsVariable here now.variables now.types v.0 v.1) same sound
+variable_is here now place (denotes.Constant value type_id) variable is sound = absurd cc
+variable_is here now place (denotes.Text number type_id) variable is sound = absurd cc
+variable_is here now place (denotes.TypeName type_id) variable is sound = absurd cc
+variable_is here now place (denotes.Procedure procedure) variable is sound = absurd cc
+variable_is here now place (denotes.Function function) variable is sound = absurd cc
+variable_is here now place (denotes.Routine block is_function) variable is sound = absurd cc
+variable_is here now place denotes.Output variable is sound = absurd cc
 
-module _ (variables : List Variable) where
+module _ (here : Here) where
   -- ---- constants and variables
 
-  pub number_does : (value : ℕ) (place : Place) → LawfulWritten variables (place ∷ []) (record { first = place; typing = number value place })
+  pub number_does : (value : ℕ) (place : Place) → LawfulWritten here (place ∷ []) (written place (number value place))
   unfolding number
-  number_does value place = record {
-    begins = ([], refl);
-    types = λ least lead is. led_covers variables 2 place [] (led lead) (led_alone lead is) (by least lead);
-  }
+  number_does value place =
+      no_variable_lawful here (place ∷ []) [] place _ refl
+      (λ least lead is. led_covers here 2 place [] (led lead) (led_alone lead is) (by least lead))
     where
-      by : (least : Reached) (lead : Option SiteKind) → Does variables least (Leads place (led lead) []) (number value place lead) Types
+      by : (least : Reached) (lead : Option SiteKind) → Does here least (Leads place (led lead) []) (number value place lead) Types
       by least lead =
           quietly (pass_does place) λ _ _ _ _.
           joins (leads_first 2 place (led lead) []) (behind_does lead place) λ id now _ known.
           quietly (given_does (fits (nat_le value 2147483647) place (typed integer id))) λ t _ one is.
           let fit = fit_is (nat_le value 2147483647) place (typed integer id) t is in
-          quietly (enter_does (λ n. Constant n (pos value)) (λ n. refl) (λ n. refl) (λ n m h. fit.0)) λ _ _ two _.
+          quietly (enter_does (λ n. Constant n (pos value)) (λ n. refl) (λ n. refl) (λ n. refl) (λ n. refl) (λ n o h. fit.0)) λ _ _ two _.
           pure_does t (λ n h. subst (λ (z : Typed). IsKnown z.site n) fit.1 (known_later id now n (further_still one (further_still two h)) known))
 
   -- two or more characters
   text_does : (place : Place) (id : Option ℕ) {least : Reached} (cs : List ℕ) → IsKnown id least → list_all is_character cs ≡ true
-      → Does variables least Nothing
+      → Does here least Nothing
       (string_type place (length cs) >>= (λ type_id. enter_as (λ n. Text n cs) >> pure (typed_whole type_id (length cs) id))) Types
   text_does place id {least} cs known all =
       quietly (string_type_does place (length cs)) λ type_id _ one few.
-      quietly (enter_does (λ n. Text n cs) (λ n. refl) (λ n. refl) (λ n m h. both_true _ _ few all)) λ _ _ two _.
+      quietly (enter_does (λ n. Text n cs) (λ n. refl) (λ n. refl) (λ n. refl) (λ n. refl) (λ n o h. both_true _ _ few all)) λ _ _ two _.
       pure_does (typed_whole type_id (length cs) id) (λ n h. known_later id least n (further_still one (further_still two h)) known)
 
   spelled_does : (place : Place) (id : Option ℕ) {least : Reached} (cs : List ℕ) → IsKnown id least → list_all is_character cs ≡ true
-      → Does variables least Nothing (spelled place id cs) Types
+      → Does here least Nothing (spelled place id cs) Types
   unfolding spelled
   spelled_does place id [] known all = text_does place id [] known all
   spelled_does place id {least} (c ∷ []) known all =
-      quietly (enter_does (λ n. Constant n (pos c)) (λ n. refl) (λ n. refl) (λ n m h. char_whole c all)) λ _ _ more _.
+      quietly (enter_does (λ n. Constant n (pos c)) (λ n. refl) (λ n. refl) (λ n. refl) (λ n. refl) (λ n o h. char_whole c all)) λ _ _ more _.
       pure_does (typed char id) (λ n h. known_later id least n (further_still more h) known)
   spelled_does place id (c ∷ d ∷ cs) known all = text_does place id (c ∷ d ∷ cs) known all
 
-  pub string_does : (text : List ℕ) (place : Place) → LawfulWritten variables (place ∷ []) (record { first = place; typing = string text place })
+  pub string_does : (text : List ℕ) (place : Place) → LawfulWritten here (place ∷ []) (written place (string text place))
   unfolding string
-  string_does text place = record {
-    begins = ([], refl);
-    types = λ least lead is. led_covers variables 2 place [] (led lead) (led_alone lead is) (by least lead);
-  }
+  string_does text place =
+      no_variable_lawful here (place ∷ []) [] place _ refl
+      (λ least lead is. led_covers here 2 place [] (led lead) (led_alone lead is) (by least lead))
     where
-      by : (least : Reached) (lead : Option SiteKind) → Does variables least (Leads place (led lead) []) (string text place lead) Types
+      by : (least : Reached) (lead : Option SiteKind) → Does here least (Leads place (led lead) []) (string text place lead) Types
       by least lead =
           quietly (pass_does place) λ _ _ _ _.
           joins (leads_first 2 place (led lead) []) (behind_does lead place) λ id now _ known.
           quietly (given_does (string_characters place text)) λ cs next more is.
           spelled_does place id cs (known_later id now next more known) (all_of_char place text cs is)
 
-  denoted_does : (denotation : Denotation) (place : Place) {least : Reached} (lead : Option SiteKind) → IsLed lead → IsSound variables least.types denotation
-      → Does variables least (Covers 2 (place ∷ [])) (denoted denotation place lead) Types
+  denoted_does : (denotation : Denotation) (place : Place) {least : Reached} (lead : Option SiteKind) → IsLed lead → IsFound here denotation least
+      → Does here least (Covers 2 (place ∷ [])) (denoted denotation place lead) Types
   unfolding denoted
-  denoted_does (denotes.Constant value type_id) place lead is sound = led_covers variables 2 place [] (led lead) (led_alone lead is) by
+  denoted_does (denotes.Constant value type_id) place lead is sound = led_covers here 2 place [] (led lead) (led_alone lead is) by
     where
-      by : {least : Reached} → Does variables least (Leads place (led lead) []) (denoted (denotes.Constant value type_id) place lead) Types
+      by : {least : Reached} → Does here least (Leads place (led lead) []) (denoted (denotes.Constant value type_id) place lead) Types
       by =
           joins (leads_first 2 place (led lead) []) (behind_does lead place) λ id now _ known.
-          quietly (enter_does (λ n. Constant n value) (λ n. refl) (λ n. refl) (λ n m h. sound)) λ _ _ more _.
+          quietly (enter_does (λ n. Constant n value) (λ n. refl) (λ n. refl) (λ n. refl) (λ n. refl) (λ n o h. sound.0)) λ _ _ more _.
           pure_does (typed type_id id) (λ n h. known_later id now n (further_still more h) known)
-  denoted_does (denotes.Text number type_id) place lead is sound = led_covers variables 2 place [] (led lead) (led_alone lead is) by
+  denoted_does (denotes.Text number type_id) place lead is sound = led_covers here 2 place [] (led lead) (led_alone lead is) by
     where
-      by : {least : Reached} → Does variables least (Leads place (led lead) []) (denoted (denotes.Text number type_id) place lead) Types
+      by : {least : Reached} → Does here least (Leads place (led lead) []) (denoted (denotes.Text number type_id) place lead) Types
       by =
           joins (leads_first 2 place (led lead) []) (behind_does lead place) λ id now _ known.
           quietly (text_at_does number) λ cs _ one are.
-          quietly (enter_does (λ n. Text n cs) (λ n. refl) (λ n. refl) (λ n m h. are)) λ _ _ two _.
+          quietly (enter_does (λ n. Text n cs) (λ n. refl) (λ n. refl) (λ n. refl) (λ n. refl) (λ n o h. are)) λ _ _ two _.
           pure_does (typed_whole type_id (length cs) id) (λ n h. known_later id now n (further_still one (further_still two h)) known)
-  denoted_does (denotes.Variable root type_id) place lead is sound = accessed_does variables root type_id [] [] [] place lead is tt sound.0 sound.1
+  denoted_does (denotes.Variable root type_id) place {least} lead is sound =
+      accessed_does here root type_id [] [] [] place lead is tt (leads_nowhere here root type_id least sound.0 sound.1)
   denoted_does (denotes.Procedure procedure) place lead is sound = fail_does (fault.WrongParameters place)
   denoted_does (denotes.Function function) place lead is sound = fail_does (fault.WrongParameters place)
+  denoted_does (denotes.Routine block is_function) place lead is sound = function_does here block is_function place [] [] lead is sound.0 sound.1 tt
   denoted_does (denotes.TypeName type_id) place lead is sound = fail_does (fault.Mismatch place)
   denoted_does denotes.Output place lead is sound = fail_does (fault.Mismatch place)
 
-  pub named_does : (name : Name) → LawfulWritten variables (name.place ∷ []) (record { first = name.place; typing = named name })
+  -- what is no variable isn't passed to a variable parameter, and what is one is of its type
+  passable_is : (types : List Form) (wanted type_id : TypeId) (selectors : List TreeSelector) (part : TypeId) (place : Place)
+      → passable types wanted type_id selectors part place ≡ Ok (tt {0}) → is_same part wanted ≡ true
+  passable_is types wanted type_id selectors part place is = by (is_same wanted part) refl is
+    where
+      by : (test : Bool) → is_same wanted part ≡ test
+          → (if not test then Err (fault.Mismatch place)
+          else if is_of_packed types (Some type_id) false selectors then Err (fault.PackedComponent place) else Ok (tt {0})) ≡ Ok (tt {0})
+          → is_same part wanted ≡ true
+      by true same h = eq-eqb part.index wanted.index (sym (eqb-true wanted.index part.index same))
+      by false same h = absurd cc
+
+  passed_does : {least : Reached} (name : Name) (selectors : List Selector) (rows : List (List Place)) (ws : List Written) (callee position : ℕ)
+      (formal : Variable) → AreLawfulRows here rows ws → IsFormalAt least callee position formal → is_variable_kind formal.kind ≡ true
+      → Does here least (Covers 2 (name.place ∷ selector_places selectors rows)) (passed_variable name selectors ws formal.type_id callee position) Anything
+  unfolding passed_variable
+  passed_does {least} name selectors rows ws callee position formal laws at is =
+      sited (λ sites has. ([], sites, refl, tt, has))
+      (quietly (find_does name) λ d now one sound.
+      quietly (given_does (as_variable name.place d)) λ variable there two it_is.
+      let found = variable_is here now name.place d variable it_is sound.0 in
+      let start = leads_nowhere here variable.0 variable.1 now found sound.1 in
+      let found_there = variable_later here now there variable.0 variable.1 two found in
+      quietly (may_change_does name.place variable.0 variable.1 found_there) λ _ changed three may.
+      quietly (enter_does Access (λ n. refl) (λ n. refl) (λ n. refl) (λ n. refl) (λ n o h. refl)) λ _ entered four _.
+      let seen = further_still two (further_still three four) in
+      last (selected_does here variable.0 [] variable.1 selectors rows ws laws (leads_later here variable.0 [] variable.1 now entered seen start))
+      λ component met five l.
+      quietly (by_types_does (λ types. passable types formal.type_id variable.1 component.0 component.1 name.place)) λ _ next six fits.
+      let same = passable_is next.types formal.type_id variable.1 component.0 component.1 name.place fits.1 in
+      let led = leads_later here variable.0 component.0 component.1 met next six l in
+      let formal_there = formal_later least next callee position formal (further_still one (further_still seen (further_still five six))) at in
+      let may_there = change_later here changed next variable.0 (further_still four (further_still five six)) may in
+      change_does (ForVariable formal.type_id variable.0 component.0 (index_count component.0) callee position) variable.0 refl refl refl refl refl may_there
+      (λ o h. both_true _ _ (leads_formed here variable.0 component.0 component.1 next led (λ id. is_same id formal.type_id) o h same)
+      (ap (of_one (takes_variable formal.type_id)) (formal_is next callee position formal o h formal_there)
+      ∙ both_true _ _ is (eq-eqb formal.type_id.index formal.type_id.index refl))))
+
+  pub named_does : (name : Name) → LawfulWritten here (name.place ∷ []) (written_variable name [] [] (named name))
   unfolding named
   named_does name = record {
     begins = ([], refl);
-    types = λ least lead is. quietly (find_does name) λ denotation _ _ sound. denoted_does denotation name.place lead is sound;
+    types = λ least lead is. quietly (find_does name) λ denotation _ _ found. denoted_does denotation name.place lead is found;
+    passes = λ least callee position formal at is. passed_does name [] [] [] callee position formal tt at is;
   }
 
-  pub component_does : (name : Name) (selectors : List Selector) (rows : List (List Place)) (ws : List Written) → AreLawfulRows variables rows ws
-      → LawfulWritten variables (name.place ∷ selector_places selectors rows) (record { first = name.place; typing = component name selectors ws })
+  pub component_does : (name : Name) (selectors : List Selector) (rows : List (List Place)) (ws : List Written) → AreLawfulRows here rows ws
+      → LawfulWritten here (name.place ∷ selector_places selectors rows) (written_variable name selectors ws (component name selectors ws))
   unfolding component
   component_does name selectors rows ws laws = record {
     begins = (selector_places selectors rows, refl);
     types = λ least lead is.
         quietly (find_does name) λ d now _ sound.
         quietly (given_does (as_variable name.place d)) λ variable there one it_is.
-        let found = variable_is variables now.types name.place d variable it_is sound in
-        accessed_does variables variable.0 variable.1 selectors rows ws name.place lead is laws found.0 (stands_longer one.types variable.1 found.1);
+        let found = variable_is here now name.place d variable it_is sound.0 in
+        accessed_does here variable.0 variable.1 selectors rows ws name.place lead is laws
+        (leads_later here variable.0 [] variable.1 now there one (leads_nowhere here variable.0 variable.1 now found sound.1));
+    passes = λ least callee position formal at is. passed_does name selectors rows ws callee position formal laws at is;
   }
 
   -- ---- one operand
 
-  pub parenthesized_does : (place : Place) (places : List Place) (inner : Written) → LawfulWritten variables places inner
-      → LawfulWritten variables (place ∷ places) (record { first = place; typing = parenthesized place inner })
+  pub parenthesized_does : (place : Place) (places : List Place) (inner : Written) → LawfulWritten here places inner
+      → LawfulWritten here (place ∷ places) (written place (parenthesized place inner))
   unfolding parenthesized
-  parenthesized_does place places inner law = record {
-    begins = (places, refl);
-    types = λ least lead is. led_covers variables 2 place places (led lead) (led_alone lead is) (by least lead);
-  }
+  parenthesized_does place places inner law =
+      no_variable_lawful here (place ∷ places) places place _ refl
+      (λ least lead is. led_covers here 2 place places (led lead) (led_alone lead is) (by least lead))
     where
-      by : (least : Reached) (lead : Option SiteKind) → Does variables least (Leads place (led lead) places) (parenthesized place inner lead) Types
+      by : (least : Reached) (lead : Option SiteKind) → Does here least (Leads place (led lead) places) (parenthesized place inner lead) Types
       by least lead =
           quietly (pass_does place) λ _ _ _ _.
           joins (leads_first 2 place (led lead) places) (behind_does lead place) λ id now _ known.
@@ -163,40 +210,38 @@ module _ (variables : List Variable) where
           answer id now n b t known more is =
               let same : record t { site = id } ≡ b = cc in subst (λ (z : Typed). IsKnown z.site n) same (known_later id now n more known)
 
-  pub negation_does : (place : Place) (places : List Place) (operand : Written) → LawfulWritten variables places operand
-      → LawfulWritten variables (place ∷ places) (record { first = place; typing = negation place operand })
+  pub negation_does : (place : Place) (places : List Place) (operand : Written) → LawfulWritten here places operand
+      → LawfulWritten here (place ∷ places) (written place (negation place operand))
   unfolding negation
-  negation_does place places operand law = record {
-    begins = (places, refl);
-    types = λ least lead is. led_covers variables 2 place places (led lead) (led_alone lead is) (by least lead);
-  }
+  negation_does place places operand law =
+      no_variable_lawful here (place ∷ places) places place _ refl
+      (λ least lead is. led_covers here 2 place places (led lead) (led_alone lead is) (by least lead))
     where
-      by : (least : Reached) (lead : Option SiteKind) → Does variables least (Leads place (led lead) places) (negation place operand lead) Types
+      by : (least : Reached) (lead : Option SiteKind) → Does here least (Leads place (led lead) places) (negation place operand lead) Types
       by least lead =
           quietly (pass_does place) λ _ _ _ _.
           joins (leads_first 2 place (led lead) places) (behind_does lead place) λ id now _ known.
-          quietly (enter_does Operation (λ n. refl) (λ n. refl) (λ n m h. refl)) λ _ next one _.
+          quietly (enter_does Operation (λ n. refl) (λ n. refl) (λ n. refl) (λ n. refl) (λ n o h. refl)) λ _ next one _.
           last (checks {L = Anything} (law.types next None tt) λ types t b n more is _. tt) λ _ _ two _.
-          quietly (mark_does (Applied monadic.Not) refl refl (λ n h. refl)) λ _ _ three _.
+          quietly (mark_does (Applied monadic.Not) refl refl refl refl (λ o h. refl)) λ _ _ three _.
           pure_does (typed boolean id) (λ n h. known_later id now n (further_still one (further_still two (further_still three h))) known)
 
-  signs_formed : (s : Sign) (types : List Form) (sites : ℕ) → monadic_is_well_formed variables types sites (sign_operation s) ≡ true
-  signs_formed sign.Plus types sites = refl
-  signs_formed sign.Minus types sites = refl
+  signs_formed : (s : Sign) (o : Outline) → monadic_is_well_formed o here.block (sign_operation s) ≡ true
+  signs_formed sign.Plus o = refl
+  signs_formed sign.Minus o = refl
 
-  pub signed_does : (s : Sign) (place : Place) (places : List Place) (operand : Written) → LawfulWritten variables places operand
-      → LawfulWritten variables (place ∷ places) (record { first = place; typing = signed s place operand })
+  pub signed_does : (s : Sign) (place : Place) (places : List Place) (operand : Written) → LawfulWritten here places operand
+      → LawfulWritten here (place ∷ places) (written place (signed s place operand))
   unfolding signed
-  signed_does s place places operand law = record {
-    begins = (places, refl);
-    types = λ least lead is. led_covers variables 2 place places (led lead) (led_alone lead is) (by least lead);
-  }
+  signed_does s place places operand law =
+      no_variable_lawful here (place ∷ places) places place _ refl
+      (λ least lead is. led_covers here 2 place places (led lead) (led_alone lead is) (by least lead))
     where
-      by : (least : Reached) (lead : Option SiteKind) → Does variables least (Leads place (led lead) places) (signed s place operand lead) Types
+      by : (least : Reached) (lead : Option SiteKind) → Does here least (Leads place (led lead) places) (signed s place operand lead) Types
       by least lead =
           quietly (pass_does place) λ _ _ _ _.
           joins (leads_first 2 place (led lead) places) (behind_does lead place) λ id now _ known.
-          quietly (enter_does Operation (λ n. refl) (λ n. refl) (λ n m h. refl)) λ _ next one _.
+          quietly (enter_does Operation (λ n. refl) (λ n. refl) (λ n. refl) (λ n. refl) (λ n o h. refl)) λ _ next one _.
           last (checks {L = Anything} (law.types next None tt) λ types t b n more is _. tt) λ _ _ two _.
-          quietly (mark_does (Applied (sign_operation s)) refl refl (λ n h. signs_formed s n.types n.sites)) λ _ _ three _.
+          quietly (mark_does (Applied (sign_operation s)) refl refl refl refl (λ o h. signs_formed s o)) λ _ _ three _.
           pure_does (typed integer id) (λ n h. known_later id now n (further_still one (further_still two (further_still three h))) known)

@@ -1,52 +1,118 @@
 -- What a form does to what is known: it adds sites, entries and perhaps types, and its marks are well formed, as they
--- are with more sites and types behind. All else stays.
-use Rattle.std.proofs.Common.{◌≡◌, ℕ, zero, suc, ◌+◌, ◌≤◌, Bool, true, ◌&&◌, List, ◌∷◌, ◌++◌, length, append_assoc, length-append, sym, ap, subst, ◌∙◌, arith}
-use Rattle.std.specs.List.{range_with_len, list_all, flat_map}
+-- are with more sites, types, variables and headings behind. All else stays.
+use Rattle.std.proofs.Common.{◌≡◌, ℕ, zero, suc, ◌+◌, ◌<◌, ◌≤◌, Bool, true, false, nat_eq, refl, ◌&&◌, List, [], ◌∷◌, ◌++◌, length, map, Some, slice_get}
+use Rattle.std.proofs.Common.{append_assoc, length-append, sym, ap, ap₂, subst, ◌∙◌, arith, ◌||◌, inl, inr, ◌⊎◌}
+use Rattle.std.specs.List.{range_with_len, list_all, flat_map, list_any}
 use Rattle.std.proofs.lemmas.List.Folds.{list_all-append}
 use Rattle.std.proofs.lemmas.Grind.{flat_map-append}
-use Rattle.types.specs.Forms.{Form}
+use Rattle.types.specs.Types.{is_ordinal}
 use Rattle.typed_tree.specs.declared.tree.Variable.{Variable}
 use Rattle.typed_tree.specs.Ids.{Stands}
-use Rattle.typed_tree.specs.Look.{Mark, Look, mark_entries, entries_of_look, mark_loops, loops_of_look, is_formed_mark}
-use Rattle.typing.specs.Passing.{Passed}
+use Rattle.typed_tree.specs.WellFormed.{Outline, is_parameter_kind}
+use Rattle.typed_tree.specs.Look.{Mark, Look, mark_entries, entries_of_look, mark_loops, loops_of_look, blocks_of_look, mark_blocks, is_formed_mark}
+use Rattle.typing.specs.Passing.{Enclosing, Passed}
 use Rattle.typing.specs.Steps.{most_sites, most_entries}
-use Rattle.typing_laws.proofs.Sound.{AreSound, regions_longer}
-use Rattle.typing_laws.proofs.Tables.{IsLonger, AreLawful, AreTexts, as_long, longer_still}
+use Rattle.typing_laws.proofs.Reached.{IsLonger, longer_still, same_longer, get_longer, Signature, signature_passed, Head, head_of, Reached, reached, whole_of}
+use Rattle.typing_laws.proofs.Reached.{IsFurther, further_still, mapped_longer, Here, StandsIn, stands_later}
+use Rattle.typing_laws.proofs.Sound.{AreSound, inside_itself, regions_later, or_right}
+use Rattle.typing_laws.proofs.Tables.{AreLawful, AreTexts, stands_longer, is_ordinal_longer}
+use Rattle.typing_laws.specs.Controls.{Each, mark_changes, mark_controls}
+use Rattle.typing_laws.proofs.Kept.{MayChange, change_later, changes_of, controls_of, each_append, each_more}
+use Rattle.typing_laws.proofs.Owned.{Fails}
+use Rattle.typing_laws.specs.Results.{is_target, mark_targets}
 
--- how far typing has come: so many sites, and these types
-pub record Reached : Type 0 where
-  pub sites : ℕ
-  pub types : List Form
+-- ---- headings that were passed
 
-abbrev pub reached : Passed → Reached
-reached s = record { sites = length s.sites; types = s.types }
+-- a formal parameter is a variable that is declared as one
+pub record IsFormal (now : Reached) (root : ℕ) : Type 0 where
+  pub variable : Variable
+  pub is_there : slice_get now.variables root ≡ Some variable
+  pub is_parameter : is_parameter_kind variable.kind ≡ true
+  pub stands : variable.type_id.index < length now.types
 
--- at least as far
-pub record IsFurther (old new : Reached) : Type 0 where
-  pub sites : old.sites ≤ new.sites
-  pub types : IsLonger old.types new.types
+-- the result of a function is an ordinal that its block declares
+pub record IsOutcome (now : Reached) (block root : ℕ) : Type 0 where
+  pub variable : Variable
+  pub is_there : slice_get now.variables root ≡ Some variable
+  pub of_block : variable.block ≡ block
+  pub ordinal : is_ordinal now.types variable.type_id ≡ true
+  pub stands : variable.type_id.index < length now.types
 
-pub as_far : {one : Reached} → IsFurther one one
-as_far = record { sites = omega arith; types = as_long }
+-- what a heading tells is so
+pub record FitsHeading (now : Reached) (block : ℕ) (signature : Signature) : Type 0 where
+  pub formals : (position root : ℕ) → slice_get signature.parameters position ≡ Some root → IsFormal now root
+  pub outcome : (root : ℕ) → signature.result ≡ Some root → IsOutcome now block root
 
-pub further_still : {old now new : Reached} → IsFurther old now → IsFurther now new → IsFurther old new
-further_still f g = record { sites = omega (arith, f.sites, g.sites); types = longer_still f.types g.types }
+-- of each block whose heading was passed
+pub record AreFit (now : Reached) : Type 0 where
+  pub fits : (block : ℕ) (signature : Signature) → slice_get now.headings block ≡ Some signature → FitsHeading now block signature
 
--- what is known may be passed on
-pub record Fine (variables : List Variable) (s : Passed) : Type 0 where
-  pub sound : AreSound variables s.types s.regions
+pub fits_later : (now next : Reached) (block : ℕ) (signature : Signature) → IsFurther now next → FitsHeading now block signature
+    → FitsHeading next block signature
+fits_later now next block signature more f = record {
+  formals = λ position root is.
+      let formal = f.formals position root is in
+      record {
+        variable = formal.variable;
+        is_there = get_longer more.variables root formal.variable formal.is_there;
+        is_parameter = formal.is_parameter;
+        stands = stands_longer more.types formal.variable.type_id formal.stands;
+      };
+  outcome = λ root is.
+      let outcome = f.outcome root is in
+      record {
+        variable = outcome.variable;
+        is_there = get_longer more.variables root outcome.variable outcome.is_there;
+        of_block = outcome.of_block;
+        ordinal = is_ordinal_longer more.types outcome.variable.type_id outcome.stands ∙ outcome.ordinal;
+        stands = stands_longer more.types outcome.variable.type_id outcome.stands;
+      };
+}
+
+-- with the same headings
+pub fit_later : (now next : Reached) → IsFurther now next → next.headings ≡ now.headings → AreFit now → AreFit next
+fit_later now next more same f = record {
+  fits = λ block signature is.
+      fits_later now next block signature more (f.fits block signature (ap (λ all. slice_get all block) (sym same) ∙ is));
+}
+
+-- ---- what is known
+
+abbrev pub heads_of : Reached → List Head
+heads_of now = map head_of now.headings
+
+-- what holds of what names denote there
+abbrev pub AreSoundAt : Here → Passed → Type 0
+AreSoundAt here s = AreSound here s.variables s.types (heads_of (reached s)) s.regions
+
+-- what is known in a block may be passed on
+pub record Fine (here : Here) (s : Passed) : Type 0 where
+  pub sound : AreSoundAt here s
   pub lawful : AreLawful s.types
   pub texts : AreTexts s.texts
   pub few_sites : length s.sites ≤ most_sites
   pub few_entries : s.entries ≤ most_entries
+  pub block : s.enclosing.block ≡ here.block
+  pub around : s.enclosing.around ≡ here.around
+  pub stands : StandsIn here (reached s)
+  pub fit : AreFit (reached s)
 
--- a form that looks so, with sites of which something holds
-pub record Grown (variables : List Variable) (Has : List Stands → Type 0) (look : Look) (old new : Passed) : Type 0 where
+-- a variable of the block's own that no other block threatened
+pub record IsFree (here : Here) (old new : Passed) (root : ℕ) : Type 0 where
+  pub variable : Variable
+  pub is_there : slice_get new.variables root ≡ Some variable
+  pub own : nat_eq variable.block here.block ≡ true
+  pub free : Fails (list_any (nat_eq root) old.threatened)
+
+-- a form of a block that looks so, with sites of which something holds
+pub record Grown (here : Here) (Has : List Stands → Type 0) (look : Look) (old new : Passed) : Type 0 where
   pub regions : new.regions ≡ old.regions
   pub longer : IsLonger old.types new.types
   pub lawful : AreLawful new.types
   pub texts : AreTexts new.texts
   pub variables_kept : new.variables ≡ old.variables
+  pub headings_kept : new.headings ≡ old.headings
+  pub enclosing_kept : new.enclosing ≡ old.enclosing
   pub added : List Stands
   pub sites : new.sites ≡ old.sites ++ added
   pub covered : Has added
@@ -56,7 +122,15 @@ pub record Grown (variables : List Variable) (Has : List Stands → Type 0) (loo
   pub few_entries : new.entries ≤ most_entries
   pub looped : loops_of_look look ≡ range_with_len old.loops (length (loops_of_look look))
   pub begun : new.loops ≡ old.loops + length (loops_of_look look)
-  pub formed : (n : Reached) → IsFurther (reached new) n → list_all (is_formed_mark variables n.types n.sites) look ≡ true
+  pub inner : blocks_of_look look ≡ []
+  pub threats : (root : ℕ) → list_any (nat_eq root) old.threatened ≡ true → list_any (nat_eq root) new.threatened ≡ true
+  pub assigns : (root : ℕ) → list_any (nat_eq root) old.assigned ≡ true → list_any (nat_eq root) new.assigned ≡ true
+  pub assigned :
+      here.owing ≡ false → (root : ℕ) → list_any (nat_eq root) new.assigned ≡ true
+      → (list_any (nat_eq root) old.assigned ≡ true) ⊎ (is_target look root ≡ true)
+  pub changes : Each (MayChange here (reached new)) (changes_of look)
+  pub controls : Each (IsFree here old new) (controls_of look)
+  pub formed : (o : Outline) → IsFurther (reached new) (whole_of o) → list_all (is_formed_mark o here.block) look ≡ true
 
 pub range_joins : (a m n : ℕ) → range_with_len a (m + n) ≡ range_with_len a m ++ range_with_len (a + m) n
 range_joins a zero n =
@@ -71,33 +145,47 @@ range_joins a (suc m) n =
 pub both_true : (a b : Bool) → a ≡ true → b ≡ true → (a && b) ≡ true
 both_true a b x y = ap (λ c. c && b) x ∙ y
 
-pub fine_later : {variables : List Variable} {Has : List Stands → Type 0} {look : Look} {old new : Passed} → Grown variables Has look old new
-    → Fine variables old
-    → Fine variables new
-fine_later {variables} {old = old} {new = new} g f = record {
-  sound = subst (AreSound variables new.types) (sym g.regions) (regions_longer variables g.longer old.regions f.sound);
-  lawful = g.lawful;
-  texts = g.texts;
-  few_sites = g.few_sites;
-  few_entries = g.few_entries;
-}
-
 -- there are no fewer sites than before
-pub more_sites : {variables : List Variable} {Has : List Stands → Type 0} {look : Look} {old new : Passed} → Grown variables Has look old new
+pub more_sites : {here : Here} {Has : List Stands → Type 0} {look : Look} {old new : Passed} → Grown here Has look old new
     → length old.sites ≤ length new.sites
 more_sites {old = old} g = omega (arith, ap length g.sites, length-append old.sites g.added)
 
-pub further : {variables : List Variable} {Has : List Stands → Type 0} {look : Look} {old new : Passed} → Grown variables Has look old new
+pub further : {here : Here} {Has : List Stands → Type 0} {look : Look} {old new : Passed} → Grown here Has look old new
     → IsFurther (reached old) (reached new)
-further g = record { sites = more_sites g; types = g.longer }
+further g = record {
+  sites = more_sites g;
+  types = g.longer;
+  variables = same_longer g.variables_kept;
+  headings = same_longer (ap (map signature_passed) g.headings_kept);
+  threats = g.threats;
+}
+
+pub fine_later : {here : Here} {Has : List Stands → Type 0} {look : Look} {old new : Passed} → Grown here Has look old new
+    → Fine here old → Fine here new
+fine_later {here} {old = old} {new = new} g f =
+    let more = further g in
+    let same = ap (map signature_passed) g.headings_kept in
+    record {
+      sound =
+          subst (AreSound here new.variables new.types (heads_of (reached new))) (sym g.regions)
+          (regions_later inside_itself more.variables more.types (mapped_longer head_of more.headings) old.regions f.sound);
+      lawful = g.lawful;
+      texts = g.texts;
+      few_sites = g.few_sites;
+      few_entries = g.few_entries;
+      block = ap (λ (e : Enclosing). e.block) g.enclosing_kept ∙ f.block;
+      around = ap (λ (e : Enclosing). e.around) g.enclosing_kept ∙ f.around;
+      stands = stands_later here (reached old) (reached new) more f.stands;
+      fit = fit_later (reached old) (reached new) more same f.fit;
+    }
 
 -- numbers that marks have
 module _ (numbers : Mark → List ℕ) (look more : Look) where
-  counted : length (flat_map numbers (look ++ more)) ≡ length (flat_map numbers look) + length (flat_map numbers more)
+  pub counted : length (flat_map numbers (look ++ more)) ≡ length (flat_map numbers look) + length (flat_map numbers more)
   counted = ap length (flat_map-append numbers look more) ∙ length-append (flat_map numbers look) (flat_map numbers more)
 
   -- they go on
-  go_on : (from next : ℕ) → flat_map numbers look ≡ range_with_len from (length (flat_map numbers look)) → next ≡ from + length (flat_map numbers look)
+  pub go_on : (from next : ℕ) → flat_map numbers look ≡ range_with_len from (length (flat_map numbers look)) → next ≡ from + length (flat_map numbers look)
       → flat_map numbers more ≡ range_with_len next (length (flat_map numbers more))
       → flat_map numbers (look ++ more) ≡ range_with_len from (length (flat_map numbers (look ++ more)))
   go_on from next one is two =
@@ -106,16 +194,58 @@ module _ (numbers : Mark → List ℕ) (look more : Look) where
       ∙ sym (range_joins from (length (flat_map numbers look)) (length (flat_map numbers more)))
       ∙ ap (range_with_len from) (sym counted)
 
+-- a target is one among more
+any_first : (xs ys : List ℕ) (root : ℕ) → list_any (nat_eq root) xs ≡ true → list_any (nat_eq root) (xs ++ ys) ≡ true
+any_first [] ys root is = absurd cc
+any_first (x ∷ xs) ys root is = by (nat_eq root x) (any_first xs ys root) is
+  where
+    by : (test : Bool) → (list_any (nat_eq root) xs ≡ true → list_any (nat_eq root) (xs ++ ys) ≡ true) → (test || list_any (nat_eq root) xs) ≡ true
+        → (test || list_any (nat_eq root) (xs ++ ys)) ≡ true
+    by true more h = refl
+    by false more h = more h
+
+any_second : (xs ys : List ℕ) (root : ℕ) → list_any (nat_eq root) ys ≡ true → list_any (nat_eq root) (xs ++ ys) ≡ true
+any_second [] ys root is = is
+any_second (x ∷ xs) ys root is = or_right (nat_eq root x) (list_any (nat_eq root) (xs ++ ys)) (any_second xs ys root is)
+
+pub target_first : (look more : Look) (root : ℕ) → is_target look root ≡ true → is_target (look ++ more) root ≡ true
+target_first look more root is =
+    subst (λ l. list_any (nat_eq root) l ≡ true) (sym (flat_map-append mark_targets look more))
+    (any_first (flat_map mark_targets look) (flat_map mark_targets more) root is)
+
+pub target_second : (look more : Look) (root : ℕ) → is_target more root ≡ true → is_target (look ++ more) root ≡ true
+target_second look more root is =
+    subst (λ l. list_any (nat_eq root) l ≡ true) (sym (flat_map-append mark_targets look more))
+    (any_second (flat_map mark_targets look) (flat_map mark_targets more) root is)
+
+-- assigned in one part or in the other
+pub assigned_then : {before between : Bool} (look more : Look) (root : ℕ)
+    → (between ≡ true → (before ≡ true) ⊎ (is_target look root ≡ true)) → (between ≡ true) ⊎ (is_target more root ≡ true)
+    → (before ≡ true) ⊎ (is_target (look ++ more) root ≡ true)
+assigned_then {before} look more root first (inl there) = by (first there)
+  where
+    by : (before ≡ true) ⊎ (is_target look root ≡ true) → (before ≡ true) ⊎ (is_target (look ++ more) root ≡ true)
+    by (inl old) = inl old
+    by (inr target) = inr (target_first look more root target)
+assigned_then {before} look more root first (inr target) = inr (target_second look more root target)
+
+-- a variable that is threatened later alone is free before
+free_before : (a b : Bool) → (a ≡ true → b ≡ true) → Fails b → Fails a
+free_before true b more is = let same : false ≡ true = sym is ∙ more refl in absurd cc
+free_before false b more is = refl
+
 -- one form, and then another
-pub grown_then : {variables : List Variable} {First Second Both : List Stands → Type 0} {look more : Look} {old now new : Passed}
+pub grown_then : {here : Here} {First Second Both : List Stands → Type 0} {look more : Look} {old now new : Passed}
     → ((a b : List Stands) → First a → Second b → Both (a ++ b))
-    → Grown variables First look old now → Grown variables Second more now new → Grown variables Both (look ++ more) old new
-grown_then {variables} {First} {Second} {Both} {look} {more} {old} {now} {new} joined f g = record {
+    → Grown here First look old now → Grown here Second more now new → Grown here Both (look ++ more) old new
+grown_then {here} {First} {Second} {Both} {look} {more} {old} {now} {new} joined f g = record {
   regions = g.regions ∙ f.regions;
   longer = longer_still f.longer g.longer;
   lawful = g.lawful;
   texts = g.texts;
   variables_kept = g.variables_kept ∙ f.variables_kept;
+  headings_kept = g.headings_kept ∙ f.headings_kept;
+  enclosing_kept = g.enclosing_kept ∙ f.enclosing_kept;
   added = f.added ++ g.added;
   sites = g.sites ∙ ap (λ l. l ++ g.added) f.sites ∙ append_assoc old.sites f.added g.added;
   covered = joined f.added g.added f.covered g.covered;
@@ -125,7 +255,31 @@ grown_then {variables} {First} {Second} {Both} {look} {more} {old} {now} {new} j
   few_entries = g.few_entries;
   looped = go_on mark_loops look more old.loops now.loops f.looped f.begun g.looped;
   begun = omega (arith, f.begun, g.begun, counted mark_loops look more);
-  formed = λ n h.
-      list_all-append (is_formed_mark variables n.types n.sites) look more
-      ∙ both_true _ _ (f.formed n (further_still (further g) h)) (g.formed n h);
+  inner = flat_map-append mark_blocks look more ∙ ap₂ (λ a b. a ++ b) f.inner g.inner;
+  threats = λ root is. g.threats root (f.threats root is);
+  assigns = λ root is. g.assigns root (f.assigns root is);
+  assigned = λ settled root is. assigned_then look more root (f.assigned settled root) (g.assigned settled root is);
+  changes =
+      subst (Each (MayChange here (reached new))) (sym (flat_map-append mark_changes look more))
+      (each_append (MayChange here (reached new)) (changes_of look) (changes_of more)
+      (each_more (MayChange here (reached now)) (MayChange here (reached new)) (changes_of look)
+      (λ root. change_later here (reached now) (reached new) root (further g)) f.changes)
+      g.changes);
+  controls =
+      subst (Each (IsFree here old new)) (sym (flat_map-append mark_controls look more))
+      (each_append (IsFree here old new) (controls_of look) (controls_of more)
+      (each_more (IsFree here old now) (IsFree here old new) (controls_of look) (λ root c. record {
+        variable = c.variable;
+        is_there = ap (λ l. slice_get l root) g.variables_kept ∙ c.is_there;
+        own = c.own;
+        free = c.free;
+      }) f.controls)
+      (each_more (IsFree here now new) (IsFree here old new) (controls_of more) (λ root c. record {
+        variable = c.variable;
+        is_there = c.is_there;
+        own = c.own;
+        free = free_before (list_any (nat_eq root) old.threatened) (list_any (nat_eq root) now.threatened) (f.threats root) c.free;
+      }) g.controls));
+  formed = λ o h.
+      list_all-append (is_formed_mark o here.block) look more ∙ both_true _ _ (f.formed o (further_still (further g) h)) (g.formed o h);
 }

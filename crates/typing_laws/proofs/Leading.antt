@@ -1,17 +1,22 @@
 -- The laws of expressions: their sites stand at their places, and the leading site behind the first token's own.
-use Rattle.std.proofs.Common.{◌≡◌, ℕ, ◌<◌, ◌≤◌, true, nat_lt, List, [], ◌∷◌, ◌++◌, Option, Some, None, sym, subst, arith}
+use Rattle.std.proofs.Common.{◌≡◌, ℕ, ◌<◌, ◌≤◌, true, nat_lt, List, [], ◌∷◌, ◌++◌, length, Option, Some, None, slice_get, sym, ap, subst, ◌∙◌, arith}
+use Rattle.std.specs.Option.{option_and_then}
 use Rattle.std.proofs.lemmas.Bool.Decides.{nat_tests}
 use Rattle.place.specs.declared.Place.{Place}
+use Rattle.typed_tree.specs.declared.fault.TypeFault.TheVariants as fault
 use Rattle.typed_tree.specs.declared.site.SiteKind.{SiteKind}
+use Rattle.typed_tree.specs.declared.tree.Heading.{Heading}
 use Rattle.typed_tree.specs.declared.tree.Variable.{Variable}
+use Rattle.typed_tree.specs.WellFormed.{Outline, formal_of, is_variable_kind}
 use Rattle.typed_tree.specs.Ids.{Stands}
 use Rattle.typed_tree.specs.Sites.{number_of}
 use Rattle.typing.specs.Passing.{Passing}
 use Rattle.typing.specs.declared.typed.Typed.{Typed}
-use Rattle.typing.specs.Expressions.{Written, WrittenLink}
+use Rattle.typing.specs.Expressions.{Written, WrittenLink, no_variable, written}
 use Rattle.typing_laws.proofs.Covers.{AreAbove, Covers, Leads, covers_ahead, covers_lower, leads_covers}
-use Rattle.typing_laws.proofs.Grown.{Reached, IsFurther}
-use Rattle.typing_laws.proofs.Steps.{Does, sited, led, IsKnown}
+use Rattle.typing_laws.proofs.Reached.{Signature, signature_of, Reached, whole_of, IsFurther, Here, get_longer, get_mapped}
+use Rattle.typing_laws.proofs.Tables.{stands_longer}
+use Rattle.typing_laws.proofs.Steps.{Does, Anything, fail_does, sited, led, IsKnown}
 
 -- ---- the leading site
 
@@ -39,17 +44,64 @@ lt_true a b h = grind (arith, nat_tests)
 abbrev pub Types : Typed → Reached → Type 0
 Types t now = IsKnown t.site now
 
+-- ---- formal parameters
+
+-- a formal parameter of a callee, at a place
+pub record IsFormalAt (now : Reached) (callee position : ℕ) (formal : Variable) : Type 0 where
+  pub signature : Signature
+  pub heading : slice_get now.headings callee ≡ Some signature
+  pub root : ℕ
+  pub is_there : slice_get signature.parameters position ≡ Some root
+  pub variable : slice_get now.variables root ≡ Some formal
+  pub stands : formal.type_id.index < length now.types
+
+pub formal_later : (now next : Reached) (callee position : ℕ) (formal : Variable) → IsFurther now next → IsFormalAt now callee position formal
+    → IsFormalAt next callee position formal
+formal_later now next callee position formal more f = record {
+  signature = f.signature;
+  heading = get_longer more.headings callee f.signature f.heading;
+  root = f.root;
+  is_there = f.is_there;
+  variable = get_longer more.variables f.root formal f.variable;
+  stands = stands_longer more.types formal.type_id f.stands;
+}
+
+-- it is one of the program's
+pub formal_is : (now : Reached) (callee position : ℕ) (formal : Variable) (o : Outline) → IsFurther now (whole_of o)
+    → IsFormalAt now callee position formal → formal_of o callee position ≡ Some formal
+formal_is now callee position formal o more f =
+    let at = get_mapped signature_of o.headings callee f.signature (get_longer more.headings callee f.signature f.heading) in
+    let there : slice_get at.0.parameters.items position ≡ Some f.root =
+    ap (λ (s : Signature). slice_get s.parameters position) at.2 ∙ f.is_there in
+    ap (λ found. option_and_then (λ root. slice_get o.variables root) (option_and_then (λ (h : Heading). slice_get h.parameters.items position) found)) at.1
+    ∙ ap (option_and_then (λ root. slice_get o.variables root)) there ∙ get_longer more.variables f.root formal f.variable
+
 -- ---- the laws
 
-module _ (variables : List Variable) where
+module _ (here : Here) where
   -- an expression, with any leading site: at its first place its own ones are of kinds above those of a test that
   -- stands before them
   pub record LawfulWritten (places : List Place) (w : Written) : Type 0 where
     pub begins : (others : List Place) × (places ≡ w.first ∷ others)
-    pub types : (least : Reached) (lead : Option SiteKind) → IsLed lead → Does variables least (Covers 2 places) (w.typing lead) Types
+    pub types : (least : Reached) (lead : Option SiteKind) → IsLed lead → Does here least (Covers 2 places) (w.typing lead) Types
+    -- passed to a variable parameter
+    pub passes :
+        (least : Reached) (callee position : ℕ) (formal : Variable) → IsFormalAt least callee position formal → is_variable_kind formal.kind ≡ true
+        → Does here least (Covers 2 places) (w.passing formal.type_id callee position) Anything
+
+  -- one that is no variable, by what it is as an expression
+  pub no_variable_lawful : (places others : List Place) (first : Place) (typing : Option SiteKind → Passing Typed) → places ≡ first ∷ others
+      → ((least : Reached) (lead : Option SiteKind) → IsLed lead → Does here least (Covers 2 places) (typing lead) Types)
+      → LawfulWritten places (written first typing)
+  unfolding no_variable
+  no_variable_lawful places others first typing begins types = record {
+    begins = (others, begins);
+    types = types;
+    passes = λ least callee position formal is_formal is. fail_does (fault.NotVariable first);
+  }
 
   pub record LawfulLink (places : List Place) (l : WrittenLink) : Type 0 where
-    pub types : (least : Reached) (left : Typed) → IsKnown left.site least → Does variables least (Covers 2 places) (l left) Types
+    pub types : (least : Reached) (left : Typed) → IsKnown left.site least → Does here least (Covers 2 places) (l left) Types
 
   -- the site of a test at the first token, before the token's own
   pub covers_test : (kind : SiteKind) → 0 < number_of kind → number_of kind ≤ 2 → (places : List Place) (w : Written) → LawfulWritten places w
@@ -62,6 +114,6 @@ module _ (variables : List Variable) where
       (covers_lower 2 (number_of kind) low (w.first ∷ others) b (subst (λ p. Covers 2 p b) law.begins.1 has))))
 
   pub led_covers : (low : ℕ) (place : Place) (places : List Place) (kinds : List SiteKind) → AreAbove low kinds
-      → {least : Reached} {A : Type 0} {p : Passing A} {K : A → Reached → Type 0} → Does variables least (Leads place kinds places) p K
-      → Does variables least (Covers low (place ∷ places)) p K
+      → {least : Reached} {A : Type 0} {p : Passing A} {K : A → Reached → Type 0} → Does here least (Leads place kinds places) p K
+      → Does here least (Covers low (place ∷ places)) p K
   led_covers low place places kinds ascending d = sited (λ sites. leads_covers low place kinds places sites ascending) d

@@ -1,17 +1,33 @@
+pub mod Reached
 pub mod WholeRanges
 pub mod Tables
 pub mod Sound
 pub mod Constants
 mod Covers
+mod Owned
+mod Kept
 pub mod Grown
 pub mod Steps
 pub mod Strings
 pub mod Leading
 pub mod Accesses
+pub mod Calls
 pub mod Expressions
 pub mod Operators
 pub mod EveryExpression
+pub mod Targets
 pub mod Statements
-mod Ordered
+mod Waiting
+mod Ready
+mod Keeping
+mod Placed
 pub mod Declarations
+pub mod Headings
+pub mod Built
+pub mod Routines
+pub mod Bodies
+pub mod Blocks
+mod Ordered
+pub mod Outlines
 pub mod Programs
+pub mod Trees

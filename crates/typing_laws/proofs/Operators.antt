@@ -1,14 +1,16 @@
 -- What operators, chains and calls do, each with the site of its operation.
-use Rattle.std.proofs.Common.{◌≡◌, ℕ, ◌<◌, Bool, true, false, ◌&&◌, ◌||◌, if◌then◌else◌, nat_lt, nat_eq, List, [], ◌∷◌, ◌++◌, length, Option, None, Some}
-use Rattle.std.proofs.Common.{Ok, is_none, pos, neg_ℤ, refl, ap, subst, arith}
+use Rattle.std.proofs.Common.{◌≡◌, ℕ, ◌<◌, Bool, true, false, ◌&&◌, ◌||◌, if◌then◌else◌, nat_lt, nat_eq, List, [], ◌∷◌, ◌++◌, length, Option, None, Some, Ok}
+use Rattle.std.proofs.Common.{is_none, pos, neg_ℤ, refl, ap, subst, arith}
 use Rattle.place.specs.declared.Place.{Place}
 use Rattle.syntax_tree.specs.declared.Name.{Name}
 use Rattle.syntax_tree.specs.declared.Operator.{Operator}
 use Rattle.syntax_tree.specs.declared.Operator.TheVariants as op
+use Rattle.syntax_tree.specs.Places.{joined_places}
 use Rattle.types.specs.declared.form.TypeId.{TypeId}
 use Rattle.types.specs.Forms.{Form}
 use Rattle.types.specs.declared.form.OrdinalRange.{OrdinalRange}
 use Rattle.types.specs.Types.{integer, boolean, is_same, is_compatible, is_string, range_of}
+use Rattle.scopes.specs.declared.denotation.Denotation.{Denotation}
 use Rattle.scopes.specs.declared.denotation.RequiredFunction.{RequiredFunction}
 use Rattle.scopes.specs.declared.denotation.RequiredFunction.TheVariants as function
 use Rattle.typed_tree.specs.declared.site.SiteKind.{SiteKind}
@@ -18,22 +20,24 @@ use Rattle.typed_tree.specs.declared.tree.Monadic.TheVariants as monadic
 use Rattle.typed_tree.specs.declared.tree.Dyadic.{Dyadic}
 use Rattle.typed_tree.specs.declared.tree.Dyadic.TheVariants as dyadic
 use Rattle.typed_tree.specs.declared.tree.Relation.TheVariants as relation
-use Rattle.typed_tree.specs.declared.tree.Variable.{Variable}
-use Rattle.typed_tree.specs.WellFormed.{is_whole, monadic_is_well_formed, dyadic_is_well_formed}
+use Rattle.typed_tree.specs.WellFormed.{Outline, is_whole, monadic_is_well_formed, dyadic_is_well_formed}
 use Rattle.typed_tree.specs.Look.{Operation, Applied, Begins, Operator as OperatorMark, Compared, Ends}
 use Rattle.typing.specs.Steps.{fits, or_mismatch}
 use Rattle.typing.specs.declared.typed.Typed.{Typed}
-use Rattle.typing.specs.Expressions.{Written, WrittenActual, WrittenLink, typed, tested, operation, both_of, are_alike, compared, result_type, compares, link}
-use Rattle.typing.specs.Expressions.{links, chain, as_function, takes, function_type, function_operation, on_range, applied, call, only}
+use Rattle.typing.specs.Expressions.{Written, WrittenActual, WrittenLink, written, typed, tested, operation, both_of, are_alike, compared, result_type}
+use Rattle.typing.specs.Expressions.{compares, link, links, chain, as_function, as_routine, takes, function_type, function_operation, on_range, applied, call}
+use Rattle.typing.specs.Expressions.{call_by, required_call, only}
 use Rattle.typing_laws.proofs.WholeRanges.{HaveWholeRanges, IfWhole, if_whole}
 use Rattle.typing_laws.proofs.Covers.{AreAbove, at_place, Covers, Leads, covers_both, leads_first, leads_more}
-use Rattle.typing_laws.proofs.Grown.{Reached, IsFurther, further_still, both_true}
-use Rattle.typing_laws.proofs.Steps.{Does, Anything, Nothing, joins, quietly, last, checks_types, pure_does, given_does, by_types_does, find_does, mark_does}
-use Rattle.typing_laws.proofs.Steps.{enter_does, site_does, led, IsKnown, behind_does}
+use Rattle.typing_laws.proofs.Grown.{both_true}
+use Rattle.typing_laws.proofs.Reached.{Reached, whole_of, IsFurther, further_still, Here}
+use Rattle.typing_laws.proofs.Steps.{Does, Anything, Nothing, IsFound, joins, quietly, last, checks_types, pure_does, given_does, by_types_does, find_does}
+use Rattle.typing_laws.proofs.Steps.{mark_does, enter_does, site_does, led, IsKnown, behind_does}
 use Rattle.typing_laws.proofs.Strings.{fit_is, there, both_and}
-use Rattle.typing_laws.proofs.Leading.{IsLed, Types, led_alone, led_behind, known_later, lt_true, LawfulWritten, LawfulLink, led_covers}
+use Rattle.typing_laws.proofs.Leading.{IsLed, Types, led_alone, led_behind, known_later, lt_true, LawfulWritten, LawfulLink, no_variable_lawful, led_covers}
+use Rattle.typing_laws.proofs.Calls.{AreLawfulActuals, routine_is, function_does as function_does_call}
 
-module _ (variables : List Variable) where
+module _ (here : Here) where
   -- ---- operators
 
   -- the kinds of the sites that an operator has
@@ -69,32 +73,32 @@ module _ (variables : List Variable) where
 
   -- its site is among those that there are
   abbrev IsFormed : Dyadic → Reached → Type 0
-  IsFormed o now = (n : Reached) → IsFurther now n → dyadic_is_well_formed variables n.types n.sites o ≡ true
+  IsFormed o now = (w : Outline) → IsFurther now (whole_of w) → dyadic_is_well_formed w here.block o ≡ true
 
   tested_does : {least : Reached} (made : ℕ → Dyadic) (kind : SiteKind) (place : Place)
-      → ((types : List Form) (id n : ℕ) → id < n → dyadic_is_well_formed variables types n (made id) ≡ true)
-      → Does variables least (λ added. added ≡ (kind, place) ∷ []) (tested made kind place) IsFormed
+      → ((w : Outline) (id : ℕ) → id < w.sites → dyadic_is_well_formed w here.block (made id) ≡ true)
+      → Does here least (λ added. added ≡ (kind, place) ∷ []) (tested made kind place) IsFormed
   unfolding tested
   tested_does made kind place formed =
       last (site_does kind place) λ id now _ known.
-      pure_does (made id) (λ m h n more. formed n.types id n.sites (omega (arith, known, h.sites, more.sites)))
+      pure_does (made id) (λ m h w more. formed w id (omega (arith, known, h.sites, more.sites)))
 
   operation_does : {least : Reached} (o : Operator) (place : Place)
-      → Does variables least (λ added. added ≡ at_place place (operator_kinds o)) (operation o place) IsFormed
+      → Does here least (λ added. added ≡ at_place place (operator_kinds o)) (operation o place) IsFormed
   unfolding operation
-  operation_does op.Plus place = tested_does dyadic.Plus kind.Overflow place (λ types. lt_true)
-  operation_does op.Minus place = tested_does dyadic.Minus kind.Overflow place (λ types. lt_true)
-  operation_does op.Or place = pure_does dyadic.Or (λ m h n more. refl)
-  operation_does op.Times place = tested_does dyadic.Times kind.Overflow place (λ types. lt_true)
-  operation_does op.Div place = tested_does dyadic.Div kind.DivisionByZero place (λ types. lt_true)
-  operation_does op.Mod place = tested_does dyadic.Mod kind.ModByZeroOrLess place (λ types. lt_true)
-  operation_does op.And place = pure_does dyadic.And (λ m h n more. refl)
-  operation_does op.Equal place = pure_does (dyadic.Relation relation.Equal) (λ m h n more. refl)
-  operation_does op.NotEqual place = pure_does (dyadic.Relation relation.NotEqual) (λ m h n more. refl)
-  operation_does op.Less place = pure_does (dyadic.Relation relation.Less) (λ m h n more. refl)
-  operation_does op.Greater place = pure_does (dyadic.Relation relation.Greater) (λ m h n more. refl)
-  operation_does op.LessOrEqual place = pure_does (dyadic.Relation relation.LessOrEqual) (λ m h n more. refl)
-  operation_does op.GreaterOrEqual place = pure_does (dyadic.Relation relation.GreaterOrEqual) (λ m h n more. refl)
+  operation_does op.Plus place = tested_does dyadic.Plus kind.Overflow place (λ w id. lt_true id w.sites)
+  operation_does op.Minus place = tested_does dyadic.Minus kind.Overflow place (λ w id. lt_true id w.sites)
+  operation_does op.Or place = pure_does dyadic.Or (λ m h w more. refl)
+  operation_does op.Times place = tested_does dyadic.Times kind.Overflow place (λ w id. lt_true id w.sites)
+  operation_does op.Div place = tested_does dyadic.Div kind.DivisionByZero place (λ w id. lt_true id w.sites)
+  operation_does op.Mod place = tested_does dyadic.Mod kind.ModByZeroOrLess place (λ w id. lt_true id w.sites)
+  operation_does op.And place = pure_does dyadic.And (λ m h w more. refl)
+  operation_does op.Equal place = pure_does (dyadic.Relation relation.Equal) (λ m h w more. refl)
+  operation_does op.NotEqual place = pure_does (dyadic.Relation relation.NotEqual) (λ m h w more. refl)
+  operation_does op.Less place = pure_does (dyadic.Relation relation.Less) (λ m h w more. refl)
+  operation_does op.Greater place = pure_does (dyadic.Relation relation.Greater) (λ m h w more. refl)
+  operation_does op.LessOrEqual place = pure_does (dyadic.Relation relation.LessOrEqual) (λ m h w more. refl)
+  operation_does op.GreaterOrEqual place = pure_does (dyadic.Relation relation.GreaterOrEqual) (λ m h w more. refl)
 
   -- an operator takes ordinals alone, or strings of one length
   of_alike : (wanted : TypeId) (left right : Typed) (t : TypeId) → both_of wanted left right ≡ Some t → are_alike left.length right.length ≡ true
@@ -133,25 +137,25 @@ module _ (variables : List Variable) where
   result_alike types op.LessOrEqual left right t is = compared_alike types left right t is
   result_alike types op.GreaterOrEqual left right t is = compared_alike types left right t is
 
-  compares_does : {least : Reached} (left right : Option ℕ) → are_alike left right ≡ true → Does variables least Nothing (compares left right) Anything
+  compares_does : {least : Reached} (left right : Option ℕ) → are_alike left right ≡ true → Does here least Nothing (compares left right) Anything
   unfolding compares
   compares_does None None alike = pure_does tt (λ n h. tt)
   compares_does None (Some b) alike = pure_does tt (λ n h. tt)
   compares_does (Some a) None alike = pure_does tt (λ n h. tt)
-  compares_does (Some a) (Some b) alike = mark_does (Compared a b) refl refl (λ n h. alike)
+  compares_does (Some a) (Some b) alike = mark_does (Compared a b) refl refl refl refl (λ o h. alike)
 
-  pub link_does : (o : Operator) (place : Place) (places : List Place) (operand : Written) → LawfulWritten variables places operand
-      → LawfulLink variables (place ∷ places) (link o place operand)
+  pub link_does : (o : Operator) (place : Place) (places : List Place) (operand : Written) → LawfulWritten here places operand
+      → LawfulLink here (place ∷ places) (link o place operand)
   unfolding link
   link_does o place places operand law = record {
-    types = λ least left known. led_covers variables 2 place places (operator_kinds o) (operator_ascending o) (by least left known);
+    types = λ least left known. led_covers here 2 place places (operator_kinds o) (operator_ascending o) (by least left known);
   }
     where
       by : (least : Reached) (left : Typed) → IsKnown left.site least
-          → Does variables least (Leads place (operator_kinds o) places) (link o place operand left) Types
+          → Does here least (Leads place (operator_kinds o) places) (link o place operand left) Types
       by least left known =
           joins (leads_first 2 place (operator_kinds o) places) (operation_does o place) λ tests now one formed.
-          quietly (enter_does (λ n. OperatorMark n tests) (λ n. refl) (λ n. refl) (λ n m h. formed m h)) λ _ next two _.
+          quietly (enter_does (λ n. OperatorMark n tests) (λ n. refl) (λ n. refl) (λ n. refl) (λ n. refl) (λ n w h. formed w h)) λ _ next two _.
           last (law.types next None tt) λ right met three _.
           quietly (by_types_does (λ types. or_mismatch place (result_type types o left right))) λ type_id now four is.
           let result = there place (result_type now.types o left right) type_id is.1 in
@@ -161,30 +165,29 @@ module _ (variables : List Variable) where
 
   -- ---- chains
 
-  pub links_none : {least : Reached} (left : Typed) → IsKnown left.site least → Does variables least (Covers 2 []) (links left []) Types
+  pub links_none : {least : Reached} (left : Typed) → IsKnown left.site least → Does here least (Covers 2 []) (links left []) Types
   links_none {least} left known = pure_does left (λ n h. known_later left.site least n h known)
 
   pub links_more : {least : Reached} (left : Typed) (l : WrittenLink) (ls : List WrittenLink) (first rest : List Place) → IsKnown left.site least
-      → LawfulLink variables first l
-      → ((now : Reached) (t : Typed) → IsKnown t.site now → Does variables now (Covers 2 rest) (links t ls) Types)
-      → Does variables least (Covers 2 (first ++ rest)) (links left (l ∷ ls)) Types
+      → LawfulLink here first l
+      → ((now : Reached) (t : Typed) → IsKnown t.site now → Does here now (Covers 2 rest) (links t ls) Types)
+      → Does here least (Covers 2 (first ++ rest)) (links left (l ∷ ls)) Types
   links_more {least} left l ls first rest known law more =
       joins (covers_both 2 first rest) (law.types least left known) λ t now _ known. more now t known
 
-  pub chain_does : (first : Written) (ls : List WrittenLink) (places others : List Place) → LawfulWritten variables places first
-      → ((now : Reached) (t : Typed) → IsKnown t.site now → Does variables now (Covers 2 others) (links t ls) Types)
-      → LawfulWritten variables (places ++ others) (record { first = first.first; typing = chain first ls })
+  pub chain_does : (first : Written) (ls : List WrittenLink) (places others : List Place) → LawfulWritten here places first
+      → ((now : Reached) (t : Typed) → IsKnown t.site now → Does here now (Covers 2 others) (links t ls) Types)
+      → LawfulWritten here (places ++ others) (written first.first (chain first ls))
   unfolding chain
-  chain_does first ls places others law more = record {
-    begins = (law.begins.0 ++ others, ap (λ l. l ++ others) law.begins.1);
-    types = λ least lead is.
-        quietly (mark_does Begins refl refl (λ n h. refl)) λ _ now _ _.
-        joins (covers_both 2 places others) (law.types now lead is) λ f met _ known.
-        last (more met f known) λ t there _ known.
-        quietly (given_does (fits (is_none f.length || nat_eq (length ls) 1) first.first t)) λ _ _ one _.
-        quietly (mark_does Ends refl refl (λ n h. refl)) λ _ _ two _.
-        pure_does t (λ n h. known_later t.site there n (further_still one (further_still two h)) known);
-  }
+  chain_does first ls places others law more =
+      no_variable_lawful here (places ++ others) (law.begins.0 ++ others) first.first _ (ap (λ l. l ++ others) law.begins.1)
+      (λ least lead is.
+      quietly (mark_does Begins refl refl refl refl (λ o h. refl)) λ _ now _ _.
+      joins (covers_both 2 places others) (law.types now lead is) λ f met _ known.
+      last (more met f known) λ t there _ known.
+      quietly (given_does (fits (is_none f.length || nat_eq (length ls) 1) first.first t)) λ _ _ one _.
+      quietly (mark_does Ends refl refl refl refl (λ o h. refl)) λ _ _ two _.
+      pure_does t (λ n h. known_later t.site there n (further_still one (further_still two h)) known))
 
   -- ---- calls
 
@@ -207,70 +210,82 @@ module _ (variables : List Variable) where
   function_ascending function.Pred lead is = led_behind kind.Pred lead (omega arith) (omega arith) is
 
   abbrev IsFormedMonadic : Monadic → Reached → Type 0
-  IsFormedMonadic o now = (n : Reached) → IsFurther now n → monadic_is_well_formed variables n.types n.sites o ≡ true
+  IsFormedMonadic o now = (w : Outline) → IsFurther now (whole_of w) → monadic_is_well_formed w here.block o ≡ true
 
   function_does : {least : Reached} (f : RequiredFunction) (place : Place)
-      → Does variables least (λ added. added ≡ at_place place (function_kinds f)) (function_operation f place) IsFormedMonadic
+      → Does here least (λ added. added ≡ at_place place (function_kinds f)) (function_operation f place) IsFormedMonadic
   unfolding function_operation
-  function_does function.Abs place = pure_does monadic.Abs (λ m h n more. refl)
+  function_does function.Abs place = pure_does monadic.Abs (λ m h w more. refl)
   function_does function.Sqr place =
       last (site_does kind.Overflow place) λ id now _ known.
-      pure_does (monadic.Sqr id) (λ m h n more. lt_true id n.sites (omega (arith, known, h.sites, more.sites)))
-  function_does function.Odd place = pure_does monadic.Odd (λ m h n more. refl)
-  function_does function.Ord place = pure_does monadic.Ord (λ m h n more. refl)
+      pure_does (monadic.Sqr id) (λ m h w more. lt_true id w.sites (omega (arith, known, h.sites, more.sites)))
+  function_does function.Odd place = pure_does monadic.Odd (λ m h w more. refl)
+  function_does function.Ord place = pure_does monadic.Ord (λ m h w more. refl)
   function_does function.Chr place =
       last (site_does kind.Chr place) λ id now _ known.
-      pure_does (monadic.Chr id) (λ m h n more. lt_true id n.sites (omega (arith, known, h.sites, more.sites)))
+      pure_does (monadic.Chr id) (λ m h w more. lt_true id w.sites (omega (arith, known, h.sites, more.sites)))
   function_does function.Succ place =
       last (site_does kind.Succ place) λ id now _ known.
-      pure_does (monadic.Succ id (pos 2147483647)) (λ m h n more. both_true _ _ (lt_true id n.sites (omega (arith, known, h.sites, more.sites))) refl)
+      pure_does (monadic.Succ id (pos 2147483647)) (λ m h w more. both_true _ _ (lt_true id w.sites (omega (arith, known, h.sites, more.sites))) refl)
   function_does function.Pred place =
       last (site_does kind.Pred place) λ id now _ known.
-      pure_does (monadic.Pred id (neg_ℤ (pos 2147483647))) (λ m h n more. both_true _ _ (lt_true id n.sites (omega (arith, known, h.sites, more.sites))) refl)
+      pure_does (monadic.Pred id (neg_ℤ (pos 2147483647))) (λ m h w more. both_true _ _ (lt_true id w.sites (omega (arith, known, h.sites, more.sites))) refl)
 
   -- on the values of a range it is formed as well
-  on_range_formed : (values : Option OrdinalRange) (o : Monadic) (types : List Form) (n : ℕ) → IfWhole values
-      → monadic_is_well_formed variables types n o ≡ true
-      → monadic_is_well_formed variables types n (on_range values o) ≡ true
-  on_range_formed None o types n whole formed = formed
-  on_range_formed (Some values) (monadic.Succ id last) types n whole formed =
-      both_true _ _ (both_and (nat_lt id n) (is_whole last) formed).0 (both_and (is_whole values.first) (is_whole values.last) whole).1
-  on_range_formed (Some values) (monadic.Pred id first) types n whole formed =
-      both_true _ _ (both_and (nat_lt id n) (is_whole first) formed).0 (both_and (is_whole values.first) (is_whole values.last) whole).0
-  on_range_formed (Some values) monadic.Plus types n whole formed = refl
-  on_range_formed (Some values) monadic.Minus types n whole formed = refl
-  on_range_formed (Some values) monadic.Not types n whole formed = refl
-  on_range_formed (Some values) monadic.Abs types n whole formed = refl
-  on_range_formed (Some values) (monadic.Sqr id) types n whole formed = formed
-  on_range_formed (Some values) monadic.Odd types n whole formed = refl
-  on_range_formed (Some values) monadic.Ord types n whole formed = refl
-  on_range_formed (Some values) (monadic.Chr id) types n whole formed = formed
+  on_range_formed : (values : Option OrdinalRange) (o : Monadic) (w : Outline) → IfWhole values
+      → monadic_is_well_formed w here.block o ≡ true
+      → monadic_is_well_formed w here.block (on_range values o) ≡ true
+  on_range_formed None o w whole formed = formed
+  on_range_formed (Some values) (monadic.Succ id last) w whole formed =
+      both_true _ _ (both_and (nat_lt id w.sites) (is_whole last) formed).0 (both_and (is_whole values.first) (is_whole values.last) whole).1
+  on_range_formed (Some values) (monadic.Pred id first) w whole formed =
+      both_true _ _ (both_and (nat_lt id w.sites) (is_whole first) formed).0 (both_and (is_whole values.first) (is_whole values.last) whole).0
+  on_range_formed (Some values) monadic.Plus w whole formed = refl
+  on_range_formed (Some values) monadic.Minus w whole formed = refl
+  on_range_formed (Some values) monadic.Not w whole formed = refl
+  on_range_formed (Some values) monadic.Abs w whole formed = refl
+  on_range_formed (Some values) (monadic.Sqr id) w whole formed = formed
+  on_range_formed (Some values) monadic.Odd w whole formed = refl
+  on_range_formed (Some values) monadic.Ord w whole formed = refl
+  on_range_formed (Some values) (monadic.Chr id) w whole formed = formed
 
   applied_formed : (types : List Form) → HaveWholeRanges types → (f : RequiredFunction) (o : Monadic) (place : Place) (t : Typed) (does : Monadic × TypeId)
       → applied types f o place t ≡ Ok does → (now n : Reached) → IsFurther now n → IsFormedMonadic o now → IsFormedMonadic does.0 n
   applied_formed types whole f o place t does is now n more formed m h =
       let fit = fit_is (is_none t.length && takes types f t.type_id) place (on_range (range_of types t.type_id) o, function_type f t.type_id) does is in
-      subst (λ (z : Monadic × TypeId). monadic_is_well_formed variables m.types m.sites z.0 ≡ true) fit.1
-      (on_range_formed (range_of types t.type_id) o m.types m.sites (if_whole types whole t.type_id) (formed m (further_still more h)))
+      subst (λ (z : Monadic × TypeId). monadic_is_well_formed m here.block z.0 ≡ true) fit.1
+      (on_range_formed (range_of types t.type_id) o m (if_whole types whole t.type_id) (formed m (further_still more h)))
 
-  pub call_does : (name : Name) (actuals : List WrittenActual) (places : List Place)
-      → ((w : Written) → only name.place actuals ≡ Ok w → LawfulWritten variables places w)
-      → LawfulWritten variables (name.place ∷ places) (record { first = name.place; typing = call name actuals })
+  required_does : {least : Reached} (d : Denotation) (name : Name) (actuals : List WrittenActual) (places : List Place) (lead : Option SiteKind) → IsLed lead
+      → ((w : Written) → only name.place actuals ≡ Ok w → LawfulWritten here places w)
+      → Does here least (Covers 2 (name.place ∷ places)) (required_call d name actuals lead) Types
+  unfolding required_call
+  required_does d name actuals places lead is laws =
+      quietly (given_does (as_function name.place d)) λ f there _ _.
+      led_covers here 2 name.place places (function_kinds f ++ led lead) (function_ascending f lead is)
+      (joins (leads_more name.place (function_kinds f) (led lead) places) (function_does f name.place) λ tests met _ formed.
+      joins (leads_first 2 name.place (led lead) places) (behind_does lead name.place) λ id now seen known.
+      quietly (enter_does Operation (λ n. refl) (λ n. refl) (λ n. refl) (λ n. refl) (λ n o h. refl)) λ _ _ one _.
+      quietly (given_does (only name.place actuals)) λ actual m two right.
+      last (checks_types {L = λ does n. IsFormedMonadic does.0 n} ((laws actual right).types m None tt) λ types t does n later same lawful is _.
+      applied_formed types lawful.whole f tests actual.first t does is met n
+      (further_still seen (further_still one (further_still two later))) formed) λ does _ three formed.
+      quietly (mark_does (Applied does.0) refl refl refl refl (λ o h. formed o h)) λ _ _ four _.
+      let later = further_still one (further_still two (further_still three four)) in
+      pure_does (typed does.1 id) (λ n h. known_later id now n (further_still later h) known))
+
+  called_does : {least : Reached} (found : Option (ℕ × Bool)) (d : Denotation) → as_routine d ≡ found → (name : Name) (actuals : List WrittenActual)
+      (rows : List (List Place)) (lead : Option SiteKind) → IsLed lead → IsFound here d least
+      → ((w : Written) → only name.place actuals ≡ Ok w → LawfulWritten here (joined_places rows) w) → AreLawfulActuals here rows actuals
+      → Does here least (Covers 2 (name.place ∷ joined_places rows)) (call_by found d name actuals lead) Types
+  called_does None d same name actuals rows lead is sound laws all = required_does d name actuals (joined_places rows) lead is laws
+  called_does {least} (Some routine) d same name actuals rows lead is sound laws all =
+      function_does_call here routine.0 routine.1 name.place actuals rows lead is (routine_is here least d routine same sound.0) sound.1 all
+
+  pub call_does : (name : Name) (actuals : List WrittenActual) (rows : List (List Place))
+      → ((w : Written) → only name.place actuals ≡ Ok w → LawfulWritten here (joined_places rows) w) → AreLawfulActuals here rows actuals
+      → LawfulWritten here (name.place ∷ joined_places rows) (written name.place (call name actuals))
   unfolding call
-  call_does name actuals places laws = record {
-    begins = (places, refl);
-    types = λ least lead is.
-        quietly (find_does name) λ d _ _ _.
-        quietly (given_does (as_function name.place d)) λ f there _ _.
-        led_covers variables 2 name.place places (function_kinds f ++ led lead) (function_ascending f lead is)
-        (joins (leads_more name.place (function_kinds f) (led lead) places) (function_does f name.place) λ tests met _ formed.
-        joins (leads_first 2 name.place (led lead) places) (behind_does lead name.place) λ id now seen known.
-        quietly (enter_does Operation (λ n. refl) (λ n. refl) (λ n m h. refl)) λ _ _ one _.
-        quietly (given_does (only name.place actuals)) λ actual m two right.
-        last (checks_types {L = λ does n. IsFormedMonadic does.0 n} ((laws actual right).types m None tt) λ types t does sites later lawful is _.
-        applied_formed types lawful.whole f tests actual.first t does is met (record { sites = sites; types = types })
-        (further_still seen (further_still one (further_still two later))) formed) λ does _ three formed.
-        quietly (mark_does (Applied does.0) refl refl (λ n h. formed n h)) λ _ _ four _.
-        let later = further_still one (further_still two (further_still three four)) in
-        pure_does (typed does.1 id) (λ n h. known_later id now n (further_still later h) known));
-  }
+  call_does name actuals rows laws all =
+      no_variable_lawful here (name.place ∷ joined_places rows) (joined_places rows) name.place _ refl
+      (λ least lead is. quietly (find_does name) λ d _ _ sound. called_does (as_routine d) d refl name actuals rows lead is sound laws all)

@@ -1,113 +1,441 @@
 -- The law of typing: what each typed program has.
-use Rattle.std.proofs.Common.{◌≡◌, List, [], ◌∷◌, ◌++◌, length, map, nat_eq, Ok, refl, sym, ap, subst, ◌∙◌, arith}
-use Rattle.std.specs.List.{range_with_len, list_all, flat_map}
+use Rattle.std.proofs.Common.{◌≡◌, ℕ, zero, suc, ◌+◌, ◌<◌, ◌≤◌, true, false, ◌&&◌, nat_eq, nat_lt, nat_le, List, [], ◌∷◌, ◌++◌, length, map, Option, Some, None}
+use Rattle.std.proofs.Common.{Ok, slice_get, refl, sym, ap, ap₂, subst, ◌∙◌, arith, append_assoc, Bool, inl, inr, option_map, ◌⊎◌}
+use Rattle.std.specs.Prelude.{IsPermutation}
+use Rattle.std.specs.List.{range_with_len, list_all, flat_map, list_any}
+use Rattle.std.proofs.lemmas.Bool.Decides.{nat_tests}
+use Rattle.std.proofs.lemmas.Grind.{flat_map-append}
+use Rattle.std.proofs.lemmas.List.{length-map}
+use Rattle.std.proofs.lemmas.Option.{slice_get_within}
+use Rattle.place.specs.declared.Place.{Place}
+use Rattle.syntax_tree.specs.declared.Name.{Name}
 use Rattle.syntax_tree.specs.declared.Program.{Program}
-use Rattle.syntax_tree.specs.declared.Block.{Block}
-use Rattle.syntax_tree.specs.declared.Block.TheViews.{out-Block, roll-out-Block}
-use Rattle.syntax_tree.specs.declared.Block.TheFolds.{map-Block, fold-roll-Block}
-use Rattle.syntax_tree.specs.declared.Routine.{Routine}
-use Rattle.syntax_tree.specs.Places.{Places, joined_places, name_places, definition_places, type_definition_places, group_places, stmt_places, routine_step}
-use Rattle.syntax_tree.specs.Places.{routine_places, block_step, block_places, program_places}
+use Rattle.syntax_tree.specs.Places.{block_places, name_places, program_places}
+use Rattle.types.specs.Types.{most_cells, required_forms}
+use Rattle.scopes.specs.Scopes.{Region, opened}
+use Rattle.typed_tree.specs.declared.tree.FunctionResult.{FunctionResult}
+use Rattle.typed_tree.specs.declared.tree.Heading.{Heading as TreeHeading}
 use Rattle.typed_tree.specs.declared.tree.Variable.{Variable}
 use Rattle.typed_tree.specs.Ids.{Stands, AreByPlace}
-use Rattle.typed_tree.specs.Look.{BlockEnds, entries_of_look, loops_of_look, is_formed_mark}
-use Rattle.typing.specs.Passing.{Passed, After, after, behind_marks}
-use Rattle.typing.specs.Steps.{begins}
-use Rattle.typing.specs.Statements.{statement}
-use Rattle.typing.specs.Typing.{declarations, statement_part, typing}
-use Rattle.typing_laws.specs.Lawful.{Lawful}
-use Rattle.typing_laws.proofs.Covers.{Covers, covers_more, covers_behind, covers_skip}
+use Rattle.typed_tree.specs.Look.{Look, Mark, BlockEnds, mark_entries, entries_of_look, mark_loops, loops_of_look, mark_blocks, blocks_of_look, are_formed}
+use Rattle.typed_tree.specs.WellFormed.{Outline, are_few_cells, is_heading}
+use Rattle.typing.specs.Names.{all_folded, required_region}
+use Rattle.typing.specs.Passing.{Headed, Passed, Checked, After, Passing, after, behind_marks, each, ◌>>◌}
+use Rattle.typing.specs.Steps.{begins, most_entries, open_block, open_required, program_heading}
+use Rattle.typing.specs.Routines.{TypedBlock, block_end, typed_block}
+use Rattle.typing.specs.Typing.{parameter_of_program, parameters_of_program, program_typing, typing}
+use Rattle.typing_laws.specs.Lawful.{IsOutlineOf, Lawful}
+use Rattle.typing_laws.proofs.Blocks.{block_lawful}
+use Rattle.typing_laws.proofs.Bodies.{closed, closed_blocks, closed_entries, closed_formed, closed_loops, fine_standing, unthreatened_at_end, results_end}
+use Rattle.typing_laws.proofs.Bodies.{target_ended}
+use Rattle.typing_laws.proofs.Built.{AreEnds, Built, Builds, EndsSo, HasSite, Standing, built_then, ends_append, ends_later, is_between, keeps_builds, no_ends}
+use Rattle.typing_laws.proofs.Covers.{Covers, covers_behind, covers_both, covers_skip}
+use Rattle.typing_laws.proofs.Declarations.{parameter_keeps}
+use Rattle.typing_laws.proofs.Grown.{Grown, both_true, counted, fine_later, further, go_on, grown_then, assigned_then}
+use Rattle.typing_laws.proofs.Headings.{heads_count, parts_of}
+use Rattle.typing_laws.proofs.Keeping.{before, behind, each_keeps}
 use Rattle.typing_laws.proofs.Ordered.{covers_by_place}
-use Rattle.typing_laws.proofs.Tables.{cells_in, cells_in_longer, required_lawful, no_texts}
-use Rattle.typing_laws.proofs.Grown.{Reached, Fine, Grown, reached, as_far}
-use Rattle.typing_laws.proofs.Steps.{Does, Anything, split, split_behind, last, mark_does}
-use Rattle.typing_laws.proofs.Statements.{compound_does, statements_lawful}
-use Rattle.typing_laws.proofs.Declarations.{IsReady, declarations_keep}
+use Rattle.typing_laws.proofs.Outlines.{Agrees, agrees_in, headed_at, heading_formed, same_parts}
+use Rattle.typing_laws.proofs.Owned.{cells_of_block}
+use Rattle.typing_laws.proofs.Reached.{same_longer, get_longer, mapped_get, Here, reached, whole_of, signature_of, signature_passed, IsFurther, further_still}
+use Rattle.typing_laws.proofs.Ready.{Base, IsHeaded, base_types, heads_passed}
+use Rattle.typing_laws.proofs.Sound.{IsSound, opened_holds, required_sound}
+use Rattle.typing_laws.proofs.Strings.{behind_nothing, both_and}
+use Rattle.typing_laws.proofs.Tables.{no_texts, required_lawful}
+use Rattle.typing_laws.proofs.Waiting.{count_append, count_of, count_range, one_if, same_counts, waits_in}
+use Rattle.typing_laws.specs.Controls.{AreUnthreatened, mark_changes, mark_controls}
+use Rattle.typing_laws.proofs.Placed.{placed_inner}
+use Rattle.typing_laws.specs.Results.{are_assigned, is_target, mark_results}
 
--- the statements of a block
-statement_part_does : (variables : List Variable) (least : Reached) (block : Block)
-    → Does variables least (Covers 0 (flat_map stmt_places (out-Block block).statements.items)) (statement_part block) Anything
-unfolding statement_part
-statement_part_does variables least block =
-    let items = (out-Block block).statements.items in
-    last ((compound_does variables (flat_map stmt_places items) (map statement items) (statements_lawful variables items)).passes least) λ _ _ _ _.
-    mark_does (BlockEnds (out-Block block).end) refl refl (λ n h. refl)
+-- ---- where a program begins
 
--- the places of a block, part by part
-block_in_parts : (b : Block) → block_places b ≡ block_step (map-Block Block Routine Places Places block_places routine_places (out-Block b))
-block_in_parts b = ap block_places (sym (roll-out-Block b)) ∙ fold-roll-Block Places Places block_step routine_step (out-Block b)
+abbrev program_here : Here
+program_here = record { block = 0; around = []; owing = false }
 
--- the places of the statements are among those of the program
-program_covers : (program : Program) (sites : List Stands) → Covers 0 (flat_map stmt_places (out-Block program.block).statements.items) sites
-    → Covers 0 (program_places program) sites
-program_covers program sites has =
-    let block = out-Block program.block in
-    let statements = flat_map stmt_places block.statements.items in
-    let definitions = flat_map definition_places block.constants.items in
-    let types = flat_map type_definition_places block.types.items in
-    let groups = flat_map group_places block.variables.items in
-    let routines = joined_places (map routine_places block.routines.items) in
-    let ends = block.end ∷ [] in
-    subst (λ places. Covers 0 (program.name.place ∷ (name_places program.parameters.items ++ places)) sites) (sym (block_in_parts program.block))
-    (covers_skip 0 program.name.place
-    (name_places program.parameters.items ++ (definitions ++ (types ++ (groups ++ (routines ++ (statements ++ ends)))))) sites
-    (covers_behind 0 (name_places program.parameters.items) (definitions ++ (types ++ (groups ++ (routines ++ (statements ++ ends))))) sites
-    (covers_behind 0 definitions (types ++ (groups ++ (routines ++ (statements ++ ends)))) sites
-    (covers_behind 0 types (groups ++ (routines ++ (statements ++ ends))) sites
-    (covers_behind 0 groups (routines ++ (statements ++ ends)) sites
-    (covers_behind 0 routines (statements ++ ends) sites (covers_more 0 statements ends sites has)))))))
+abbrev round_it : List Region
+round_it = required_region ∷ []
 
--- behind the declarations
-fine_ready : (s : Passed) → IsReady s → Fine s.variables s
-fine_ready s r = record {
-  sound = r.sound;
-  lawful = r.lawful;
-  texts = r.texts;
-  few_sites = omega (arith, ap length r.sites);
-  few_entries = omega (arith, r.entries);
+-- its regions are open
+abbrev opened_program : Program → TypedBlock → Passed
+opened_program program block =
+    record (begins program.name.place) { regions = opened (all_folded (program.parameters.items ++ block.names)) ∷ required_region ∷ [] }
+
+begins_base : Base required_forms [] (program_heading ∷ []) 1
+begins_base = record {
+  lawful = required_lawful;
+  headed = headed;
+  by_blocks = refl;
+  have_types = tt;
+  few_variables = omega arith;
+  few_cells = λ block. omega arith;
+}
+  where
+    none : (root : ℕ) → ◌≡◌ {A = Option ℕ} None (Some root) → ⊥
+    none root is = absurd cc
+
+    first : IsHeaded required_forms [] (program_heading ∷ []) 0 program_heading
+    first = record {
+      placed = (refl, refl, refl);
+      parameters = refl;
+      results = refl;
+      ordinal = λ root is. absurd (none root is);
+      region = tt;
+    }
+
+    headed : (block : ℕ) (h : Headed) → slice_get (program_heading ∷ []) block ≡ Some h → IsHeaded required_forms [] (program_heading ∷ []) block h
+    headed zero h is = let same : program_heading ≡ h = cc in subst (IsHeaded required_forms [] (program_heading ∷ []) 0) same first
+    headed (suc block) h is = absurd cc
+
+begins_standing : (program : Program) (block : TypedBlock) → Standing program_here round_it (opened_program program block)
+begins_standing program block = record {
+  ready = record {
+    sound = (
+      opened_holds (IsSound program_here [] required_forms (heads_passed (program_heading ∷ [])))
+          (all_folded (program.parameters.items ++ block.names)),
+      (required_sound program_here [] required_forms (heads_passed (program_heading ∷ [])) (omega arith), tt),
+    );
+    under_it = refl;
+    base = begins_base;
+    texts = no_texts;
+    few_sites = omega arith;
+    few_entries = omega arith;
+    cells = refl;
+  };
+  block = refl;
+  around = refl;
+  settled = refl;
+  stands = (signature_passed program_heading, refl, refl);
+  waiting = λ number waits. absurd cc;
 }
 
-grown_lawful : (program : Program) (s : Passed) (a : After (Unit {0})) → IsReady s
-    → Grown s.variables (Covers 0 (flat_map stmt_places (out-Block program.block).statements.items)) a.look s a.passed → Lawful program a
-grown_lawful program s a r g = record {
-  numbered = g.numbered ∙ ap (λ n. range_with_len n (length (entries_of_look a.look))) r.entries;
-  few_entries = omega (arith, g.entered, g.few_entries);
-  loops = g.looped ∙ ap (λ n. range_with_len n (length (loops_of_look a.look))) r.loops;
-  formed =
-      ap (λ variables. list_all (is_formed_mark variables a.passed.types (length a.passed.sites)) a.look) g.variables_kept
-      ∙ g.formed (reached a.passed) as_far;
-  few_variables = omega (arith, ap length g.variables_kept, r.few_variables);
-  few_cells = omega (arith, ap (cells_in a.passed.types) g.variables_kept, cells_in_longer g.longer s.variables r.have_types, r.cells, r.room);
-  declared = ap (list_all (λ variable. nat_eq variable.block 0)) g.variables_kept ∙ r.by_program;
-  few_sites = g.few_sites;
-  types = g.lawful.begin;
-  by_place = λ order.
-      subst AreByPlace (sym (g.sites ∙ ap (λ l. l ++ g.added) r.sites))
-      (covers_by_place (program_places program) g.added order (program_covers program g.added g.covered));
-}
+parameters_build : (names : List Name) → Builds program_here round_it (λ added. added ≡ []) (each parameter_of_program names)
+parameters_build names =
+    keeps_builds {Also = λ s. Unit {0}} (λ s st. tt) (λ heads there.
+    before (λ s from. from.0) (behind (λ x s r. (r, tt)) (each_keeps (parameter_keeps program_here round_it 0 heads) names)))
+
+-- ---- a program
+
+-- the parts of a program, as they are built
+record Whole (program : Program) (a : After (Unit {0})) : Type 0 where
+  pub start : Passed
+  pub starts : (start.sites ≡ []) × (start.entries ≡ 0) × (start.loops ≡ 0) × (length start.headings ≡ 1)
+      × ((number : ℕ) → waits_in start.enclosing.waiting number ≡ false) × (start.assigned ≡ [])
+  pub first : Look
+  pub middle : Passed
+  pub built : Built program_here (λ added. Unit {0}) first start middle
+  pub standing : Standing program_here round_it middle
+  pub came : (number : ℕ) → waits_in middle.enclosing.waiting number ≡ false
+  pub second : Look
+  pub grown : Grown program_here (λ added. Unit {0}) second middle a.passed
+  pub headed : Headed
+  pub result : Option FunctionResult
+  pub end : Place
+  pub own : (root : ℕ) → option_map (λ (r : FunctionResult). r.root) result ≡ Some root → list_any (nat_eq root) a.passed.assigned ≡ true
+  pub ends : EndsSo (reached a.passed) 0 headed.around headed.parameters result
+  pub look : a.look ≡ first ++ (second ++ (BlockEnds 0 headed.around headed.parameters result end ∷ []))
+  pub added : List Stands
+  pub sites : a.passed.sites ≡ added
+  pub covered : Covers 0 (program_places program) added
+
+twice : (r : Checked (After (Unit {0}))) (a : After (Unit {0})) → behind_marks [] (behind_marks [] r) ≡ Ok a → r ≡ Ok a
+twice r a h = sym (behind_nothing r) ∙ sym (behind_nothing (behind_marks [] r)) ∙ h
+
+parameters_go : (program : Program) (block : TypedBlock) (a : After (Unit {0})) → parameters_of_program program block (begins program.name.place) ≡ Ok a
+    → each parameter_of_program program.parameters.items (opened_program program block) ≡ Ok a
+unfolding parameters_of_program open_required open_block
+parameters_go program block a is = twice (each parameter_of_program program.parameters.items (opened_program program block)) a is
+
+whole : (program : Program) (a : After (Unit {0})) → typing program ≡ Ok a → Whole program a
+unfolding typing program_typing
+whole program a is =
+    let block = typed_block program.block in
+    let s0 = begins program.name.place in
+    let s1 = opened_program program block in
+    let end : Passing (Unit {0}) = block_end 0 program.name.place block.end program_heading in
+    let x = parts_of (parameters_of_program program block) (λ _. block.typing >> end) s0 a is in
+    let p = (parameters_build program.parameters.items).builds s1 x.first (parameters_go program block x.first x.goes) (begins_standing program block) in
+    let y = parts_of block.typing (λ _. end) x.first.passed x.second x.goes_on in
+    let law = block_lawful program.block in
+    let i = law.law program_here round_it x.first.passed y.first y.goes p.1 in
+    let fine = fine_later i.grown (fine_standing program_here round_it i.middle i.standing) in
+    let c = closed program_here program.name.place block program_heading y.first.passed y.second fine y.goes_on in
+    let g : Grown program_here (λ added. Unit {0}) (i.second ++ c.look) i.middle y.second.passed = grown_then (λ l m one two. tt) i.grown c.grown in
+    let f : Built program_here (λ added. Unit {0}) (x.first.look ++ i.first) s1 i.middle = built_then (λ l m one two. tt) p.0 i.built in
+    let mark_end = BlockEnds 0 program_heading.around program_heading.parameters c.result block.end in
+    let all_look : x.first.look ++ (y.first.look ++ y.second.look) ≡ (x.first.look ++ i.first) ++ ((i.second ++ c.look) ++ (mark_end ∷ [])) =
+    ap₂ (λ l m. x.first.look ++ (l ++ m)) i.look c.look_is
+    ∙ ap (λ l. x.first.look ++ l) (append_assoc i.first i.second (c.look ++ (mark_end ∷ [])))
+    ∙ sym (append_assoc x.first.look i.first (i.second ++ (c.look ++ (mark_end ∷ []))))
+    ∙ ap (λ l. (x.first.look ++ i.first) ++ l) (sym (append_assoc i.second c.look (mark_end ∷ []))) in
+    let made : after tt (x.first.look ++ (y.first.look ++ y.second.look)) y.second.passed ≡ a =
+    ap (λ (z : After (Unit {0})). after z.answer (x.first.look ++ z.look) z.passed) y.both ∙ x.both in
+    let at_start : slice_get s1.headings 0 ≡ Some program_heading = refl in
+    let at_end : slice_get (map signature_passed y.second.passed.headings) 0 ≡ Some (signature_passed program_heading) =
+    mapped_get signature_passed y.second.passed.headings 0 program_heading
+    (ap (λ l. slice_get l 0) g.headings_kept ∙ get_longer f.headings 0 program_heading at_start) in
+    let sites : y.second.passed.sites ≡ (i.built.added ++ i.grown.added) ++ c.grown.added =
+    c.grown.sites
+    ∙ ap (λ l. l ++ c.grown.added)
+    (i.grown.sites ∙ ap (λ l. l ++ i.grown.added) (i.built.sites ∙ ap (λ l. l ++ i.built.added) (p.0.sites ∙ p.0.covered))) in
+    subst (Whole program) made (record {
+      start = s1;
+      starts = (refl, refl, refl, refl, (λ number. refl), refl);
+      first = x.first.look ++ i.first;
+      middle = i.middle;
+      built = f;
+      standing = i.standing;
+      came = i.came;
+      second = i.second ++ c.look;
+      grown = g;
+      headed = program_heading;
+      result = c.result;
+      end = block.end;
+      own = λ root told. c.grown.assigns root (c.assigned root (sym c.ends.0 ∙ told));
+      ends = record {
+        signature = signature_passed program_heading;
+        is_there = at_end;
+        around_it = refl;
+        parameters_are = refl;
+        result_is = sym c.ends.0;
+        site = c.ends.1;
+      };
+      look = all_look;
+      added = (i.built.added ++ i.grown.added) ++ c.grown.added;
+      sites = sites;
+      covered =
+          covers_skip 0 program.name.place (name_places program.parameters.items ++ block_places program.block)
+          ((i.built.added ++ i.grown.added) ++ c.grown.added)
+          (covers_behind 0 (name_places program.parameters.items) (block_places program.block) ((i.built.added ++ i.grown.added) ++ c.grown.added)
+          (subst (λ l. Covers 0 l ((i.built.added ++ i.grown.added) ++ c.grown.added)) (sym law.places_are)
+          (covers_both 0 law.inside (block.end ∷ []) (i.built.added ++ i.grown.added) c.grown.added i.covered c.grown.covered)));
+    })
+
+-- ---- what a program has
+
+module _ (program : Program) (a : After (Unit {0})) (w : Whole program a) where
+  abbrev mark_end : Mark
+  mark_end = BlockEnds 0 w.headed.around w.headed.parameters w.result w.end
+
+  abbrev ended : Look
+  ended = w.second ++ (mark_end ∷ [])
+
+  at_end : {A : Type 0} (f : Look → A) → f a.look ≡ f (w.first ++ ended)
+  at_end f = ap f w.look
+
+  entries_ended : entries_of_look ended ≡ entries_of_look w.second
+  entries_ended = closed_entries w.second 0 w.headed.around w.headed.parameters w.result w.end
+
+  loops_ended : loops_of_look ended ≡ loops_of_look w.second
+  loops_ended = closed_loops w.second 0 w.headed.around w.headed.parameters w.result w.end
+
+  is_numbered : entries_of_look a.look ≡ range_with_len 0 (length (entries_of_look a.look))
+  is_numbered =
+      let f = w.built in
+      let g = w.grown in
+      at_end entries_of_look
+      ∙ go_on mark_entries w.first ended 0 w.middle.entries
+      (f.numbered ∙ ap (λ n. range_with_len n (length (entries_of_look w.first))) w.starts.1)
+      (f.entered ∙ ap (λ n. n + length (entries_of_look w.first)) w.starts.1)
+      (entries_ended ∙ g.numbered ∙ ap (λ l. range_with_len w.middle.entries (length l)) (sym entries_ended))
+      ∙ ap (λ l. range_with_len 0 (length l)) (sym (at_end entries_of_look))
+
+  has_few_entries : length (entries_of_look a.look) ≤ most_entries
+  has_few_entries =
+      omega (
+        arith,
+        ap length (at_end entries_of_look),
+        counted mark_entries w.first ended,
+        ap length entries_ended,
+        w.built.entered,
+        w.grown.entered,
+        w.grown.few_entries,
+        w.starts.1,
+      )
+
+  loops_are : loops_of_look a.look ≡ range_with_len 0 (length (loops_of_look a.look))
+  loops_are =
+      let f = w.built in
+      let g = w.grown in
+      at_end loops_of_look
+      ∙ go_on mark_loops w.first ended 0 w.middle.loops
+      (f.looped ∙ ap (λ n. range_with_len n (length (loops_of_look w.first))) w.starts.2)
+      (f.begun ∙ ap (λ n. n + length (loops_of_look w.first)) w.starts.2)
+      (loops_ended ∙ g.looped ∙ ap (λ l. range_with_len w.middle.loops (length l)) (sym loops_ended))
+      ∙ ap (λ l. range_with_len 0 (length l)) (sym (at_end loops_of_look))
+
+  blocks_ended : blocks_of_look ended ≡ 0 ∷ []
+  blocks_ended = closed_blocks w.second 0 w.headed.around w.headed.parameters w.result w.end w.grown.inner
+
+  at_least_one : 0 < length a.passed.headings
+  at_least_one =
+      omega (
+        arith,
+        slice_get_within (map signature_passed a.passed.headings) 0 w.ends.signature w.ends.is_there,
+        length-map a.passed.headings signature_passed,
+      )
+
+  -- each number of a heading stands once among the blocks that end
+  counts : (number : ℕ) → count_of number (blocks_of_look a.look) ≡ one_if (is_between 0 (length a.passed.headings) number)
+  counts number =
+      let both = ap (count_of number) (at_end blocks_of_look ∙ flat_map-append mark_blocks w.first ended)
+      ∙ count_append number (blocks_of_look w.first) (blocks_of_look ended) in
+      let one = ap (count_of number) blocks_ended in
+      let as_many = ap (λ (l : List Headed). one_if (is_between 1 (length l) number)) w.grown.headings_kept in
+      let from_one = ap (λ n. one_if (is_between n (length w.middle.headings) number)) w.starts.3 in
+      let there = slice_get_within w.middle.headings 0 in
+      omega (
+        arith,
+        both,
+        one,
+        w.built.accounted number,
+        ap one_if (w.came number),
+        ap one_if (w.starts.4 number),
+        from_one,
+        as_many,
+        first_too number (length a.passed.headings) at_least_one,
+      )
+    where
+      first_too : (number many : ℕ) → 0 < many → one_if (nat_eq number 0) + one_if (is_between 1 many number) ≡ one_if (is_between 0 many number)
+      first_too number many some = grind (arith, nat_tests)
+
+  blocks_permuted : IsPermutation (range_with_len 0 (length a.passed.headings)) (blocks_of_look a.look)
+  blocks_permuted =
+      same_counts (range_with_len 0 (length a.passed.headings)) (blocks_of_look a.look)
+      (λ number. count_range number 0 (length a.passed.headings) ∙ from_zero number ∙ sym (counts number))
+    where
+      from_zero : (number : ℕ)
+          → one_if (nat_le 0 number && nat_lt number (0 + length a.passed.headings)) ≡ one_if (is_between 0 (length a.passed.headings) number)
+      from_zero number =
+          let plain : 0 + length a.passed.headings ≡ length a.passed.headings = omega arith in
+          ap (λ n. one_if (nat_le 0 number && nat_lt number n)) plain
+
+  all_end : AreEnds (reached a.passed) a.look
+  all_end =
+      subst (AreEnds (reached a.passed)) (sym w.look)
+      (ends_append (reached a.passed) w.first ended (ends_later (reached w.middle) (reached a.passed) w.first (further w.grown) w.built.ends)
+      (ends_append (reached a.passed) w.second (mark_end ∷ []) (no_ends (reached a.passed) w.second w.grown.inner) (w.ends, tt)))
+
+  -- the variables of for statements are changed in their blocks alone
+  has_controls : AreUnthreatened a.look
+  has_controls =
+      subst AreUnthreatened (sym w.look)
+      (unthreatened_at_end program_here w.start w.middle a.passed w.built w.grown mark_end
+      (placed_inner mark_changes 0 w.headed.around w.headed.parameters w.result w.end w.second w.grown.inner refl)
+      (placed_inner mark_controls 0 w.headed.around w.headed.parameters w.result w.end w.second w.grown.inner refl))
+
+  -- each result is assigned
+  has_results : are_assigned a.look ≡ true
+  has_results =
+      let all =
+      results_end w.first w.second 0 w.headed.around w.headed.parameters w.result w.end w.middle a.passed w.built.results w.grown.assigns w.grown.inner w.own in
+      ap are_assigned w.look ∙ targets (flat_map mark_results (w.first ++ ended)) all
+    where
+      empty : (root : ℕ) → list_any (nat_eq root) w.start.assigned ≡ true → ⊥
+      empty root is = no (sym (ap (list_any (nat_eq root)) w.starts.5) ∙ is)
+        where
+          no : ◌≡◌ {A = Bool} false true → ⊥
+          no h = absurd cc
+
+      from_start : (root : ℕ) {target : Bool} → (list_any (nat_eq root) w.start.assigned ≡ true) ⊎ (target ≡ true) → target ≡ true
+      from_start root (inl there) = absurd (empty root there)
+      from_start root (inr target) = target
+
+      told : (root : ℕ) → list_any (nat_eq root) a.passed.assigned ≡ true → is_target (w.first ++ ended) root ≡ true
+      told root is =
+          from_start root
+          (assigned_then w.first ended root (w.built.assigned root) (target_ended w.second mark_end root (w.grown.assigned refl root is)))
+
+      targets : (roots : List ℕ) → list_all (λ root. list_any (nat_eq root) a.passed.assigned) roots ≡ true
+          → list_all (is_target (w.first ++ ended)) roots ≡ true
+      targets [] all = refl
+      targets (root ∷ roots) all =
+          let parts = both_and (list_any (nat_eq root) a.passed.assigned) (list_all (λ r. list_any (nat_eq r) a.passed.assigned) roots) all in
+          both_true _ _ (told root parts.0) (targets roots parts.1)
+
+  -- the types, variables and headings fit each other
+  base : Base a.passed.types a.passed.variables a.passed.headings (length (heads_passed a.passed.headings))
+  base =
+      let m = w.middle in
+      let many = length (heads_passed m.headings) in
+      subst (λ h. Base a.passed.types a.passed.variables h (length (heads_passed h))) (sym w.grown.headings_kept)
+      (subst (λ v. Base a.passed.types v m.headings many) (sym w.grown.variables_kept)
+      (base_types m.types a.passed.types m.variables m.headings many w.grown.longer w.grown.lawful w.standing.ready.base))
+
+  module _ (o : Outline) (is : IsOutlineOf a o) where
+    agrees : (number : ℕ) → number < length a.passed.headings → Agrees (reached a.passed) o.headings number
+    agrees number less = agrees_in (reached a.passed) o.headings a.look number (omega (arith, counts number, is_one number less)) all_end is.headings
+      where
+        is_one : (number : ℕ) → number < length a.passed.headings → one_if (is_between 0 (length a.passed.headings) number) ≡ 1
+        is_one number less = grind (arith, nat_tests)
+
+    same_headings : map signature_of o.headings ≡ map signature_passed a.passed.headings
+    same_headings =
+        let one = length-map o.headings signature_of in
+        let two = length-map a.passed.headings signature_passed in
+        same_parts (map signature_of o.headings) (map signature_passed a.passed.headings) (omega (arith, one, two, is.count))
+        (λ k less.
+        let g = agrees k (omega (arith, less, one, is.count)) in
+        mapped_get signature_of o.headings k g.heading g.is_there ∙ sym g.passed)
+
+    as_far_as : IsFurther (reached a.passed) (whole_of o)
+    as_far_as = record {
+      sites = omega (arith, is.sites);
+      types = same_longer is.types;
+      variables = same_longer is.variables;
+      headings = same_longer same_headings;
+      threats = λ root threatened. refl;
+    }
+
+    is_formed : are_formed o a.look ≡ true
+    is_formed =
+        at_end (are_formed o) ∙ w.built.parts o ended
+        ∙ both_true _ _ (w.built.formed o (further_still (further w.grown) as_far_as))
+        (closed_formed w.second 0 w.headed.around w.headed.parameters w.result w.end o w.grown.inner (w.grown.formed o as_far_as))
+
+    heading_is : (number : ℕ) (heading : TreeHeading) → slice_get o.headings number ≡ Some heading → is_heading o number heading ≡ true
+    heading_is number heading there =
+        let at = headed_at o a.passed.headings same_headings number heading there in
+        let less = slice_get_within a.passed.headings number at.0 at.1 in
+        let g = agrees number less in
+        let same : g.heading ≡ heading = some_same g.heading heading (sym g.is_there ∙ there) in
+        let told = base.headed number at.0 at.1 in
+        heading_formed o a.passed.headings same_headings number heading at.0 at.2
+        (subst (λ t. IsHeaded t o.variables a.passed.headings number at.0) (sym is.types)
+        (subst (λ v. IsHeaded a.passed.types v a.passed.headings number at.0) (sym is.variables) told))
+        (subst (λ n. HasSite n heading.result) (sym is.sites) (subst (λ (h : TreeHeading). HasSite (length a.passed.sites) h.result) same g.site))
+      where
+        some_same : (x y : TreeHeading) → Some x ≡ Some y → x ≡ y
+        some_same x y h = cc
+
+    cells_are_few : (number : ℕ) → are_few_cells o number ≡ true
+    cells_are_few number =
+        le_is (cells_of_block o.types number o.variables) most_cells
+        (subst (λ t. cells_of_block t number o.variables ≤ most_cells) (sym is.types)
+        (subst (λ v. cells_of_block a.passed.types number v ≤ most_cells) (sym is.variables) (base.few_cells number)))
+      where
+        le_is : (m n : ℕ) → m ≤ n → nat_le m n ≡ true
+        le_is m n h = grind (arith, nat_tests)
+
+  is_lawful : Lawful program a
+  is_lawful = record {
+    numbered = is_numbered;
+    few_entries = has_few_entries;
+    loops = loops_are;
+    blocks = blocks_permuted;
+    a_block = at_least_one;
+    formed = is_formed;
+    headings = heading_is;
+    few_cells = cells_are_few;
+    few_variables = base.few_variables;
+    declared =
+        subst (λ n. list_all (λ (v : Variable). nat_lt v.block n) a.passed.variables ≡ true) (heads_count a.passed.headings) base.by_blocks;
+    unthreatened = has_controls;
+    assigned = has_results;
+    few_sites = w.grown.few_sites;
+    types = w.grown.lawful.begin;
+    by_place = λ order. subst AreByPlace (sym w.sites) (covers_by_place (program_places program) w.added order w.covered);
+  }
 
 -- what each typed program has
 pub typing_is_lawful : (program : Program) (a : After (Unit {0})) → typing program ≡ Ok a → Lawful program a
-unfolding typing
-typing_is_lawful program a is =
-    let start = begins program.name.place in
-    let x = split (declarations program start) (λ b. behind_marks b.look (statement_part program.block b.passed)) a is in
-    let y = split_behind x.0.look (statement_part program.block x.0.passed) a x.2 in
-    let ready : IsReady start = record {
-      sound = tt;
-      lawful = required_lawful;
-      texts = no_texts;
-      sites = refl;
-      entries = refl;
-      loops = refl;
-      by_program = refl;
-      have_types = tt;
-      cells = refl;
-      few_variables = omega arith;
-      room = omega arith;
-    } in
-    let declared = (declarations_keep program).keeps start x.0 x.1 ready in
-    let part = statement_part_does x.0.passed.variables (reached x.0.passed) program.block in
-    let grown = part.does x.0.passed y.0 y.1 (fine_ready x.0.passed declared.1) as_far in
-    let same : after y.0.answer y.0.look y.0.passed ≡ a = ap (λ l. after y.0.answer (l ++ y.0.look) y.0.passed) (sym declared.0) ∙ y.2 in
-    subst (Lawful program) same (grown_lawful program x.0.passed y.0 declared.1 grown.0)
+typing_is_lawful program a is = is_lawful program a (whole program a is)

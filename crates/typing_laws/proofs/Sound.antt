@@ -1,18 +1,20 @@
--- What holds of all that names denote: a constant is a whole number, a variable one of the program, of the type that it
--- has there, and a type stands in the table.
-use Rattle.std.proofs.Common.{◌≡◌, ℕ, zero, suc, ◌<◌, Bool, true, false, cond, nat_eq, List, [], ◌∷◌, ◌++◌, Option, Some, None, Ok, Err, if◌then◌else◌, fold}
-use Rattle.std.proofs.Common.{refl, subst, arith, length, slice_get, option_map, append-nil}
+-- What holds of all that names denote: a constant is a whole number, a variable is one of the block or of one round it, of
+-- the type that it has there, a routine is one that such a block declares, and a type stands in the table.
+use Rattle.std.proofs.Common.{◌≡◌, ℕ, ◌<◌, Bool, true, false, cond, nat_eq, List, [], ◌∷◌, ◌++◌, Option, Some, None, Ok, Err, if◌then◌else◌, fold, refl, ap}
+use Rattle.std.proofs.Common.{subst, arith, length, slice_get, ◌||◌}
+use Rattle.std.proofs.lemmas.Bool.{eq-eqb, eqb-true}
 use Rattle.std.specs.Cmp.Lexicographic.{pointwise}
-use Rattle.scopes.specs.Scopes.{Region, said, decided, found, put, opened, is_defined, define}
+use Rattle.types.specs.Forms.{Form}
+use Rattle.types.specs.declared.form.TypeId.{TypeId}
+use Rattle.scopes.specs.Scopes.{Region, said, decided, found, put, opened, listing, is_listed, opened_beside, is_defined, define}
 use Rattle.scopes.specs.declared.fault.ScopeFault.TheVariants.{DeclaredTwice}
 use Rattle.scopes.specs.declared.denotation.Denotation.{Denotation}
 use Rattle.scopes.specs.declared.denotation.Denotation.TheVariants as denotes
-use Rattle.types.specs.Forms.{Form}
-use Rattle.types.specs.declared.form.TypeId.{TypeId}
 use Rattle.typed_tree.specs.declared.tree.Variable.{Variable}
-use Rattle.typed_tree.specs.WellFormed.{is_whole}
+use Rattle.typed_tree.specs.WellFormed.{is_whole, is_one_of, of_one, declarer}
 use Rattle.typing.specs.Names.{required_region}
-use Rattle.typing_laws.proofs.Tables.{IsLonger, stands_longer}
+use Rattle.typing_laws.proofs.Reached.{IsLonger, Here, Head, Reached, IsFurther, is_round_here, get_longer}
+use Rattle.typing_laws.proofs.Tables.{stands_longer}
 
 -- ---- what holds of each thing that is denoted
 
@@ -70,6 +72,15 @@ module _ (Holds : Denotation → Type 0) where
       from [] region all = all
       from (name ∷ names) region all = from names (put region name None) (put_holds region name None all tt)
 
+  -- the same beside parameters
+  pub beside_holds : (parameters : Region) (names : List (List ℕ)) → HoldsOfRegion parameters → HoldsOfRegion (opened_beside parameters names)
+  beside_holds region [] all = all
+  beside_holds region (name ∷ names) all = beside_holds (listing region name) names (by (is_listed (said region name)))
+    where
+      by : (test : Bool) → HoldsOfRegion (if test then region else put region name None)
+      by true = all
+      by false = put_holds region name None all tt
+
   pub define_holds : (name : List ℕ) (denotation : Denotation) (regions new : List Region) → Holds denotation → HoldsOfAll regions
       → define name denotation regions ≡ Ok new → HoldsOfAll new
   define_holds name denotation [] new one all is = absurd cc
@@ -88,7 +99,7 @@ module _ (Holds More : Denotation → Type 0) (more : (denotation : Denotation) 
   says_more None all = tt
   says_more (Some denotation) one = more denotation one
 
-  region_more : (region : Region) → HoldsOfRegion Holds region → HoldsOfRegion More region
+  pub region_more : (region : Region) → HoldsOfRegion Holds region → HoldsOfRegion More region
   region_more [] all = tt
   region_more (entry ∷ entries) all = (says_more entry.1 all.0, region_more entries all.1)
 
@@ -96,57 +107,147 @@ module _ (Holds More : Denotation → Type 0) (more : (denotation : Denotation) 
   all_more [] all = tt
   all_more (region ∷ outer) all = (region_more region all.0, all_more outer all.1)
 
--- ---- whole numbers, variables and types
+-- ---- whole numbers, variables, routines and types
 
--- the type of the variable that has a root
-abbrev pub type_of : List Variable → ℕ → Option TypeId
-type_of variables root = option_map (λ variable. variable.type_id) (slice_get variables root)
+-- a variable of a block or of one round it, of this type, which stands in the table
+pub record IsVariable (here : Here) (variables : List Variable) (types : List Form) (root : ℕ) (type_id : TypeId) : Type 0 where
+  pub variable : Variable
+  pub is_there : slice_get variables root ≡ Some variable
+  pub is_visible : is_round_here here variable.block ≡ true
+  pub of_type : variable.type_id ≡ type_id
+  pub stands : type_id.index < length types
 
-pub type_of_more : (variables more : List Variable) (root : ℕ) (type_id : TypeId) → type_of variables root ≡ Some type_id
-    → type_of (variables ++ more) root ≡ Some type_id
-type_of_more [] more root type_id is = absurd cc
-type_of_more (variable ∷ variables) more zero type_id is = is
-type_of_more (variable ∷ variables) more (suc root) type_id is = type_of_more variables more root type_id is
+-- a routine that a block or one round it declares
+pub record IsRoutine (here : Here) (heads : List Head) (block : ℕ) (is_function : Bool) : Type 0 where
+  pub head : Head
+  pub is_there : slice_get heads block ≡ Some head
+  pub is_visible : of_one (is_round_here here) (declarer head.around) ≡ true
+  pub of_kind : head.is_function ≡ is_function
 
-pub type_of_last : (variables : List Variable) (variable : Variable) → type_of (variables ++ variable ∷ []) (length variables) ≡ Some variable.type_id
-type_of_last [] variable = refl
-type_of_last (first ∷ variables) variable = type_of_last variables variable
+-- with these variables, types and heads of blocks
+abbrev pub IsSound : Here → List Variable → List Form → List Head → Denotation → Type 0
+IsSound here variables types heads (denotes.Constant value type_id) = is_whole value ≡ true
+IsSound here variables types heads (denotes.Text number type_id) = Unit {0}
+IsSound here variables types heads (denotes.Variable root type_id) = IsVariable here variables types root type_id
+IsSound here variables types heads (denotes.Procedure procedure) = Unit {0}
+IsSound here variables types heads (denotes.Function function) = Unit {0}
+IsSound here variables types heads (denotes.Routine block is_function) = IsRoutine here heads block is_function
+IsSound here variables types heads (denotes.TypeName type_id) = type_id.index < length types
+IsSound here variables types heads denotes.Output = Unit {0}
 
--- with these variables and types
-abbrev pub IsSound : List Variable → List Form → Denotation → Type 0
-IsSound variables types (denotes.Constant value type_id) = is_whole value ≡ true
-IsSound variables types (denotes.Text number type_id) = Unit {0}
-IsSound variables types (denotes.Variable root type_id) = (type_of variables root ≡ Some type_id) × (type_id.index < length types)
-IsSound variables types (denotes.Procedure procedure) = Unit {0}
-IsSound variables types (denotes.Function function) = Unit {0}
-IsSound variables types (denotes.TypeName type_id) = type_id.index < length types
-IsSound variables types denotes.Output = Unit {0}
+abbrev pub AreSound : Here → List Variable → List Form → List Head → List Region → Type 0
+AreSound here variables types heads = HoldsOfAll (IsSound here variables types heads)
 
-abbrev pub AreSound : List Variable → List Form → List Region → Type 0
-AreSound variables types = HoldsOfAll (IsSound variables types)
+abbrev pub IsSoundRegion : Here → List Variable → List Form → List Head → Region → Type 0
+IsSoundRegion here variables types heads = HoldsOfRegion (IsSound here variables types heads)
 
-pub required_sound : (variables : List Variable) (types : List Form) → 2 < length types → HoldsOfRegion (IsSound variables types) required_region
+pub required_sound : (here : Here) (variables : List Variable) (types : List Form) (heads : List Head) → 2 < length types
+    → IsSoundRegion here variables types heads required_region
 unfolding required_region
-required_sound variables types there =
+required_sound here variables types heads there =
     let integers : 0 < length types = omega (arith, there) in
     let booleans : 1 < length types = omega (arith, there) in
     (integers, (booleans, (there, (refl, (refl, (refl, (tt, (tt, (tt, (tt, (tt, (tt, (tt, (tt, (tt, tt)))))))))))))))
 
--- in a longer table, with more variables
-module _ (variables more : List Variable) {old new : List Form} (longer : IsLonger old new) where
-  sound_more : (denotation : Denotation) → IsSound variables old denotation → IsSound (variables ++ more) new denotation
+-- ---- in blocks inside
+
+-- what stands round the one, stands round the other
+pub record IsInside (outer inner : Here) : Type 0 where
+  pub keeps : (block : ℕ) → is_round_here outer block ≡ true → is_round_here inner block ≡ true
+
+pub inside_itself : {here : Here} → IsInside here here
+inside_itself = record { keeps = λ block is. is }
+
+pub among_more : (blocks : List ℕ) (last block : ℕ) → is_one_of blocks block ≡ true → is_one_of (blocks ++ last ∷ []) block ≡ true
+among_more [] last block is = absurd cc
+among_more (one ∷ blocks) last block is = by (nat_eq one block) (among_more blocks last block) is
+  where
+    by : (test : Bool) → (is_one_of blocks block ≡ true → is_one_of (blocks ++ last ∷ []) block ≡ true) → (test || is_one_of blocks block) ≡ true
+        → (test || is_one_of (blocks ++ last ∷ []) block) ≡ true
+    by true more h = refl
+    by false more h = more h
+
+pub among_last : (blocks : List ℕ) (block : ℕ) → is_one_of (blocks ++ block ∷ []) block ≡ true
+among_last [] block = ap (λ b. b || false) (eq-eqb block block refl)
+among_last (one ∷ blocks) block = by (nat_eq one block) (among_last blocks block)
+  where
+    by : (test : Bool) → is_one_of (blocks ++ block ∷ []) block ≡ true → (test || is_one_of (blocks ++ block ∷ []) block) ≡ true
+    by true h = refl
+    by false h = h
+
+pub or_right : (a b : Bool) → b ≡ true → (a || b) ≡ true
+or_right true b is = refl
+or_right false b is = is
+
+-- a routine's block is inside its declarer's
+pub inside_routine : (here : Here) (number : ℕ) → IsInside here (record { block = number; around = here.around ++ here.block ∷ []; owing = false })
+inside_routine here number = record { keeps = λ block is. or_right (nat_eq block number) _ (by block (nat_eq block here.block) refl is) }
+  where
+    by : (block : ℕ) (test : Bool) → nat_eq block here.block ≡ test → (test || is_one_of here.around block) ≡ true
+        → is_one_of (here.around ++ here.block ∷ []) block ≡ true
+    by block true same h =
+        let at : block ≡ here.block = eqb-true block here.block same in
+        subst (λ b. is_one_of (here.around ++ b ∷ []) block ≡ true) at (among_last here.around block)
+    by block false same h = among_more here.around here.block block h
+
+-- where more has come
+pub variable_later : (here : Here) (now next : Reached) (root : ℕ) (type_id : TypeId) → IsFurther now next
+    → IsVariable here now.variables now.types root type_id → IsVariable here next.variables next.types root type_id
+variable_later here now next root type_id more v = record {
+  variable = v.variable;
+  is_there = get_longer more.variables root v.variable v.is_there;
+  is_visible = v.is_visible;
+  of_type = v.of_type;
+  stands = stands_longer more.types type_id v.stands;
+}
+
+pub routine_longer : (here : Here) (old new : List Head) (block : ℕ) (is_function : Bool) → IsLonger old new → IsRoutine here old block is_function
+    → IsRoutine here new block is_function
+routine_longer here old new block is_function longer routine = record {
+  head = routine.head;
+  is_there = get_longer longer block routine.head routine.is_there;
+  is_visible = routine.is_visible;
+  of_kind = routine.of_kind;
+}
+
+-- ---- with more variables, types and heads
+
+module _ {outer inner : Here} (inside : IsInside outer inner) {old_variables new_variables : List Variable} {old new : List Form}
+    {old_heads new_heads : List Head} (variables : IsLonger old_variables new_variables) (types : IsLonger old new)
+    (heads : IsLonger old_heads new_heads) where
+  pub variable_more : (root : ℕ) (type_id : TypeId) → IsVariable outer old_variables old root type_id
+      → IsVariable inner new_variables new root type_id
+  variable_more root type_id sound = record {
+    variable = sound.variable;
+    is_there = get_longer variables root sound.variable sound.is_there;
+    is_visible = inside.keeps sound.variable.block sound.is_visible;
+    of_type = sound.of_type;
+    stands = stands_longer types type_id sound.stands;
+  }
+
+  of_one_more : (found : Option ℕ) → of_one (is_round_here outer) found ≡ true → of_one (is_round_here inner) found ≡ true
+  of_one_more None is = absurd cc
+  of_one_more (Some block) is = inside.keeps block is
+
+  pub sound_more : (denotation : Denotation) → IsSound outer old_variables old old_heads denotation
+      → IsSound inner new_variables new new_heads denotation
   sound_more (denotes.Constant value type_id) sound = sound
   sound_more (denotes.Text number type_id) sound = tt
-  sound_more (denotes.Variable root type_id) sound = (type_of_more variables more root type_id sound.0, stands_longer longer type_id sound.1)
+  sound_more (denotes.Variable root type_id) sound = variable_more root type_id sound
   sound_more (denotes.Procedure procedure) sound = tt
   sound_more (denotes.Function function) sound = tt
-  sound_more (denotes.TypeName type_id) sound = stands_longer longer type_id sound
+  sound_more (denotes.Routine block is_function) sound = record {
+    head = sound.head;
+    is_there = get_longer heads block sound.head sound.is_there;
+    is_visible = of_one_more (declarer sound.head.around) sound.is_visible;
+    of_kind = sound.of_kind;
+  }
+  sound_more (denotes.TypeName type_id) sound = stands_longer types type_id sound
   sound_more denotes.Output sound = tt
 
-  pub regions_more : (regions : List Region) → AreSound variables old regions → AreSound (variables ++ more) new regions
-  regions_more = all_more (IsSound variables old) (IsSound (variables ++ more) new) sound_more
+  pub region_later : (region : Region) → IsSoundRegion outer old_variables old old_heads region
+      → IsSoundRegion inner new_variables new new_heads region
+  region_later = region_more (IsSound outer old_variables old old_heads) (IsSound inner new_variables new new_heads) sound_more
 
-pub regions_longer : (variables : List Variable) {old new : List Form} → IsLonger old new → (regions : List Region) → AreSound variables old regions
-    → AreSound variables new regions
-regions_longer variables {old} {new} longer regions sound =
-    subst (λ all. AreSound all new regions) (append-nil variables) (regions_more variables [] longer regions sound)
+  pub regions_later : (regions : List Region) → AreSound outer old_variables old old_heads regions → AreSound inner new_variables new new_heads regions
+  regions_later = all_more (IsSound outer old_variables old old_heads) (IsSound inner new_variables new new_heads) sound_more

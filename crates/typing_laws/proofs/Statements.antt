@@ -1,7 +1,6 @@
 -- What statements do, form by form, and the law of every statement, by induction over its form.
-use Rattle.std.proofs.Common.{◌≡◌, ℕ, ℤ, Vec, ◌<◌, ap, ◌∙◌, length, nat_eq, Bool, true, false, if◌then◌else◌, List, [], ◌∷◌, ◌++◌, map, Option, Some}
-use Rattle.std.proofs.Common.{None, Ok, refl, sym}
-use Rattle.std.proofs.Common.{subst, append_assoc, arith, is_none, option_map, ◌&&◌}
+use Rattle.std.proofs.Common.{◌≡◌, ℕ, ℤ, Vec, ◌<◌, ap, ◌∙◌, length, nat_eq, Bool, true, false, if◌then◌else◌, List, [], ◌∷◌, ◌++◌, map, Option, Some, None, Ok}
+use Rattle.std.proofs.Common.{refl, sym, slice_get, subst, append_assoc, arith, is_none, option_map, ◌&&◌}
 use Rattle.std.specs.List.{flat_map}
 use Rattle.std.specs.declared.alloc.Global.{Global}
 use Rattle.place.specs.declared.Place.{Place}
@@ -22,70 +21,46 @@ use Rattle.syntax_tree.specs.Places.{Places, selector_places, joined_places, exp
 use Rattle.syntax_tree.specs.Places.{statement_step as statement_row}
 use Rattle.types.specs.Forms.{Form}
 use Rattle.types.specs.declared.form.TypeId.{TypeId}
-use Rattle.types.specs.declared.form.OrdinalRange.{OrdinalRange}
-use Rattle.types.specs.Types.{integer, cells_of, is_assignable, is_ordinal, is_string, range_of}
+use Rattle.types.specs.Types.{integer, cells_of, is_ordinal, is_string}
+use Rattle.scopes.specs.declared.denotation.Denotation.{Denotation}
 use Rattle.scopes.specs.declared.denotation.RequiredProcedure.{RequiredProcedure}
+use Rattle.typed_tree.specs.declared.fault.TypeFault.TheVariants as fault
 use Rattle.typed_tree.specs.declared.site.SiteKind.{SiteKind}
 use Rattle.typed_tree.specs.declared.site.SiteKind.TheVariants as kind
 use Rattle.typed_tree.specs.declared.tree.Representation.{Representation}
 use Rattle.typed_tree.specs.Ids.{Stands}
-use Rattle.typed_tree.specs.declared.tree.Selector.{Selector as TreeSelector}
 use Rattle.typed_tree.specs.declared.tree.Variable.{Variable}
-use Rattle.typed_tree.specs.Accesses.{index_count}
-use Rattle.typed_tree.specs.Look.{Access, Assign, Target, WholeTarget, Copied, Fits, Write, Written as WrittenMark, Width, Empty, Compound, If, Then}
-use Rattle.typed_tree.specs.Look.{Else, While, Do, Repeat, Until, For}
-use Rattle.typed_tree.specs.Look.{Case, Arm, Ends, Mark, WrittenString, mark_entries, mark_loops, is_formed_mark}
-use Rattle.typing.specs.Passing.{Passing, and_then, each, mark}
-use Rattle.typing.specs.Steps.{fits, or_mismatch}
+use Rattle.typed_tree.specs.Look.{Assign, Copied, Fits, Write, Written as WrittenMark, Width, Empty, Compound, If, Then, Else, While, Do, Repeat, Until, For}
+use Rattle.typed_tree.specs.Look.{Case, Arm, Ends, Mark, WrittenString, mark_entries, mark_loops, mark_blocks, is_formed_mark}
+use Rattle.typed_tree.specs.WellFormed.{Outline, is_declared, is_local_kind, of_one}
+use Rattle.typing.specs.Passing.{Passing, and_then, each}
+use Rattle.typing.specs.Steps.{fits, is_local, or_mismatch}
 use Rattle.typing.specs.declared.typed.Typed.{Typed}
-use Rattle.typing.specs.Expressions.{Written, WrittenActual, is_of, as_variable, expression, written_actual}
-use Rattle.typing.specs.Statements.{fitting, copied_cells, copying, target_mark, target, assigned, copied, assignment, as_procedure, ends_line}
-use Rattle.typing.specs.Statements.{is_output, names_file, unless_wide, is_file, written_values}
-use Rattle.typing.specs.Statements.{has_values, representation_of, written_as, measured, width, parameter, write, procedure_call, compound, condition}
-use Rattle.typing.specs.Statements.{alternative, tested, choice, while_loop}
-use Rattle.typing.specs.Statements.{repeat_loop, way, bound, for_head, for_body, for_loop, case_arms, case_head, case_body, case_statement, statement_step}
-use Rattle.typing.specs.Statements.{statement}
+use Rattle.typing.specs.Expressions.{Written, WrittenActual, is_of, as_routine, as_variable, expression, written_actual}
+use Rattle.typing.specs.Statements.{assigned, copied, assignment, as_procedure, ends_line, is_output, names_file, unless_wide, is_file, written_values}
+use Rattle.typing.specs.Statements.{has_values, representation_of, written_as, measured, width, parameter, write, required_call, declared_call, call_by}
+use Rattle.typing.specs.Statements.{procedure_call, compound, condition, alternative, tested, choice, while_loop, repeat_loop, way, bound, for_head, for_body}
+use Rattle.typing.specs.Statements.{for_loop, case_arms, case_head, case_body, case_statement, statement_step, statement}
 use Rattle.typing_laws.proofs.Tables.{stands_longer, cells_of_longer}
-use Rattle.typing_laws.proofs.WholeRanges.{HaveWholeRanges, IsWholeRange}
+use Rattle.typing_laws.proofs.WholeRanges.{IsWholeRange}
 use Rattle.typing_laws.proofs.Covers.{Covers, covers_both, covers_none, covers_behind, covers_skip, covers_lower, leads_first}
-use Rattle.typing_laws.proofs.Grown.{Reached, further_still, both_true}
-use Rattle.typing_laws.proofs.Steps.{Does, Anything, Nothing, joins, quietly, last, checks, checks_types, sited, pure_does, given_does, by_types_does}
-use Rattle.typing_laws.proofs.Steps.{find_does, pass_does}
-use Rattle.typing_laws.proofs.Steps.{wants_output_does}
-use Rattle.typing_laws.proofs.Steps.{mark_does, enter_does, enter_loop_does, may_change_does, begin_control_does, end_control_does, site_does, IsKnown}
+use Rattle.typing_laws.proofs.Grown.{heads_of, both_true}
+use Rattle.typing_laws.proofs.Reached.{Reached, whole_of, IsFurther, further_still, Here, StandsIn, get_longer}
+use Rattle.typing_laws.proofs.Sound.{IsRoutine, variable_later}
+use Rattle.typing_laws.proofs.Steps.{Does, Anything, Nothing, IsFound, joins, quietly, last, checks, checks_types, sited, pure_does, given_does, by_types_does}
+use Rattle.typing_laws.proofs.Steps.{fail_does, find_does, pass_does, wants_output_does, mark_does, enter_does, enter_loop_does, may_change_does}
+use Rattle.typing_laws.proofs.Steps.{begin_control_does, end_control_does, site_does, IsKnown, controlled_does}
 use Rattle.typing_laws.proofs.Leading.{IsLed, Types, lt_true, LawfulWritten, covers_test, led_covers}
-use Rattle.typing_laws.proofs.Accesses.{LeadsTo, AreLawfulRows, leads_nowhere, leads_later, selected_does, tests_ordinal_does, tested as tested_is}
-use Rattle.typing_laws.proofs.Accesses.{ordinal_formed, whole_formed}
+use Rattle.typing_laws.proofs.Accesses.{AreLawfulRows, leads_nowhere, leads_later, tests_ordinal_does, ordinal_formed}
+use Rattle.typing_laws.proofs.Calls.{IsLawfulWidth, LawfulActual, fitting_whole, copying_is, routine_is, routine_call_does}
 use Rattle.typing_laws.proofs.Expressions.{variable_is}
 use Rattle.typing_laws.proofs.Constants.{row_does}
-use Rattle.typing_laws.proofs.Strings.{there, fit_is, both_and}
-use Rattle.typing_laws.proofs.EveryExpression.{LawfulActual, IsLawfulWidth, expression_lawful, actual_lawful, indexes_lawful}
+use Rattle.typing_laws.proofs.Strings.{there, fit_is}
+use Rattle.typing_laws.proofs.EveryExpression.{expression_lawful, actual_lawful, indexes_lawful, every_actual_lawful}
+use Rattle.typing_laws.specs.Controls.{mark_changes}
+use Rattle.typing_laws.proofs.Targets.{target_does}
 
 -- ---- tests
-
-fitting_whole : (place : Place) (types : List Form) → HaveWholeRanges types → (target : TypeId) (value : Typed) (range : OrdinalRange)
-    → or_mismatch place (fitting types target value) ≡ Ok range → IsWholeRange range
-fitting_whole place types whole target value range is = by (is_none value.length && is_assignable types target value.type_id) is
-  where
-    by : (test : Bool) → or_mismatch place (if test then range_of types target else None) ≡ Ok range → IsWholeRange range
-    by true h = whole target range (there place (range_of types target) range h)
-    by false h = absurd cc
-
-copying_is : (place : Place) (types : List Form) (target : TypeId) (value : Typed) (cells : ℕ) → or_mismatch place (copying types target value) ≡ Ok cells
-    → nat_eq (cells_of types target) cells ≡ true
-copying_is place types target value cells is = by value.length is
-  where
-    by : (length : Option ℕ) → or_mismatch place (copied_cells types target value length) ≡ Ok cells → nat_eq (cells_of types target) cells ≡ true
-    by None h = absurd cc
-    by (Some n) h = fits (is_assignable types target value.type_id && nat_eq (cells_of types target) n) refl h
-      where
-        fits : (test : Bool) → (is_assignable types target value.type_id && nat_eq (cells_of types target) n) ≡ test
-            → or_mismatch place (if test then Some n else None) ≡ Ok cells → nat_eq (cells_of types target) cells ≡ true
-        fits true both h =
-            let same : n ≡ cells = cc in
-            subst (λ c. nat_eq (cells_of types target) c ≡ true) same
-            (both_and (is_assignable types target value.type_id) (nat_eq (cells_of types target) n) both).1
-        fits false both h = absurd cc
 
 measured_is : (place : Place) (t : Typed) (id : ℕ) → measured place t ≡ Ok id → t.site ≡ Some id
 measured_is place t id is = by (is_of integer t) t.site is
@@ -98,103 +73,80 @@ measured_is place t id is = by (is_of integer t) t.site is
 -- a mark that says how a value is written is no entry
 abbrev IsForm : Mark → Type 0
 IsForm one =
-    (mark_entries one ≡ []) × (mark_loops one ≡ [])
-    × ((variables : List Variable) (types : List Form) (sites : ℕ) → is_formed_mark variables types sites one ≡ true)
+    (mark_entries one ≡ []) × (mark_loops one ≡ []) × (mark_blocks one ≡ []) × (mark_changes one ≡ [])
+    × ((o : Outline) (block : ℕ) → is_formed_mark o block one ≡ true)
 
 form_is : (place : Place) (types : List Form) (t : Typed) (form : Mark) → or_mismatch place (written_as types t) ≡ Ok form → IsForm form
 form_is place types t form is = by (is_none t.length) (representation_of types t.type_id) (is_string types t.type_id) (there place (written_as types t) form is)
   where
     by : (ordinal : Bool) (representation : Option Representation) (string : Bool)
         → (if ordinal then option_map WrittenMark representation else (if string then Some WrittenString else None)) ≡ Some form → IsForm form
-    by true (Some r) string h = let same : WrittenMark r ≡ form = cc in subst IsForm same (refl, refl, λ variables types sites. refl)
+    by true (Some r) string h = let same : WrittenMark r ≡ form = cc in subst IsForm same (refl, refl, refl, refl, λ o block. refl)
     by true None string h = absurd cc
-    by false r true h = let same : WrittenString ≡ form = cc in subst IsForm same (refl, refl, λ variables types sites. refl)
+    by false r true h = let same : WrittenString ≡ form = cc in subst IsForm same (refl, refl, refl, refl, λ o block. refl)
     by false r false h = absurd cc
 
-module _ (variables : List Variable) where
+module _ (here : Here) where
   pub record LawfulStatement (places : List Place) (p : Passing (Unit {0})) : Type 0 where
-    pub passes : (least : Reached) → Does variables least (Covers 0 places) p Anything
+    pub passes : (least : Reached) → Does here least (Covers 0 places) p Anything
 
-  typed_does : (least : Reached) (places : List Place) (w : Written) (lead : Option SiteKind) → LawfulWritten variables places w → IsLed lead
-      → Does variables least (Covers 0 places) (w.typing lead) Types
+  typed_does : (least : Reached) (places : List Place) (w : Written) (lead : Option SiteKind) → LawfulWritten here places w → IsLed lead
+      → Does here least (Covers 0 places) (w.typing lead) Types
   typed_does least places w lead law is = sited (covers_lower 2 0 (omega arith) places) (law.types least lead is)
 
   -- ---- assignments
-
-  target_formed : {least : Reached} (root : ℕ) (selectors : List TreeSelector) (id : TypeId) (ordinal : Bool) → LeadsTo variables root selectors id least
-      → is_ordinal least.types id ≡ ordinal → Does variables least Nothing (mark (target_mark ordinal root selectors id)) Anything
-  target_formed {least} root selectors id true l is =
-      mark_does (Target root selectors (index_count selectors)) refl refl (λ n h. ordinal_formed variables root selectors id least n l is h)
-  target_formed {least} root selectors id false l is =
-      mark_does (WholeTarget root selectors (index_count selectors) id) refl refl (λ n h. whole_formed variables root selectors id least n l is h)
 
   -- it is of a type that stands in the table
   abbrev StandsThere : TypeId → Reached → Type 0
   StandsThere id now = id.index < length now.types
 
-  target_does : {least : Reached} (name : Name) (selectors : List Selector) (rows : List (List Place)) (ws : List Written) → AreLawfulRows variables rows ws
-      → Does variables least (Covers 0 (selector_places selectors rows)) (target name selectors ws) StandsThere
-  unfolding target
-  target_does name selectors rows ws laws =
-      quietly (find_does name) λ d now _ sound.
-      quietly (given_does (as_variable name.place d)) λ variable _ one is.
-      let found = variable_is variables now.types name.place d variable is sound in
-      quietly (may_change_does name.place variable.0) λ _ _ two _.
-      quietly (enter_does Access (λ n. refl) (λ n. refl) (λ n m h. refl)) λ _ entered three _.
-      let stands = stands_longer (further_still one (further_still two three)).types variable.1 found.1 in
-      last (selected_does variables variable.0 [] variable.1 selectors rows ws laws (leads_nowhere variables variable.0 variable.1 entered found.0 stands))
-      λ component met _ l.
-      quietly (tests_ordinal_does variables component.1) λ ordinal next four ordered.
-      let led = leads_later variables variable.0 component.0 component.1 met next four l in
-      quietly (target_formed variable.0 component.0 component.1 ordinal led (tested_is variables next component.1 ordinal ordered.1)) λ _ _ five _.
-      pure_does component.1 (λ n h. stands_longer (further_still five h).types component.1 led.stands)
-
-  assigned_does : {least : Reached} (id : TypeId) (becomes : Place) (places : List Place) (value : Written) → LawfulWritten variables places value
-      → Does variables least (Covers 0 (becomes ∷ places)) (assigned id becomes value) Anything
+  assigned_does : {least : Reached} (id : TypeId) (becomes : Place) (places : List Place) (value : Written) → LawfulWritten here places value
+      → Does here least (Covers 0 (becomes ∷ places)) (assigned id becomes value) Anything
   unfolding assigned
   assigned_does id becomes places value law =
-      led_covers variables 0 becomes places (kind.Subrange ∷ []) (omega arith, tt)
+      led_covers here 0 becomes places (kind.Subrange ∷ []) (omega arith, tt)
       (joins (leads_first 0 becomes (kind.Subrange ∷ []) places) (site_does kind.Subrange becomes) λ site there _ known.
-      last (checks_types {L = λ range n. IsWholeRange range} (typed_does there places value None law tt) λ types t range sites more lawful fits _.
+      last (checks_types {L = λ range n. IsWholeRange range} (typed_does there places value None law tt) λ types t range n more same lawful fits _.
       fitting_whole becomes types lawful.whole id t range fits) λ range n more whole.
-      mark_does (Fits (record { site = site; range = range })) refl refl
-      (λ m h. both_true _ _ (lt_true site m.sites (omega (arith, known, more.sites, h.sites))) whole))
+      mark_does (Fits (record { site = site; range = range })) refl refl refl refl
+      (λ o h. both_true _ _ (lt_true site o.sites (omega (arith, known, more.sites, h.sites))) whole))
 
   copied_does : {least : Reached} (id : TypeId) (becomes : Place) (places : List Place) (value : Written) → id.index < length least.types
-      → LawfulWritten variables places value → Does variables least (Covers 0 (becomes ∷ places)) (copied id becomes value) Anything
+      → LawfulWritten here places value → Does here least (Covers 0 (becomes ∷ places)) (copied id becomes value) Anything
   unfolding copied
   copied_does id becomes places value stands law =
       sited (λ sites. covers_skip 0 becomes places sites)
       (quietly (pass_does becomes) λ _ now one _.
       last (checks_types {L = λ cells n. nat_eq (cells_of n.types id) cells ≡ true} (typed_does now places value None law tt)
-      λ types t cells sites more lawful copies _. copying_is becomes types id t cells copies) λ cells n two as_many.
-      mark_does (Copied id cells) refl refl
+      λ types t cells n more same lawful copies _.
+      subst (λ l. nat_eq (cells_of l id) cells ≡ true) (sym same) (copying_is becomes types id t cells copies)) λ cells n two as_many.
+      mark_does (Copied id cells) refl refl refl refl
       (λ m h.
       let there = stands_longer (further_still one two).types id stands in
       ap (λ c. nat_eq c cells) (cells_of_longer h.types id there) ∙ as_many))
 
   value_does : {least : Reached} (ordinal : Bool) (id : TypeId) (becomes : Place) (places : List Place) (value : Written) → id.index < length least.types
-      → LawfulWritten variables places value
-      → Does variables least (Covers 0 (becomes ∷ places)) ((if ordinal then assigned else copied) id becomes value) Anything
+      → LawfulWritten here places value
+      → Does here least (Covers 0 (becomes ∷ places)) ((if ordinal then assigned else copied) id becomes value) Anything
   value_does true id becomes places value stands law = assigned_does id becomes places value law
   value_does false id becomes places value stands law = copied_does id becomes places value stands law
 
   assignment_does : (name : Name) (selectors : List Selector) (rows : List (List Place)) (ws : List Written) (becomes : Place) (places : List Place)
-      (value : Written) → AreLawfulRows variables rows ws → LawfulWritten variables places value
+      (value : Written) → ((h : Here) → AreLawfulRows h rows ws) → LawfulWritten here places value
       → LawfulStatement (name.place ∷ (selector_places selectors rows ++ (becomes ∷ places))) (assignment name selectors ws becomes value)
   unfolding assignment
   assignment_does name selectors rows ws becomes places value laws law = record {
     passes = λ least.
         sited (λ sites. covers_skip 0 name.place (selector_places selectors rows ++ (becomes ∷ places)) sites)
-        (quietly (enter_does (λ n. Assign n becomes) (λ n. refl) (λ n. refl) (λ n m h. refl)) λ _ _ _ _.
-        joins (covers_both 0 (selector_places selectors rows) (becomes ∷ places)) (target_does name selectors rows ws laws) λ id now _ stands.
-        quietly (tests_ordinal_does variables id) λ ordinal next one _.
+        (quietly (enter_does (λ n. Assign n becomes) (λ n. refl) (λ n. refl) (λ n. refl) (λ n. refl) (λ n m h. refl)) λ _ _ _ _.
+        joins (covers_both 0 (selector_places selectors rows) (becomes ∷ places)) (target_does here name selectors rows ws laws) λ id now _ stands.
+        quietly (tests_ordinal_does here id) λ ordinal next one _.
         value_does ordinal id becomes places value (stands_longer one.types id stands) law);
   }
 
   -- ---- what is written
 
-  names_file_does : {least : Reached} (e : expr_layer.Expr-F Expr Actual Link) → Does variables least Nothing (names_file e) Anything
+  names_file_does : {least : Reached} (e : expr_layer.Expr-F Expr Actual Link) → Does here least Nothing (names_file e) Anything
   names_file_does (expr_layer.Name name) = quietly (find_does name) λ d _ _ _. pure_does (is_output d) (λ n h. tt)
   names_file_does (expr_layer.Component name selectors indexes) = pure_does false (λ n h. tt)
   names_file_does (expr_layer.Number value place) = pure_does false (λ n h. tt)
@@ -205,11 +157,11 @@ module _ (variables : List Variable) where
   names_file_does (expr_layer.Signed s place term) = pure_does false (λ n h. tt)
   names_file_does (expr_layer.Chain first rest) = pure_does false (λ n h. tt)
 
-  unless_wide_does : {least : Reached} (value : Expr) (w : Option Expr) → Does variables least Nothing (unless_wide value w) Anything
+  unless_wide_does : {least : Reached} (value : Expr) (w : Option Expr) → Does here least Nothing (unless_wide value w) Anything
   unless_wide_does value None = names_file_does (out-Expr value)
   unless_wide_does value (Some w) = pure_does false (λ n h. tt)
 
-  is_file_does : {least : Reached} (actual : Actual) → Does variables least Nothing (is_file actual) Anything
+  is_file_does : {least : Reached} (actual : Actual) → Does here least Nothing (is_file actual) Anything
   unfolding is_file
   is_file_does actual = unless_wide_does (out-Actual actual).value (out-Actual actual).width
 
@@ -221,13 +173,13 @@ module _ (variables : List Variable) where
   among true first rest = λ sites. covers_behind 0 (actual_places first) (flat_map actual_places rest) sites
   among false first rest = λ sites has. has
 
-  written_values_do : {least : Reached} (actuals : List Actual) → Does variables least Nothing (written_values actuals) (λ values now. AreAmong actuals values)
+  written_values_do : {least : Reached} (actuals : List Actual) → Does here least Nothing (written_values actuals) (λ values now. AreAmong actuals values)
   unfolding written_values
   written_values_do [] = pure_does [] (λ n h sites has. has)
   written_values_do (first ∷ rest) = quietly (is_file_does first) λ file _ _ _. pure_does (if file then rest else first ∷ rest) (λ n h. among file first rest)
 
-  width_does : (least : Reached) (places : List Place) (w : Option Written) → IsLawfulWidth variables places w
-      → Does variables least (Covers 0 places) (width w) Anything
+  width_does : (least : Reached) (places : List Place) (w : Option Written) → IsLawfulWidth here places w
+      → Does here least (Covers 0 places) (width w) Anything
   unfolding width
   width_does least places None law =
       sited (λ sites none. subst (Covers 0 places) (sym none) (covers_none 0 places))
@@ -235,65 +187,86 @@ module _ (variables : List Variable) where
   width_does least places (Some w) law =
       last (checks {L = λ id n. IsKnown (Some id) n} (typed_does least places w (Some kind.Width) law (omega arith)) λ types t id n more is known.
       subst (λ z. IsKnown z n) (measured_is w.first t id is) known) λ id n more known.
-      mark_does (Width id) refl refl (λ m h. lt_true id m.sites (omega (arith, known, h.sites)))
+      mark_does (Width id) refl refl refl refl (λ m h. lt_true id m.sites (omega (arith, known, h.sites)))
 
-  parameter_does : (least : Reached) (places : List Place) (a : WrittenActual) → LawfulActual variables places a
-      → Does variables least (Covers 0 places) (parameter a) Anything
+  parameter_does : (least : Reached) (places : List Place) (a : WrittenActual) → LawfulActual here places a
+      → Does here least (Covers 0 places) (parameter a) Anything
   unfolding parameter
   parameter_does least places a law =
       sited (λ sites. subst (λ p. Covers 0 p sites) (sym law.places_are))
       (joins (covers_both 0 law.of_value law.of_width)
       (checks {L = λ form n. IsForm form} (typed_does least law.of_value a.value None law.value tt) λ types t form n more is _.
       form_is a.value.first types t form is) λ form now _ is.
-      quietly (mark_does form is.0 is.1 (λ n h. is.2 variables n.types n.sites)) λ _ next _ _.
+      quietly (mark_does form is.0 is.1 is.2 is.3 (λ o h. is.4 o here.block)) λ _ next _ _.
       width_does next law.of_width a.width law.width)
 
   parameters_do : (least : Reached) (values : List Actual)
-      → Does variables least (Covers 0 (flat_map actual_places values)) (each parameter (map written_actual values)) Anything
+      → Does here least (Covers 0 (flat_map actual_places values)) (each parameter (map written_actual values)) Anything
   parameters_do least [] = pure_does tt (λ n h. tt)
   parameters_do least (value ∷ values) =
       joins (covers_both 0 (actual_places value) (flat_map actual_places values))
-      (parameter_does least (actual_places value) (written_actual value) (actual_lawful variables value)) λ _ now _ _.
+      (parameter_does least (actual_places value) (written_actual value) (actual_lawful here value)) λ _ now _ _.
       parameters_do now values
 
   write_does : (least : Reached) (name : Name) (actuals : List Actual) (procedure : RequiredProcedure)
-      → Does variables least (Covers 0 (flat_map actual_places actuals)) (write name actuals procedure) Anything
+      → Does here least (Covers 0 (flat_map actual_places actuals)) (write name actuals procedure) Anything
   unfolding write
   write_does least name actuals procedure =
       quietly (wants_output_does name.place) λ _ _ _ _.
-      quietly (enter_does (λ n. Write n name.place (ends_line procedure)) (λ n. refl) (λ n. refl) (λ n m h. refl)) λ _ _ _ _.
+      quietly (enter_does (λ n. Write n name.place (ends_line procedure)) (λ n. refl) (λ n. refl) (λ n. refl) (λ n. refl) (λ n m h. refl)) λ _ _ _ _.
       quietly (written_values_do actuals) λ values now _ among.
       sited among
       (quietly (given_does (has_values name.place procedure values)) λ _ there _ _.
       last (parameters_do there values) λ _ m _ _.
-      mark_does Ends refl refl (λ n h. refl))
+      mark_does Ends refl refl refl refl (λ n h. refl))
+
+  joined_mapped : (actuals : List Actual) → joined_places (map actual_places actuals) ≡ flat_map actual_places actuals
+  joined_mapped [] = refl
+  joined_mapped (one ∷ actuals) = ap (λ l. actual_places one ++ l) (joined_mapped actuals)
+
+  declared_does : {least : Reached} (callee : ℕ) (is_function : Bool) (name : Name) (actuals : List Actual)
+      → IsRoutine here (heads_of least) callee is_function → StandsIn here least
+      → Does here least (Covers 0 (flat_map actual_places actuals)) (declared_call callee is_function name (map written_actual actuals)) Anything
+  unfolding declared_call
+  declared_does callee true name actuals routine stands = fail_does (fault.WrongParameters name.place)
+  declared_does callee false name actuals routine stands =
+      sited (λ sites. subst (λ p. Covers 0 p sites) (joined_mapped actuals))
+      (last (routine_call_does here false callee name.place (map written_actual actuals) (map actual_places actuals) routine stands
+      (every_actual_lawful here actuals)) λ _ _ _ _.
+      pure_does tt (λ n h. tt))
+
+  called_does : {least : Reached} (found : Option (ℕ × Bool)) (d : Denotation) → as_routine d ≡ found → IsFound here d least → (name : Name)
+      (actuals : List Actual) → Does here least (Covers 0 (flat_map actual_places actuals)) (call_by found d name actuals) Anything
+  unfolding required_call
+  called_does None d same sound name actuals =
+      quietly (given_does (as_procedure name.place d)) λ procedure now _ _. write_does now name actuals procedure
+  called_does {least} (Some routine) d same sound name actuals =
+      declared_does routine.0 routine.1 name actuals (routine_is here least d routine same sound.0) sound.1
 
   call_does : (name : Name) (actuals : List Actual) → LawfulStatement (name.place ∷ flat_map actual_places actuals) (procedure_call name actuals)
   unfolding procedure_call
   call_does name actuals = record {
     passes = λ least.
         sited (λ sites. covers_skip 0 name.place (flat_map actual_places actuals) sites)
-        (quietly (find_does name) λ d _ _ _.
-        quietly (given_does (as_procedure name.place d)) λ procedure now _ _.
-        write_does now name actuals procedure);
+        (quietly (find_does name) λ d _ _ sound. called_does (as_routine d) d refl sound name actuals);
   }
 
   -- ---- compound statements
 
   pub compound_does : (places : List Place) (statements : List (Passing (Unit {0})))
-      → ((least : Reached) → Does variables least (Covers 0 places) (each (λ s. s) statements) Anything) → LawfulStatement places (compound statements)
+      → ((least : Reached) → Does here least (Covers 0 places) (each (λ s. s) statements) Anything) → LawfulStatement places (compound statements)
   unfolding compound
   compound_does places statements row = record {
     passes = λ least.
-        quietly (enter_does Compound (λ n. refl) (λ n. refl) (λ n m h. refl)) λ _ now _ _.
+        quietly (enter_does Compound (λ n. refl) (λ n. refl) (λ n. refl) (λ n. refl) (λ n m h. refl)) λ _ now _ _.
         last (row now) λ _ m _ _.
-        mark_does Ends refl refl (λ n h. refl);
+        mark_does Ends refl refl refl refl (λ n h. refl);
   }
 
   -- ---- branches
 
-  condition_does : (least : Reached) (places : List Place) (w : Written) → LawfulWritten variables places w
-      → Does variables least (Covers 0 places) (condition w) Anything
+  condition_does : (least : Reached) (places : List Place) (w : Written) → LawfulWritten here places w
+      → Does here least (Covers 0 places) (condition w) Anything
   unfolding condition
   condition_does least places w law = checks {L = Anything} (typed_does least places w None law tt) λ types t b n more is _. tt
 
@@ -302,24 +275,24 @@ module _ (variables : List Variable) where
   IsLawfulAlternative places (Some other) = LawfulStatement places other
 
   alternative_does : (least : Reached) (places : List Place) (other : Option (Passing (Unit {0}))) → IsLawfulAlternative places other
-      → Does variables least (Covers 0 places) (alternative other) Anything
+      → Does here least (Covers 0 places) (alternative other) Anything
   unfolding alternative
   alternative_does least places None law =
       sited (λ sites none. subst (Covers 0 places) (sym none) (covers_none 0 places)) (pure_does {K = Anything} tt (λ n h. tt))
-  alternative_does least places (Some other) law = quietly (mark_does Else refl refl (λ n h. refl)) λ _ now _ _. law.passes now
+  alternative_does least places (Some other) law = quietly (mark_does Else refl refl refl refl (λ n h. refl)) λ _ now _ _. law.passes now
 
-  tested_does : (least : Reached) (place : Place) (places : List Place) (w : Written) → LawfulWritten variables places w
-      → Does variables least (Covers 0 (place ∷ places)) (tested place w) Anything
+  tested_does : (least : Reached) (place : Place) (places : List Place) (w : Written) → LawfulWritten here places w
+      → Does here least (Covers 0 (place ∷ places)) (tested place w) Anything
   unfolding tested
   tested_does least place places w law =
       sited (λ sites. covers_skip 0 place places sites)
       (quietly (pass_does place) λ _ _ _ _.
-      quietly (enter_does If (λ n. refl) (λ n. refl) (λ n m h. refl)) λ _ now _ _.
+      quietly (enter_does If (λ n. refl) (λ n. refl) (λ n. refl) (λ n. refl) (λ n m h. refl)) λ _ now _ _.
       last (condition_does now places w law) λ _ _ _ _.
-      mark_does Then refl refl (λ n h. refl))
+      mark_does Then refl refl refl refl (λ n h. refl))
 
   choice_does : (place : Place) (tests first second : List Place) (w : Written) (consequence : Passing (Unit {0})) (other : Option (Passing (Unit {0})))
-      → LawfulWritten variables tests w → LawfulStatement first consequence → IsLawfulAlternative second other
+      → LawfulWritten here tests w → LawfulStatement first consequence → IsLawfulAlternative second other
       → LawfulStatement (place ∷ (tests ++ (first ++ second))) (choice place w consequence other)
   unfolding choice
   choice_does place tests first second w consequence other law one two = record {
@@ -327,76 +300,92 @@ module _ (variables : List Variable) where
         joins (covers_both 0 (place ∷ tests) (first ++ second)) (tested_does least place tests w law) λ _ there _ _.
         joins (covers_both 0 first second) (one.passes there) λ _ next _ _.
         last (alternative_does next second other two) λ _ _ _ _.
-        mark_does Ends refl refl (λ n h. refl);
+        mark_does Ends refl refl refl refl (λ n h. refl);
   }
 
   -- ---- loops
 
-  while_does : (place : Place) (tests inside : List Place) (w : Written) (body : Passing (Unit {0})) → LawfulWritten variables tests w
+  while_does : (place : Place) (tests inside : List Place) (w : Written) (body : Passing (Unit {0})) → LawfulWritten here tests w
       → LawfulStatement inside body → LawfulStatement (place ∷ (tests ++ inside)) (while_loop place w body)
   unfolding while_loop
   while_does place tests inside w body law one = record {
     passes = λ least.
         sited (λ sites. covers_skip 0 place (tests ++ inside) sites)
         (quietly (pass_does place) λ _ _ _ _.
-        quietly (enter_loop_does (λ n l. While n l place) (λ n l. refl) (λ n l. refl) (λ n l m h. refl)) λ _ now _ _.
+        quietly (enter_loop_does (λ n l. While n l place) (λ n l. refl) (λ n l. refl) (λ n l. refl) (λ n l. refl) (λ n l m h. refl)) λ _ now _ _.
         joins (covers_both 0 tests inside) (condition_does now tests w law) λ _ _ _ _.
-        quietly (mark_does Do refl refl (λ n h. refl)) λ _ there _ _.
+        quietly (mark_does Do refl refl refl refl (λ n h. refl)) λ _ there _ _.
         last (one.passes there) λ _ _ _ _.
-        mark_does Ends refl refl (λ n h. refl));
+        mark_does Ends refl refl refl refl (λ n h. refl));
   }
 
   repeat_does : (place : Place) (inside tests : List Place) (statements : List (Passing (Unit {0}))) (w : Written)
-      → ((least : Reached) → Does variables least (Covers 0 inside) (each (λ s. s) statements) Anything) → LawfulWritten variables tests w
+      → ((least : Reached) → Does here least (Covers 0 inside) (each (λ s. s) statements) Anything) → LawfulWritten here tests w
       → LawfulStatement (place ∷ (inside ++ tests)) (repeat_loop place statements w)
   unfolding repeat_loop
   repeat_does place inside tests statements w row law = record {
     passes = λ least.
         sited (λ sites. covers_skip 0 place (inside ++ tests) sites)
         (quietly (pass_does place) λ _ _ _ _.
-        quietly (enter_loop_does (λ n l. Repeat n l place) (λ n l. refl) (λ n l. refl) (λ n l m h. refl)) λ _ now _ _.
+        quietly (enter_loop_does (λ n l. Repeat n l place) (λ n l. refl) (λ n l. refl) (λ n l. refl) (λ n l. refl) (λ n l m h. refl)) λ _ now _ _.
         joins (covers_both 0 inside tests) (row now) λ _ _ _ _.
-        quietly (mark_does Until refl refl (λ n h. refl)) λ _ there _ _.
+        quietly (mark_does Until refl refl refl refl (λ n h. refl)) λ _ there _ _.
         last (condition_does there tests w law) λ _ _ _ _.
-        mark_does Ends refl refl (λ n h. refl));
+        mark_does Ends refl refl refl refl (λ n h. refl));
   }
 
   -- the test of a bound stands before its first token's own sites
-  bound_does : (least : Reached) (type_id : TypeId) (places : List Place) (w : Written) → LawfulWritten variables places w
-      → Does variables least (Covers 0 places) (bound type_id w) Anything
+  bound_does : (least : Reached) (type_id : TypeId) (places : List Place) (w : Written) → LawfulWritten here places w
+      → Does here least (Covers 0 places) (bound type_id w) Anything
   unfolding bound
   bound_does least type_id places w law =
-      joins (covers_test variables kind.Subrange (omega arith) (omega arith) places w law) (site_does kind.Subrange w.first) λ id there _ known.
-      last (checks_types {L = λ range n. IsWholeRange range} (law.types there None tt) λ types t range sites more lawful fits _.
+      joins (covers_test here kind.Subrange (omega arith) (omega arith) places w law) (site_does kind.Subrange w.first) λ id there _ known.
+      last (checks_types {L = λ range n. IsWholeRange range} (law.types there None tt) λ types t range n more same lawful fits _.
       fitting_whole w.first types lawful.whole type_id t range fits) λ range n more whole.
-      mark_does (Fits (record { site = id; range = range })) refl refl
+      mark_does (Fits (record { site = id; range = range })) refl refl refl refl
       (λ m h. both_true _ _ (lt_true id m.sites (omega (arith, known, more.sites, h.sites))) whole)
 
+  -- a variable of the variable declaration part of the block
+  local_formed : (root : ℕ) (now : Reached) (o : Outline) → IsFurther now (whole_of o) → is_local here.block (slice_get now.variables root) ≡ true
+      → is_declared o here.block is_local_kind root ≡ true
+  local_formed root now o more is = by (slice_get now.variables root) refl is
+    where
+      by : (found : Option Variable) → slice_get now.variables root ≡ found → is_local here.block found ≡ true
+          → is_declared o here.block is_local_kind root ≡ true
+      by None there h = absurd cc
+      by (Some v) there h =
+          ap (of_one (λ (one : Variable). nat_eq one.block here.block && is_local_kind one.kind)) (get_longer more.variables root v there) ∙ h
+
   for_head_does : (least : Reached) (place : Place) (name : Name) (firsts lasts : List Place) (first : Written) (d : SyntaxDirection) (end : Written)
-      → LawfulWritten variables firsts first → LawfulWritten variables lasts end
-      → Does variables least (Covers 0 (place ∷ name.place ∷ (firsts ++ lasts))) (for_head place name first d end) Anything
+      → LawfulWritten here firsts first → LawfulWritten here lasts end
+      → Does here least (Covers 0 (place ∷ name.place ∷ (firsts ++ lasts))) (for_head place name first d end) Anything
   unfolding for_head
   for_head_does least place name firsts lasts first d end one two =
       sited (λ sites has. covers_skip 0 place (name.place ∷ (firsts ++ lasts)) sites (covers_skip 0 name.place (firsts ++ lasts) sites has))
       (quietly (pass_does place) λ _ _ _ _.
       quietly (find_does name) λ denotation now _ sound.
       quietly (given_does (as_variable name.place denotation)) λ control there more is.
-      let found = variable_is variables now.types name.place denotation control is sound in
-      let led = leads_nowhere variables control.0 control.1 there found.0 (stands_longer more.types control.1 found.1) in
+      let found = variable_is here now name.place denotation control is sound.0 in
+      let led = leads_nowhere here control.0 control.1 now found sound.1 in
       quietly (by_types_does (λ types. fits (is_ordinal types control.1) name.place (tt {0}))) λ _ tests still fit.
       let ordinal = (fit_is (is_ordinal tests.types control.1) name.place (tt {0}) (tt {0}) fit.1).0 in
-      let seen = leads_later variables control.0 [] control.1 there tests still led in
-      quietly (may_change_does name.place control.0) λ _ _ further _.
-      quietly (enter_loop_does (λ n l. For n l place control.0 (way d)) (λ n l. refl) (λ n l. refl)
-      (λ n l m h. ordinal_formed variables control.0 [] control.1 tests m seen ordinal (further_still further h))) λ _ now _ _.
+      let seen = leads_later here control.0 [] control.1 now tests (further_still more still) led in
+      let found_there = variable_later here now tests control.0 control.1 (further_still more still) found in
+      quietly (may_change_does name.place control.0 control.1 found_there) λ _ changed further may.
+      controlled_does name.place control.0 (λ n l. For n l place control.0 (way d)) _ (λ n l. refl) (λ n l. refl) (λ n l. refl) (λ n l. refl)
+      (λ n l. refl) may
+      (λ known later local n l o h.
+      both_true _ _ (local_formed control.0 known o h local)
+      (ordinal_formed here control.0 [] control.1 tests o seen ordinal (further_still further (further_still later h))))
+      (λ now later.
       joins (covers_both 0 firsts lasts) (bound_does now control.1 firsts first one) λ _ next _ _.
       last (bound_does next control.1 lasts end two) λ _ _ _ _.
-      quietly (mark_does Do refl refl (λ n h. refl)) λ _ _ _ _.
-      pure_does control.0 (λ n h. tt))
+      quietly (mark_does Do refl refl refl refl (λ n h. refl)) λ _ _ _ _.
+      pure_does control.0 (λ n h. tt)))
 
   for_does : (place : Place) (name : Name) (firsts lasts inside : List Place) (first : Written) (d : SyntaxDirection) (end : Written)
       (body : Passing (Unit {0}))
-      → LawfulWritten variables firsts first → LawfulWritten variables lasts end → LawfulStatement inside body
+      → LawfulWritten here firsts first → LawfulWritten here lasts end → LawfulStatement inside body
       → LawfulStatement (place ∷ name.place ∷ (firsts ++ (lasts ++ inside))) (for_loop place name first d end body)
   unfolding for_body
   for_does place name firsts lasts inside first d end body one two three = record {
@@ -407,30 +396,31 @@ module _ (variables : List Variable) where
         quietly (begin_control_does control) λ _ now _ _.
         last (three.passes now) λ _ _ _ _.
         quietly end_control_does λ _ _ _ _.
-        mark_does Ends refl refl (λ n h. refl));
+        mark_does Ends refl refl refl refl (λ n h. refl));
   }
 
   -- ---- cases
 
-  case_head_does : (least : Reached) (place : Place) (places : List Place) (w : Written) → LawfulWritten variables places w
-      → Does variables least (Covers 0 (place ∷ places)) (case_head place w) Anything
+  case_head_does : (least : Reached) (place : Place) (places : List Place) (w : Written) → LawfulWritten here places w
+      → Does here least (Covers 0 (place ∷ places)) (case_head place w) Anything
   unfolding case_head
   case_head_does least place places w law =
-      led_covers variables 0 place places (kind.Case ∷ []) (omega arith, tt)
+      led_covers here 0 place places (kind.Case ∷ []) (omega arith, tt)
       (joins (leads_first 0 place (kind.Case ∷ []) places) (site_does kind.Case place) λ id there _ known.
-      quietly (enter_does (λ n. Case n id) (λ n. refl) (λ n. refl) (λ n m h. lt_true id m.sites (omega (arith, known, h.sites)))) λ _ now _ _.
+      quietly (enter_does (λ n. Case n id) (λ n. refl) (λ n. refl) (λ n. refl) (λ n. refl)
+      (λ n m h. lt_true id m.sites (omega (arith, known, h.sites)))) λ _ now _ _.
       checks {L = Anything} (typed_does now places w None law tt) λ types t b n more is _. tt)
 
   case_does : (place : Place) (tests inside : List Place) (w : Written) (arms : List (List Constant × Passing (Unit {0})))
-      → LawfulWritten variables tests w
-      → ((least : Reached) (type_id : TypeId) → Does variables least (Covers 0 inside) (case_arms type_id [] arms) Anything)
+      → LawfulWritten here tests w
+      → ((least : Reached) (type_id : TypeId) → Does here least (Covers 0 inside) (case_arms type_id [] arms) Anything)
       → LawfulStatement (place ∷ (tests ++ inside)) (case_statement place w arms)
   unfolding case_body
   case_does place tests inside w arms law row = record {
     passes = λ least.
         joins (covers_both 0 (place ∷ tests) inside) (case_head_does least place tests w law) λ type_id there _ _.
         last (row there type_id) λ _ _ _ _.
-        mark_does Ends refl refl (λ n h. refl);
+        mark_does Ends refl refl refl refl (λ n h. refl);
   }
 
   -- ---- every statement
@@ -455,7 +445,7 @@ module _ (variables : List Variable) where
   bare_row ys = map (λ (y : WithStmt). y.0) ys
 
   row_lawful : (ys : List WithStmt) (least : Reached)
-      → Does variables least (Covers 0 (joined_places (map stmt_places (bare_row ys)))) (each (λ s. s) (map statement (bare_row ys))) Anything
+      → Does here least (Covers 0 (joined_places (map stmt_places (bare_row ys)))) (each (λ s. s) (map statement (bare_row ys))) Anything
   row_lawful [] least = pure_does tt (λ n h. tt)
   row_lawful (y ∷ ys) least =
       joins (covers_both 0 (stmt_places y.0) (joined_places (map stmt_places (bare_row ys)))) (y.1.passes least) λ _ now _ _.
@@ -465,13 +455,13 @@ module _ (variables : List Variable) where
   arms_row rows ys = flat_map arm_places (arms_of rows (map stmt_places (bare_row ys)))
 
   arms_lawful : (rows : List (Vec Constant Global)) (ys : List WithStmt) (type_id : TypeId) (before : List ℤ) (least : Reached)
-      → Does variables least (Covers 0 (arms_row rows ys)) (case_arms type_id before (arms_of rows (map statement (bare_row ys)))) Anything
+      → Does here least (Covers 0 (arms_row rows ys)) (case_arms type_id before (arms_of rows (map statement (bare_row ys)))) Anything
   arms_lawful [] ys type_id before least = pure_does tt (λ n h. tt)
   arms_lawful (row ∷ rows) [] type_id before least = pure_does tt (λ n h. tt)
   arms_lawful (row ∷ rows) (y ∷ ys) type_id before least =
       sited behind_constants
-      (quietly (row_does variables type_id before [] row.items refl) λ values _ _ whole.
-      quietly (mark_does (Arm values) refl refl (λ n h. whole)) λ _ now _ _.
+      (quietly (row_does here type_id before [] row.items refl) λ values _ _ whole.
+      quietly (mark_does (Arm values) refl refl refl refl (λ n h. whole)) λ _ now _ _.
       joins (covers_both 0 (stmt_places y.0) (arms_row rows ys)) (y.1.passes now) λ _ there _ _.
       arms_lawful rows ys type_id (before ++ values) there)
     where
@@ -481,32 +471,33 @@ module _ (variables : List Variable) where
           (covers_behind 0 (flat_map constant_places row.items) (stmt_places y.0 ++ arms_row rows ys) sites has)
 
   statement_layer : (y : layer.Stmt-F WithStmt) → LawfulStmt (roll-Stmt (bare y))
-  statement_layer layer.Empty = from_layer layer.Empty (record { passes = λ least. enter_does Empty (λ n. refl) (λ n. refl) (λ n m h. refl) })
+  statement_layer layer.Empty =
+      from_layer layer.Empty (record { passes = λ least. enter_does Empty (λ n. refl) (λ n. refl) (λ n. refl) (λ n. refl) (λ n m h. refl) })
   statement_layer (layer.Assign name selectors indexes becomes value) =
       from_layer (layer.Assign name selectors indexes becomes value)
       (assignment_does name selectors.items (map expr_places indexes.items) (map expression indexes.items) becomes (expr_places value) (expression value)
-      (indexes_lawful variables indexes.items) (expression_lawful variables value))
+      (λ h. indexes_lawful h indexes.items) (expression_lawful here value))
   statement_layer (layer.Call name actuals) = from_layer (layer.Call name actuals) (call_does name actuals.items)
   statement_layer (layer.Compound statements) = from_layer (bare (layer.Compound statements)) (compound_does _ _ (row_lawful statements.items))
   statement_layer (layer.If place condition consequence None) =
       from_layer (bare (layer.If place condition consequence None))
-      (choice_does place (expr_places condition) _ [] (expression condition) _ None (expression_lawful variables condition) consequence.value.1 tt)
+      (choice_does place (expr_places condition) _ [] (expression condition) _ None (expression_lawful here condition) consequence.value.1 tt)
   statement_layer (layer.If place condition consequence (Some other)) =
       from_layer (bare (layer.If place condition consequence (Some other)))
-      (choice_does place (expr_places condition) _ _ (expression condition) _ _ (expression_lawful variables condition) consequence.value.1 other.value.1)
+      (choice_does place (expr_places condition) _ _ (expression condition) _ _ (expression_lawful here condition) consequence.value.1 other.value.1)
   statement_layer (layer.While place condition body) =
       from_layer (bare (layer.While place condition body))
-      (while_does place (expr_places condition) _ (expression condition) _ (expression_lawful variables condition) body.value.1)
+      (while_does place (expr_places condition) _ (expression condition) _ (expression_lawful here condition) body.value.1)
   statement_layer (layer.Repeat place statements condition) =
       from_layer (bare (layer.Repeat place statements condition))
-      (repeat_does place _ (expr_places condition) _ (expression condition) (row_lawful statements.items) (expression_lawful variables condition))
+      (repeat_does place _ (expr_places condition) _ (expression condition) (row_lawful statements.items) (expression_lawful here condition))
   statement_layer (layer.For place name first d end body) =
       from_layer (bare (layer.For place name first d end body))
-      (for_does place name (expr_places first) (expr_places end) _ (expression first) d (expression end) _ (expression_lawful variables first)
-      (expression_lawful variables end) body.value.1)
+      (for_does place name (expr_places first) (expr_places end) _ (expression first) d (expression end) _ (expression_lawful here first)
+      (expression_lawful here end) body.value.1)
   statement_layer (layer.Case place index constants arms semicolon) =
       from_layer (bare (layer.Case place index constants arms semicolon))
-      (case_does place (expr_places index) _ (expression index) _ (expression_lawful variables index)
+      (case_does place (expr_places index) _ (expression index) _ (expression_lawful here index)
       (λ least type_id. arms_lawful constants.items arms.items type_id [] least))
 
   -- every statement
@@ -514,7 +505,7 @@ module _ (variables : List Variable) where
   statement_lawful = ind-Stmt LawfulStmt (λ x y is. subst (λ z. LawfulStmt (roll-Stmt z)) is (statement_layer y))
 
   pub statements_lawful : (ws : List Stmt) (least : Reached)
-      → Does variables least (Covers 0 (flat_map stmt_places ws)) (each (λ s. s) (map statement ws)) Anything
+      → Does here least (Covers 0 (flat_map stmt_places ws)) (each (λ s. s) (map statement ws)) Anything
   statements_lawful [] least = pure_does tt (λ n h. tt)
   statements_lawful (w ∷ ws) least =
       joins (covers_both 0 (stmt_places w) (flat_map stmt_places ws)) ((statement_lawful w).passes least) λ _ now _ _.

@@ -1,9 +1,9 @@
 -- What the steps of typing do, and what they do one after another.
-use Rattle.std.proofs.Common.{◌≡◌, ℕ, ◌+◌, ◌-◌, ◌<◌, Bool, true, false, nat_eq, nat_le, take, Result, List, [], ◌∷◌, ◌++◌, length, Option, Some, None, Ok}
-use Rattle.std.proofs.Common.{Err, if◌then◌else◌, get_or}
-use Rattle.std.proofs.Common.{append-nil, length-append, refl, sym, ap, subst, ◌∙◌, arith}
+use Rattle.std.proofs.Common.{◌≡◌, ℕ, ◌+◌, ◌-◌, ◌<◌, Bool, true, false, nat_eq, nat_le, take, Result, List, [], ◌∷◌, ◌++◌, length, Option, Some, None, Ok, Err}
+use Rattle.std.proofs.Common.{if◌then◌else◌, get_or, slice_get, ◌&&◌, not, append-nil, length-append, refl, sym, ap, subst, ◌∙◌, arith, ◌||◌, inl}
 use Rattle.std.specs.List.{range_with_len, list_any}
 use Rattle.std.proofs.lemmas.Bool.Decides.{nat_tests}
+use Rattle.std.proofs.lemmas.Bool.{eq-eqb}
 use Rattle.place.specs.declared.Place.{Place}
 use Rattle.syntax_tree.specs.declared.Name.{Name}
 use Rattle.types.specs.Forms.{Form}
@@ -17,26 +17,31 @@ use Rattle.typed_tree.specs.declared.fault.TypeFault.{TypeFault}
 use Rattle.typed_tree.specs.declared.fault.TypeFault.TheVariants as fault
 use Rattle.typed_tree.specs.declared.site.SiteKind.{SiteKind}
 use Rattle.typed_tree.specs.Ids.{Stands}
-use Rattle.typed_tree.specs.WellFormed.{are_characters}
-use Rattle.typed_tree.specs.Look.{Mark, Look, mark_entries, mark_loops, is_formed_mark}
+use Rattle.typed_tree.specs.WellFormed.{Outline, are_characters, is_local_kind}
+use Rattle.typed_tree.specs.Look.{For, Mark, Look, mark_entries, mark_loops, mark_blocks, is_formed_mark}
 use Rattle.typing.specs.Passing.{Passed, Checked, After, Passing, and_then, after, pure, fail, given, by_types, mark, behind_marks, ◌>>=◌, ◌>>?◌}
 use Rattle.typing.specs.Steps.{most_sites, most_entries, pass, enter, enter_as, number_loop, begin_loop, enter_loop, site, find, told, may_change}
-use Rattle.typing.specs.Steps.{begin_control, end_control, wants_output, host_type, text_at, keep_text}
+use Rattle.typing.specs.Steps.{begin_control, end_control, wants_output, host_type, text_at, keep_text, is_own, is_local, may_control, with_one}
+use Rattle.typing.specs.Steps.{with_threatened, assign_result, enclosing_now, heading_at, variable_at, program_heading}
 use Rattle.typing.specs.Expressions.{behind}
 use Rattle.typing.specs.Names.{folded}
-use Rattle.typing_laws.proofs.Sound.{IsSound, found_holds}
-use Rattle.typing_laws.proofs.Tables.{IsLonger, AreLawful, AreTexts, as_long, texts_more}
 use Rattle.typing_laws.proofs.Covers.{at_place}
-use Rattle.typing_laws.proofs.Grown.{Reached, IsFurther, Fine, Grown, reached, as_far, further, further_still, fine_later, grown_then, both_true}
+use Rattle.typing_laws.proofs.Grown.{heads_of, FitsHeading, Fine, Grown, further, fine_later, grown_then, both_true, IsFree}
+use Rattle.typing_laws.proofs.Reached.{IsLonger, as_long, get_longer, get_mapped, get_or_is, Signature, signature_passed, Reached, reached, whole_of, IsFurther}
+use Rattle.typing_laws.proofs.Reached.{as_far, further_still, Here, StandsIn}
+use Rattle.typing_laws.proofs.Sound.{IsSound, found_holds, IsVariable, or_right}
+use Rattle.typing_laws.proofs.Tables.{AreLawful, AreTexts, texts_more}
+use Rattle.typing_laws.specs.Controls.{Each, mark_changes, mark_controls}
+use Rattle.typing_laws.proofs.Kept.{MayChange, change_later}
 
 -- a form has grown what is known, and its answer has this
-abbrev pub Leaves : {A : Type 0} → List Variable → (List Stands → Type 0) → Passed → (A → Reached → Type 0) → After A → Type 0
-Leaves variables Has s Answers a = Grown variables Has a.look s a.passed × Answers a.answer (reached a.passed)
+abbrev pub Leaves : {A : Type 0} → Here → (List Stands → Type 0) → Passed → (A → Reached → Type 0) → After A → Type 0
+Leaves here Has s Answers a = Grown here Has a.look s a.passed × Answers a.answer (reached a.passed)
 
 -- from at least so far on, its answer has this with as many sites and types as there are then
-pub record Does (variables : List Variable) (least : Reached) {A : Type 0} (Has : List Stands → Type 0) (p : Passing A)
+pub record Does (here : Here) (least : Reached) {A : Type 0} (Has : List Stands → Type 0) (p : Passing A)
     (Answers : A → Reached → Type 0) : Type 0 where
-  pub does : (s : Passed) (a : After A) → p s ≡ Ok a → Fine variables s → IsFurther least (reached s) → Leaves variables Has s Answers a
+  pub does : (s : Passed) (a : After A) → p s ≡ Ok a → Fine here s → IsFurther least (reached s) → Leaves here Has s Answers a
 
 abbrev pub Anything : {A : Type 0} → A → Reached → Type 0
 Anything answer now = Unit {0}
@@ -69,76 +74,78 @@ below a b h = grind (arith, nat_tests)
 
 -- ---- one after another
 
-pub joins : {variables : List Variable} {least : Reached} {A B : Type 0} {First Second Both : List Stands → Type 0} {p : Passing A} {f : A → Passing B}
+pub joins : {here : Here} {least : Reached} {A B : Type 0} {First Second Both : List Stands → Type 0} {p : Passing A} {f : A → Passing B}
     {K : A → Reached → Type 0} {L : B → Reached → Type 0}
-    → ((a b : List Stands) → First a → Second b → Both (a ++ b)) → Does variables least First p K
-    → ((x : A) (now : Reached) → IsFurther least now → K x now → Does variables now Second (f x) L) → Does variables least Both (p >>= f) L
-joins {variables} {least} {A} {B} {First} {Second} {Both} {p} {f} {K} {L} joined first rest = record {
+    → ((a b : List Stands) → First a → Second b → Both (a ++ b)) → Does here least First p K
+    → ((x : A) (now : Reached) → IsFurther least now → K x now → Does here now Second (f x) L) → Does here least Both (p >>= f) L
+joins {here} {least} {A} {B} {First} {Second} {Both} {p} {f} {K} {L} joined first rest = record {
   does = λ s b is fine h.
       let x = split (p s) (λ a. behind_marks a.look (f a.answer a.passed)) b is in
       let y = split_behind x.0.look (f x.0.answer x.0.passed) b x.2 in
       let one = first.does s x.0 x.1 fine h in
       let now : IsFurther least (reached x.0.passed) = further_still h (further one.0) in
       let two = (rest x.0.answer (reached x.0.passed) now one.1).does x.0.passed y.0 y.1 (fine_later one.0 fine) as_far in
-      subst (Leaves variables Both s L) y.2 (grown_then joined one.0 two.0, two.1);
+      subst (Leaves here Both s L) y.2 (grown_then joined one.0 two.0, two.1);
 }
 
 -- a step that adds no site, and then others
-pub quietly : {variables : List Variable} {least : Reached} {A B : Type 0} {Has : List Stands → Type 0} {p : Passing A} {f : A → Passing B}
+pub quietly : {here : Here} {least : Reached} {A B : Type 0} {Has : List Stands → Type 0} {p : Passing A} {f : A → Passing B}
     {K : A → Reached → Type 0} {L : B → Reached → Type 0}
-    → Does variables least Nothing p K
-    → ((x : A) (now : Reached) → IsFurther least now → K x now → Does variables now Has (f x) L) → Does variables least Has (p >>= f) L
+    → Does here least Nothing p K
+    → ((x : A) (now : Reached) → IsFurther least now → K x now → Does here now Has (f x) L) → Does here least Has (p >>= f) L
 quietly {Has = Has} first rest = joins (λ a b none has. subst (λ l. Has (l ++ b)) (sym none) has) first rest
 
 -- a step, and then others that add no site
-pub last : {variables : List Variable} {least : Reached} {A B : Type 0} {Has : List Stands → Type 0} {p : Passing A} {f : A → Passing B}
+pub last : {here : Here} {least : Reached} {A B : Type 0} {Has : List Stands → Type 0} {p : Passing A} {f : A → Passing B}
     {K : A → Reached → Type 0} {L : B → Reached → Type 0}
-    → Does variables least Has p K
-    → ((x : A) (now : Reached) → IsFurther least now → K x now → Does variables now Nothing (f x) L) → Does variables least Has (p >>= f) L
+    → Does here least Has p K
+    → ((x : A) (now : Reached) → IsFurther least now → K x now → Does here now Nothing (f x) L) → Does here least Has (p >>= f) L
 last {Has = Has} first rest = joins (λ a b has none. subst Has (sym (append-nil a) ∙ ap (λ l. a ++ l) (sym none)) has) first rest
 
 -- a form, and then a test of what it is, by the table of types
-pub checks_types : {variables : List Variable} {least : Reached} {A B : Type 0} {Has : List Stands → Type 0} {p : Passing A} {test : List Form → A → Checked B}
+pub checks_types : {here : Here} {least : Reached} {A B : Type 0} {Has : List Stands → Type 0} {p : Passing A} {test : List Form → A → Checked B}
     {K : A → Reached → Type 0} {L : B → Reached → Type 0}
-    → Does variables least Has p K
-    → ((types : List Form) (x : A) (b : B) (sites : ℕ) → IsFurther least (record { sites = sites; types = types }) → AreLawful types → test types x ≡ Ok b
-    → K x (record { sites = sites; types = types }) → L b (record { sites = sites; types = types }))
-    → Does variables least Has (p >>? test) L
-checks_types {variables} {least} {A} {B} {Has} {p} {test} {K} {L} first fits = record {
+    → Does here least Has p K
+    → ((types : List Form) (x : A) (b : B) (now : Reached) → IsFurther least now → now.types ≡ types → AreLawful types → test types x ≡ Ok b
+    → K x now → L b now)
+    → Does here least Has (p >>? test) L
+checks_types {here} {least} {A} {B} {Has} {p} {test} {K} {L} first fits = record {
   does = λ s b is fine h.
       let x = split (p s) (λ a. and_then (test a.passed.types a.answer) (λ b. Ok (after b a.look a.passed))) b is in
       let y = split (test x.0.passed.types x.0.answer) (λ b. Ok (after b x.0.look x.0.passed)) b x.2 in
       let one = first.does s x.0 x.1 fine h in
       let same : after y.0 x.0.look x.0.passed ≡ b = cc in
-      subst (Leaves variables Has s L) same
-      (one.0, fits x.0.passed.types x.0.answer y.0 (length x.0.passed.sites) (further_still h (further one.0)) one.0.lawful y.1 one.1);
+      subst (Leaves here Has s L) same
+      (one.0, fits x.0.passed.types x.0.answer y.0 (reached x.0.passed) (further_still h (further one.0)) refl one.0.lawful y.1 one.1);
 }
 
 -- whatever they are
-pub checks : {variables : List Variable} {least : Reached} {A B : Type 0} {Has : List Stands → Type 0} {p : Passing A} {test : List Form → A → Checked B}
+pub checks : {here : Here} {least : Reached} {A B : Type 0} {Has : List Stands → Type 0} {p : Passing A} {test : List Form → A → Checked B}
     {K : A → Reached → Type 0} {L : B → Reached → Type 0}
-    → Does variables least Has p K
+    → Does here least Has p K
     → ((types : List Form) (x : A) (b : B) (now : Reached) → IsFurther least now → test types x ≡ Ok b → K x now → L b now)
-    → Does variables least Has (p >>? test) L
-checks first fits = checks_types first (λ types x b sites later lawful. fits types x b (record { sites = sites; types = types }) later)
+    → Does here least Has (p >>? test) L
+checks first fits = checks_types first (λ types x b now later same lawful. fits types x b now later)
 
 -- the same, with something else that holds of its sites
-pub sited : {variables : List Variable} {least : Reached} {A : Type 0} {Has Had : List Stands → Type 0} {p : Passing A} {K : A → Reached → Type 0}
+pub sited : {here : Here} {least : Reached} {A : Type 0} {Has Had : List Stands → Type 0} {p : Passing A} {K : A → Reached → Type 0}
     → ((a : List Stands) → Has a → Had a)
-    → Does variables least Has p K → Does variables least Had p K
-sited {variables} {Has = Has} {Had = Had} has d = record {
+    → Does here least Has p K → Does here least Had p K
+sited {here} {Has = Has} {Had = Had} has d = record {
   does = λ s a is fine h.
       let k = d.does s a is fine h in
       (otherwise k.0, k.1);
 }
   where
-    otherwise : {look : Look} {old new : Passed} → Grown variables Has look old new → Grown variables Had look old new
+    otherwise : {look : Look} {old new : Passed} → Grown here Has look old new → Grown here Had look old new
     otherwise g = record {
       regions = g.regions;
       longer = g.longer;
       lawful = g.lawful;
       texts = g.texts;
       variables_kept = g.variables_kept;
+      headings_kept = g.headings_kept;
+      enclosing_kept = g.enclosing_kept;
       added = g.added;
       sites = g.sites;
       covered = has g.added g.covered;
@@ -148,22 +155,51 @@ sited {variables} {Has = Has} {Had = Had} has d = record {
       few_entries = g.few_entries;
       looped = g.looped;
       begun = g.begun;
+      inner = g.inner;
+      threats = g.threats;
+      assigns = g.assigns;
+      assigned = g.assigned;
+      changes = g.changes;
+      controls = g.controls;
       formed = g.formed;
     }
+
+-- the same, with something else that holds of its answer
+pub answered : {here : Here} {least : Reached} {A : Type 0} {Has : List Stands → Type 0} {p : Passing A} {K L : A → Reached → Type 0}
+    → ((x : A) (now : Reached) → K x now → L x now)
+    → Does here least Has p K → Does here least Has p L
+answered other d = record {
+  does = λ s a is fine h.
+      let k = d.does s a is fine h in
+      (k.0, other a.answer (reached a.passed) k.1);
+}
+
+-- and what has come so far
+pub further_answered : {here : Here} {least : Reached} {A : Type 0} {Has : List Stands → Type 0} {p : Passing A} {K L : A → Reached → Type 0}
+    → Does here least Has p K → ((x : A) (now : Reached) → IsFurther least now → K x now → L x now) → Does here least Has p L
+further_answered d other = record {
+  does = λ s a is fine h.
+      let k = d.does s a is fine h in
+      (k.0, other a.answer (reached a.passed) (further_still h (further k.0)) k.1);
+}
 
 -- ---- steps that add no site
 
 -- what is known is the same, but for the latest token
-pub grown_silent : (variables : List Variable) (s new : Passed) → new.regions ≡ s.regions → new.types ≡ s.types → new.texts ≡ s.texts
-    → new.variables ≡ s.variables → new.sites ≡ s.sites
-    → new.entries ≡ s.entries → new.loops ≡ s.loops → Fine variables s
-    → Grown variables Nothing [] s new
-grown_silent variables s new regions types texts declared sites entries loops fine = record {
+pub grown_silent : (here : Here) (s new : Passed) → new.regions ≡ s.regions → new.types ≡ s.types → new.texts ≡ s.texts
+    → new.variables ≡ s.variables → new.headings ≡ s.headings → new.enclosing ≡ s.enclosing → new.sites ≡ s.sites
+    → new.entries ≡ s.entries → new.loops ≡ s.loops
+    → ((root : ℕ) → list_any (nat_eq root) s.threatened ≡ true → list_any (nat_eq root) new.threatened ≡ true)
+    → new.assigned ≡ s.assigned → Fine here s
+    → Grown here Nothing [] s new
+grown_silent here s new regions types texts declared headings enclosing sites entries loops threats assigned fine = record {
   regions = regions;
   longer = subst (IsLonger s.types) (sym types) as_long;
   lawful = subst AreLawful (sym types) fine.lawful;
   texts = subst AreTexts (sym texts) fine.texts;
   variables_kept = declared;
+  headings_kept = headings;
+  enclosing_kept = enclosing;
   added = [];
   sites = sites ∙ sym (append-nil s.sites);
   covered = refl;
@@ -173,91 +209,109 @@ grown_silent variables s new regions types texts declared sites entries loops fi
   few_entries = omega (arith, entries, fine.few_entries);
   looped = refl;
   begun = omega (arith, loops);
-  formed = λ n h. refl;
+  inner = refl;
+  threats = threats;
+  assigns = λ root is. ap (list_any (nat_eq root)) assigned ∙ is;
+  assigned = λ settled root is. inl (ap (list_any (nat_eq root)) (sym assigned) ∙ is);
+  changes = tt;
+  controls = tt;
+  formed = λ o h. refl;
 }
 
-pub pass_does : {variables : List Variable} {least : Reached} (place : Place) → Does variables least Nothing (pass place) Anything
+pub pass_does : {here : Here} {least : Reached} (place : Place) → Does here least Nothing (pass place) Anything
 unfolding pass
-pass_does {variables} place = record {
+pass_does {here} place = record {
   does = λ s a is fine h.
       let same : after tt [] (record s { latest = place }) ≡ a = cc in
-      subst (Leaves variables Nothing s Anything) same (grown_silent variables s (record s { latest = place }) refl refl refl refl refl refl refl fine, tt);
+      subst (Leaves here Nothing s Anything) same
+      (grown_silent here s (record s { latest = place }) refl refl refl refl refl refl refl refl refl (λ root is. is) refl fine, tt);
 }
 
-pub pure_does : {variables : List Variable} {least : Reached} {A : Type 0} {K : A → Reached → Type 0} (x : A)
-    → ((now : Reached) → IsFurther least now → K x now) → Does variables least Nothing (pure x) K
-pure_does {variables} {least} {A} {K} x known = record {
+pub pure_does : {here : Here} {least : Reached} {A : Type 0} {K : A → Reached → Type 0} (x : A)
+    → ((now : Reached) → IsFurther least now → K x now) → Does here least Nothing (pure x) K
+pure_does {here} {least} {A} {K} x known = record {
   does = λ s a is fine h.
       let same : after x [] s ≡ a = cc in
-      subst (Leaves variables Nothing s K) same (grown_silent variables s s refl refl refl refl refl refl refl fine, known (reached s) h);
+      subst (Leaves here Nothing s K) same (grown_silent here s s refl refl refl refl refl refl refl refl refl (λ root is. is) refl fine, known (reached s) h);
 }
 
-pub given_does : {variables : List Variable} {least : Reached} {A : Type 0} (checked : Checked A)
-    → Does variables least Nothing (given checked) (λ x now. checked ≡ Ok x)
-given_does {variables} {least} {A} checked = record {
+pub given_does : {here : Here} {least : Reached} {A : Type 0} (checked : Checked A)
+    → Does here least Nothing (given checked) (λ x now. checked ≡ Ok x)
+given_does {here} {least} {A} checked = record {
   does = λ s a is fine h.
       let x = split checked (λ b. Ok (after b [] s)) a is in
       let same : after x.0 [] s ≡ a = cc in
-      subst (Leaves variables Nothing s (λ x now. checked ≡ Ok x)) same (grown_silent variables s s refl refl refl refl refl refl refl fine, x.1);
+      subst (Leaves here Nothing s (λ x now. checked ≡ Ok x)) same
+      (grown_silent here s s refl refl refl refl refl refl refl refl refl (λ root is. is) refl fine, x.1);
 }
 
-pub by_types_does : {variables : List Variable} {least : Reached} {A : Type 0} (test : List Form → Checked A)
-    → Does variables least Nothing (by_types test) (λ x now. AreLawful now.types × (test now.types ≡ Ok x))
-by_types_does {variables} {least} {A} test = record {
+pub by_types_does : {here : Here} {least : Reached} {A : Type 0} (test : List Form → Checked A)
+    → Does here least Nothing (by_types test) (λ x now. AreLawful now.types × (test now.types ≡ Ok x))
+by_types_does {here} {least} {A} test = record {
   does = λ s a is fine h.
       let x = split (test s.types) (λ b. Ok (after b [] s)) a is in
       let same : after x.0 [] s ≡ a = cc in
-      subst (Leaves variables Nothing s (λ x now. AreLawful now.types × (test now.types ≡ Ok x))) same
-      (grown_silent variables s s refl refl refl refl refl refl refl fine, (fine.lawful, x.1));
+      subst (Leaves here Nothing s (λ x now. AreLawful now.types × (test now.types ≡ Ok x))) same
+      (grown_silent here s s refl refl refl refl refl refl refl refl refl (λ root is. is) refl fine, (fine.lawful, x.1));
 }
 
-pub fail_does : {variables : List Variable} {least : Reached} {A : Type 0} {Has : List Stands → Type 0} {K : A → Reached → Type 0} (why : TypeFault)
-    → Does variables least Has (fail {A = A} why) K
+pub fail_does : {here : Here} {least : Reached} {A : Type 0} {Has : List Stands → Type 0} {K : A → Reached → Type 0} (why : TypeFault)
+    → Does here least Has (fail {A = A} why) K
 fail_does why = record { does = λ s a is fine h. absurd cc }
 
+-- what is denoted in a block is sound there
+abbrev pub IsSoundThen : Here → Denotation → Reached → Type 0
+IsSoundThen here denotation now = IsSound here now.variables now.types (heads_of now) denotation
+
+abbrev pub IsFound : Here → Denotation → Reached → Type 0
+IsFound here denotation now = IsSoundThen here denotation now × StandsIn here now
+
 -- a name denotes what is sound
-pub find_does : {variables : List Variable} {least : Reached} (name : Name)
-    → Does variables least Nothing (find name) (λ denotation now. IsSound variables now.types denotation)
+pub find_does : {here : Here} {least : Reached} (name : Name)
+    → Does here least Nothing (find name) (λ denotation now. IsFound here denotation now)
 unfolding find
-find_does {variables} name = record {
+find_does {here} name = record {
   does = λ s a is fine h.
       let text = folded name.text.now in
       let x = split (told name.place (found s.regions text)) (λ denotation. Ok (after denotation [] (record s { latest = name.place }))) a is in
       let same : after x.0 [] (record s { latest = name.place }) ≡ a = cc in
-      let there = found_holds (IsSound variables s.types) s.regions text x.0 fine.sound (by (found s.regions text) x.0 x.1) in
-      subst (Leaves variables Nothing s (λ denotation now. IsSound variables now.types denotation)) same
-      (grown_silent variables s (record s { latest = name.place }) refl refl refl refl refl refl refl fine, there);
+      let there = found_holds (IsSound here s.variables s.types (heads_of (reached s))) s.regions text x.0 fine.sound (by (found s.regions text) x.0 x.1) in
+      subst (Leaves here Nothing s (λ denotation now. IsFound here denotation now)) same
+      (grown_silent here s (record s { latest = name.place }) refl refl refl refl refl refl refl refl refl (λ root is. is) refl fine, (there, fine.stands));
 }
   where
     by : (r : Result Denotation ScopeFault) (d : Denotation) → told name.place r ≡ Ok d → r ≡ Ok d
     by (Ok d) e is = let same : d ≡ e = cc in ap Ok same
     by (Err why) e is = absurd cc
 
-pub wants_output_does : {variables : List Variable} {least : Reached} (place : Place) → Does variables least Nothing (wants_output place) Anything
+pub wants_output_does : {here : Here} {least : Reached} (place : Place) → Does here least Nothing (wants_output place) Anything
 unfolding wants_output
-wants_output_does {variables} place = record {
+wants_output_does {here} place = record {
   does = λ s a is fine h.
       let x = split_if s.has_output (fault.NotProgramParameter place) (after tt [] s) a is in
-      subst (Leaves variables Nothing s Anything) x.1 (grown_silent variables s s refl refl refl refl refl refl refl fine, tt);
+      subst (Leaves here Nothing s Anything) x.1 (grown_silent here s s refl refl refl refl refl refl refl refl refl (λ root is. is) refl fine, tt);
 }
 
 -- ---- marks
 
 -- no entry, but well formed
-pub mark_does : {variables : List Variable} {least : Reached} (one : Mark) → mark_entries one ≡ [] → mark_loops one ≡ []
-    → ((n : Reached) → IsFurther least n → is_formed_mark variables n.types n.sites one ≡ true)
-    → Does variables least Nothing (mark one) Anything
-mark_does {variables} {least} one none no_loop formed = record {
+marked_does : {here : Here} {least : Reached} (one : Mark) → mark_entries one ≡ [] → mark_loops one ≡ [] → mark_blocks one ≡ []
+    → ((now : Reached) → IsFurther least now → Each (MayChange here now) (mark_changes one ++ [])) → mark_controls one ≡ []
+    → ((o : Outline) → IsFurther least (whole_of o) → is_formed_mark o here.block one ≡ true)
+    → Does here least Nothing (mark one) Anything
+marked_does {here} {least} one none no_loop no_block changes no_control formed = record {
   does = λ s a is fine h.
       let same : after tt (one ∷ []) s ≡ a = cc in
       let counted : length (mark_entries one ++ []) ≡ 0 = ap (λ (l : List ℕ). length (l ++ [])) none in
       let loops_counted : length (mark_loops one ++ []) ≡ 0 = ap (λ (l : List ℕ). length (l ++ [])) no_loop in
-      let g : Grown variables Nothing (one ∷ []) s s = record {
+      let g : Grown here Nothing (one ∷ []) s s = record {
         regions = refl;
         longer = as_long;
         lawful = fine.lawful;
         texts = fine.texts;
         variables_kept = refl;
+        headings_kept = refl;
+        enclosing_kept = refl;
         added = [];
         sites = sym (append-nil s.sites);
         covered = refl;
@@ -267,18 +321,44 @@ mark_does {variables} {least} one none no_loop formed = record {
         few_entries = fine.few_entries;
         looped = subst (λ (l : List ℕ). l ++ [] ≡ range_with_len s.loops (length (l ++ []))) (sym no_loop) refl;
         begun = omega (arith, loops_counted);
-        formed = λ n more. both_true _ true (formed n (further_still h more)) refl;
+        inner = ap (λ l. l ++ []) no_block;
+        threats = λ root is. is;
+        assigns = λ root is. is;
+        assigned = λ settled root is. inl is;
+        changes = changes (reached s) h;
+        controls = subst (λ (l : List ℕ). Each (IsFree here s s) (l ++ [])) (sym no_control) tt;
+        formed = λ o more. both_true _ true (formed o (further_still h more)) refl;
       } in
-      subst (Leaves variables Nothing s Anything) same (g, tt);
+      subst (Leaves here Nothing s Anything) same (g, tt);
 }
 
+-- what changes nothing controls nothing
+no_control : (one : Mark) → mark_changes one ≡ [] → mark_controls one ≡ []
+no_control (For number loop_number place control direction) none = absurd cc
+no_control other none = refl
+
+pub mark_does : {here : Here} {least : Reached} (one : Mark) → mark_entries one ≡ [] → mark_loops one ≡ [] → mark_blocks one ≡ []
+    → mark_changes one ≡ [] → ((o : Outline) → IsFurther least (whole_of o) → is_formed_mark o here.block one ≡ true)
+    → Does here least Nothing (mark one) Anything
+mark_does {here} one none no_loop no_block no_change formed =
+    marked_does one none no_loop no_block (λ now more. subst (λ (l : List ℕ). Each (MayChange here now) (l ++ [])) (sym no_change) tt)
+    (no_control one no_change) formed
+
+-- one that changes a variable
+pub change_does : {here : Here} {least : Reached} (one : Mark) (root : ℕ) → mark_entries one ≡ [] → mark_loops one ≡ [] → mark_blocks one ≡ []
+    → mark_changes one ≡ root ∷ [] → mark_controls one ≡ [] → MayChange here least root
+    → ((o : Outline) → IsFurther least (whole_of o) → is_formed_mark o here.block one ≡ true) → Does here least Nothing (mark one) Anything
+change_does {here} {least} one root none no_loop no_block change no_control may formed =
+    marked_does one none no_loop no_block
+    (λ now more. subst (λ (l : List ℕ). Each (MayChange here now) (l ++ [])) (sym change) (change_later here least now root more may, tt)) no_control formed
+
 -- an entry, with the next number
-pub enter_does : {variables : List Variable} {least : Reached} (marked : ℕ → Mark) → ((k : ℕ) → mark_entries (marked k) ≡ k ∷ [])
-    → ((k : ℕ) → mark_loops (marked k) ≡ [])
-    → ((k : ℕ) (n : Reached) → IsFurther least n → is_formed_mark variables n.types n.sites (marked k) ≡ true)
-    → Does variables least Nothing (enter_as marked) Anything
+pub enter_does : {here : Here} {least : Reached} (marked : ℕ → Mark) → ((k : ℕ) → mark_entries (marked k) ≡ k ∷ [])
+    → ((k : ℕ) → mark_loops (marked k) ≡ []) → ((k : ℕ) → mark_blocks (marked k) ≡ []) → ((k : ℕ) → mark_changes (marked k) ≡ [])
+    → ((k : ℕ) (o : Outline) → IsFurther least (whole_of o) → is_formed_mark o here.block (marked k) ≡ true)
+    → Does here least Nothing (enter_as marked) Anything
 unfolding enter
-enter_does {variables} {least} marked one no_loop formed = record {
+enter_does {here} {least} marked one no_loop no_block no_change formed = record {
   does = λ s a is fine h.
       let x = split (if nat_le most_entries s.entries then Err (fault.TooMany s.latest) else Ok (after s.entries [] (record s { entries = s.entries + 1 })))
       (λ b. behind_marks b.look (mark (marked b.answer) b.passed)) a is in
@@ -288,12 +368,14 @@ enter_does {variables} {least} marked one no_loop formed = record {
       let same : after tt (marked s.entries ∷ []) new ≡ a = by x.0 a y.1 x.2 in
       let counted : length (mark_entries (marked number) ++ []) ≡ 1 = ap (λ (l : List ℕ). length (l ++ [])) (one number) in
       let loops_counted : length (mark_loops (marked number) ++ []) ≡ 0 = ap (λ (l : List ℕ). length (l ++ [])) (no_loop number) in
-      let g : Grown variables Nothing (marked number ∷ []) s new = record {
+      let g : Grown here Nothing (marked number ∷ []) s new = record {
         regions = refl;
         longer = as_long;
         lawful = fine.lawful;
         texts = fine.texts;
         variables_kept = refl;
+        headings_kept = refl;
+        enclosing_kept = refl;
         added = [];
         sites = sym (append-nil s.sites);
         covered = refl;
@@ -303,9 +385,15 @@ enter_does {variables} {least} marked one no_loop formed = record {
         few_entries = omega (arith, below most_entries s.entries y.0);
         looped = subst (λ (l : List ℕ). l ++ [] ≡ range_with_len s.loops (length (l ++ []))) (sym (no_loop number)) refl;
         begun = omega (arith, loops_counted);
-        formed = λ n more. both_true _ true (formed number n (further_still h more)) refl;
+        inner = ap (λ l. l ++ []) (no_block number);
+        threats = λ root is. is;
+        assigns = λ root is. is;
+        assigned = λ settled root is. inl is;
+        changes = subst (λ (l : List ℕ). Each (MayChange here (reached new)) (l ++ [])) (sym (no_change number)) tt;
+        controls = subst (λ (l : List ℕ). Each (IsFree here s new) (l ++ [])) (sym (no_control (marked number) (no_change number))) tt;
+        formed = λ o more. both_true _ true (formed number o (further_still h more)) refl;
       } in
-      subst (Leaves variables Nothing s Anything) same (g, tt);
+      subst (Leaves here Nothing s Anything) same (g, tt);
 }
   where
     by : {new : Passed} {number : ℕ} (x : After ℕ) (a : After (Unit {0})) → after number [] new ≡ x
@@ -316,33 +404,35 @@ enter_does {variables} {least} marked one no_loop formed = record {
         cc
 
 -- a loop, with the next two numbers
-pub enter_loop_does : {variables : List Variable} {least : Reached} (marked : ℕ → ℕ → Mark) → ((k l : ℕ) → mark_entries (marked k l) ≡ k ∷ [])
-    → ((k l : ℕ) → mark_loops (marked k l) ≡ l ∷ [])
-    → ((k l : ℕ) (n : Reached) → IsFurther least n → is_formed_mark variables n.types n.sites (marked k l) ≡ true)
-    → Does variables least Nothing (enter_loop marked) Anything
+enter_loop_at : {here : Here} (marked : ℕ → ℕ → Mark) → ((k l : ℕ) → mark_entries (marked k l) ≡ k ∷ [])
+    → ((k l : ℕ) → mark_loops (marked k l) ≡ l ∷ []) → ((k l : ℕ) → mark_blocks (marked k l) ≡ []) → (s : Passed) (a : After (Unit {0}))
+    → ((k l : ℕ) → Each (MayChange here (reached s)) (mark_changes (marked k l) ++ []))
+    → ((k l : ℕ) (new : Passed) → new.variables ≡ s.variables → Each (IsFree here s new) (mark_controls (marked k l) ++ []))
+    → ((k l : ℕ) (o : Outline) → IsFurther (reached s) (whole_of o) → is_formed_mark o here.block (marked k l) ≡ true)
+    → Fine here s → enter_loop marked s ≡ Ok a → Leaves here Nothing s Anything a
 unfolding begin_loop enter
-enter_loop_does {variables} {least} marked one loop formed = record {
-  does = λ s a is fine h. by s a fine h (nat_le most_entries s.entries) refl is;
-}
+enter_loop_at {here} marked one loop no_block s a changes controls formed fine is = by (nat_le most_entries s.entries) refl is
   where
-    by : (s : Passed) (a : After (Unit {0})) → Fine variables s → IsFurther least (reached s) → (test : Bool) → nat_le most_entries s.entries ≡ test
+    by : (test : Bool) → nat_le most_entries s.entries ≡ test
         → and_then (and_then (if test then Err (fault.TooMany s.latest) else Ok (after s.entries [] (record s { entries = s.entries + 1 })))
         (λ b. behind_marks {A = ℕ × ℕ} b.look ((number_loop >>= (λ l. pure {A = ℕ × ℕ} (b.answer, l))) b.passed)))
         (λ b. behind_marks b.look (mark (marked b.answer.0 b.answer.1) b.passed)) ≡ Ok a
-        → Leaves variables Nothing s Anything a
-    by s a fine h true test is = absurd cc
-    by s a fine h false test is =
+        → Leaves here Nothing s Anything a
+    by true test is = absurd cc
+    by false test is =
         let new : Passed = record s { entries = s.entries + 1; loops = s.loops + 1 } in
         let made = marked s.entries s.loops in
         let same : after tt (made ∷ []) new ≡ a = cc in
         let counted : length (mark_entries made ++ []) ≡ 1 = ap (λ (l : List ℕ). length (l ++ [])) (one s.entries s.loops) in
         let loops_counted : length (mark_loops made ++ []) ≡ 1 = ap (λ (l : List ℕ). length (l ++ [])) (loop s.entries s.loops) in
-        let g : Grown variables Nothing (made ∷ []) s new = record {
+        let g : Grown here Nothing (made ∷ []) s new = record {
           regions = refl;
           longer = as_long;
           lawful = fine.lawful;
           texts = fine.texts;
           variables_kept = refl;
+          headings_kept = refl;
+          enclosing_kept = refl;
           added = [];
           sites = sym (append-nil s.sites);
           covered = refl;
@@ -352,71 +442,242 @@ enter_loop_does {variables} {least} marked one loop formed = record {
           few_entries = omega (arith, below most_entries s.entries test);
           looped = subst (λ (l : List ℕ). l ++ [] ≡ range_with_len s.loops (length (l ++ []))) (sym (loop s.entries s.loops)) refl;
           begun = omega (arith, loops_counted);
-          formed = λ n more. both_true _ true (formed s.entries s.loops n (further_still h more)) refl;
+          inner = ap (λ l. l ++ []) (no_block s.entries s.loops);
+          threats = λ root is. is;
+          assigns = λ root is. is;
+          assigned = λ settled root is. inl is;
+          changes = changes s.entries s.loops;
+          controls = controls s.entries s.loops new refl;
+          formed = λ o more. both_true _ true (formed s.entries s.loops o more) refl;
         } in
-        subst (Leaves variables Nothing s Anything) same (g, tt)
+        subst (Leaves here Nothing s Anything) same (g, tt)
+
+pub enter_loop_does : {here : Here} {least : Reached} (marked : ℕ → ℕ → Mark) → ((k l : ℕ) → mark_entries (marked k l) ≡ k ∷ [])
+    → ((k l : ℕ) → mark_loops (marked k l) ≡ l ∷ []) → ((k l : ℕ) → mark_blocks (marked k l) ≡ []) → ((k l : ℕ) → mark_changes (marked k l) ≡ [])
+    → ((k l : ℕ) (o : Outline) → IsFurther least (whole_of o) → is_formed_mark o here.block (marked k l) ≡ true)
+    → Does here least Nothing (enter_loop marked) Anything
+enter_loop_does {here} {least} marked one loop no_block no_change formed = record {
+  does = λ s a is fine h.
+      enter_loop_at marked one loop no_block s a
+      (λ k l. subst (λ (m : List ℕ). Each (MayChange here (reached s)) (m ++ [])) (sym (no_change k l)) tt)
+      (λ k l new same. subst (λ (m : List ℕ). Each (IsFree here s new) (m ++ [])) (sym (no_control (marked k l) (no_change k l))) tt)
+      (λ k l o more. formed k l o (further_still h more)) fine is;
+}
 
 -- ---- control variables
 
-pub may_change_does : {variables : List Variable} {least : Reached} (place : Place) (root : ℕ) → Does variables least Nothing (may_change place root) Anything
-unfolding may_change
-may_change_does {variables} place root = record {
-  does = λ s a is fine h.
-      let x = split_unless (list_any (λ control. nat_eq control root) s.controls) (fault.Threatened place) (after tt [] s) a is in
-      subst (Leaves variables Nothing s Anything) x.1 (grown_silent variables s s refl refl refl refl refl refl refl fine, tt);
-}
+-- what is there is there with one more
+pub kept_with : (roots : List ℕ) (root other : ℕ) → list_any (nat_eq other) roots ≡ true → list_any (nat_eq other) (with_one roots root) ≡ true
+kept_with roots root other is = one (list_any (nat_eq root) roots)
+  where
+    before : (all : List ℕ) → list_any (nat_eq other) all ≡ true → list_any (nat_eq other) (all ++ root ∷ []) ≡ true
+    before [] h = absurd cc
+    before (first ∷ all) h = here_or (nat_eq other first) (before all) h
+      where
+        here_or : (test : Bool) → (list_any (nat_eq other) all ≡ true → list_any (nat_eq other) (all ++ root ∷ []) ≡ true)
+            → (test || list_any (nat_eq other) all) ≡ true → (test || list_any (nat_eq other) (all ++ root ∷ [])) ≡ true
+        here_or true more g = refl
+        here_or false more g = more g
 
-pub begin_control_does : {variables : List Variable} {least : Reached} (root : ℕ) → Does variables least Nothing (begin_control root) Anything
+    one : (test : Bool) → list_any (nat_eq other) (if test then roots else roots ++ root ∷ []) ≡ true
+    one true = is
+    one false = before roots is
+
+-- a variable of this block or of one round it, which may be changed from here on
+pub may_change_does : {here : Here} {least : Reached} (place : Place) (root : ℕ) (type_id : TypeId)
+    → IsVariable here least.variables least.types root type_id
+    → Does here least Nothing (may_change place root) (λ _ now. MayChange here now root)
+unfolding may_change
+may_change_does {here} {least} place root type_id known = record {
+  does = λ s a is fine h.
+      let x = split_unless (list_any (λ control. nat_eq control root) s.controls) (fault.Threatened place) (after tt [] (with_threatened root s)) a is in
+      let there = get_longer h.variables root known.variable known.is_there in
+      let k = by s (is_own s.enclosing.block (slice_get s.variables root)) refl fine there in
+      subst (Leaves here Nothing s (λ _ now. MayChange here now root)) x.1 k;
+}
+  where
+    added : (roots : List ℕ) (root : ℕ) → list_any (nat_eq root) (with_one roots root) ≡ true
+    added roots root = one (list_any (nat_eq root) roots) refl
+      where
+        at_end : (all : List ℕ) → list_any (nat_eq root) (all ++ root ∷ []) ≡ true
+        at_end [] = ap (λ b. b || false) (eq-eqb root root refl)
+        at_end (first ∷ all) = or_right (nat_eq root first) (list_any (nat_eq root) (all ++ root ∷ [])) (at_end all)
+
+        one : (test : Bool) → list_any (nat_eq root) roots ≡ test → list_any (nat_eq root) (if test then roots else roots ++ root ∷ []) ≡ true
+        one true is = is
+        one false is = at_end roots
+
+    own_is : (s : Passed) → Fine here s → slice_get s.variables root ≡ Some known.variable → is_own s.enclosing.block (slice_get s.variables root) ≡ true
+        → nat_eq known.variable.block here.block ≡ true
+    own_is s fine there is =
+        ap (nat_eq known.variable.block) (sym fine.block) ∙ ap (is_own s.enclosing.block) (sym there) ∙ is
+
+    or_left : (a b : Bool) → a ≡ true → (a || b) ≡ true
+    or_left true b is = refl
+    or_left false b is = absurd cc
+
+    by : (s : Passed) (test : Bool) → is_own s.enclosing.block (slice_get s.variables root) ≡ test → Fine here s
+        → slice_get s.variables root ≡ Some known.variable
+        → Leaves here Nothing s (λ _ now. MayChange here now root)
+        (after (tt {0}) [] (if test then s else record s { threatened = with_one s.threatened root }))
+    by s true own fine there = (
+      grown_silent here s s refl refl refl refl refl refl refl refl refl (λ root is. is) refl fine,
+      record {
+        variable = known.variable;
+        is_there = there;
+        is_visible = known.is_visible;
+        may = or_left (nat_eq known.variable.block here.block) (list_any (nat_eq root) s.threatened) (own_is s fine there own);
+      },
+    )
+    by s false own fine there = (
+      grown_silent here s (record s { threatened = with_one s.threatened root }) refl refl refl refl refl refl refl refl refl
+          (kept_with s.threatened root) refl fine,
+      record {
+        variable = known.variable;
+        is_there = there;
+        is_visible = known.is_visible;
+        may = or_right (nat_eq known.variable.block here.block) (list_any (nat_eq root) (with_one s.threatened root)) (added s.threatened root);
+      },
+    )
+
+-- a control variable is one of the variable declaration part of the block that no other block threatened, and its for
+-- statement begins
+pub controlled_does : {here : Here} {least : Reached} {B : Type 0} {Has : List Stands → Type 0} {L : B → Reached → Type 0} (place : Place) (root : ℕ)
+    (marked : ℕ → ℕ → Mark) (rest : Passing B) → ((k l : ℕ) → mark_entries (marked k l) ≡ k ∷ []) → ((k l : ℕ) → mark_loops (marked k l) ≡ l ∷ [])
+    → ((k l : ℕ) → mark_blocks (marked k l) ≡ []) → ((k l : ℕ) → mark_changes (marked k l) ≡ root ∷ [])
+    → ((k l : ℕ) → mark_controls (marked k l) ≡ root ∷ []) → MayChange here least root
+    → ((now : Reached) → IsFurther least now → is_local here.block (slice_get now.variables root) ≡ true → (k l : ℕ) (o : Outline)
+    → IsFurther now (whole_of o) → is_formed_mark o here.block (marked k l) ≡ true)
+    → ((now : Reached) → IsFurther least now → Does here now Has rest L)
+    → Does here least Has (may_control place root >>= (λ _. enter_loop marked >>= (λ _. rest))) L
+unfolding may_control
+controlled_does {here} {least} {B} {Has} {L} place root marked rest one loop no_block changes controls may formed law = record {
+  does = λ s b is fine h.
+      let own = is_local s.enclosing.block (slice_get s.variables root) in
+      let free = not (list_any (nat_eq root) s.threatened) in
+      let x = split (if own && free then Ok (after (tt {0}) [] s) else Err (fault.Threatened place))
+      (λ a. behind_marks a.look ((enter_loop marked >>= (λ _. rest)) a.passed)) b is in
+      let test = split_if (own && free) (fault.Threatened place) (after (tt {0}) [] s) x.0 x.1 in
+      let y = split_behind x.0.look ((enter_loop marked >>= (λ _. rest)) x.0.passed) b x.2 in
+      let on : (enter_loop marked >>= (λ _. rest)) s ≡ Ok y.0 =
+      subst (λ (z : After (Unit {0})). (enter_loop marked >>= (λ _. rest)) z.passed ≡ Ok y.0) (sym test.1) y.1 in
+      let quiet : after y.0.answer y.0.look y.0.passed ≡ b =
+      ap (λ (z : After (Unit {0})). after y.0.answer (z.look ++ y.0.look) y.0.passed) test.1 ∙ y.2 in
+      let u = split (enter_loop marked s) (λ a. behind_marks a.look (rest a.passed)) y.0 on in
+      let v = split_behind u.0.look (rest u.0.passed) y.0 u.2 in
+      let local = subst (λ block. is_local block (slice_get s.variables root) ≡ true) fine.block (first_of own free test.0) in
+      let none = second_of own (list_any (nat_eq root) s.threatened) test.0 in
+      let changed = change_later here least (reached s) root h may in
+      let first =
+      enter_loop_at marked one loop no_block s u.0
+      (λ k l. subst (λ (m : List ℕ). Each (MayChange here (reached s)) (m ++ [])) (sym (changes k l)) (changed, tt))
+      (λ k l new same. subst (λ (m : List ℕ). Each (IsFree here s new) (m ++ [])) (sym (controls k l))
+      (is_free s new changed.variable changed.is_there same local none, tt))
+      (λ k l o more. formed (reached s) h local k l o more) fine u.1 in
+      let now : IsFurther least (reached u.0.passed) = further_still h (further first.0) in
+      let second = (law (reached u.0.passed) now).does u.0.passed v.0 v.1 (fine_later first.0 fine) as_far in
+      let both : Leaves here Has s L y.0 =
+      subst (Leaves here Has s L) v.2 (grown_then (λ p q none has. subst (λ l. Has (l ++ q)) (sym none) has) first.0 second.0, second.1) in
+      subst (Leaves here Has s L) quiet both;
+}
+  where
+    first_of : (a b : Bool) → (a && b) ≡ true → a ≡ true
+    first_of true b is = refl
+    first_of false b is = absurd cc
+
+    second_of : (a b : Bool) → (a && not b) ≡ true → b ≡ false
+    second_of true false is = refl
+    second_of true true is = absurd cc
+    second_of false b is = absurd cc
+
+    is_free : (s new : Passed) (v : Variable) → slice_get s.variables root ≡ Some v → new.variables ≡ s.variables
+        → is_local here.block (slice_get s.variables root) ≡ true → list_any (nat_eq root) s.threatened ≡ false → IsFree here s new root
+    is_free s new v there same local none = record {
+      variable = v;
+      is_there = ap (λ l. slice_get l root) same ∙ there;
+      own = first_of (nat_eq v.block here.block) (is_local_kind v.kind) (ap (is_local here.block) (sym there) ∙ local);
+      free = none;
+    }
+
+pub begin_control_does : {here : Here} {least : Reached} (root : ℕ) → Does here least Nothing (begin_control root) Anything
 unfolding begin_control
-begin_control_does {variables} root = record {
+begin_control_does {here} root = record {
   does = λ s a is fine h.
       let new : Passed = record s { controls = s.controls ++ root ∷ [] } in
       let same : after tt [] new ≡ a = cc in
-      subst (Leaves variables Nothing s Anything) same (grown_silent variables s new refl refl refl refl refl refl refl fine, tt);
+      subst (Leaves here Nothing s Anything) same (grown_silent here s new refl refl refl refl refl refl refl refl refl (λ root is. is) refl fine, tt);
 }
 
-pub end_control_does : {variables : List Variable} {least : Reached} → Does variables least Nothing end_control Anything
+pub end_control_does : {here : Here} {least : Reached} → Does here least Nothing end_control Anything
 unfolding end_control
-end_control_does {variables} = record {
+end_control_does {here} = record {
   does = λ s a is fine h.
       let new : Passed = record s { controls = take (length s.controls - 1) s.controls } in
       let same : after tt [] new ≡ a = cc in
-      subst (Leaves variables Nothing s Anything) same (grown_silent variables s new refl refl refl refl refl refl refl fine, tt);
+      subst (Leaves here Nothing s Anything) same (grown_silent here s new refl refl refl refl refl refl refl refl refl (λ root is. is) refl fine, tt);
 }
 
-pub host_type_does : {variables : List Variable} {least : Reached} (id : TypeId) → Does variables least Nothing (host_type id) Anything
+pub host_type_does : {here : Here} {least : Reached} (id : TypeId) → Does here least Nothing (host_type id) Anything
 unfolding host_type
-host_type_does {variables} {least} id = record {
+host_type_does {here} {least} id = record {
   does = λ s a is fine h.
-      let answers : Does variables least Nothing (pure (host_of s.types id)) Anything = pure_does (host_of s.types id) (λ n more. tt) in
+      let answers : Does here least Nothing (pure (host_of s.types id)) Anything = pure_does (host_of s.types id) (λ n more. tt) in
       answers.does s a is fine h;
 }
 
--- ---- texts
+-- ---- blocks
 
-pub text_at_does : {variables : List Variable} {least : Reached} (number : ℕ)
-    → Does variables least Nothing (text_at number) (λ text now. are_characters text ≡ true)
-unfolding text_at
-text_at_does {variables} {least} number = record {
+pub enclosing_now_does : {here : Here} {least : Reached}
+    → Does here least Nothing enclosing_now (λ enclosing now. (enclosing.block ≡ here.block) × (enclosing.around ≡ here.around))
+unfolding enclosing_now
+enclosing_now_does {here} = record {
   does = λ s a is fine h.
-      let same : after (get_or s.texts number []) [] s ≡ a = cc in
-      subst (Leaves variables Nothing s (λ text now. are_characters text ≡ true)) same
-      (grown_silent variables s s refl refl refl refl refl refl refl fine, fine.texts number);
+      let same : after s.enclosing [] s ≡ a = cc in
+      subst (Leaves here Nothing s (λ enclosing now. (enclosing.block ≡ here.block) × (enclosing.around ≡ here.around))) same
+      (grown_silent here s s refl refl refl refl refl refl refl refl refl (λ root is. is) refl fine, (fine.block, fine.around));
 }
 
-pub keep_text_does : {variables : List Variable} {least : Reached} (text : List ℕ) → are_characters text ≡ true
-    → Does variables least Nothing (keep_text text) Anything
-unfolding keep_text
-keep_text_does {variables} {least} text is_text = record {
+-- the heading of a block that was passed tells what is so
+pub heading_at_does : {here : Here} {least : Reached} (block : ℕ) (signature : Signature) → slice_get least.headings block ≡ Some signature
+    → Does here least Nothing (heading_at block) (λ headed now. (signature_passed headed ≡ signature) × FitsHeading now block signature)
+unfolding heading_at
+heading_at_does {here} block signature there = record {
   does = λ s a is fine h.
-      let new : Passed = record s { texts = s.texts ++ text ∷ [] } in
-      let same : after (length s.texts) [] new ≡ a = cc in
-      let g : Grown variables Nothing [] s new = record {
+      let known = get_longer h.headings block signature there in
+      let at = get_mapped signature_passed s.headings block signature known in
+      let found : get_or s.headings block program_heading ≡ at.0 = get_or_is s.headings block program_heading at.0 at.1 in
+      let same : after (get_or s.headings block program_heading) [] s ≡ a = cc in
+      subst (Leaves here Nothing s (λ headed now. (signature_passed headed ≡ signature) × FitsHeading now block signature)) same (
+        grown_silent here s s refl refl refl refl refl refl refl refl refl (λ root is. is) refl fine,
+        (ap signature_passed found ∙ at.2, fine.fit.fits block signature known),
+      );
+}
+
+pub variable_at_does : {here : Here} {least : Reached} (root : ℕ)
+    → Does here least Nothing (variable_at root) (λ found now. slice_get now.variables root ≡ found)
+unfolding variable_at
+variable_at_does {here} root = record {
+  does = λ s a is fine h.
+      let same : after (slice_get s.variables root) [] s ≡ a = cc in
+      subst (Leaves here Nothing s (λ found now. slice_get now.variables root ≡ found)) same
+      (grown_silent here s s refl refl refl refl refl refl refl refl refl (λ root is. is) refl fine, refl);
+}
+
+-- the target of what is assigned comes behind
+pub assign_result_does : {here : Here} {least : Reached} (root : ℕ) → here.owing ≡ true → Does here least Nothing (assign_result root) Anything
+unfolding assign_result
+assign_result_does {here} root owing = record {
+  does = λ s a is fine h.
+      let new : Passed = record s { assigned = with_one s.assigned root } in
+      let same : after tt [] new ≡ a = cc in
+      let g : Grown here Nothing [] s new = record {
         regions = refl;
         longer = as_long;
         lawful = fine.lawful;
-        texts = texts_more s.texts text fine.texts is_text;
+        texts = fine.texts;
         variables_kept = refl;
+        headings_kept = refl;
+        enclosing_kept = refl;
         added = [];
         sites = sym (append-nil s.sites);
         covered = refl;
@@ -426,27 +687,85 @@ keep_text_does {variables} {least} text is_text = record {
         few_entries = fine.few_entries;
         looped = refl;
         begun = omega arith;
-        formed = λ n more. refl;
+        inner = refl;
+        threats = λ root is. is;
+        assigns = λ other is. kept_with s.assigned root other is;
+        assigned = λ settled other is. absurd (no (sym owing ∙ settled));
+        changes = tt;
+        controls = tt;
+        formed = λ o more. refl;
       } in
-      subst (Leaves variables Nothing s Anything) same (g, tt);
+      subst (Leaves here Nothing s Anything) same (g, tt);
+}
+  where
+    no : ◌≡◌ {A = Bool} true false → ⊥
+    no h = absurd cc
+
+-- ---- texts
+
+pub text_at_does : {here : Here} {least : Reached} (number : ℕ)
+    → Does here least Nothing (text_at number) (λ text now. are_characters text ≡ true)
+unfolding text_at
+text_at_does {here} {least} number = record {
+  does = λ s a is fine h.
+      let same : after (get_or s.texts number []) [] s ≡ a = cc in
+      subst (Leaves here Nothing s (λ text now. are_characters text ≡ true)) same
+      (grown_silent here s s refl refl refl refl refl refl refl refl refl (λ root is. is) refl fine, fine.texts number);
+}
+
+pub keep_text_does : {here : Here} {least : Reached} (text : List ℕ) → are_characters text ≡ true
+    → Does here least Nothing (keep_text text) Anything
+unfolding keep_text
+keep_text_does {here} {least} text is_text = record {
+  does = λ s a is fine h.
+      let new : Passed = record s { texts = s.texts ++ text ∷ [] } in
+      let same : after (length s.texts) [] new ≡ a = cc in
+      let g : Grown here Nothing [] s new = record {
+        regions = refl;
+        longer = as_long;
+        lawful = fine.lawful;
+        texts = texts_more s.texts text fine.texts is_text;
+        variables_kept = refl;
+        headings_kept = refl;
+        enclosing_kept = refl;
+        added = [];
+        sites = sym (append-nil s.sites);
+        covered = refl;
+        few_sites = fine.few_sites;
+        numbered = refl;
+        entered = omega arith;
+        few_entries = fine.few_entries;
+        looped = refl;
+        begun = omega arith;
+        inner = refl;
+        threats = λ root is. is;
+        assigns = λ root is. is;
+        assigned = λ settled root is. inl is;
+        changes = tt;
+        controls = tt;
+        formed = λ o more. refl;
+      } in
+      subst (Leaves here Nothing s Anything) same (g, tt);
 }
 
 -- ---- sites
 
-pub site_does : {variables : List Variable} {least : Reached} (kind : SiteKind) (place : Place)
-    → Does variables least (λ added. added ≡ (kind, place) ∷ []) (site kind place) (λ id now. id < now.sites)
+pub site_does : {here : Here} {least : Reached} (kind : SiteKind) (place : Place)
+    → Does here least (λ added. added ≡ (kind, place) ∷ []) (site kind place) (λ id now. id < now.sites)
 unfolding site
-site_does {variables} {least} kind place = record {
+site_does {here} {least} kind place = record {
   does = λ s a is fine h.
       let new : Passed = record s { sites = s.sites ++ (kind, place) ∷ []; latest = place } in
       let y = split_unless (nat_le most_sites (length s.sites)) (fault.TooMany place) (after (length s.sites) [] new) a is in
       let counted = length-append s.sites ((kind, place) ∷ []) in
-      let g : Grown variables (λ added. added ≡ (kind, place) ∷ []) [] s new = record {
+      let g : Grown here (λ added. added ≡ (kind, place) ∷ []) [] s new = record {
         regions = refl;
         longer = as_long;
         lawful = fine.lawful;
         texts = fine.texts;
         variables_kept = refl;
+        headings_kept = refl;
+        enclosing_kept = refl;
         added = (kind, place) ∷ [];
         sites = refl;
         covered = refl;
@@ -456,9 +775,15 @@ site_does {variables} {least} kind place = record {
         few_entries = fine.few_entries;
         looped = refl;
         begun = omega arith;
-        formed = λ n more. refl;
+        inner = refl;
+        threats = λ root is. is;
+        assigns = λ root is. is;
+        assigned = λ settled root is. inl is;
+        changes = tt;
+        controls = tt;
+        formed = λ o more. refl;
       } in
-      subst (Leaves variables (λ added. added ≡ (kind, place) ∷ []) s (λ id now. id < now.sites)) y.1 (g, omega (arith, counted));
+      subst (Leaves here (λ added. added ≡ (kind, place) ∷ []) s (λ id now. id < now.sites)) y.1 (g, omega (arith, counted));
 }
 
 -- the kinds of the leading site
@@ -470,8 +795,8 @@ abbrev pub IsKnown : Option ℕ → Reached → Type 0
 IsKnown None now = Unit {0}
 IsKnown (Some id) now = id < now.sites
 
-pub behind_does : {variables : List Variable} {least : Reached} (lead : Option SiteKind) (place : Place)
-    → Does variables least (λ added. added ≡ at_place place (led lead)) (behind lead place) IsKnown
+pub behind_does : {here : Here} {least : Reached} (lead : Option SiteKind) (place : Place)
+    → Does here least (λ added. added ≡ at_place place (led lead)) (behind lead place) IsKnown
 unfolding behind
 behind_does None place = pure_does None (λ now more. tt)
 behind_does (Some kind) place = last (site_does kind place) (λ id now more known. pure_does (Some id) (λ n h. omega (arith, h.sites, known)))

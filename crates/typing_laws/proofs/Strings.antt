@@ -1,29 +1,26 @@
 -- What strings do: a string has at most as many characters as a type has cells, and its type leaves all others as they are.
-use Rattle.std.proofs.Common.{◌≡◌, ℕ, ℤ, ◌*◌, ◌≤◌, Bool, true, false, ◌&&◌, not, nat_le, List, [], ◌∷◌, ◌++◌, length, Option, Some, None}
-use Rattle.std.proofs.Common.{Result, Ok, Err, pos, refl, sym, ap, ap₂, subst, ◌∙◌, arith, slice_get, append-nil, append_assoc}
+use Rattle.std.proofs.Common.{◌≡◌, ℕ, ℤ, ◌*◌, ◌≤◌, Bool, true, false, ◌&&◌, not, nat_le, List, [], ◌∷◌, ◌++◌, length, Option, Some, None, Result, Ok, Err, pos}
+use Rattle.std.proofs.Common.{refl, sym, ap, ap₂, subst, ◌∙◌, arith, slice_get, append-nil, append_assoc, inl}
 use Rattle.std.specs.Prelude.{◌==◌, ◌-ℤ◌, ◌+ℤ◌}
 use Rattle.std.specs.List.{list_all}
 use Rattle.std.specs.Option.{option_and_then}
 use Rattle.std.proofs.lemmas.Bool.Decides.{nat_tests}
 use Rattle.std.proofs.lemmas.Int.{ints}
 use Rattle.place.specs.declared.Place.{Place}
-use Rattle.types.specs.Forms.{Form}
-use Rattle.types.specs.Forms.{Subrange, Array}
+use Rattle.types.specs.Forms.{Form, Subrange, Array}
 use Rattle.types.specs.declared.form.TypeId.{TypeId}
 use Rattle.types.specs.declared.refusal.TypeRefusal.{TypeRefusal}
 use Rattle.types.specs.Types.{integer, char, natural, admitted_cells, numbered, counted, cells_at, values_at, index_values, form_range, most_cells}
 use Rattle.types.proofs.Counts.{values_counted}
 use Rattle.scopes.specs.declared.denotation.Denotation.TheVariants as denotes
-use Rattle.typed_tree.specs.declared.tree.Variable.{Variable}
 use Rattle.typed_tree.specs.WellFormed.{is_character, is_whole}
 use Rattle.typing.specs.Passing.{Passed, Checked, After, Passing, and_then, after, given, behind_marks, pure, ◌>>=◌}
 use Rattle.typing.specs.Steps.{fits, or_mismatch, value_of, added, add_type, keep_text}
 use Rattle.typing.specs.Strings.{characters, string_characters, string_type, string_constant}
-use Rattle.typing.proofs.Rows.{behind_nothing}
-use Rattle.typing_laws.proofs.Tables.{IsLonger, AreLawful, admitted_few, char_cell, lawful_more}
-use Rattle.typing_laws.proofs.Sound.{IsSound}
-use Rattle.typing_laws.proofs.Grown.{Reached, Grown, both_true}
-use Rattle.typing_laws.proofs.Steps.{Does, Nothing, Leaves, split, quietly, pure_does, keep_text_does}
+use Rattle.typing_laws.proofs.Tables.{AreLawful, admitted_few, char_cell, lawful_more}
+use Rattle.typing_laws.proofs.Reached.{IsLonger, Here, Reached}
+use Rattle.typing_laws.proofs.Grown.{Grown, both_true}
+use Rattle.typing_laws.proofs.Steps.{Does, Nothing, Leaves, IsSoundThen, split, quietly, pure_does, keep_text_does}
 
 -- ---- tests
 
@@ -49,6 +46,11 @@ all_of_char place bytes cs is =
     subst (λ z. list_all is_character z ≡ true) fit.1 (both_and (not (length x.0 == 0)) (list_all is_character x.0) fit.0).1
 
 -- ---- a type more
+
+-- behind no form
+pub behind_nothing : {A : Type 0} (r : Checked (After A)) → behind_marks [] r ≡ r
+behind_nothing (Ok a) = refl
+behind_nothing (Err why) = refl
 
 -- a test, and then others
 pub given_then : {A B : Type 0} (checked : Checked A) (f : A → Passing B) (s : Passed) (b : After B) → (given checked >>= f) s ≡ Ok b
@@ -136,23 +138,25 @@ string_type_is place n s a are is =
     let one = lawful_more s.types (form (pos n)) y.0 are fit.0 y.1 in
     subst (IsStringType n s) z.2 (record {
       same = refl;
-      longer = record { more = form (pos n) ∷ array ∷ []; types = append_assoc s.types (form (pos n) ∷ []) (array ∷ []) };
+      longer = record { more = form (pos n) ∷ array ∷ []; goes_on = append_assoc s.types (form (pos n) ∷ []) (array ∷ []) };
       lawful = lawful_more (s.types ++ form (pos n) ∷ []) array z.0 one tt z.1;
       few = few_components s.types n z.0 one z.1;
     })
 
-module _ {variables : List Variable} {least : Reached} where
-  pub string_type_does : (place : Place) (n : ℕ) → Does variables least Nothing (string_type place n) (λ id now. nat_le n 65536 ≡ true)
+module _ {here : Here} {least : Reached} where
+  pub string_type_does : (place : Place) (n : ℕ) → Does here least Nothing (string_type place n) (λ id now. nat_le n 65536 ≡ true)
   string_type_does place n = record {
     does = λ s a is fine h.
         let made = string_type_is place n s a fine.lawful is in
         let new : Passed = record s { types = a.passed.types } in
-        let g : Grown variables Nothing [] s new = record {
+        let g : Grown here Nothing [] s new = record {
           regions = refl;
           longer = made.longer;
           lawful = made.lawful;
           texts = fine.texts;
           variables_kept = refl;
+          headings_kept = refl;
+          enclosing_kept = refl;
           added = [];
           sites = sym (append-nil s.sites);
           covered = refl;
@@ -162,9 +166,15 @@ module _ {variables : List Variable} {least : Reached} where
           few_entries = fine.few_entries;
           looped = refl;
           begun = omega arith;
-          formed = λ n more. refl;
+          inner = refl;
+          threats = λ root is. is;
+          assigns = λ root is. is;
+          assigned = λ settled root is. inl is;
+          changes = tt;
+          controls = tt;
+          formed = λ o more. refl;
         } in
-        subst (Leaves variables Nothing s (λ id now. nat_le n 65536 ≡ true)) made.same (g, made.few);
+        subst (Leaves here Nothing s (λ id now. nat_le n 65536 ≡ true)) made.same (g, made.few);
   }
 
 -- ---- constants
@@ -173,18 +183,18 @@ module _ {variables : List Variable} {least : Reached} where
 pub char_whole : (c : ℕ) → list_all is_character (c ∷ []) ≡ true → is_whole (pos c) ≡ true
 char_whole c is = grind (arith, nat_tests)
 
-module _ {variables : List Variable} {least : Reached} where
+module _ {here : Here} {least : Reached} where
   -- two or more characters
   text_does : (place : Place) (cs : List ℕ) → list_all is_character cs ≡ true
-      → Does variables least Nothing (string_type place (length cs) >>= (λ type_id. keep_text cs >>= (λ number. pure (denotes.Text number type_id))))
-      (λ d now. IsSound variables now.types d)
+      → Does here least Nothing (string_type place (length cs) >>= (λ type_id. keep_text cs >>= (λ number. pure (denotes.Text number type_id))))
+      (λ d now. IsSoundThen here d now)
   text_does place cs all =
       quietly (string_type_does place (length cs)) λ type_id _ _ few.
       quietly (keep_text_does cs (both_true _ _ few all)) λ number _ _ _.
       pure_does (denotes.Text number type_id) (λ n h. tt)
 
   pub string_constant_does : (place : Place) (cs : List ℕ) → list_all is_character cs ≡ true
-      → Does variables least Nothing (string_constant place cs) (λ d now. IsSound variables now.types d)
+      → Does here least Nothing (string_constant place cs) (λ d now. IsSoundThen here d now)
   unfolding string_constant
   string_constant_does place [] all = text_does place [] all
   string_constant_does place (c ∷ []) all = pure_does (denotes.Constant (pos c) char) (λ n h. char_whole c all)

@@ -1,57 +1,46 @@
 -- Tables of types as a program makes them, each longer than the one before, and texts that are characters.
-use Rattle.std.proofs.Common.{◌≡◌, ℕ, zero, suc, ◌<◌, ◌≤◌, Bool, true, false, if◌then◌else◌, nat_lt, List, [], ◌∷◌, ◌++◌, length, sum_by}
-use Rattle.std.proofs.Common.{Some, None, Ok, Err, ok_or, slice_get, get_or, refl, sym, ap, subst, ◌∙◌, arith}
-use Rattle.std.proofs.Common.{length-append, append-nil, append_assoc}
+use Rattle.std.proofs.Common.{◌≡◌, ℕ, zero, suc, ◌<◌, ◌≤◌, Bool, true, false, if◌then◌else◌, nat_lt, List, [], ◌∷◌, ◌++◌, length, sum_by, Some, None, Ok, Err}
+use Rattle.std.proofs.Common.{ok_or, slice_get, get_or, refl, sym, ap, subst, ◌∙◌, arith, length-append, append_assoc}
 use Rattle.std.proofs.lemmas.Bool.Decides.{nat_tests}
 use Rattle.std.proofs.lemmas.List.Sums.{sum_by-cons}
 use Rattle.types.specs.Forms.{Form}
 use Rattle.types.specs.declared.form.TypeId.{TypeId}
 use Rattle.types.specs.declared.refusal.TypeRefusal.TheVariants.{TooManyCells, FirstAboveLast}
 use Rattle.types.specs.Types.{Counted, admitted_cells, cells_of, char, counted, element_of, entry_cells, few, field_at, form_cells, form_range, is_ordinal}
-use Rattle.types.specs.Types.{is_turned, most_cells, required_forms}
+use Rattle.types.specs.Types.{range_of, is_turned, most_cells, required_forms}
 use Rattle.types.proofs.Counts.{counted_more, one_cell}
-use Rattle.types.proofs.Longer.{cells_longer, element_longer, field_at_longer, ordinal_longer}
+use Rattle.types.proofs.Longer.{cells_longer, element_longer, field_at_longer, ordinal_longer, range_longer}
 use Rattle.typed_tree.specs.declared.tree.Variable.{Variable}
 use Rattle.typed_tree.specs.WellFormed.{are_characters}
 use Rattle.typing_laws.specs.Lawful.{BeginWithRequired}
+use Rattle.typing_laws.proofs.Reached.{IsLonger}
 use Rattle.typing_laws.proofs.WholeRanges.{HaveWholeRanges, IfWhole, required_have, whole_more}
 
 -- ---- longer tables
 
--- a table with the types of another, and perhaps more
-pub record IsLonger (old new : List Form) : Type 0 where
-  pub more : List Form
-  pub types : new ≡ old ++ more
-
-pub as_long : {types : List Form} → IsLonger types types
-as_long {types} = record { more = []; types = sym (append-nil types) }
-
-pub longer_still : {old now new : List Form} → IsLonger old now → IsLonger now new → IsLonger old new
-longer_still {old} f g = record {
-  more = f.more ++ g.more;
-  types = g.types ∙ ap (λ types. types ++ g.more) f.types ∙ append_assoc old f.more g.more;
-}
-
 module _ {old new : List Form} (longer : IsLonger old new) where
   pub begin_longer : BeginWithRequired old → BeginWithRequired new
-  begin_longer begin = (begin.0 ++ longer.more, longer.types ∙ ap (λ types. types ++ longer.more) begin.1 ∙ append_assoc required_forms begin.0 longer.more)
+  begin_longer begin = (begin.0 ++ longer.more, longer.goes_on ∙ ap (λ types. types ++ longer.more) begin.1 ∙ append_assoc required_forms begin.0 longer.more)
 
   module _ (id : TypeId) (there : id.index < length old) where
     -- a type of the first stands in the second, and is the same there
     pub stands_longer : id.index < length new
-    stands_longer = omega (arith, there, ap length longer.types, length-append old longer.more)
+    stands_longer = omega (arith, there, ap length longer.goes_on, length-append old longer.more)
 
     pub is_ordinal_longer : is_ordinal new id ≡ is_ordinal old id
-    is_ordinal_longer = ap (λ types. is_ordinal types id) longer.types ∙ ordinal_longer old longer.more id there
+    is_ordinal_longer = ap (λ types. is_ordinal types id) longer.goes_on ∙ ordinal_longer old longer.more id there
+
+    pub range_of_longer : range_of new id ≡ range_of old id
+    range_of_longer = ap (λ types. range_of types id) longer.goes_on ∙ range_longer old longer.more id there
 
     pub cells_of_longer : cells_of new id ≡ cells_of old id
-    cells_of_longer = ap (λ types. cells_of types id) longer.types ∙ cells_longer old longer.more id there
+    cells_of_longer = ap (λ types. cells_of types id) longer.goes_on ∙ cells_longer old longer.more id there
 
     pub element_of_longer : element_of new id ≡ element_of old id
-    element_of_longer = ap (λ types. element_of types id) longer.types ∙ element_longer old longer.more id there
+    element_of_longer = ap (λ types. element_of types id) longer.goes_on ∙ element_longer old longer.more id there
 
     pub field_of_longer : (position : ℕ) → field_at new id position ≡ field_at old id position
-    field_of_longer position = ap (λ types. field_at types id position) longer.types ∙ field_at_longer old longer.more id there position
+    field_of_longer position = ap (λ types. field_at types id position) longer.goes_on ∙ field_at_longer old longer.more id there position
 
 -- ---- what the types of a program have
 
@@ -103,7 +92,7 @@ pub lawful_more : (types : List Form) (form : Form) (cells : ℕ) → AreLawful 
 lawful_more types form cells are whole admits =
     let entry : Counted = record { form = form; cells = form_cells (counted types) form } in
     record {
-      begin = begin_longer (record { more = form ∷ []; types = refl }) are.begin;
+      begin = begin_longer (record { more = form ∷ []; goes_on = refl }) are.begin;
       whole = whole_more types form are.whole whole;
       few_cells = λ id.
           subst (λ entries. entry_cells (slice_get entries id.index) ≤ most_cells) (sym (counted_more types form))

@@ -1,1 +1,3 @@
+pub mod Controls
+pub mod Results
 pub mod Lawful

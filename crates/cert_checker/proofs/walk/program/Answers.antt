@@ -1,25 +1,84 @@
-use Rattle.std.proofs.Common.{ap, ◌∙◌}
+use Rattle.std.proofs.Common.{ap, map, ℕ, ◌∙◌}
+use Rattle.std.specs.Global.{Vec}
+use Rattle.structured_states.specs.View.{kept_round, said_claims as said_loop}
+use Rattle.call_states.specs.View.{said_claims}
 use Rattle.expression_checker.specs.Visits.{all_counted}
+use Rattle.cert_checker.specs.View.{context_of}
 use Rattle.cert_checker.proofs.Entered.{program-entered}
 use Rattle.cert_checker.proofs.Steps.{program-open, program-visits, program-unbroken, program-given_up}
+use Rattle.cert_checker.proofs.StepsBlocks.{program-context, program-declared, program-loops}
 use Rattle.cert_checker.proofs.walk.program.Goals as goal
 
 pub returns-clause-sites : goal.returns-clause-sites
 returns-clause-sites c =
-    program-open c.args.rows.now c.args.certificate.now c.in_ok-walk.walk c.in_ok-walk.ensures _ _ _
-    c.in_ok-blocks.ensures
+    let tree = c.args.rows.now in
+    let certificate = c.args.certificate.now in
+    let walk = c.new-walk.result in
+    let pairs_are = c.in_ok-pairs.ensures ∙ c.in_ok-all_pairs.ensures in
+    let context_is = c.new-walk.ensures.context_is
+    ∙ program-context tree c.tree-tree.result.now certificate c.in_ok-all_limits.field-0.items
+    (map said_claims c.in_ok-all_block_claims.field-0.items) c.in_ok-pairs.pairs (map kept_round c.new.result.items)
+    (map said_loop c.in_ok-claims.claims.items) c.tree-tree.ensures c.in_ok-all_limits.ensures c.in_ok-all_block_claims.ensures pairs_are
+    (ap (map kept_round) c.new.ensures.items) c.in_ok-claims.ensures in
+    let loops = program-loops tree c.tree-tree.result.now certificate (context_of walk) c.in_ok-pairs.pairs (map said_loop c.deref.result.now)
+    walk.aliases.now context_is c.tree-tree.ensures pairs_are (ap (map said_loop) c.deref.ensures.value ∙ c.in_ok-claims.ensures)
+    (ap (map (λ (row : Vec ℕ). row.items)) (c.new-walk.ensures.aliases_are ∙ c.deref-2.ensures.value) ∙ c.in_ok-aliases.ensures) in
+    let declared = program-declared tree c.tree-tree.result.now certificate walk c.deref-3.result.now c.in_ok-declared.declared.items context_is
+    c.tree-tree.ensures c.deref-3.ensures.value c.in_ok-declared.ensures in
+    program-open tree certificate walk context_is loops c.new-walk.ensures.state_is c.new-walk.ensures.open_is _ _ _ (c.in_ok-blocks.ensures declared)
 
 pub returns-clause-entries : goal.returns-clause-entries
 returns-clause-entries c =
-    program-visits c.args.rows.now c.args.certificate.now c.in_ok-walk.walk c.in_ok-walk.ensures _ _ _
-    c.in_ok-blocks.ensures ∙ ap (λ numbers. all_counted numbers c.args.visits.now) (program-entered c.args.rows.now c.args.certificate.now)
+    let tree = c.args.rows.now in
+    let certificate = c.args.certificate.now in
+    let walk = c.new-walk.result in
+    let pairs_are = c.in_ok-pairs.ensures ∙ c.in_ok-all_pairs.ensures in
+    let context_is = c.new-walk.ensures.context_is
+    ∙ program-context tree c.tree-tree.result.now certificate c.in_ok-all_limits.field-0.items
+    (map said_claims c.in_ok-all_block_claims.field-0.items) c.in_ok-pairs.pairs (map kept_round c.new.result.items)
+    (map said_loop c.in_ok-claims.claims.items) c.tree-tree.ensures c.in_ok-all_limits.ensures c.in_ok-all_block_claims.ensures pairs_are
+    (ap (map kept_round) c.new.ensures.items) c.in_ok-claims.ensures in
+    let loops = program-loops tree c.tree-tree.result.now certificate (context_of walk) c.in_ok-pairs.pairs (map said_loop c.deref.result.now)
+    walk.aliases.now context_is c.tree-tree.ensures pairs_are (ap (map said_loop) c.deref.ensures.value ∙ c.in_ok-claims.ensures)
+    (ap (map (λ (row : Vec ℕ). row.items)) (c.new-walk.ensures.aliases_are ∙ c.deref-2.ensures.value) ∙ c.in_ok-aliases.ensures) in
+    let declared = program-declared tree c.tree-tree.result.now certificate walk c.deref-3.result.now c.in_ok-declared.declared.items context_is
+    c.tree-tree.ensures c.deref-3.ensures.value c.in_ok-declared.ensures in
+    program-visits tree certificate walk context_is loops c.new-walk.ensures.state_is c.new-walk.ensures.open_is _ _ _ (c.in_ok-blocks.ensures declared)
+    ∙ ap (λ numbers. all_counted numbers c.args.visits.now) (program-entered tree certificate)
 
 pub returns-clause-rules : goal.returns-clause-rules
 returns-clause-rules c =
-    program-unbroken c.args.rows.now c.args.certificate.now c.in_ok-walk.walk c.in_ok-walk.ensures _ _ _
-    c.in_ok-blocks.ensures
+    let tree = c.args.rows.now in
+    let certificate = c.args.certificate.now in
+    let walk = c.new-walk.result in
+    let pairs_are = c.in_ok-pairs.ensures ∙ c.in_ok-all_pairs.ensures in
+    let context_is = c.new-walk.ensures.context_is
+    ∙ program-context tree c.tree-tree.result.now certificate c.in_ok-all_limits.field-0.items
+    (map said_claims c.in_ok-all_block_claims.field-0.items) c.in_ok-pairs.pairs (map kept_round c.new.result.items)
+    (map said_loop c.in_ok-claims.claims.items) c.tree-tree.ensures c.in_ok-all_limits.ensures c.in_ok-all_block_claims.ensures pairs_are
+    (ap (map kept_round) c.new.ensures.items) c.in_ok-claims.ensures in
+    let loops = program-loops tree c.tree-tree.result.now certificate (context_of walk) c.in_ok-pairs.pairs (map said_loop c.deref.result.now)
+    walk.aliases.now context_is c.tree-tree.ensures pairs_are (ap (map said_loop) c.deref.ensures.value ∙ c.in_ok-claims.ensures)
+    (ap (map (λ (row : Vec ℕ). row.items)) (c.new-walk.ensures.aliases_are ∙ c.deref-2.ensures.value) ∙ c.in_ok-aliases.ensures) in
+    let declared = program-declared tree c.tree-tree.result.now certificate walk c.deref-3.result.now c.in_ok-declared.declared.items context_is
+    c.tree-tree.ensures c.deref-3.ensures.value c.in_ok-declared.ensures in
+    program-unbroken tree certificate walk context_is loops c.new-walk.ensures.state_is c.new-walk.ensures.open_is _ _ _ (c.in_ok-blocks.ensures declared)
 
 pub returns-in_err-blocks-clause-rules : goal.returns-in_err-blocks-clause-rules
 returns-in_err-blocks-clause-rules c =
-    program-given_up c.args.rows.now c.args.certificate.now c.in_ok-walk.walk c.in_ok-walk.ensures _ c.from_residual-in_err-blocks.result
-    c.in_err-blocks.field-0.0 c.from_residual-in_err-blocks.ensures c.in_err-blocks.ensures
+    let tree = c.args.rows.now in
+    let certificate = c.args.certificate.now in
+    let walk = c.new-walk.result in
+    let pairs_are = c.in_ok-pairs.ensures ∙ c.in_ok-all_pairs.ensures in
+    let context_is = c.new-walk.ensures.context_is
+    ∙ program-context tree c.tree-tree.result.now certificate c.in_ok-all_limits.field-0.items
+    (map said_claims c.in_ok-all_block_claims.field-0.items) c.in_ok-pairs.pairs (map kept_round c.new.result.items)
+    (map said_loop c.in_ok-claims.claims.items) c.tree-tree.ensures c.in_ok-all_limits.ensures c.in_ok-all_block_claims.ensures pairs_are
+    (ap (map kept_round) c.new.ensures.items) c.in_ok-claims.ensures in
+    let loops = program-loops tree c.tree-tree.result.now certificate (context_of walk) c.in_ok-pairs.pairs (map said_loop c.deref.result.now)
+    walk.aliases.now context_is c.tree-tree.ensures pairs_are (ap (map said_loop) c.deref.ensures.value ∙ c.in_ok-claims.ensures)
+    (ap (map (λ (row : Vec ℕ). row.items)) (c.new-walk.ensures.aliases_are ∙ c.deref-2.ensures.value) ∙ c.in_ok-aliases.ensures) in
+    let declared = program-declared tree c.tree-tree.result.now certificate walk c.deref-3.result.now c.in_ok-declared.declared.items context_is
+    c.tree-tree.ensures c.deref-3.ensures.value c.in_ok-declared.ensures in
+    program-given_up tree certificate walk context_is loops c.new-walk.ensures.state_is c.new-walk.ensures.open_is _
+    c.from_residual-in_err-blocks.result c.in_err-blocks.field-0.0 c.from_residual-in_err-blocks.ensures (c.in_err-blocks.ensures declared)

@@ -1,9 +1,9 @@
 use Rattle.std.proofs.Common.{◌≡◌, max, ap, sym, ◌∙◌, map, arith}
 use Rattle.std.proofs.lemmas.List.{drop_all, take_all}
-use Rattle.code_scheme.specs.Scopes.{behind_fields}
-use Rattle.code_scheme.specs.Depth.{access_depth, arms_depth, expr_depth, greatest, index_depths, parameter_depth, stmt_depth, store_depth, whole_depth}
+use Rattle.code_scheme.specs.Depth.{access_depth, arms_depth, call_depth, expr_depth, greatest, index_depths, parameter_depth, passed_depth}
+use Rattle.code_scheme.specs.Depth.{stmt_depth, store_depth, whole_depth}
 use Rattle.code_scheme.specs.Sizes.{capped}
-use Rattle.code_scheme.proofs.Pieces.{stmt_depth-Assign, stmt_depth-Copy, stmt_depth-Write, greatest_one_more, arms_depth-none}
+use Rattle.code_scheme.proofs.Pieces.{stmt_depth-Assign, stmt_depth-Call, stmt_depth-Copy, stmt_depth-Write, greatest_one_more, arms_depth-none}
 use Rattle.code_scheme.proofs.depth.+needed_by.Goals as goal
 
 pub needed_by-returns-in-Assign : goal.needed_by-returns-in-Assign
@@ -13,7 +13,7 @@ needed_by-returns-in-Assign t c =
     let whole = ap stmt_depth c.in-Assign.is
     ∙ stmt_depth-Assign c.in-Assign.number c.in-Assign.becomes target c.in-Assign.indexes c.in-Assign.fits value in
     c.needed_by_assign.ensures
-    ∙ ap (λ indexes. capped (store_depth (behind_fields target.selectors.items) (index_depths indexes) (expr_depth value))) c.as_slice.ensures.value
+    ∙ ap (λ indexes. capped (store_depth (index_depths indexes) (expr_depth value))) c.as_slice.ensures.value
     ∙ ap capped (sym whole)
 
 pub needed_by-returns-in-Copy : goal.needed_by-returns-in-Copy
@@ -60,3 +60,8 @@ needed_by_arms-returns t c =
     ∙ ap (λ ss. arms_depth c.args.constants.now.items (map stmt_depth ss)) c.deref-arm-items.ensures.value in
     let all = ap (λ n. capped (max c.loop-arm.depth n)) (sym none) ∙ c.loop-arm.invariant.1 ∙ ap capped same in
     omega (arith, all, c.loop-arm.invariant.0)
+
+pub needed_by-returns-in-Call : goal.needed_by-returns-in-Call
+needed_by-returns-in-Call t c =
+    c.needed_by_call.ensures ∙ ap (λ actuals. capped (call_depth (map passed_depth actuals))) c.as_slice-in-Call.ensures.value
+    ∙ ap capped (sym (ap stmt_depth c.in-Call.is ∙ stmt_depth-Call c.in-Call.call c.in-Call.actuals))

@@ -6,7 +6,7 @@ use Rattle.code_scheme.specs.Code.{address_code, index_codes, whole_code}
 use Rattle.code_scheme.proofs.size.copy_size.Goals as goal
 
 pub returns : goal.returns
-returns c = λ scope.
+returns c = λ scope h.
     let address = address_code scope c.args.target.now (index_codes scope c.args.indexes.now) in
     let value = whole_code scope c.args.value.now (index_codes scope c.args.value_indexes.now) in
     let last = instr.StoreMany (row_length (length_of c.args.value.now)) ∷ [] in
@@ -15,8 +15,8 @@ returns c = λ scope.
       arith,
       whole,
       length-append value last,
-      c.address_size.ensures scope,
-      c.whole_size.ensures scope,
+      c.address_size.ensures scope h,
+      c.whole_size.ensures scope h,
       c.saturating_add.ensures,
       c.saturating_add-2.ensures,
     )

@@ -1,6 +1,6 @@
 use Rattle.std.proofs.Common.{[]}
 use Rattle.std.proofs.lemmas.List.{get_or_default}
-use Rattle.typing.specs.Typing.{definition}
+use Rattle.typing.specs.Routines.{definition}
 use Rattle.typing.proofs.Rows.{each_next}
 use Rattle.declarations.proofs.Kept.{definition_keeps, definitions_stay}
 use Rattle.declarations.proofs.constants.declare_constants.Goals as goal

@@ -1,5 +1,5 @@
 use Rattle.std.proofs.Common.{[]}
-use Rattle.typing.specs.Typing.{definition}
+use Rattle.typing.specs.Routines.{definition}
 use Rattle.typing.proofs.Rows.{IsLeftFrom}
 use Rattle.declarations.specs.Known.{AreKnownDefinitions}
 use Rattle.declarations.proofs.constants.declare_constants.Given as goal

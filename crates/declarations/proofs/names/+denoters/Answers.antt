@@ -1,6 +1,6 @@
 use Rattle.std.proofs.Common.{rules, ◌≡◌, length, min, sym}
 use Rattle.std.proofs.lemmas.Slice.Zip.{zip_end}
-use Rattle.declarations.specs.Declared.{texts}
+use Rattle.declarations.specs.Parts.{texts}
 use Rattle.declarations.proofs.Defined.{groups_end}
 use Rattle.declarations.proofs.names.+denoters.Goals as goal
 

@@ -1,5 +1,5 @@
 use Rattle.std.proofs.Common.{length}
-use Rattle.declarations.specs.Declared.{texts}
+use Rattle.declarations.specs.Parts.{texts}
 use Rattle.declarations.proofs.Defined.{AreNamesFrom, AreGroupNamesFrom}
 use Rattle.declarations.proofs.names.+denoters.Given as goal
 

@@ -1,6 +1,6 @@
 use Rattle.std.proofs.Common.{◌≡◌, ◌++◌, take}
 use Rattle.typing.specs.Names.{all_folded}
-use Rattle.declarations.specs.Declared.{texts}
+use Rattle.declarations.specs.Parts.{texts}
 use Rattle.declarations.proofs.names.fold_names.Given as goal
 
 -- the names so far

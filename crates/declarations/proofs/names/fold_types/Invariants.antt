@@ -1,6 +1,6 @@
 use Rattle.std.proofs.Common.{◌≡◌, ◌++◌, flat_map, take}
 use Rattle.typing.specs.Names.{all_folded, type_names}
-use Rattle.declarations.specs.Declared.{texts}
+use Rattle.declarations.specs.Parts.{texts}
 use Rattle.declarations.proofs.names.fold_types.Given as goal
 
 -- the names so far

@@ -1,5 +1,5 @@
 use Rattle.std.proofs.Common.{[]}
-use Rattle.typing.specs.Typing.{type_definition}
+use Rattle.typing.specs.Routines.{type_definition}
 use Rattle.typing.proofs.Rows.{each_next}
 use Rattle.declarations.proofs.Kept.{type_definition_keeps, types_stay}
 use Rattle.declarations.proofs.type_definitions.declare_types.Goals as goal

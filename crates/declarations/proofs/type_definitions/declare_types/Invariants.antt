@@ -1,5 +1,5 @@
 use Rattle.std.proofs.Common.{[]}
-use Rattle.typing.specs.Typing.{type_definition}
+use Rattle.typing.specs.Routines.{type_definition}
 use Rattle.typing.proofs.Rows.{IsLeftFrom}
 use Rattle.declarations.specs.Known.{AreKnownTypes}
 use Rattle.declarations.proofs.type_definitions.declare_types.Given as goal

@@ -1,5 +1,5 @@
 use Rattle.std.proofs.Common.{[]}
-use Rattle.typing.specs.Typing.{group}
+use Rattle.typing.specs.Routines.{group}
 use Rattle.typing.proofs.Rows.{each_next}
 use Rattle.declarations.proofs.Kept.{group_keeps, groups_stay}
 use Rattle.declarations.proofs.variables.declare_groups.Goals as goal

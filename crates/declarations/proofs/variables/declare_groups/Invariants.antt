@@ -1,5 +1,5 @@
 use Rattle.std.proofs.Common.{[]}
-use Rattle.typing.specs.Typing.{group}
+use Rattle.typing.specs.Routines.{group}
 use Rattle.typing.proofs.Rows.{IsLeftFrom}
 use Rattle.declarations.specs.Known.{AreKnownGroups}
 use Rattle.declarations.proofs.variables.declare_groups.Given as goal

@@ -13,7 +13,7 @@ loop-row-preserved c =
     let row = c.loop-row.row in
     let end = c.end-row-end.result in
     c.loop-row.invariant ∙ ap (λ rows. all_defined rows (viewed c.loop-row.state)) (rows-cut row end c.loop-row-test.true)
-    ∙ ap (all_defined (rows_from (row + 1) end)) (sym c.define_row.ensures)
+    ∙ ap (all_defined (rows_from (row + 1) end)) (sym c.in_ok-define_row.ensures)
 
 pub returns : goal.returns
 returns c =

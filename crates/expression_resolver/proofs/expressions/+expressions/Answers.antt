@@ -1,20 +1,33 @@
 use Rattle.std.proofs.lemmas.Bool.Decides.{nat_tests}
-use Rattle.std.proofs.Common.{rules, ◌≡◌, ◌<◌, ◌∷◌, length, map, refl, sym, ap, subst, ◌∙◌, arith}
-use Rattle.syntax_tree.specs.declared.Expr.TheViews.{out-Link}
+use Rattle.std.proofs.Common.{rules, ◌≡◌, ◌<◌, ◌+◌, [], ◌∷◌, ◌++◌, ◌⊎◌, ap₂, get_or, length, map, refl, sym, ap, subst, ◌∙◌, arith, inr, true, false}
+use Rattle.std.proofs.Common.{is_some, Some, None, Ok, Err}
+use Rattle.std.specs.Prelude.{slice_get}
+use Rattle.std.proofs.lemmas.List.{length-map}
+use Rattle.syntax_tree.specs.declared.Expr.TheViews.{out-Actual, out-Link}
+use Rattle.types.specs.Types.{is_ordinal}
+use Rattle.typed_tree.specs.declared.fault.TypeFault.TheVariants as fault
+use Rattle.typed_tree.specs.WellFormed.{is_variable_kind, length_of}
+use Rattle.typed_tree.proofs.Looks.{look_function_call}
 use Rattle.typed_tree.specs.Look.{Begins}
-use Rattle.typing.specs.Passing.{behind_marks}
-use Rattle.typing.specs.Expressions.{expression, written_link}
+use Rattle.typing.specs.Passing.{after, behind_marks}
+use Rattle.typing.specs.Expressions.{Written, expression, written_actual, written_link}
+use Rattle.typing.specs.Steps.{program_heading}
+use Rattle.typing.proofs.Written.{typing_component}
 use Rattle.typing.specs.Expressions as spec
-use Rattle.typing.specs.Outcomes.{IsFault}
+use Rattle.typing.specs.Outcomes.{IsFault, Makes}
 use Rattle.expression_resolver.specs.Made.{typed_of, look_value, operators, MakesTyped}
 use Rattle.expression_resolver.proofs.Chains.{stops_at_first, goes_on, ordinal_stops, ordinal_made}
 use Rattle.expression_resolver.proofs.Chains.{nothing, string_alone, string_stops, more_stop, more_refused, string_made}
 use Rattle.expression_resolver.proofs.Operands.{was_some, fits_behind}
 use Rattle.typed_tree.specs.Accesses.{index_count}
-use Rattle.typed_tree.specs.Look.{Access, look_expr}
+use Rattle.typed_tree.specs.Look.{Access, ForWhole, look_expr, look_passed}
 use Rattle.typing.proofs.Selectors.{index_passes}
 use Rattle.expression_resolver.specs.Accesses.{value, look_selection, SelectsOne}
 use Rattle.expression_resolver.proofs.Selecting.{variable_stops, selectors_stop, component_is, elements_take_one, field_selects, element_selects}
+use Rattle.expression_resolver.proofs.Actuals.{ArePassedFrom, one_passed}
+use Rattle.expression_resolver.proofs.Calls.{actual_stops, call_made, count_stops, value_is, value_stops}
+use Rattle.expression_resolver.proofs.PassedForms.{cells_copied, other_kind, to_none, to_value, to_variable, value_by_kind, variable_made, variable_passes}
+use Rattle.expression_resolver.proofs.PassedForms.{whole_made, whole_passes}
 use Rattle.expression_resolver.proofs.expressions.+expressions.Goals as goal
 
 -- ---- a chain
@@ -180,3 +193,175 @@ select-returns-in-Some t c =
     (element_selects c.args.indexes.now c.args.typer.now c.args.selection.now c.select_element.new.selection c.select_element.new.typer
     c.in-Index.place c.in-Index.joined c.len.result at c.in-Some.index.now _ there c.in-Some.ensures.lookup.1
     c.select_element.result c.select_element.ensures)
+
+-- ---- actual parameters
+
+pub actual-returns-in-None : goal.actual-returns-in-None
+actual-returns-in-None t c =
+    let none : is_some (out-Actual c.args.written.now).width ≡ false = search rules in
+    let found : slice_get c.args.typer.now.variables c.args.root ≡ None = search rules in
+    λ callee position. inr (
+    to_none c.args.written.now c.args.root callee position c.args.typer.now none found
+    ∙ ap (λ place. Err (fault.WrongParameters place)) (sym c.first_place-place.ensures))
+
+pub actual-returns-in-VariableParameter : goal.actual-returns-in-VariableParameter
+actual-returns-in-VariableParameter t c =
+    let formal = c.in-Some.formal in
+    let none : is_some (out-Actual c.args.written.now).width ≡ false = search rules in
+    let found : slice_get c.args.typer.now.variables c.args.root ≡ Some formal = search rules in
+    let is : is_variable_kind formal.kind ≡ true = ap is_variable_kind c.in-VariableParameter.is in
+    λ callee position.
+    subst (λ o. Makes (λ _. tt) (λ made. look_passed made callee position) o c.passed_variable.result c.passed_variable.new.typer)
+    (sym (to_variable c.args.written.now c.args.root callee position c.args.typer.now none formal found is))
+    (c.passed_variable.ensures callee position)
+
+pub actual-returns-in_default : goal.actual-returns-in_default
+actual-returns-in_default t c =
+    let formal = c.in-Some.formal in
+    let none : is_some (out-Actual c.args.written.now).width ≡ false = search rules in
+    let found : slice_get c.args.typer.now.variables c.args.root ≡ Some formal = search rules in
+    let is : is_variable_kind formal.kind ≡ false = other_kind formal.kind c.in_default.not-VariableParameter in
+    λ callee position.
+    subst (λ o. Makes (λ _. tt) (λ made. look_passed made callee position) o c.passed_value.result c.passed_value.new.typer)
+    (sym (to_value c.args.written.now c.args.root callee position c.args.typer.now none formal found is))
+    (c.passed_value.ensures callee position)
+
+-- one more is made
+pub actuals_for-loop-i-preserved : goal.actuals_for-loop-i-preserved
+actuals_for-loop-i-preserved t c =
+    let within : c.loop-i.i < length c.args.actuals.now = search rules in
+    let rooted : c.loop-i.i < length c.args.roots.now = grind (arith, within, c.requires) in
+    subst (λ made. ArePassedFrom c.args.roots.now c.args.actuals.now c.args.typer.now (c.loop-i.i + 1) made c.actual.new.typer)
+    (sym c.in_ok-push.ensures.items)
+    (one_passed c.args.roots.now c.args.actuals.now c.args.typer.now c.loop-i.i c.loop-i.made.items c.loop-i.typer c.loop-i.invariant
+    _ _ rooted within (search rules) (search rules) c.in_ok-actual.field-0 c.actual.new.typer c.in_ok-actual.ensures)
+
+-- a value for a value parameter
+pub passed_value-returns-then-tests_ordinal : goal.passed_value-returns-then-tests_ordinal
+passed_value-returns-then-tests_ordinal t c =
+    let is : is_ordinal c.args.typer.now.types c.args.type_id ≡ true = search rules in
+    λ callee position.
+    subst (λ o. Makes (λ _. tt) (λ made. look_passed made callee position) o c.passed_ordinal.result c.passed_ordinal.new.typer)
+    (sym (value_by_kind c.args.type_id (expression c.args.written.now) callee position c.args.typer.now true is))
+    (c.passed_ordinal.ensures callee position)
+
+pub passed_value-returns-else-tests_ordinal : goal.passed_value-returns-else-tests_ordinal
+passed_value-returns-else-tests_ordinal t c =
+    let is : is_ordinal c.args.typer.now.types c.args.type_id ≡ false = search rules in
+    λ callee position.
+    subst (λ o. Makes (λ _. tt) (λ made. look_passed made callee position) o c.passed_whole.result c.passed_whole.new.typer)
+    (sym (value_by_kind c.args.type_id (expression c.args.written.now) callee position c.args.typer.now false is))
+    (c.passed_whole.ensures callee position)
+
+pub passed_whole-returns : goal.passed_whole-returns
+passed_whole-returns t c =
+    let made = c.in_ok-made.made in
+    let now = c.expression.new.typer in
+    let count = c.in_ok-ok_or.field-0 in
+    let value = c.in_ok-value.value in
+    let is = c.in_ok-value.ensures in
+    let copies : spec.copying now.types c.args.type_id (typed_of made) ≡ Some count =
+    ap (spec.copying now.types c.args.type_id) (sym c.typed.ensures) ∙ sym c.copying.ensures
+    ∙ was_some c.copying.result count _ (sym c.ok_or.ensures.value ∙ c.in_ok-ok_or.was) in
+    λ callee position.
+    whole_passes c.args.type_id (expression c.args.written.now) callee position c.args.typer.now (typed_of made) (look_value made.value) now count
+    c.in_ok-made.ensures copies
+    ∙ ap (λ look. Ok (after tt (look ++ (ForWhole c.args.type_id count callee position ∷ [])) now)) is.1
+    ∙ whole_made c.args.type_id value c.in_ok-value.indexes callee position count now
+    (cells_copied now.types c.args.type_id (typed_of made) (length_of value) count is.0 copies)
+
+-- a variable for a variable parameter
+pub passed_access-returns : goal.passed_access-returns
+passed_access-returns t c =
+    let made = c.in_ok-component.component in
+    let name = c.args.name.now in
+    let fits : spec.passable c.selected.new.typer.types c.args.wanted c.in_ok-root.type_id made.selectors.items made.type_id name.place ≡ Ok tt =
+    search rules in
+    λ callee position.
+    variable_passes name c.args.selectors.now (map expression c.args.indexes.now) c.args.wanted callee position
+    c.in_ok-denotation.denotation (c.in_ok-root.root, c.in_ok-root.type_id) c.in_ok-number.number
+    c.args.typer.now c.find.new.self c.may_change.new.self c.enter.new.self
+    (search rules) (search rules) (search rules) (search rules)
+    (made.selectors.items, made.type_id) (look_selection made) c.selected.new.typer c.in_ok-component.ensures.made fits
+    ∙ variable_made c.args.wanted c.in_ok-number.number c.in_ok-root.root made callee position c.selected.new.typer c.in_ok-component.ensures.counted
+
+pub passed_variable-returns-in-Component : goal.passed_variable-returns-in-Component
+passed_variable-returns-in-Component t c =
+    let component = c.in-Component in
+    let s = c.args.typer.now in
+    λ callee position.
+    subst (λ o. Makes (λ _. tt) (λ made. look_passed made callee position) o c.passed_access-in-Component.result c.passed_access-in-Component.new.typer)
+    (sym (ap (λ w. (expression w).passing c.args.wanted callee position s) component.is
+    ∙ ap (λ (e : Written). e.passing c.args.wanted callee position s) (typing_component component.name component.selectors component.indexes)
+    ∙ ap₂ (λ selectors indexes. spec.passed_variable component.name selectors (map expression indexes) c.args.wanted callee position s)
+    (sym c.deref.ensures.value) (sym c.deref-in-Component.ensures.value)))
+    (c.passed_access-in-Component.ensures callee position)
+
+-- ---- calls
+
+pub function_value-returns-in_err-type_id : goal.function_value-returns-in_err-type_id
+function_value-returns-in_err-type_id t c =
+    let why = c.in_err-type_id.field-0.0 in
+    let is : c.args.is_function ≡ true = search rules in
+    let actuals = map written_actual c.args.actuals.now in
+    let stops : IsFault (spec.function_value c.args.block c.args.is_function c.args.place actuals c.args.lead c.args.typer.now) why = inr (
+    ap (λ f. spec.function_value c.args.block f c.args.place actuals c.args.lead c.args.typer.now) is
+    ∙ value_stops c.args.block c.args.place actuals c.args.lead c.args.typer.now c.pass.new.self c.behind.new.self c.in_ok-site.site
+    c.pass.ensures c.in_ok-site.ensures c.in_ok-made.made.root _ c.routine_call.new.typer c.in_ok-made.ensures why c.in_err-type_id.ensures) in
+    search rules
+
+pub function_value-returns : goal.function_value-returns
+function_value-returns t c =
+    let is : c.args.is_function ≡ true = search rules in
+    let actuals = map written_actual c.args.actuals.now in
+    let made = c.in_ok-made.made in
+    ap (λ f. spec.function_value c.args.block f c.args.place actuals c.args.lead c.args.typer.now) is
+    ∙ value_is c.args.block c.args.place actuals c.args.lead c.args.typer.now c.pass.new.self c.behind.new.self c.in_ok-site.site
+    c.pass.ensures c.in_ok-site.ensures made.root _ c.routine_call.new.typer c.in_ok-made.ensures c.in_ok-type_id.type_id c.in_ok-type_id.ensures
+    ∙ ap (λ look. Ok (after (spec.typed c.in_ok-type_id.type_id c.in_ok-site.site) look c.routine_call.new.typer))
+    (sym (look_function_call made.call made.actuals))
+
+pub routine_call-returns-in_err-found : goal.routine_call-returns-in_err-found
+routine_call-returns-in_err-found t c =
+    let why = c.in_err-found.field-0.0 in
+    let actuals = c.args.actuals.now in
+    let formals = (get_or c.enter.new.self.headings c.args.block program_heading).parameters in
+    let refused : (why ≡ fault.Memory) ⊎ (spec.are_as_many c.args.place (length (map written_actual actuals)) (length formals) ≡ Err why) =
+    subst (λ n. (why ≡ fault.Memory) ⊎ (spec.are_as_many c.args.place n (length formals) ≡ Err why)) (sym (length-map actuals written_actual))
+    c.in_err-found.ensures in
+    let stops : IsFault (spec.routine_call c.args.is_function c.args.block c.args.place (map written_actual actuals) c.args.typer.now) why =
+    count_stops c.args.is_function c.args.block c.args.place (map written_actual actuals) c.args.typer.now c.enter.new.self c.in_ok-number.number
+    c.in_ok-number.ensures why refused in
+    search rules
+
+pub routine_call-returns-in_err-passed : goal.routine_call-returns-in_err-passed
+routine_call-returns-in_err-passed t c =
+    let why = c.in_err-passed.field-0.0 in
+    let actuals = c.args.actuals.now in
+    let there = c.enter.new.self in
+    let formals = (get_or there.headings c.args.block program_heading).parameters in
+    let many : spec.are_as_many c.args.place (length (map written_actual actuals)) (length formals) ≡ Ok tt =
+    ap (λ n. spec.are_as_many c.args.place n (length formals)) (length-map actuals written_actual) ∙ c.in_ok-found.ensures.fits in
+    let refused : IsFault (spec.actuals_for formals (map written_actual actuals) c.args.block 0 there) why =
+    subst (λ roots. IsFault (spec.actuals_for roots (map written_actual actuals) c.args.block 0 there) why)
+    (c.deref.ensures.value ∙ sym c.in_ok-found.ensures.parameters) (c.in_err-passed.ensures.made c.args.block) in
+    let stops : IsFault (spec.routine_call c.args.is_function c.args.block c.args.place (map written_actual actuals) c.args.typer.now) why =
+    actual_stops c.args.is_function c.args.block c.args.place (map written_actual actuals) c.args.typer.now there c.in_ok-number.number
+    c.in_ok-number.ensures many why refused in
+    search rules
+
+pub routine_call-returns : goal.routine_call-returns
+routine_call-returns t c =
+    let actuals = c.args.actuals.now in
+    let there = c.enter.new.self in
+    let passed = c.in_ok-passed.passed in
+    let now = c.actuals_for.new.typer in
+    let found = c.in_ok-found.ensures in
+    let formals = (get_or there.headings c.args.block program_heading).parameters in
+    let many : spec.are_as_many c.args.place (length (map written_actual actuals)) (length formals) ≡ Ok tt =
+    ap (λ n. spec.are_as_many c.args.place n (length formals)) (length-map actuals written_actual) ∙ found.fits in
+    call_made c.args.is_function c.args.block c.args.place (map written_actual actuals) c.args.typer.now there c.in_ok-number.number
+    c.in_ok-number.ensures many c.in_ok-found.found.root found.result passed.items
+    (c.in_ok-passed.ensures.counted ∙ sym (length-map actuals written_actual)) now
+    (ap (λ roots. spec.actuals_for roots (map written_actual actuals) c.args.block 0 there) (found.parameters ∙ sym c.deref.ensures.value)
+    ∙ c.in_ok-passed.ensures.made c.args.block)

@@ -1,10 +1,9 @@
-use Rattle.std.proofs.Common.{rules, arith, ◌≡◌, ◌∙◌, sym, ap, subst, ◌+◌, ◌≤◌, ◌++◌, ◌∷◌, [], suc, length, map, Some, None, ℕ, List, Option, take}
+use Rattle.std.proofs.Common.{◌≡◌, ◌∙◌, sym, ap, subst, ◌++◌, ◌∷◌, [], map, Some, None, List, take}
 use Rattle.std.proofs.lemmas.Option.{slice_get_past}
 use Rattle.std.specs.Prelude.{OnOk, flat_map}
 use Rattle.std.specs.Option.{option_map, option_and_then}
 use Rattle.types.specs.Forms.{Form, Array, Record, form_of, field_form}
 use Rattle.types.specs.Types.{form_at, range_of}
-use Rattle.types.specs.declared.form.TypeId.{TypeId}
 use Rattle.types.specs.declared.form.Field.{Field}
 use Rattle.leaf_rows.specs.declared.leaf.RowRanges.{RowRanges}
 use Rattle.leaf_rows.specs.Leaves.{scalar}

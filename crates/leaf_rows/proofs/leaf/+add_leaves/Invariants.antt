@@ -1,4 +1,4 @@
-use Rattle.std.proofs.Common.{◌≡◌, ◌++◌, take, Option, Some, None, ℕ, suc, zero}
+use Rattle.std.proofs.Common.{◌≡◌, ◌++◌, take, Option, Some, None, ℕ, suc}
 use Rattle.std.specs.Prelude.{flat_map, map}
 use Rattle.types.specs.declared.form.TypeId.{TypeId}
 use Rattle.leaf_rows.specs.View.{own_type, part_leaves, ranges_on}

@@ -1,4 +1,4 @@
-use Rattle.meaning.proofs.Turns.{ending_stays}
+use Rattle.meaning.proofs.Depths.{ending_stays}
 use Rattle.meaning.proofs.laws.endings_stay.Goals as goal
 
 pub returns : goal.returns

@@ -1,4 +1,4 @@
-use Rattle.meaning.proofs.Turns.{goes_on}
+use Rattle.meaning.proofs.Depths.{goes_on}
 use Rattle.meaning.proofs.laws.turns_go_on.Goals as goal
 
 pub returns : goal.returns

@@ -20,8 +20,8 @@ returns-clause-headline c =
     let open_sites = c.in_ok-verdict.verdict.open_sites.items in
     let well = c.in_ok-tree.ensures.well_formed in
     let never = c.in_ok-verdict.ensures.closed_never_err well c.in_ok-tree.ensures.in_order in
-    let few : is_too_large (program_code tree) ≡ false =
-    false_from_ne_true (is_too_large (program_code tree)) (λ more. absurd (cc (c.in_ok-full.was, c.generate.ensures.too_large.1 more))) in
+    let few : is_too_large tree ≡ false =
+    false_from_ne_true (is_too_large tree) (λ more. absurd (cc (c.in_ok-full.was, c.generate.ensures.too_large.1 more))) in
     let listed = c.deref.ensures.value ∙ c.in_ok-open_sites.ensures in
     let keeps = subst (λ sites. KeepsInstructions sites (program_code tree) stripped.instructions.items) listed
     (subst (λ code. KeepsInstructions c.deref.result.now code stripped.instructions.items) c.in_ok-full.ensures.instructions c.in_ok-stripped.ensures.kept) in
@@ -96,6 +96,9 @@ returns-clause-visits c = c.in_ok-verdict.ensures.visits
 
 pub returns-clause-states_hold : goal.returns-clause-states_hold
 returns-clause-states_hold c = c.in_ok-verdict.ensures.states_hold c.in_ok-tree.ensures.well_formed c.in_ok-tree.ensures.numbered
+
+pub returns-clause-calls_change : goal.returns-clause-calls_change
+returns-clause-calls_change c = c.in_ok-verdict.ensures.calls_change c.in_ok-tree.ensures.well_formed
 
 pub returns-clause-by_place : goal.returns-clause-by_place
 returns-clause-by_place c = c.in_ok-tree.ensures.by_place

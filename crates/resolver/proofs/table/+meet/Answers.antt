@@ -37,9 +37,9 @@ meet-returns-in_ok-meet-in-For t c =
     let w = c.in-For in
     let at = c.in_ok-row-in-For in
     let inside = inside_of w.body.value in
-    let met : Seen = record { rows = old.rows; controls = old.controls ++ w.control ∷ [] } in
-    let pushed : record { rows = old.rows; controls = c.push.new.self.items } ≡ met =
-    ap (λ l. record { rows = old.rows; controls = l }) c.in_ok-push-in-For.ensures.items in
+    let met : Seen = record { block = old.block; rows = old.rows; controls = old.controls ++ w.control ∷ [] } in
+    let pushed : record { block = old.block; rows = old.rows; controls = c.push.new.self.items } ≡ met =
+    ap (λ l. record { block = old.block; rows = old.rows; controls = l }) c.in_ok-push-in-For.ensures.items in
     let is : closed at.row at.start (seen c.meet-in-For.new.met) ≡ meets (inside_of c.args.statement.now) old =
     loop_met w.loop_number inside met (seen c.open-in-For.new.met) (seen c.meet-in-For.new.met) at.row at.start (at.ensures.0 ∙ ap opened pushed)
     at.ensures.1.0 (at.ensures.1.1 ∙ ap length c.in_ok-push-in-For.ensures.items)

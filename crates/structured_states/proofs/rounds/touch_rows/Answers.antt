@@ -9,4 +9,4 @@ pub loop-root-preserved : goal.loop-root-preserved
 loop-root-preserved c =
     all-touched-next (row_limits (rows_of c.args.rows.now)) (rows_of c.args.rows.now) c.args.touched.now c.loop-root.root-index
     (numbers c.of_variable.result) (viewed c.loop-root.state) (viewed c.touch_span.new.state) _ c.loop-root-test.true c.of_variable.ensures
-    c.touch_span.ensures c.loop-root.invariant
+    c.in_ok-touch_span.ensures c.loop-root.invariant

@@ -1,13 +1,18 @@
-use Rattle.std.proofs.Common.{arith, ◌∙◌, sym, ap, refl, true, length, ◌<◌}
-use Rattle.std.proofs.lemmas.List.{get_or_default}
+use Rattle.std.proofs.Common.{◌≡◌, ◌∙◌, ap, set, List, true}
+use Rattle.std.proofs.lemmas.Result.{IfOk-weaker}
 use Rattle.abstract_state.specs.declared.state.Row.{Row}
-use Rattle.abstract_state.proofs.Kept.{defined-kept}
+use Rattle.abstract_state.specs.State.{with_defined}
+use Rattle.abstract_state.proofs.Kept.{defined-set, kept_state}
 use Rattle.abstract_state.proofs.state.Facts.define.Goals as goal
 
-pub returns-then-root-len : goal.returns-then-root-len
-returns-then-root-len c =
+pub returns : goal.returns
+returns c =
     let rows = c.args.self.now.rows.items in
-    let row : Row = record { range = c.index_mut.result.now.range; is_defined = true } in
-    let inside : c.args.root < length rows = omega (arith, c.if-root-len.true, c.len.ensures) in
-    defined-kept rows c.args.self.now.orders.items c.args.root row inside
-    (ap (λ (r : Row). r.range) (get_or_default rows c.args.root row c.index_mut.result.now inside ∙ sym c.index_mut.ensures.value)) refl
+    let orders = c.args.self.now.orders.items in
+    let new = c.set.new.self.items in
+    let root = c.args.root in
+    let row : Row = record c.get_or-row.result { is_defined = true } in
+    IfOk-weaker c.set.result (λ _. new ≡ set rows root row) (λ _. kept_state new orders ≡ with_defined root (kept_state rows orders))
+    (λ _ are. ap (λ (some : List Row). kept_state some orders) are
+    ∙ defined-set rows orders root row (ap (λ (r : Row). record r { is_defined = true }) c.get_or-row.ensures))
+    c.set.ensures.items

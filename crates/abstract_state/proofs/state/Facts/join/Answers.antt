@@ -2,6 +2,7 @@ use Rattle.std.proofs.Common.{◌≡◌, subst, List, filter}
 use Rattle.abstract_state.specs.declared.orders.Order.{Order as KeptOrder}
 use Rattle.abstract_state.specs.State.{gives, with_facts}
 use Rattle.abstract_state.proofs.Kept.{joined-kept, kept_facts, said_orders}
+use Rattle.abstract_state.proofs.Rows.{joined-rows}
 use Rattle.abstract_state.proofs.state.Facts.join.Goals as goal
 
 pub returns : goal.returns
@@ -19,4 +20,5 @@ returns c =
     c.deref-2.ensures.value c.in_ok-both.ensures in
     let after_are = subst (λ (some : List KeptOrder). said_orders after ≡ with_facts (said_orders some) (said_orders both))
     c.deref-3.ensures.value c.in_ok-insert_all.ensures in
-    joined-kept one other c.join_rows.new.rows.items orders others given both after c.in_ok-join_rows.ensures both_are given_are after_are
+    joined-kept one other c.in_ok-self.field-0.items orders others given both after
+    (joined-rows one other c.in_ok-self.field-0.items c.in_ok-self.ensures.items) both_are given_are after_are

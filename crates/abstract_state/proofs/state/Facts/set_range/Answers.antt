@@ -1,18 +1,18 @@
-use Rattle.std.proofs.Common.{arith, ◌∙◌, ap, length, ◌<◌}
-use Rattle.std.proofs.lemmas.List.{get_or_default}
+use Rattle.std.proofs.Common.{◌≡◌, ◌∙◌, ap, set, List}
+use Rattle.std.proofs.lemmas.Result.{IfOk-weaker}
 use Rattle.abstract_state.specs.declared.state.Row.{Row}
-use Rattle.abstract_state.specs.View.{no_row}
-use Rattle.abstract_state.proofs.Kept.{ranged-kept, not-ranged_kept}
+use Rattle.abstract_state.specs.State.{with_range}
+use Rattle.abstract_state.proofs.Kept.{ranged-set, kept_state}
 use Rattle.abstract_state.proofs.state.Facts.set_range.Goals as goal
 
-pub returns-then-root-len : goal.returns-then-root-len
-returns-then-root-len c =
+pub returns : goal.returns
+returns c =
     let rows = c.args.self.now.rows.items in
-    let row : Row = record { range = c.args.range; is_defined = c.index_mut.result.now.is_defined } in
-    let inside : c.args.root < length rows = omega (arith, c.if-root-len.true, c.len.ensures) in
-    ranged-kept rows c.args.self.now.orders.items c.args.root row inside
-    (ap (λ (r : Row). r.is_defined) (c.index_mut.ensures.value ∙ get_or_default rows c.args.root c.index_mut.result.now no_row inside))
-
-pub returns-else-root-len : goal.returns-else-root-len
-returns-else-root-len c =
-    not-ranged_kept c.args.self.now.rows.items c.args.self.now.orders.items c.args.root c.args.range (omega (arith, c.if-root-len.false, c.len.ensures))
+    let orders = c.args.self.now.orders.items in
+    let new = c.set.new.self.items in
+    let root = c.args.root in
+    let row : Row = record c.get_or-row.result { range = c.args.range } in
+    IfOk-weaker c.set.result (λ _. new ≡ set rows root row) (λ _. kept_state new orders ≡ with_range root c.args.range (kept_state rows orders))
+    (λ _ are. ap (λ (some : List Row). kept_state some orders) are
+    ∙ ranged-set rows orders root c.args.range row (ap (λ (r : Row). record r { range = c.args.range }) c.get_or-row.ensures))
+    c.set.ensures.items

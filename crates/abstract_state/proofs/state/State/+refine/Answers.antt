@@ -3,7 +3,7 @@ use Rattle.std.specs.List.{list_all}
 use Rattle.std.proofs.lemmas.Result.{IfOk-equal}
 use Rattle.typed_tree.specs.declared.tree.Expr.{Expr}
 use Rattle.typed_tree.specs.declared.tree.Link.{Link}
-use Rattle.abstract_state.specs.Conditions.{all_refined, condition_of, conjunct_of, refined, single_refined, takes_both}
+use Rattle.abstract_state.specs.Conditions.{all_refined, condition_of, conjunct_of, single_refined, takes_both}
 use Rattle.abstract_state.specs.State.{State}
 use Rattle.abstract_state.specs.View.{viewed}
 use Rattle.abstract_state.proofs.Shapes.{chain-both, chain-single, refined-end, refined-step}
@@ -18,7 +18,7 @@ returns-then-not-all_take_both t c =
     let none : list_all (λ link. takes_both truth link.operation) rest.items ≡ false = search rules in
     IfOk-equal c.refine_single.result (viewed c.refine_single.new.self)
     (single_refined truth (condition_of c.deref-then-not-all_take_both.result.now).form (map conjunct_of c.deref-then-not-all_take_both-2.result.now) state)
-    (refined truth c.args.condition.now state) c.refine_single.ensures
+    ((condition_of c.args.condition.now).refined truth state) c.refine_single.ensures
     (ap₂ (λ (e : Expr) (links : List Link). single_refined truth (condition_of e).form (map conjunct_of links) state)
     c.deref-then-not-all_take_both.ensures c.deref-then-not-all_take_both-2.ensures.value
     ∙ chain-single c.args.condition.now first rest truth state c.in-Chain.is none)
@@ -31,7 +31,7 @@ loop-link-init t c =
     let rest = c.in-Chain.rest in
     let all : list_all (λ link. takes_both truth link.operation) rest.items ≡ true = search rules in
     ap₂ (λ (links : List Link) (s : State). all_refined truth (map conjunct_of links) s) c.deref-link-items.ensures.value
-    (c.in_ok-refine-in-Chain.ensures ∙ ap (λ (e : Expr). refined truth e state) c.deref-in-Chain-2.ensures)
+    (c.in_ok-refine-in-Chain.ensures ∙ ap (λ (e : Expr). (condition_of e).refined truth state) c.deref-in-Chain-2.ensures)
     ∙ chain-both c.args.condition.now first rest truth state c.in-Chain.is all
 
 pub loop-link-preserved : goal.loop-link-preserved

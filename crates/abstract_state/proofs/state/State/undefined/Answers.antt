@@ -5,6 +5,5 @@ use Rattle.abstract_state.proofs.state.State.undefined.Goals as goal
 
 pub returns : goal.returns
 returns c =
-    let rows = c.in_ok-vec.field-0.items in
-    ap (λ (orders : List KeptOrder). kept_state rows orders) c.new.ensures.items
-    ∙ started rows c.args.variables (c.in_ok-vec.ensures.items_if_clones_equal (λ y is. is))
+    let rows = c.new.result.items in
+    ap (λ (orders : List KeptOrder). kept_state rows orders) c.new-2.ensures.items ∙ started rows c.args.variables c.new.ensures.items

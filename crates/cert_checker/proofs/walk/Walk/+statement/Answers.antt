@@ -269,8 +269,8 @@ statement-returns-in_ok-to-in-For t c =
     c.deref-in-For.result.now _ c.in_ok-from-in-For.from c.in_ok-to-in-For.to c.args.self.now c.enter-in-For.new.self c.expression-in-For.new.self
     c.expression-in-For-2.new.self c.for_statement.new.self c.args.visits.now c.enter-in-For.new.visits c.expression-in-For.new.visits
     c.expression-in-For-2.new.visits c.for_statement.new.visits c.for_statement.result it.is c.deref-in-For.ensures
-    (way-same it.control it.direction it.first it.last it.first_fits it.last_fits c.in_ok-from-in-For.from c.in_ok-to-in-For.to (said_end c.new.result)
-    (said_end c.new-in-For.result) c.new.ensures c.new-in-For.ensures)
+    (way-same it.control it.direction it.first it.last it.first_fits it.last_fits c.in_ok-from-in-For.from c.in_ok-to-in-For.to
+    (said_end c.before-in-For.result) (said_end c.new.result) c.before-in-For.ensures c.new.ensures)
     c.in_ok-enter-in-For.ensures c.in_ok-from-in-For.ensures c.in_ok-to-in-For.ensures c.for_statement.ensures
 
 pub arms-loop-i-preserved : goal.arms-loop-i-preserved

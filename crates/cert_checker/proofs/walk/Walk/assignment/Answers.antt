@@ -1,9 +1,10 @@
-use Rattle.std.proofs.Common.{refl, Err, Ok}
+use Rattle.std.proofs.Common.{refl, ap, ◌∙◌, Err, Ok}
+use Rattle.typed_tree.specs.Calls.{holds_call}
 use Rattle.abstract_state.specs.State.{limits_of}
 use Rattle.abstract_state.specs.Conditions.{bound_form}
 use Rattle.component_states.specs.View.{said_reach}
 use Rattle.expression_checker.specs.Walk.{fitting, index_pieces}
-use Rattle.cert_checker.specs.Walk.{assign_to, assignment}
+use Rattle.cert_checker.specs.Walk.{assign_to, assignment, reach_before}
 use Rattle.cert_checker.specs.View.{context_of}
 use Rattle.cert_checker.proofs.Steps.{given-up, goes-then, goes-stopped, lifted}
 use Rattle.cert_checker.proofs.StepsStores.{assignment-done}
@@ -16,7 +17,8 @@ returns-in_err-passed c =
     let fits = c.args.fits in
     let value = c.args.value.now in
     let reach = said_reach c.in_ok-reach.reach in
-    let stored = assign_to c.args.becomes target.root target.selectors.items reach (limits_of fits.range) (bound_form value) in
+    let before = reach_before (holds_call value) reach in
+    let stored = assign_to c.args.becomes target.root target.selectors.items before (limits_of fits.range) (bound_form value) in
     let valued = c.expression.new.self in
     let new = record valued { flow = c.fitting.new.self } in
     let after = c.expression.new.visits in
@@ -24,9 +26,9 @@ returns-in_err-passed c =
     let fault = c.in_err-passed.field-0.0 in
     let left = c.from_residual-in_err-passed in
     given-up (assignment c.args.becomes target (index_pieces indexes) fits value) c.args.self.now new c.args.visits.now after fault left.result left.ensures
-    (assignment-done c.args.becomes target indexes fits value (limits_of fits.range) reach c.args.self.now c.access.new.self valued c.args.visits.now
-    c.access.new.visits after known (Err fault) new refl c.in_ok-reach.ensures c.in_ok-known.ensures
-    (goes-stopped (fitting fits known) stored valued new after after fault (c.in_err-passed.ensures after (context_of valued) refl)))
+    (assignment-done c.args.becomes target indexes fits value (limits_of fits.range) reach before c.args.self.now c.access.new.self valued
+    c.args.visits.now c.access.new.visits after known (Err fault) new refl refl c.in_ok-reach.ensures c.in_ok-known.ensures
+    (goes-stopped (fitting fits known) stored valued new after after fault (λ ready. c.in_err-passed.ensures after (context_of valued).claims)))
 
 pub returns : goal.returns
 returns c =
@@ -36,14 +38,16 @@ returns c =
     let value = c.args.value.now in
     let reach = said_reach c.in_ok-reach.reach in
     let values = c.limits.result in
-    let stored = assign_to c.args.becomes target.root target.selectors.items reach values (bound_form value) in
+    let before = said_reach c.reach_before-reach.result in
+    let stored = assign_to c.args.becomes target.root target.selectors.items before values (bound_form value) in
     let valued = c.expression.new.self in
     let tested = record valued { flow = c.fitting.new.self } in
     let new = c.assign_to.new.self in
     let after = c.expression.new.visits in
     let known = c.in_ok-known.known in
     let passed = c.in_ok-passed.passed in
-    assignment-done c.args.becomes target indexes fits value values reach c.args.self.now c.access.new.self valued c.args.visits.now c.access.new.visits
-    after known c.assign_to.result new c.limits.ensures c.in_ok-reach.ensures c.in_ok-known.ensures
+    assignment-done c.args.becomes target indexes fits value values reach before c.args.self.now c.access.new.self valued c.args.visits.now
+    c.access.new.visits after known c.assign_to.result new c.limits.ensures
+    (c.reach_before-reach.ensures ∙ ap (λ holds. reach_before holds reach) c.holds_call.ensures) c.in_ok-reach.ensures c.in_ok-known.ensures
     (goes-then (fitting fits known) stored valued tested new after after after passed c.assign_to.result
     (lifted (fitting fits known) valued c.fitting.new.self after after (Ok passed) (c.in_ok-passed.ensures after)) (c.assign_to.ensures after))

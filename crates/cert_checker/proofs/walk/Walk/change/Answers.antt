@@ -1,6 +1,7 @@
 use Rattle.std.proofs.Common.{refl, ◌&&◌}
 use Rattle.domain.specs.Interval.{is_included}
-use Rattle.structured_states.specs.Loops.{all_list, limits_at}
+use Rattle.structured_states.specs.Loops.{limits_at}
+use Rattle.expression_checker.specs.Walk.{may_change}
 use Rattle.expression_checker.specs.declared.fault.Rule.TheVariants.{Changes}
 use Rattle.cert_checker.specs.View.{context_of}
 use Rattle.cert_checker.specs.Walk.{change}
@@ -12,5 +13,5 @@ returns c = λ visits.
     let root = c.args.root in
     let old = c.args.self.now in
     asked-goes (change c.args.place root c.args.values)
-    (all_list root (context_of old).rounds && is_included c.args.values (limits_at old.limits.items root)) c.may_change.result Changes c.args.place old
-    visits c.asked.result refl c.may_change.ensures (c.asked.ensures old visits)
+    (may_change (context_of old) root && is_included c.args.values (limits_at (context_of old).limits root)) c.may_assign.result Changes c.args.place old
+    visits c.asked.result refl c.may_assign.ensures c.asked.ensures

@@ -1,5 +1,5 @@
 use Rattle.std.proofs.Common.{refl, ◌&&◌}
-use Rattle.structured_states.specs.Loops.{all_list}
+use Rattle.expression_checker.specs.Walk.{may_change}
 use Rattle.expression_checker.specs.declared.fault.Rule.TheVariants.{Changes}
 use Rattle.cert_checker.specs.View.{context_of}
 use Rattle.cert_checker.specs.Walk.{are_typed, component_change}
@@ -12,5 +12,5 @@ returns c = λ visits.
     let old = c.args.self.now in
     let stores = c.args.stores.now in
     asked-goes (component_change c.args.place root c.args.fits stores)
-    (all_list root (context_of old).rounds && (c.args.fits && are_typed (context_of old) stores)) c.may_store.result Changes c.args.place old visits
-    c.asked.result refl c.may_store.ensures (c.asked.ensures old visits)
+    (may_change (context_of old) root && (c.args.fits && are_typed (context_of old) stores)) c.may_store.result Changes c.args.place old visits
+    c.asked.result refl c.may_store.ensures c.asked.ensures

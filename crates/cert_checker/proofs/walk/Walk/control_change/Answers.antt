@@ -11,4 +11,4 @@ returns c = λ visits.
     let old = c.args.self.now in
     asked-goes (control_change c.args.place way.control way.first.fits.range way.last.fits.range)
     (may_control (context_of old) way.control way.first.fits.range way.last.fits.range) c.may_control.result Changes c.args.place old visits
-    c.asked.result refl c.may_control.ensures (c.asked.ensures old visits)
+    c.asked.result refl c.may_control.ensures c.asked.ensures

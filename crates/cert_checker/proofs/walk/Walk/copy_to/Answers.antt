@@ -2,6 +2,7 @@ use Rattle.std.proofs.Common.{ap, ◌∙◌}
 use Rattle.leaf_rows.specs.Rows.{rows_accessed, rows_of}
 use Rattle.leaf_rows.specs.View.{numbers}
 use Rattle.component_states.specs.View.{said_reach}
+use Rattle.cert_checker.specs.View.{context_of}
 use Rattle.cert_checker.proofs.StepsStores.{copy-goes}
 use Rattle.cert_checker.proofs.walk.Walk.copy_to.Goals as goal
 
@@ -11,5 +12,5 @@ returns c = λ visits.
     let old = c.args.self.now in
     copy-goes c.args.becomes target.root target.selectors.items (said_reach c.args.reach) (numbers c.accessed-rows.result) c.deref-2.result.now old
     c.store_to.new.self visits c.store_to.result
-    (c.accessed-rows.ensures ∙ ap (rows_accessed (rows_of old.flow.rows.now) target.root) c.deref.ensures.value) c.args.type_id c.args.value.now
+    (c.accessed-rows.ensures ∙ ap (rows_accessed (rows_of (context_of old).tree) target.root) c.deref.ensures.value) c.args.type_id c.args.value.now
     c.args.ranges.now c.fits_rows-fits.result c.fits_rows-fits.ensures (c.deref-2.ensures.value ∙ c.in_ok-stores.ensures) (c.store_to.ensures visits)

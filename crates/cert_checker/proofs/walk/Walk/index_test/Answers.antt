@@ -33,4 +33,4 @@ returns-in_err-test c = λ visits.
     left.result
     (c.in_ok-closed.ensures ∙ ap (is_covered range) (c.deref-2.ensures.value ∙ c.in_ok-constants.ensures))
     (c.meet-passed.ensures.answer ∙ ap (common range) (c.hull.ensures.ends ∙ ap hull (c.deref.ensures.value ∙ c.in_ok-constants.ensures)))
-    left.ensures (c.in_err-test.ensures visits (context_of old) refl)
+    left.ensures (λ ready. c.in_err-test.ensures visits (context_of old).claims)

@@ -1,4 +1,4 @@
-use Rattle.std.proofs.Common.{Err, Ok, map, refl}
+use Rattle.std.proofs.Common.{Err, Ok, map}
 use Rattle.expression_checker.specs.Walk.{parameter_walk}
 use Rattle.cert_checker.proofs.Steps.{all-end, all-step, all-stopped, given-up, lifted}
 use Rattle.cert_checker.specs.Walk.{all_of}
@@ -29,4 +29,4 @@ returns-in_err-parameter c =
     c.from_residual.ensures
     (here.invariant (Err fault) new after
     (all-stopped parameter_walk c.args.parameters.now here.parameter-index c.parameter-item.result here.self new here.visits after fault
-    c.loop-parameter-test.true c.parameter-item.is (c.in_err-parameter.ensures (context_of here.self) refl)))
+    c.loop-parameter-test.true c.parameter-item.is (λ ready. c.in_err-parameter.ensures (context_of here.self).claims)))

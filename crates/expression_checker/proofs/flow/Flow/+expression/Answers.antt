@@ -1,5 +1,6 @@
-use Rattle.std.proofs.Common.{refl, rules, Ok, Err, [], ◌∷◌, ap, map, sym, ◌∙◌, ◌≡◌, ℤ, to_z, of_z, w32}
+use Rattle.std.proofs.Common.{◌+◌, List, Bool, subst, ap₂, refl, rules, Ok, Err, [], ◌∷◌, ap, map, sym, ◌∙◌, ◌≡◌, ℤ, to_z, of_z, w32}
 use Rattle.std.proofs.lemmas.Int.{to_z-of_z}
+use Rattle.std.proofs.lemmas.List.{map-append, take_rest}
 use Rattle.domain.specs.Interval.{between}
 use Rattle.expression_checker.specs.Walk.{◌>>=◌, combined, enter, in_turn, index_pieces, link_walk, operated, ordinal, related_walk, value_walk, variable_walk}
 use Rattle.expression_checker.specs.Walk.{access_walk, deeper, give, indexes_walk, text_range, value_use, whole_use, whole_walk}
@@ -8,10 +9,25 @@ use Rattle.component_states.specs.View.{said_reach}
 use Rattle.expression_checker.specs.View.{said_ranges, seen}
 use Rattle.domain.specs.Interval.{truth_values}
 use Rattle.expression_checker.proofs.Steps.{chain-begun, given-up, goes-as, goes-give, goes-stopped, goes-then, link-done, link-walks, monadic-begun}
-use Rattle.expression_checker.proofs.Steps.{index-end, index-step, index-stopped, seen-fault, test-stopped}
+use Rattle.expression_checker.proofs.Steps.{index-end, index_at, index-step, index-stopped, seen-fault, test-stopped}
 use Rattle.expression_checker.proofs.Steps.{one-number, stopped-as, turn-end, turn-step, turn-stopped, value-Chain, value-Compare, value-Constant}
 use Rattle.expression_checker.proofs.Steps.{value-Monadic, value-Variable}
 use Rattle.abstract_state.specs.declared.known.Known.TheVariants.{Ordinal}
+use Rattle.typed_tree.specs.declared.tree.Selector.{Selector}
+use Rattle.abstract_state.specs.Forms.{bound_of}
+use Rattle.abstract_state.specs.View.{said_form}
+use Rattle.call_states.specs.declared.actuals.Actual.{Actual as KeptActual}
+use Rattle.call_states.specs.Actuals.{Actual, OfValue, OfVariable}
+use Rattle.call_states.specs.View.{said_actual}
+use Rattle.component_states.specs.View.{viewed}
+use Rattle.expression_checker.specs.declared.flow.Flow.{Flow}
+use Rattle.expression_checker.specs.Walk.{actuals_hold_call, actuals_walk, call_walk, called, called_block, copied, fitting, function_walk, passed_piece_of}
+use Rattle.expression_checker.specs.Walk.{piece_of, range_in, result_of, result_walk, value_passed, variable_passed, whole_passed}
+use Rattle.expression_checker.specs.View.{Goes, said_actuals}
+use Rattle.expression_checker.proofs.Forms.{bound-same}
+use Rattle.expression_checker.proofs.Passing.{actuals-hold, copied-goes, passing-begun, passing-end, passing-step, passing-stopped, prefixed, result-goes}
+use Rattle.expression_checker.proofs.Passing.{value_given}
+use Rattle.expression_checker.proofs.Steps.{actuals_from, passed-Reference, passed-Value, passed-Whole, range-in, value-Call}
 use Rattle.expression_checker.proofs.flow.Flow.+expression.Goals as goal
 
 pub expression-returns-in_err-known-in-Monadic : goal.expression-returns-in_err-known-in-Monadic
@@ -300,7 +316,7 @@ access-returns t c =
 
 pub indexes-returns-in_err-known : goal.indexes-returns-in_err-known
 indexes-returns-in_err-known t c =
-    let here = c.loop-index in
+    let here = c.loop-i in
     let new = c.expression.new.self in
     let after = c.expression.new.visits in
     let fault = c.in_err-known.field-0.0 in
@@ -308,12 +324,12 @@ indexes-returns-in_err-known t c =
     given-up (indexes_walk c.args.selectors.now (index_pieces c.args.indexes.now) Entire) c.args.self.now new c.args.visits.now after fault
     (seen said_reach left.result) (seen-fault said_reach left.result fault left.ensures)
     (here.invariant (Err fault) new after
-    (index-stopped here.left.now c.args.indexes.now here.index-index c.index-item.result (said_reach here.reach) here.self new here.visits after fault
-    c.loop-index-test.true c.index-item.is c.in_err-known.ensures))
+    (index-stopped here.left.now c.args.indexes.now here.i c.index-indexes-i.result (said_reach here.reach) here.self new here.visits after fault
+    c.loop-i-test.true c.index-indexes-i.is c.in_err-known.ensures))
 
 pub indexes-returns-in_err-range : goal.indexes-returns-in_err-range
 indexes-returns-in_err-range t c =
-    let here = c.loop-index in
+    let here = c.loop-i in
     let new = c.index.new.self in
     let after = c.expression.new.visits in
     let fault = c.in_err-range.field-0.0 in
@@ -321,25 +337,243 @@ indexes-returns-in_err-range t c =
     given-up (indexes_walk c.args.selectors.now (index_pieces c.args.indexes.now) Entire) c.args.self.now new c.args.visits.now after fault
     (seen said_reach left.result) (seen-fault said_reach left.result fault left.ensures)
     (here.invariant (Err fault) new after
-    (test-stopped here.left.now c.args.indexes.now here.index-index c.index-item.result (said_reach here.reach) c.next_test.result c.in_ok-known.known
-    here.self c.expression.new.self new here.visits after after fault c.loop-index-test.true c.index-item.is c.next_test.ensures c.in_ok-known.ensures
+    (test-stopped here.left.now c.args.indexes.now here.i c.index-indexes-i.result (said_reach here.reach) c.next_test.result c.in_ok-known.known
+    here.self c.expression.new.self new here.visits after after fault c.loop-i-test.true c.index-indexes-i.is c.next_test.ensures c.in_ok-known.ensures
     (c.in_err-range.ensures after)))
 
-pub indexes-loop-index-preserved : goal.indexes-loop-index-preserved
-indexes-loop-index-preserved t c = λ result new after goes.
-    let here = c.loop-index in
+pub indexes-loop-i-preserved : goal.indexes-loop-i-preserved
+indexes-loop-i-preserved t c = λ result new after goes.
+    let here = c.loop-i in
     let range = c.in_ok-range.range in
     let reach = said_reach here.reach in
     here.invariant result new after
-    (index-step here.left.now c.behind_next-left.result.now c.args.indexes.now here.index-index c.index-item.result reach
+    (index-step here.left.now c.behind_next-left.result.now c.args.indexes.now here.i c.index-indexes-i.result reach
     (said_reach c.deeper-reach.result) c.next_test.result c.in_ok-known.known range
-    here.self c.expression.new.self c.index.new.self new here.visits c.expression.new.visits after result c.loop-index-test.true c.index-item.is
+    here.self c.expression.new.self c.index.new.self new here.visits c.expression.new.visits after result c.loop-i-test.true c.index-indexes-i.is
     c.next_test.ensures c.behind_next-left.ensures
-    (c.deeper-reach.ensures ∙ ap (λ form. deeper (record { form = form; range = range }) reach) c.bound_form-form.ensures)
+    (c.deeper-reach.ensures ∙ ap (λ form. deeper (record { form = form; range = range }) reach) c.form_before-form.ensures
+    ∙ ap (λ more. deeper (index_at c.index-indexes-i.result more range) reach) (take_rest c.args.indexes.now (here.i + 1)))
     c.in_ok-known.ensures (c.in_ok-range.ensures c.expression.new.visits) goes)
 
 pub indexes-returns : goal.indexes-returns
 indexes-returns t c =
-    let here = c.loop-index in
+    let here = c.loop-i in
     here.invariant (Ok (said_reach here.reach)) here.self here.visits
-    (index-end here.left.now c.args.indexes.now here.index-index (said_reach here.reach) here.self here.visits c.loop-index-test.false)
+    (index-end here.left.now c.args.indexes.now here.i (said_reach here.reach) here.self here.visits c.loop-i-test.false)
+
+pub actual-returns-in_err-known-in-Value : goal.actual-returns-in_err-known-in-Value
+actual-returns-in_err-known-in-Value t c =
+    let it = c.in-Value in
+    let fault = c.in_err-known-in-Value.field-0.0 in
+    let left = c.from_residual in
+    stopped-as (passed_piece_of c.args.actual.now).walk (value_walk it.value) (λ known. value_given it.value it.fits known) c.args.self.now
+    c.expression.new.self c.args.visits.now c.expression.new.visits fault (seen said_actual left.result)
+    (ap (λ p. (passed_piece_of p).walk) it.is ∙ passed-Value it.value it.fits) (seen-fault said_actual left.result fault left.ensures)
+    c.in_err-known-in-Value.ensures
+
+pub actual-returns-in_err-passed-in-Value : goal.actual-returns-in_err-passed-in-Value
+actual-returns-in_err-passed-in-Value t c =
+    let it = c.in-Value in
+    let walk = (passed_piece_of c.args.actual.now).walk in
+    let valued = c.expression.new.self in
+    let new = c.fitting.new.self in
+    let after = c.expression.new.visits in
+    let fault = c.in_err-passed-in-Value.field-0.0 in
+    let known = c.in_ok-known-in-Value.known in
+    let left = c.from_residual-in_err-passed-in-Value in
+    given-up walk c.args.self.now new c.args.visits.now after fault (seen said_actual left.result) (seen-fault said_actual left.result fault left.ensures)
+    (goes-as walk (value_passed (piece_of it.value) it.fits) c.args.self.now new c.args.visits.now after (Err fault)
+    (ap (λ p. (passed_piece_of p).walk) it.is ∙ passed-Value it.value it.fits)
+    (goes-then (value_walk it.value) (λ known. value_given it.value it.fits known) c.args.self.now valued new c.args.visits.now after after known (Err fault)
+    c.in_ok-known-in-Value.ensures
+    (goes-stopped (fitting it.fits known) (λ passed. give (OfValue (range_in passed) (bound_of (piece_of it.value).form))) valued new after after fault
+    (c.in_err-passed-in-Value.ensures after))))
+
+pub actual-returns-in_err-ranges-in-Whole : goal.actual-returns-in_err-ranges-in-Whole
+actual-returns-in_err-ranges-in-Whole t c =
+    let it = c.in-Whole in
+    let fault = c.in_err-ranges-in-Whole.field-0.0 in
+    let left = c.from_residual-in_err-ranges-in-Whole in
+    stopped-as (passed_piece_of c.args.actual.now).walk (whole_walk it.value (index_pieces c.deref.result.now)) (λ ranges. copied it.type_id it.value ranges)
+    c.args.self.now c.whole_value.new.self c.args.visits.now c.whole_value.new.visits fault (seen said_actual left.result)
+    (ap (λ p. (passed_piece_of p).walk) it.is ∙ passed-Whole it.type_id it.value it.indexes
+    ∙ ap (λ items. whole_passed it.type_id it.value (index_pieces items)) (sym c.deref.ensures.value))
+    (seen-fault said_actual left.result fault left.ensures) c.in_err-ranges-in-Whole.ensures
+
+pub actual-returns-in_err-reach-in-Reference : goal.actual-returns-in_err-reach-in-Reference
+actual-returns-in_err-reach-in-Reference t c =
+    let it = c.in-Reference in
+    let fault = c.in_err-reach-in-Reference.field-0.0 in
+    let left = c.from_residual-in_err-reach-in-Reference in
+    stopped-as (passed_piece_of c.args.actual.now).walk (access_walk it.access (index_pieces c.deref-in-Reference.result.now))
+    (λ reach. give (OfVariable it.access.root it.access.selectors.items reach)) c.args.self.now c.access.new.self c.args.visits.now c.access.new.visits
+    fault (seen said_actual left.result)
+    (ap (λ p. (passed_piece_of p).walk) it.is ∙ passed-Reference it.type_id it.access it.indexes
+    ∙ ap (λ items. variable_passed it.access (index_pieces items)) (sym c.deref-in-Reference.ensures.value))
+    (seen-fault said_actual left.result fault left.ensures) c.in_err-reach-in-Reference.ensures
+
+pub actual-returns-in_ok-passed-in-Value : goal.actual-returns-in_ok-passed-in-Value
+actual-returns-in_ok-passed-in-Value t c =
+    let it = c.in-Value in
+    let walk = (passed_piece_of c.args.actual.now).walk in
+    let old = c.args.self.now in
+    let before = c.args.visits.now in
+    let valued = c.expression.new.self in
+    let new = c.fitting.new.self in
+    let after = c.expression.new.visits in
+    let known = c.in_ok-known-in-Value.known in
+    let passed = c.in_ok-passed-in-Value.passed in
+    let actual = OfValue (range_in passed) (bound_of (piece_of it.value).form) in
+    let is : actual ≡ OfValue c.range.result (said_form c.bound_form.result) =
+    ap₂ OfValue (range-in passed c.range.result c.range.ensures) (bound-same it.value ∙ sym c.bound_form.ensures) in
+    subst (λ (a : Actual). Goes walk old before (Ok a) new after) is
+    (goes-as walk (value_passed (piece_of it.value) it.fits) old new before after (Ok actual)
+    (ap (λ p. (passed_piece_of p).walk) it.is ∙ passed-Value it.value it.fits)
+    (goes-then (value_walk it.value) (λ known. value_given it.value it.fits known) old valued new before after after known (Ok actual)
+    c.in_ok-known-in-Value.ensures
+    (goes-then (fitting it.fits known) (λ passed. give (OfValue (range_in passed) (bound_of (piece_of it.value).form))) valued new new after after after passed
+    (Ok actual) (c.in_ok-passed-in-Value.ensures after) (goes-give actual new after))))
+
+pub actual-returns-in_ok-ranges-in-Whole : goal.actual-returns-in_ok-ranges-in-Whole
+actual-returns-in_ok-ranges-in-Whole t c =
+    let it = c.in-Whole in
+    let walk = (passed_piece_of c.args.actual.now).walk in
+    let new = c.whole_value.new.self in
+    let after = c.whole_value.new.visits in
+    let ranges = said_ranges c.in_ok-ranges-in-Whole.ranges in
+    let result = Ok (said_actual c.copied.result) in
+    goes-as walk (whole_passed it.type_id it.value (index_pieces c.deref.result.now)) c.args.self.now new c.args.visits.now after result
+    (ap (λ p. (passed_piece_of p).walk) it.is ∙ passed-Whole it.type_id it.value it.indexes
+    ∙ ap (λ items. whole_passed it.type_id it.value (index_pieces items)) (sym c.deref.ensures.value))
+    (goes-then (whole_walk it.value (index_pieces c.deref.result.now)) (λ ranges. copied it.type_id it.value ranges) c.args.self.now new new
+    c.args.visits.now after after ranges result c.in_ok-ranges-in-Whole.ensures
+    (copied-goes it.type_id it.value ranges (said_actual c.copied.result) new after c.copied.ensures))
+
+pub actual-returns-in_ok-reach-in-Reference : goal.actual-returns-in_ok-reach-in-Reference
+actual-returns-in_ok-reach-in-Reference t c =
+    let it = c.in-Reference in
+    let walk = (passed_piece_of c.args.actual.now).walk in
+    let old = c.args.self.now in
+    let before = c.args.visits.now in
+    let new = c.access.new.self in
+    let after = c.access.new.visits in
+    let reach = said_reach c.in_ok-reach-in-Reference.reach in
+    let actual = OfVariable it.access.root it.access.selectors.items reach in
+    subst (λ (selectors : List Selector). Goes walk old before (Ok (OfVariable it.access.root selectors reach)) new after)
+    (sym c.deref-in-Reference-2.ensures.value)
+    (goes-as walk (variable_passed it.access (index_pieces c.deref-in-Reference.result.now)) old new before after (Ok actual)
+    (ap (λ p. (passed_piece_of p).walk) it.is ∙ passed-Reference it.type_id it.access it.indexes
+    ∙ ap (λ items. variable_passed it.access (index_pieces items)) (sym c.deref-in-Reference.ensures.value))
+    (goes-then (access_walk it.access (index_pieces c.deref-in-Reference.result.now))
+    (λ reach. give (OfVariable it.access.root it.access.selectors.items reach))
+    old new new before after after reach (Ok actual) c.in_ok-reach-in-Reference.ensures (goes-give actual new after)))
+
+pub actuals-loop-actual-init : goal.actuals-loop-actual-init
+actuals-loop-actual-init t c = λ result new after goes.
+    let walk = actuals_from c.args.actuals.now 0 in
+    let old = c.args.self.now in
+    let before = c.args.visits.now in
+    passing-begun walk old new before after result
+    (subst (λ (items : List KeptActual). Goes (prefixed (map said_actual items) walk) old before result new after) c.new-passed.ensures.items goes)
+
+pub actuals-returns-in_err-actual : goal.actuals-returns-in_err-actual
+actuals-returns-in_err-actual t c =
+    let here = c.loop-actual in
+    let new = c.actual.new.self in
+    let after = c.actual.new.visits in
+    let fault = c.in_err-actual.field-0.0 in
+    let left = c.from_residual in
+    given-up (actuals_walk (map passed_piece_of c.args.actuals.now)) c.args.self.now new c.args.visits.now after fault (seen said_actuals left.result)
+    (seen-fault said_actuals left.result fault left.ensures)
+    (here.invariant (Err fault) new after
+    (passing-stopped c.args.actuals.now here.actual-index c.actual-item.result (map said_actual here.passed.items) here.self new here.visits after fault
+    c.loop-actual-test.true c.actual-item.is c.in_err-actual.ensures))
+
+pub actuals-loop-actual-preserved : goal.actuals-loop-actual-preserved
+actuals-loop-actual-preserved t c = λ result new after goes.
+    let here = c.loop-actual in
+    let items = c.args.actuals.now in
+    let rest = actuals_from items (here.actual-index + 1) in
+    let passed = map said_actual here.passed.items in
+    let kept = c.in_ok-actual.field-0 in
+    let mid = c.actual.new.self in
+    let between = c.actual.new.visits in
+    here.invariant result new after
+    (passing-step items here.actual-index c.actual-item.result passed (said_actual kept) here.self mid new here.visits between after result
+    c.loop-actual-test.true c.actual-item.is c.in_ok-actual.ensures
+    (subst (λ (said : List Actual). Goes (prefixed said rest) mid between result new after)
+    (ap (map said_actual) c.in_ok-push.ensures.items ∙ map-append said_actual here.passed.items (kept ∷ [])) goes))
+
+pub actuals-returns : goal.actuals-returns
+actuals-returns t c =
+    let here = c.loop-actual in
+    here.invariant (Ok (said_actuals here.passed)) here.self here.visits
+    (passing-end c.args.actuals.now here.actual-index (map said_actual here.passed.items) here.self here.visits c.loop-actual-test.false)
+
+pub call-returns-in_err-enter : goal.call-returns-in_err-enter
+call-returns-in_err-enter t c =
+    let call = c.args.call in
+    let pieces = map passed_piece_of c.args.actuals.now in
+    stopped-as (call_walk call pieces) (enter call.number) (λ _. actuals_walk pieces >>= called call (actuals_hold_call pieces)) c.args.self.now
+    c.enter.new.self c.args.visits.now c.enter.new.visits c.in_err-enter.field-0.0 c.from_residual.result refl c.from_residual.ensures c.in_err-enter.ensures
+
+pub call-returns-in_err-passed : goal.call-returns-in_err-passed
+call-returns-in_err-passed t c =
+    let call = c.args.call in
+    let pieces = map passed_piece_of c.args.actuals.now in
+    let next = called call (actuals_hold_call pieces) in
+    let entered = c.enter.new.self in
+    let counted = c.enter.new.visits in
+    let new = c.actuals.new.self in
+    let after = c.actuals.new.visits in
+    let fault = c.in_err-passed.field-0.0 in
+    let left = c.from_residual-in_err-passed in
+    given-up (call_walk call pieces) c.args.self.now new c.args.visits.now after fault left.result left.ensures
+    (goes-then (enter call.number) (λ _. actuals_walk pieces >>= next) c.args.self.now entered new c.args.visits.now counted after tt (Err fault)
+    c.in_ok-enter.ensures (goes-stopped (actuals_walk pieces) next entered new counted after fault c.in_err-passed.ensures))
+
+pub call-returns : goal.call-returns
+call-returns t c =
+    let call = c.args.call in
+    let pieces = map passed_piece_of c.args.actuals.now in
+    let next = called call (actuals_hold_call pieces) in
+    let entered = c.enter.new.self in
+    let counted = c.enter.new.visits in
+    let mid = c.actuals.new.self in
+    let new = c.called.new.self in
+    let after = c.actuals.new.visits in
+    let said = said_actuals c.in_ok-passed.passed in
+    let held : c.actuals_hold_call.result ≡ actuals_hold_call pieces = c.actuals_hold_call.ensures ∙ sym (actuals-hold c.args.actuals.now) in
+    goes-then (enter call.number) (λ _. actuals_walk pieces >>= next) c.args.self.now entered new c.args.visits.now counted after tt c.called.result
+    c.in_ok-enter.ensures
+    (goes-then (actuals_walk pieces) next entered mid new counted after after said c.called.result c.in_ok-passed.ensures
+    (subst (λ (holds : Bool). Goes (called call holds said) mid after c.called.result new after) held (c.called.ensures after)))
+
+pub expression-returns-in-Call : goal.expression-returns-in-Call
+expression-returns-in-Call t c =
+    let it = c.in-Call in
+    goes-as (value_walk c.args.expression.now) (function_walk it.call (map passed_piece_of c.deref-in-Call.result.now)) c.args.self.now c.function.new.self
+    c.args.visits.now c.function.new.visits c.function.result
+    (ap value_walk it.is ∙ value-Call it.call it.actuals
+    ∙ ap (λ items. function_walk it.call (map passed_piece_of items)) (sym c.deref-in-Call.ensures.value)) c.function.ensures
+
+pub function-returns-in_err-call : goal.function-returns-in_err-call
+function-returns-in_err-call t c =
+    let call = c.args.call in
+    let pieces = map passed_piece_of c.args.actuals.now in
+    stopped-as (function_walk call pieces) (call_walk call pieces) (λ _ context. result_walk call (result_of (called_block context call)) context)
+    c.args.self.now c.call.new.self c.args.visits.now c.call.new.visits c.in_err-call.field-0.0 c.from_residual.result refl c.from_residual.ensures
+    c.in_err-call.ensures
+
+pub function-returns : goal.function-returns
+function-returns t c =
+    let call = c.args.call in
+    let pieces = map passed_piece_of c.args.actuals.now in
+    let mid = c.call.new.self in
+    let after = c.call.new.visits in
+    let range = c.result_range-range.result in
+    let new : Flow = record mid { state = record mid.state { variables = c.unless_empty.new.self } } in
+    goes-then (call_walk call pieces) (λ _ context. result_walk call (result_of (called_block context call)) context) c.args.self.now mid new
+    c.args.visits.now after after tt (Ok (Ordinal range)) c.in_ok-call.ensures
+    (result-goes call range mid new after refl refl (ap (λ known. record (viewed mid.state) { variables = known }) c.unless_empty.ensures)
+    c.result_range-range.ensures)

@@ -17,7 +17,7 @@ returns c = λ visits.
     c.args.self.now c.open_unless.new.self (record used { variables = c.unless_empty.new.self }) visits c.accessed-rows.ensures c.covers.ensures
     c.joined_ranges-range.ensures (c.in_ok-open_unless.ensures visits)
     (ap (λ (known : variables.State). record (viewed used) { variables = known }) c.unless_empty.ensures
-    ∙ ap (over_variables (unless_empty range)) c.define_used.ensures)
+    ∙ ap (over_variables (unless_empty range)) c.in_ok-define_used.ensures)
 
 pub returns-in_err-open_unless : goal.returns-in_err-open_unless
 returns-in_err-open_unless c = λ visits.

@@ -8,12 +8,12 @@ use Rattle.expression_checker.proofs.flow.Flow.covers.Goals as goal
 pub loop-row-init : goal.loop-row-init
 loop-row-init c =
     let flow = c.args.self.now in
-    ap (is_covered flow.rows.now (viewed flow.state) (said_reach c.args.reach.now))
+    ap (is_covered flow.grounds.rows.now (viewed flow.state) (said_reach c.args.reach.now))
     (sym (from-first c.args.span c.end-row-end.result c.end-row-end.ensures))
 
 pub loop-row-preserved : goal.loop-row-preserved
 loop-row-preserved c =
-    let tree = c.args.self.now.rows.now in
+    let tree = c.args.self.now.grounds.rows.now in
     let state = viewed c.args.self.now.state in
     let reach = said_reach c.args.reach.now in
     let row = c.loop-row.row in
@@ -26,12 +26,12 @@ pub returns : goal.returns
 returns c =
     let flow = c.args.self.now in
     sym (c.loop-row.invariant
-    ∙ ap (is_covered flow.rows.now (viewed flow.state) (said_reach c.args.reach.now))
+    ∙ ap (is_covered flow.grounds.rows.now (viewed flow.state) (said_reach c.args.reach.now))
     (rows-past c.loop-row.row c.end-row-end.result c.loop-row-test.false))
 
 pub returns-then-not-gives_reached : goal.returns-then-not-gives_reached
 returns-then-not-gives_reached c =
-    let tree = c.args.self.now.rows.now in
+    let tree = c.args.self.now.grounds.rows.now in
     let state = viewed c.args.self.now.state in
     let reach = said_reach c.args.reach.now in
     let row = c.loop-row.row in

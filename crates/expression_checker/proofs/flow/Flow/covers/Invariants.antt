@@ -8,5 +8,5 @@ use Rattle.expression_checker.proofs.flow.Flow.covers.Given as goal
 -- whether all rows are covered turns on those that are left
 abbrev pub invariant-loop-row : goal.invariant-loop-row
 invariant-loop-row l =
-    is_covered l.self.rows.now (viewed l.self.state) (said_reach l.reach) (numbers l.fn.span)
-    ≡ is_covered l.self.rows.now (viewed l.self.state) (said_reach l.reach) (rows_from l.row l.row-end)
+    is_covered l.self.grounds.rows.now (viewed l.self.state) (said_reach l.reach) (numbers l.fn.span)
+    ≡ is_covered l.self.grounds.rows.now (viewed l.self.state) (said_reach l.reach) (rows_from l.row l.row-end)

@@ -11,7 +11,7 @@ returns-in_err-test c = λ visits.
     let old = c.args.self.now in
     let new = c.test.new.self in
     let fault = c.in_err-test.field-0.0 in
-    given-up (use_of root c.args.defined) old new visits visits fault c.from_residual.result c.from_residual.ensures
+    given-up (use_of root c.args.defined) old new visits visits fault c.from_residual-in_err-test.result c.from_residual-in_err-test.ensures
     (use-stopped root c.args.defined old new visits visits c.is_defined-is_defined.result c.range-range.result
     (record old.state { variables = c.define.new.self }) fault (c.in_err-test.ensures visits))
 
@@ -20,4 +20,4 @@ returns c = λ visits.
     let old = c.args.self.now in
     use-goes c.args.root c.args.defined c.is_defined-is_defined.result c.range-range.result c.in_ok-test.field-0 old c.test.new.self
     (record old.state { variables = c.define.new.self }) visits visits c.is_defined-is_defined.ensures c.range-range.ensures
-    (ap (λ (known : variables.State). record (viewed old.state) { variables = known }) c.define.ensures) (c.in_ok-test.ensures visits)
+    (ap (λ (known : variables.State). record (viewed old.state) { variables = known }) c.in_ok-define.ensures) (c.in_ok-test.ensures visits)

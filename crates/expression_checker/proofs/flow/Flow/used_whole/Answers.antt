@@ -14,8 +14,8 @@ returns c = λ visits.
     let old = c.args.self.now in
     whole-goes c.args.type_id access.root access.selectors.items (said_reach c.args.reach.now) c.args.defined (numbers c.accessed-rows.result)
     c.covers_whole.result (said_ranges c.in_ok-ranges.ranges) old c.open_unless.new.self c.define_used.new.state visits
-    (c.accessed-rows.ensures ∙ ap (rows_accessed (rows_of old.rows.now) access.root) c.deref.ensures.value)
-    c.covers_whole.ensures c.in_ok-ranges.ensures (c.in_ok-open_unless.ensures visits) c.define_used.ensures
+    (c.accessed-rows.ensures ∙ ap (rows_accessed (rows_of old.grounds.rows.now) access.root) c.deref.ensures.value)
+    c.covers_whole.ensures c.in_ok-ranges.ensures (c.in_ok-open_unless.ensures visits) c.in_ok-define_used.ensures
 
 pub returns-in_err-open_unless : goal.returns-in_err-open_unless
 returns-in_err-open_unless c = λ visits.

@@ -1,26 +1,39 @@
-use Rattle.std.proofs.Common.{List, ◌∷◌, Option, option_map, reverse, sym, ◌∙◌, ap}
+use Rattle.std.proofs.Common.{◌≡◌, ◌+◌, List, ◌∷◌, OnOk, Option, option_map, reverse, sym, ◌∙◌, ap, subst}
+use Rattle.interpreter.specs.declared.interpreter.Run.{Run}
+use Rattle.interpreter.specs.Weight.{callees_in, pending_weight, weight_of, weight_of_selectors}
 use Rattle.typed_tree.specs.declared.tree.Selector.{Selector}
-use Rattle.interpreter.specs.declared.work.Work.TheVariants as work
+use Rattle.interpreter_state.specs.declared.work.Work.TheVariants as work
 use Rattle.meaning.specs.Store.{Place}
 use Rattle.meaning.specs.Meaning.{selected, values_of}
-use Rattle.interpreter.specs.Pending.{OfPlace, giving_place, operands_of, pending_of, place_seen, resumed}
+use Rattle.meaning.specs.Meaning.{OfPlace}
+use Rattle.interpreter_state.specs.Views.{place_seen}
+use Rattle.interpreter.specs.Pending.{giving_place, operands_of, pending_of, resumed}
 use Rattle.interpreter.proofs.Resuming.{goes_on_below}
 use Rattle.interpreter.proofs.Unrolling.{selecting-on}
 use Rattle.interpreter.proofs.interpreter.Run.access.Goals as goal
 
 pub returns-clause-does : goal.returns-clause-does
-returns-clause-does c = λ env s agrees.
+returns-clause-does c = λ env outer s agrees.
     let old = c.args.self.now in
     let access = c.args.access.now in
     let indexes = values_of c.args.indexes.now in
     let later = c.args.later in
-    let works = pending_of env (reverse old.pending.items) in
-    let place = option_map place_seen c.place-place.result in
-    goes_on_below old c.push.new.self c.plan.new.self env s
+    let works = pending_of env outer (reverse old.pending.items) in
+    let place = option_map place_seen c.in_ok-place.place in
+    goes_on_below old c.push.new.self c.plan.new.self env outer s
     (λ env next. resumed env (work.Select c.deref.result c.args.indexes) (resumed env later next)) (OfPlace place ∷ operands_of old) c.plan.result _
     c.push.ensures.same c.in_ok-push.ensures.top
     (ap (λ (p : Option Place). giving_place (selected access.selectors.items indexes env p) (resumed env later works) (operands_of old) s)
-    (agrees.visible access.root ∙ sym c.place-place.ensures)
+    (agrees.visible.variables access.root ∙ sym c.in_ok-place.ensures)
     ∙ ap (λ (l : List Selector). giving_place (selected l indexes env place) (resumed env later works) (operands_of old) s) (sym c.deref.ensures.value)
     ∙ sym (selecting-on env c.deref.result.now c.args.indexes.now place (resumed env later works) (operands_of old) s))
     agrees c.plan.ensures.does
+
+pub returns-clause-weight : goal.returns-clause-weight
+returns-clause-weight c =
+    let old = c.args.self.now in
+    let access = c.args.access.now in
+    let weighs : List Selector → Run → Type 0 = λ selectors run. OnOk c.plan.result (pending_weight c.plan.new.self ≡
+    pending_weight run + weight_of (callees_in run) run.turns c.args.later
+    + weight_of_selectors (callees_in run) selectors c.args.indexes.now run.turns) in
+    subst (λ l. weighs l old) c.deref.ensures.value (subst (weighs c.deref.result.now) c.push.ensures.same c.plan.ensures.weight)

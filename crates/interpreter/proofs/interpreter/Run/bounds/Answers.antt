@@ -1,3 +1,6 @@
+use Rattle.std.proofs.Common.{◌+◌, ◌<◌, OnOk, arith, subst}
+use Rattle.interpreter.specs.Weight.{callees_in, for_weight, pending_weight, weight_of_statement}
+use Rattle.interpreter.proofs.Weights.{heavier}
 use mir.Syntax.{w32}
 use mir.Val.{SFits}
 use Rattle.std.proofs.Common.{◌≡◌, ℕ, ℤ, rules, Option, Some, None, Result, Ok, Err, reverse, sym, ◌∙◌, ap}
@@ -12,7 +15,7 @@ use Rattle.interpreter.proofs.Unrolling.{does-bounds}
 use Rattle.interpreter.proofs.interpreter.Run.bounds.Goals as goal
 
 pub returns-in-Ok-Some-clause-does : goal.returns-in-Ok-Some-clause-does
-returns-in-Ok-Some-clause-does c = λ env s agrees.
+returns-in-Ok-Some-clause-does c = λ env outer s agrees.
     let old = c.args.self.now in
     let taken = c.popped-first.new.self in
     let control = c.args.control in
@@ -33,15 +36,15 @@ returns-in-Ok-Some-clause-does c = λ env s agrees.
     ap (found (top_of (below_top operands))) (sym last.top) ∙ ap (λ v. found v c.popped-last.result) (sym (first.top ∙ ap top_of last.below))
     ∙ sym c.tested_bounds.ensures ∙ c.in-Ok-Some.is ∙ ap Ok c.in-Ok-Some.field-0-is in
     let left = bounds-leave direction c.args.first_fits (top_of (below_top operands)) c.args.last_fits (top_of operands) value final tested in
-    goes_on_below old taken c.for_round.new.self env s (λ env. counting_on env control direction value final body) below c.for_round.result _
+    goes_on_below old taken c.for_round.new.self env outer s (λ env. counting_on env control direction value final body) below c.for_round.result _
     same (first.below ∙ ap below_top last.below)
-    (does-bounds env control c.args.first_fits direction c.args.last_fits body (reverse old.pending.items) operands s (Ok (Some (value, final))) tested
-    ∙ ap (λ (r : Reply (Unit {0})). and_then r (λ _. forgetting (env.variables control) (pending_of env (reverse old.pending.items)) below))
+    (does-bounds env outer control c.args.first_fits direction c.args.last_fits body (reverse old.pending.items) operands s (Ok (Some (value, final))) tested
+    ∙ ap (λ (r : Reply (Unit {0})). and_then r (λ _. forgetting (env.visible.variables control) (pending_of env outer (reverse old.pending.items)) below))
     (looped-counting env control direction value final body s left))
     agrees (passed does value final value_fits final_fits c.for_round.ensures.does)
 
 pub returns-in-Ok-None-clause-does : goal.returns-in-Ok-None-clause-does
-returns-in-Ok-None-clause-does c = λ env s agrees.
+returns-in-Ok-None-clause-does c = λ env outer s agrees.
     let old = c.args.self.now in
     let taken = c.popped-first.new.self in
     let control = c.args.control in
@@ -53,13 +56,13 @@ returns-in-Ok-None-clause-does c = λ env s agrees.
     let tested : found (top_of (below_top operands)) (top_of operands) ≡ Ok None =
     ap (found (top_of (below_top operands))) (sym last.top) ∙ ap (λ v. found v c.popped-last.result) (sym (first.top ∙ ap top_of last.below))
     ∙ sym c.tested_bounds.ensures ∙ c.in-Ok-None.is ∙ ap Ok c.in-Ok-None.field-0-is in
-    goes_on_below old taken c.forget.new.self env s (λ env. forgetting (env.variables control)) (below_top (below_top operands)) c.forget.result _
+    goes_on_below old taken c.forget.new.self env outer s (λ env. forgetting (env.visible.variables control)) (below_top (below_top operands)) c.forget.result _
     same (first.below ∙ ap below_top last.below)
-    (does-bounds env control c.args.first_fits c.args.direction c.args.last_fits c.args.body.now (reverse old.pending.items) operands s (Ok None) tested)
+    (does-bounds env outer control c.args.first_fits c.args.direction c.args.last_fits c.args.body.now (reverse old.pending.items) operands s (Ok None) tested)
     agrees c.forget.ensures.does
 
 pub returns-in-Err-clause-does : goal.returns-in-Err-clause-does
-returns-in-Err-clause-does c = λ env s agrees.
+returns-in-Err-clause-does c = λ env outer s agrees.
     let old = c.args.self.now in
     let taken = c.popped-first.new.self in
     let operands = operands_of old in
@@ -70,7 +73,15 @@ returns-in-Err-clause-does c = λ env s agrees.
     let tested : found (top_of (below_top operands)) (top_of operands) ≡ Err c.in-Err.site =
     ap (found (top_of (below_top operands))) (sym last.top) ∙ ap (λ v. found v c.popped-last.result) (sym (first.top ∙ ap top_of last.below))
     ∙ sym c.tested_bounds.ensures ∙ c.in-Err.is in
-    stops_below old taken env s _ _ same
-    (does-bounds env c.args.control c.args.first_fits c.args.direction c.args.last_fits c.args.body.now (reverse old.pending.items) operands s
+    stops_below old taken env outer s _ _ same
+    (does-bounds env outer c.args.control c.args.first_fits c.args.direction c.args.last_fits c.args.body.now (reverse old.pending.items) operands s
     (Err c.in-Err.site) tested)
     agrees
+
+pub returns-in-Ok-Some-clause-fewer : goal.returns-in-Ok-Some-clause-fewer
+returns-in-Ok-Some-clause-fewer c =
+    let taken = c.popped-first.new.self in
+    let same = c.popped-first.ensures.same ∙ ap (λ (r : Run). record r { operands = taken.operands }) c.popped-last.ensures.same in
+    let weighs : Run → Type 0 = λ r. OnOk c.for_round.result (pending_weight c.for_round.new.self <
+    pending_weight r + for_weight (weight_of_statement (callees_in r) c.args.body.now) r.turns) in
+    heavier c.for_round.result _ _ _ (subst weighs same c.for_round.ensures.fewer) (omega arith)

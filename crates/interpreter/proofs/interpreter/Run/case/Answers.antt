@@ -16,32 +16,32 @@ returns-in-Some-clause-fewer c =
     c.do_next.result found c.popped.ensures.same c.do_next.ensures.weight
 
 pub returns-in-Some-clause-does : goal.returns-in-Some-clause-does
-returns-in-Some-clause-does c = λ env s agrees.
+returns-in-Some-clause-does c = λ env outer s agrees.
     let old = c.args.self.now in
     let operands = operands_of old in
-    let next = pending_of env (reverse old.pending.items) in
+    let next = pending_of env outer (reverse old.pending.items) in
     let rows = c.args.constants.now in
     let arms = c.args.arms.now in
     let found : arm_at rows arms (number_of (top_of operands)) ≡ Some c.in-Some.arm.now =
     ap (arm_at rows arms) (ap number_of (sym c.popped.ensures.top) ∙ sym c.number_of-index.ensures)
     ∙ sym c.arm_at.ensures ∙ ap (option_map (λ (arm : Bor Stmt). arm.now)) c.in-Some.is in
-    goes_on_below old c.popped.new.self c.do_next.new.self env s (executing c.in-Some.arm.now) (below_top operands) c.do_next.result _
+    goes_on_below old c.popped.new.self c.do_next.new.self env outer s (executing c.in-Some.arm.now) (below_top operands) c.do_next.result _
     c.popped.ensures.same c.popped.ensures.below
     (ap (λ (r : Reply (Unit {0})). and_then r (λ _. next (below_top operands)))
     (arm-found c.args.site rows arms (number_of (top_of operands)) env s ∙ ap (λ (o : Option Stmt). arm_or_error c.args.site o env s) found))
     agrees c.do_next.ensures.does
 
 pub returns-in-None-clause-does : goal.returns-in-None-clause-does
-returns-in-None-clause-does c = λ env s agrees.
+returns-in-None-clause-does c = λ env outer s agrees.
     let old = c.args.self.now in
     let operands = operands_of old in
-    let next = pending_of env (reverse old.pending.items) in
+    let next = pending_of env outer (reverse old.pending.items) in
     let rows = c.args.constants.now in
     let arms = c.args.arms.now in
     let found : arm_at rows arms (number_of (top_of operands)) ≡ None =
     ap (arm_at rows arms) (ap number_of (sym c.popped.ensures.top) ∙ sym c.number_of-index.ensures)
     ∙ sym c.arm_at.ensures ∙ ap (option_map (λ (arm : Bor Stmt). arm.now)) c.in-None.is in
-    stops_below old c.popped.new.self env s _ _ c.popped.ensures.same
+    stops_below old c.popped.new.self env outer s _ _ c.popped.ensures.same
     (ap (λ (r : Reply (Unit {0})). and_then r (λ _. next (below_top operands)))
     (arm-found c.args.site rows arms (number_of (top_of operands)) env s ∙ ap (λ (o : Option Stmt). arm_or_error c.args.site o env s) found))
     agrees

@@ -8,7 +8,7 @@ use Rattle.interpreter.proofs.Resuming.{goes_on_by}
 use Rattle.interpreter.proofs.interpreter.Run.combine.Goals as goal
 
 pub returns-clause-does : goal.returns-clause-does
-returns-clause-does c = λ env s agrees.
+returns-clause-does c = λ env outer s agrees.
     let old = c.args.self.now in
     let operands = operands_of old in
     let taken = c.popped-left.new.self in
@@ -19,6 +19,6 @@ returns-clause-does c = λ env s agrees.
     let answers : Answers (combined c.args.operation (top_of (below_top operands)) (top_of operands)) answer =
     subst (λ (v : Value). Answers (combined c.args.operation (top_of (below_top operands)) v) answer) right.top
     (subst (λ (v : Value). Answers (combined c.args.operation v c.popped-right.result) answer) (left.top ∙ ap top_of right.below) c.combined_value.ensures) in
-    goes_on_by old taken c.go_on.new.self env s (combined c.args.operation (top_of (below_top operands)) (top_of operands)) answer
+    goes_on_by old taken c.go_on.new.self env outer s (combined c.args.operation (top_of (below_top operands)) (top_of operands)) answer
     (below_top (below_top operands)) c.go_on.result
     same (left.below ∙ ap below_top right.below) (answers s) agrees c.go_on.ensures.does

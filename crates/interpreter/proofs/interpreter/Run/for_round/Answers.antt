@@ -1,17 +1,23 @@
+use mir.Syntax.{w32}
+use mir.Val.{to_z, of_z}
+use Rattle.std.proofs.Common.{◌+◌, ◌≤◌, OnOk}
+use Rattle.interpreter.specs.Weight.{callees_in, pending_weight, turn_weight}
+use Rattle.interpreter.proofs.Weights.{for_turn_weighs, lighter_than}
 use Rattle.std.proofs.lemmas.Int.{ints}
 use Rattle.std.proofs.Common.{◌≡◌, ℤ, arith, option_map, reverse, sym, ◌∙◌, ap, subst}
 use Rattle.interpreter.specs.declared.interpreter.Run.{Run}
 use Rattle.meaning.specs.declared.store.Value.TheVariants.{Number}
-use Rattle.interpreter.specs.declared.work.Work.TheVariants as work
+use Rattle.interpreter_state.specs.declared.work.Work.TheVariants as work
 use Rattle.meaning.specs.Store.{kept}
 use Rattle.meaning.specs.Effect.{State}
-use Rattle.interpreter.specs.Pending.{Agrees, Does, StoreAgrees, pending_of, place_seen, turning, operands_of}
-use Rattle.interpreter.proofs.Resuming.{continues_as, passed}
+use Rattle.interpreter_state.specs.Views.{place_seen}
+use Rattle.interpreter.specs.Pending.{Agrees, Does, StoreAgrees, pending_of, turning, operands_of}
+use Rattle.interpreter.proofs.Resuming.{calls_extended, continues_as, passed}
 use Rattle.interpreter.proofs.Unrolling.{does-for-round}
 use Rattle.interpreter.proofs.interpreter.Run.for_round.Goals as goal
 
 pub returns-clause-does : goal.returns-clause-does
-returns-clause-does c = λ env s agrees.
+returns-clause-does c = λ env outer s agrees.
     let old = c.args.self.now in
     let new = c.keep.new.self in
     let same = c.keep.ensures.same in
@@ -19,23 +25,38 @@ returns-clause-does c = λ env s agrees.
     let value = Number c.args.value in
     let body = c.args.body in
     let told : c.new.result ≡ c.args.value = c.new.ensures ∙ omega (arith, ints, c.ranges.value) in
-    let here = option_map place_seen c.place-place.result in
-    let after : State = record s { store = kept s.store (env.variables control) value } in
-    let moved : Agrees env (record old { store = new.store }) after = record {
+    let here = option_map place_seen c.in_ok-place.place in
+    let after : State = record s { store = kept s.store (env.visible.variables control) value } in
+    let moved : Agrees env outer (record old { store = new.store }) after = record {
       visible = agrees.visible;
-      types = agrees.types;
-      store = subst (λ home. StoreAgrees new.store (kept s.store home value)) (c.place-place.ensures ∙ sym (agrees.visible control))
+      calls = agrees.calls;
+      waits = agrees.waits;
+      deep = agrees.deep;
+      few = agrees.few;
+      store = subst (λ home. StoreAgrees new.store (kept s.store home value)) (c.in_ok-place.ensures ∙ sym (agrees.visible.variables control))
           (subst (λ (n : ℤ). StoreAgrees new.store (kept s.store here (Number n))) told (c.in_ok-keep.ensures.agrees s.store agrees.store));
       input = agrees.input;
       output = agrees.output;
       turns = agrees.turns;
       activations = agrees.activations;
     } in
-    let agreed : Agrees env new after = subst (λ (r : Run). Agrees env r after) (sym same) moved in
+    let agreed : Agrees env outer new after = subst (λ (r : Run). Agrees env outer r after) (sym same) moved in
     let does : ℤ → ℤ → Type 0 = λ n m.
     Does (λ env. turning env (work.Statement body) (work.Next control c.args.direction n m body)) new c.turn.result c.turn.new.self in
     let later = work.Next control c.args.direction c.args.value c.args.last body in
-    continues_as env old c.turn.new.self _ _ c.turn.result
-    (does-for-round env control c.args.direction c.args.value c.args.last body (pending_of env (reverse old.pending.items)) (operands_of old) s
-    ∙ ap (λ (r : Run). turning env (work.Statement body) later (pending_of env (reverse r.pending.items)) (operands_of r) after) (sym same))
-    (passed does c.args.value c.args.last c.ranges.value c.ranges.last c.turn.ensures.does env after agreed)
+    continues_as env outer old c.turn.new.self _ _ c.turn.result
+    (does-for-round env (calls_extended env outer old s agrees) control c.args.direction c.args.value c.args.last body
+    (pending_of env outer (reverse old.pending.items)) (operands_of old) s
+    ∙ ap (λ (r : Run). turning env (work.Statement body) later (pending_of env outer (reverse r.pending.items)) (operands_of r) after) (sym same))
+    (passed does c.args.value c.args.last c.ranges.value c.ranges.last c.turn.ensures.does env outer after agreed)
+
+pub returns-clause-fewer : goal.returns-clause-fewer
+returns-clause-fewer c =
+    let old = c.args.self.now in
+    let body = c.args.body in
+    let weighs : Run → Type 0 = λ r. OnOk c.turn.result (pending_weight c.turn.new.self ≤
+    pending_weight r + turn_weight (callees_in r) r.turns (work.Statement body) (work.Next c.args.control c.args.direction
+    (to_z w32 (of_z w32 c.args.value)) (to_z w32 (of_z w32 c.args.last)) body)) in
+    let turn = for_turn_weighs (callees_in old) old.turns c.args.control c.args.direction (to_z w32 (of_z w32 c.args.value))
+    (to_z w32 (of_z w32 c.args.last)) body in
+    lighter_than c.turn.result _ _ _ (subst weighs c.keep.ensures.same c.turn.ensures.weight) (omega (arith, turn))

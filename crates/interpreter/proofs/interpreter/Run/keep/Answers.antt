@@ -1,7 +1,8 @@
 use Rattle.std.proofs.Common.{Some, Option, option_map, sym, subst}
-use Rattle.interpreter.specs.declared.store.Place.{Place as KeptPlace}
+use Rattle.interpreter_state.specs.declared.store.Place.{Place as KeptPlace}
 use Rattle.meaning.specs.Store.{kept}
-use Rattle.interpreter.specs.Pending.{StoreAgrees, place_seen}
+use Rattle.interpreter_state.specs.Views.{place_seen}
+use Rattle.interpreter.specs.Pending.{StoreAgrees}
 use Rattle.interpreter.proofs.Places.{agrees_behind}
 use Rattle.interpreter.proofs.interpreter.Run.keep.Goals as goal
 

@@ -6,7 +6,9 @@ use Rattle.types.proofs.Laid.{length_components}
 use Rattle.meaning.specs.declared.store.Value.TheVariants.{Number}
 use Rattle.meaning.specs.Store.{kept, part}
 use Rattle.interpreter.specs.declared.interpreter.Run.{Run}
-use Rattle.interpreter.specs.Pending.{StoreAgrees, kept_all, place_seen}
+use Rattle.interpreter_state.specs.Views.{place_seen}
+use Rattle.interpreter.specs.Pending.{StoreAgrees, kept_all}
+use Rattle.interpreter.specs.Weight.{pending_weight}
 use Rattle.interpreter.proofs.Rows.{from-component, from-number, kept-none}
 use Rattle.interpreter.proofs.interpreter.Run.keep_row.Goals as goal
 
@@ -16,7 +18,7 @@ loop-component-preserved c =
     let new = c.keep.new.self in
     let i = now.component in
     let place = option_map place_seen c.args.place.now in
-    let types = c.args.self.now.types.now in
+    let types = c.args.self.now.tree.now.types in
     let components = components_of types c.args.type_id in
     let steps = slice_index_or components i [] in
     let number = c.in-Some.number.now in
@@ -25,7 +27,7 @@ loop-component-preserved c =
     let here_too : i < length c.args.row.now = omega (arith, c.in-Some.ensures.lookup) in
     let found : number ≡ get_or c.args.row.now i number = c.in-Some.ensures.lookup.1 in
     let here = c.in_ok-part.ensures
-    ∙ ap (λ (l : List Form). part place (slice_index_or (components_of l c.args.type_id) i [])) (ap (λ (r : Run). r.types.now) now.invariant.0) in (
+    ∙ ap (λ (l : List Form). part place (slice_index_or (components_of l c.args.type_id) i [])) (ap (λ (r : Run). r.tree.now.types) now.invariant.0) in (
       c.keep.ensures.same ∙ ap (λ (r : Run). record r { store = new.store }) now.invariant.0,
       λ s agrees.
           let before = now.invariant.1 s agrees in (
@@ -41,7 +43,7 @@ pub returns-after-loop-component-clause-agrees : goal.returns-after-loop-compone
 returns-after-loop-component-clause-agrees c = λ s agrees.
     let now = c.loop-component in
     let place = option_map place_seen c.args.place.now in
-    let types = c.args.self.now.types.now in
+    let types = c.args.self.now.tree.now.types in
     let components = components_of types c.args.type_id in
     let before = now.invariant.1 s agrees in
     let all : length components ≤ now.component =
@@ -53,9 +55,21 @@ pub returns-in_default-clause-agrees : goal.returns-in_default-clause-agrees
 returns-in_default-clause-agrees c = λ s agrees.
     let now = c.loop-component in
     let place = option_map place_seen c.args.place.now in
-    let components = components_of c.args.self.now.types.now c.args.type_id in
+    let components = components_of c.args.self.now.tree.now.types c.args.type_id in
     let before = now.invariant.1 s agrees in
     let left = drop now.component components in
     let none : length c.args.row.now ≤ now.component = omega (arith, c.in_default.ensures.lookup) in
     subst (λ t. StoreAgrees now.self.store t)
     (sym (before.2 ∙ ap (kept_all before.0 place left) (drop_all now.component c.args.row.now none) ∙ kept-none before.0 place left)) before.1
+
+pub returns-in_err-part-clause-weight : goal.returns-in_err-part-clause-weight
+returns-in_err-part-clause-weight c = ap pending_weight c.loop-component.invariant.0
+
+pub returns-in_err-keep-clause-weight : goal.returns-in_err-keep-clause-weight
+returns-in_err-keep-clause-weight c = c.keep.ensures.weight ∙ ap pending_weight c.loop-component.invariant.0
+
+pub returns-after-loop-component-clause-weight : goal.returns-after-loop-component-clause-weight
+returns-after-loop-component-clause-weight c = ap pending_weight c.loop-component.invariant.0
+
+pub returns-in_default-clause-weight : goal.returns-in_default-clause-weight
+returns-in_default-clause-weight c = ap pending_weight c.loop-component.invariant.0

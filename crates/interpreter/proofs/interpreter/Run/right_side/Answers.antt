@@ -5,8 +5,8 @@ use Rattle.interpreter.proofs.Unrolling.{entered, does-right-side}
 use Rattle.interpreter.proofs.interpreter.Run.right_side.Goals as goal
 
 pub returns-clause-does : goal.returns-clause-does
-returns-clause-does c = λ env s agrees.
+returns-clause-does c = λ env outer s agrees.
     let old = c.args.self.now in
-    continues_as env old c.plan.new.self _ _ c.plan.result
-    (does-right-side c.args.number c.args.relation c.args.right c.args.indexes env (reverse old.pending.items) (operands_of old) s)
-    (c.plan.ensures.does env (entered c.args.number env s) agrees)
+    continues_as env outer old c.plan.new.self _ _ c.plan.result
+    (does-right-side c.args.number c.args.relation c.args.right c.args.indexes env outer (reverse old.pending.items) (operands_of old) s)
+    (c.plan.ensures.does env outer (entered c.args.number env s) agrees)

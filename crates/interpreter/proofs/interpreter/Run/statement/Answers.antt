@@ -1,104 +1,117 @@
 use Rattle.std.proofs.Common.{List, reverse, refl, sym, ap, ◌∙◌}
-use Rattle.interpreter.specs.declared.work.Work.{Work}
+use Rattle.interpreter_state.specs.declared.work.Work.{Work}
 use Rattle.meaning.specs.Meaning.{values_of, whole_of}
-use Rattle.interpreter.specs.Pending.{giving_row, operands_of, pending_of, placing}
+use Rattle.interpreter.specs.Pending.{calling, giving_row, operands_of, pending_of, placing}
 use Rattle.interpreter.proofs.Resuming.{continues_as, goes_on_to, reverse_pushed}
 use Rattle.interpreter.proofs.Unrolling.{entered, evaluated, does-Empty, does-Assign, does-Copy, does-Write, does-Compound}
-use Rattle.interpreter.proofs.Unrolling.{does-If, does-While, does-Repeat, does-For, does-Case}
+use Rattle.interpreter.proofs.Unrolling.{does-If, does-While, does-Repeat, does-For, does-Case, does-procedure}
 use Rattle.interpreter.proofs.interpreter.Run.statement.Goals as goal
 
 pub returns-in-Empty-clause-does : goal.returns-in-Empty-clause-does
-returns-in-Empty-clause-does c = λ env s agrees.
+returns-in-Empty-clause-does c = λ env outer s agrees.
     let old = c.args.self.now in
-    goes_on_to env old old (entered c.in-Empty.number env s) (reverse old.pending.items) (operands_of old) _
+    goes_on_to env outer old old (entered c.in-Empty.number env s) (reverse old.pending.items) (operands_of old) _
     agrees refl refl
-    (does-Empty c.in-Empty.number c.args.statement.now c.in-Empty.is env (reverse old.pending.items) (operands_of old) s)
+    (does-Empty c.in-Empty.number c.args.statement.now c.in-Empty.is env outer (reverse old.pending.items) (operands_of old) s)
 
 pub returns-in_ok-put-in-Assign-clause-does : goal.returns-in_ok-put-in-Assign-clause-does
-returns-in_ok-put-in-Assign-clause-does c = λ env s agrees.
+returns-in_ok-put-in-Assign-clause-does c = λ env outer s agrees.
     let old = c.args.self.now in
     let given = c.in-Assign in
     let there = entered given.target.number env (entered given.number env s) in
     let indexes = c.deref.result.now in
-    continues_as env old c.access.new.self _ _ c.access.result
+    continues_as env outer old c.access.new.self _ _ c.access.result
     (does-Assign given.number given.becomes given.target given.indexes given.fits given.value c.args.statement.now given.is indexes c.deref.ensures.value
-    env (reverse old.pending.items) (operands_of old) s
-    ∙ ap (λ (works : List Work). placing env given.target indexes (evaluated env given.value works) (operands_of old) there)
+    env outer (reverse old.pending.items) (operands_of old) s
+    ∙ ap (λ (works : List Work). placing env given.target indexes (evaluated env outer given.value works) (operands_of old) there)
     (sym (reverse_pushed _ _ _ _ c.in_ok-put-in-Assign.ensures refl)))
-    (c.access.ensures.does env there agrees)
+    (c.access.ensures.does env outer there agrees)
 
 pub returns-in_ok-put-in-Copy-clause-does : goal.returns-in_ok-put-in-Copy-clause-does
-returns-in_ok-put-in-Copy-clause-does c = λ env s agrees.
+returns-in_ok-put-in-Copy-clause-does c = λ env outer s agrees.
     let old = c.args.self.now in
     let given = c.in-Copy in
     let there = entered given.target.number env (entered given.number env s) in
     let indexes = c.deref-in-Copy.result.now in
     let others = c.deref-in-Copy-2.result.now in
     let row = whole_of given.value (values_of others) env in
-    continues_as env old c.access-in-Copy.new.self _ _ c.access-in-Copy.result
+    continues_as env outer old c.access-in-Copy.new.self _ _ c.access-in-Copy.result
     (does-Copy given.number given.becomes given.target given.indexes given.type_id given.value given.value_indexes c.args.statement.now given.is
-    indexes others c.deref-in-Copy.ensures.value c.deref-in-Copy-2.ensures.value env (reverse old.pending.items) (operands_of old) s
-    ∙ ap (λ (works : List Work). placing env given.target indexes (giving_row row (pending_of env works)) (operands_of old) there)
+    indexes others c.deref-in-Copy.ensures.value c.deref-in-Copy-2.ensures.value env outer (reverse old.pending.items) (operands_of old) s
+    ∙ ap (λ (works : List Work). placing env given.target indexes (giving_row row (pending_of env outer works)) (operands_of old) there)
     (sym (reverse_pushed _ _ _ _ c.in_ok-put-in-Copy.ensures refl)))
-    (c.access-in-Copy.ensures.does env there agrees)
+    (c.access-in-Copy.ensures.does env outer there agrees)
 
 pub returns-in-Write-clause-does : goal.returns-in-Write-clause-does
-returns-in-Write-clause-does c = λ env s agrees.
+returns-in-Write-clause-does c = λ env outer s agrees.
     let old = c.args.self.now in
-    continues_as env old c.parameters.new.self _ _ c.parameters.result
+    continues_as env outer old c.parameters.new.self _ _ c.parameters.result
     (does-Write c.in-Write.number c.in-Write.name c.in-Write.parameters c.in-Write.ends_line c.args.statement.now c.in-Write.is c.deref-in-Write.result
-    c.deref-in-Write.ensures.value env (reverse old.pending.items) (operands_of old) s)
-    (c.parameters.ensures.does env (entered c.in-Write.number env s) agrees)
+    c.deref-in-Write.ensures.value env outer (reverse old.pending.items) (operands_of old) s)
+    (c.parameters.ensures.does env outer (entered c.in-Write.number env s) agrees)
 
 pub returns-in-Compound-clause-does : goal.returns-in-Compound-clause-does
-returns-in-Compound-clause-does c = λ env s agrees.
+returns-in-Compound-clause-does c = λ env outer s agrees.
     let old = c.args.self.now in
-    continues_as env old c.statements.new.self _ _ c.statements.result
+    continues_as env outer old c.statements.new.self _ _ c.statements.result
     (does-Compound c.in-Compound.number c.in-Compound.statements c.args.statement.now c.in-Compound.is c.deref-in-Compound.result
-    c.deref-in-Compound.ensures.value env (reverse old.pending.items) (operands_of old) s)
-    (c.statements.ensures.does env (entered c.in-Compound.number env s) agrees)
+    c.deref-in-Compound.ensures.value env outer (reverse old.pending.items) (operands_of old) s)
+    (c.statements.ensures.does env outer (entered c.in-Compound.number env s) agrees)
 
 pub returns-in-If-clause-does : goal.returns-in-If-clause-does
-returns-in-If-clause-does c = λ env s agrees.
+returns-in-If-clause-does c = λ env outer s agrees.
     let old = c.args.self.now in
     let branches = c.in-If in
-    continues_as env old c.plan.new.self _ _ c.plan.result
+    continues_as env outer old c.plan.new.self _ _ c.plan.result
     (does-If branches.number branches.condition branches.consequence branches.alternative c.args.statement.now branches.is c.deref-in-If.result.now
-    c.deref-in-If.ensures env (reverse old.pending.items) (operands_of old) s)
-    (c.plan.ensures.does env (entered branches.number env s) agrees)
+    c.deref-in-If.ensures env outer (reverse old.pending.items) (operands_of old) s)
+    (c.plan.ensures.does env outer (entered branches.number env s) agrees)
 
 pub returns-in-While-clause-does : goal.returns-in-While-clause-does
-returns-in-While-clause-does c = λ env s agrees.
+returns-in-While-clause-does c = λ env outer s agrees.
     let old = c.args.self.now in
     let given = c.in-While in
-    continues_as env old c.while_round.new.self _ _ c.while_round.result
+    continues_as env outer old c.while_round.new.self _ _ c.while_round.result
     (does-While given.number given.loop_number given.place given.condition given.body c.args.statement.now given.is c.deref-in-While.result.now
-    c.deref-in-While.ensures env (reverse old.pending.items) (operands_of old) s)
-    (c.while_round.ensures.does env (entered given.number env s) agrees)
+    c.deref-in-While.ensures env outer (reverse old.pending.items) (operands_of old) s)
+    (c.while_round.ensures.does env outer (entered given.number env s) agrees)
 
 pub returns-in-Repeat-clause-does : goal.returns-in-Repeat-clause-does
-returns-in-Repeat-clause-does c = λ env s agrees.
+returns-in-Repeat-clause-does c = λ env outer s agrees.
     let old = c.args.self.now in
     let given = c.in-Repeat in
-    continues_as env old c.repeat_round.new.self _ _ c.repeat_round.result
+    continues_as env outer old c.repeat_round.new.self _ _ c.repeat_round.result
     (does-Repeat given.number given.loop_number given.place given.statements given.condition c.args.statement.now given.is c.deref-in-Repeat.result.now
-    c.deref-in-Repeat.ensures.value env (reverse old.pending.items) (operands_of old) s)
-    (c.repeat_round.ensures.does env (entered given.number env s) agrees)
+    c.deref-in-Repeat.ensures.value env outer (reverse old.pending.items) (operands_of old) s)
+    (c.repeat_round.ensures.does env outer (entered given.number env s) agrees)
 
 pub returns-in-For-clause-does : goal.returns-in-For-clause-does
-returns-in-For-clause-does c = λ env s agrees.
+returns-in-For-clause-does c = λ env outer s agrees.
     let old = c.args.self.now in
     let given = c.in-For in
-    continues_as env old c.plan_values.new.self _ _ c.plan_values.result
+    continues_as env outer old c.plan_values.new.self _ _ c.plan_values.result
     (does-For given.number given.loop_number given.place given.control given.first given.first_fits given.direction given.last given.last_fits given.body
-    c.args.statement.now given.is c.deref-in-For.result.now c.deref-in-For.ensures env (reverse old.pending.items) (operands_of old) s)
-    (c.plan_values.ensures.does env (entered given.number env s) agrees)
+    c.args.statement.now given.is c.deref-in-For.result.now c.deref-in-For.ensures env outer (reverse old.pending.items) (operands_of old) s)
+    (c.plan_values.ensures.does env outer (entered given.number env s) agrees)
 
 pub returns-in-Case-clause-does : goal.returns-in-Case-clause-does
-returns-in-Case-clause-does c = λ env s agrees.
+returns-in-Case-clause-does c = λ env outer s agrees.
     let old = c.args.self.now in
     let given = c.in-Case in
-    continues_as env old c.plan-in-Case.new.self _ _ c.plan-in-Case.result
+    continues_as env outer old c.plan-in-Case.new.self _ _ c.plan-in-Case.result
     (does-Case given.number given.site given.index given.constants given.arms c.args.statement.now given.is c.deref-in-Case.result
-    c.deref-in-Case.ensures.value c.deref-in-Case-2.result c.deref-in-Case-2.ensures.value env (reverse old.pending.items) (operands_of old) s)
-    (c.plan-in-Case.ensures.does env (entered given.number env s) agrees)
+    c.deref-in-Case.ensures.value c.deref-in-Case-2.result c.deref-in-Case-2.ensures.value env outer (reverse old.pending.items) (operands_of old) s)
+    (c.plan-in-Case.ensures.does env outer (entered given.number env s) agrees)
+
+pub returns-in_ok-put-in-Call-clause-does : goal.returns-in_ok-put-in-Call-clause-does
+returns-in_ok-put-in-Call-clause-does c = λ env outer s agrees.
+    let old = c.args.self.now in
+    let given = c.in-Call in
+    let all = c.deref-in-Call.result.now in
+    let there = entered given.call.number env s in
+    continues_as env outer old c.call.new.self _ _ c.call.result
+    (does-procedure given.call given.actuals c.args.statement.now given.is given.call refl all c.deref-in-Call.ensures.value env outer
+    (reverse old.pending.items) (operands_of old) s
+    ∙ ap (λ (works : List Work). calling env given.call all (pending_of env outer works) (operands_of old) there)
+    (sym (reverse_pushed _ _ _ _ c.in_ok-put-in-Call.ensures refl)))
+    (c.call.ensures.does env outer there agrees)

@@ -1,7 +1,7 @@
 use Rattle.std.proofs.Common.{ℤ, rules}
 use mir.Syntax.{w32}
 use mir.Val.{SFits}
-use Rattle.interpreter.specs.declared.work.Work.TheVariants as work
+use Rattle.interpreter_state.specs.declared.work.Work.TheVariants as work
 use Rattle.interpreter.specs.Pending.{Does, resumed}
 use Rattle.interpreter.proofs.Resuming.{does_as, passed}
 use Rattle.interpreter.proofs.interpreter.Run.step.Goals as goal
@@ -43,9 +43,6 @@ returns-in-Case-clause-does c = does_as c.args.self.now c.case.new.self c.args.w
 pub returns-in-Parameters-clause-does : goal.returns-in-Parameters-clause-does
 returns-in-Parameters-clause-does c =
     does_as c.args.self.now c.parameters.new.self c.args.work _ c.parameters.result c.in-Parameters.is c.parameters.ensures.does
-
-pub returns-in-Parameter-clause-does : goal.returns-in-Parameter-clause-does
-returns-in-Parameter-clause-does c = does_as c.args.self.now c.parameter.new.self c.args.work _ c.parameter.result c.in-Parameter.is c.parameter.ensures.does
 
 pub returns-in-Width-clause-does : goal.returns-in-Width-clause-does
 returns-in-Width-clause-does c = does_as c.args.self.now c.width.new.self c.args.work _ c.width.result c.in-Width.is c.width.ensures.does
@@ -98,3 +95,15 @@ returns-in-RightSide-clause-does c = does_as c.args.self.now c.right_side.new.se
 
 pub returns-in-Compare-clause-does : goal.returns-in-Compare-clause-does
 returns-in-Compare-clause-does c = does_as c.args.self.now c.compare.new.self c.args.work _ c.compare.result c.in-Compare.is c.compare.ensures.does
+
+pub returns-in-Pass-clause-does : goal.returns-in-Pass-clause-does
+returns-in-Pass-clause-does c = does_as c.args.self.now c.pass.new.self c.args.work _ c.pass.result c.in-Pass.is c.pass.ensures.does
+
+pub returns-in-Test-clause-does : goal.returns-in-Test-clause-does
+returns-in-Test-clause-does c = does_as c.args.self.now c.test.new.self c.args.work _ c.test.result c.in-Test.is c.test.ensures.does
+
+pub returns-in-Discard-clause-does : goal.returns-in-Discard-clause-does
+returns-in-Discard-clause-does c = does_as c.args.self.now c.discard.new.self c.args.work _ c.discard.result c.in-Discard.is c.discard.ensures.does
+
+pub returns-in-Activate-clause-does : goal.returns-in-Activate-clause-does
+returns-in-Activate-clause-does c = does_as c.args.self.now c.activate.new.self c.args.work _ c.activate.result c.in-Activate.is c.activate.ensures.does

@@ -7,7 +7,7 @@ use Rattle.interpreter.proofs.Resuming.{agreed_below, stores, checked_some}
 use Rattle.interpreter.proofs.interpreter.Run.store.Goals as goal
 
 pub returns-in_ok-keep-in-Some-clause-does : goal.returns-in_ok-keep-in-Some-clause-does
-returns-in_ok-keep-in-Some-clause-does c = λ env s agrees.
+returns-in_ok-keep-in-Some-clause-does c = λ env outer s agrees.
     let old = c.args.self.now in
     let popped = c.popped_place-place.new.self in
     let new = c.keep.new.self in
@@ -19,10 +19,13 @@ returns-in_ok-keep-in-Some-clause-does c = λ env s agrees.
     let value = c.in-Some.value in
     let after : State = record s { store = kept s.store place value } in
     let fine = checked_some c.args.fits.range c.popped-value.result value c.value_in.result c.value_in.ensures c.in-Some.is in
-    let agreed : Agrees env popped s = agreed_below old popped env s same agrees in
-    let moved : Agrees env (record popped { store = new.store }) after = record {
+    let agreed : Agrees env outer popped s = agreed_below old popped env outer s same agrees in
+    let moved : Agrees env outer (record popped { store = new.store }) after = record {
       visible = agreed.visible;
-      types = agreed.types;
+      calls = agreed.calls;
+      waits = agreed.waits;
+      deep = agreed.deep;
+      few = agreed.few;
       store = subst (λ home. StoreAgrees new.store (kept s.store home value)) (under.top ∙ ap top_place top.below)
           (c.in_ok-keep-in-Some.ensures.agrees s.store agreed.store);
       input = agreed.input;
@@ -31,10 +34,12 @@ returns-in_ok-keep-in-Some-clause-does c = λ env s agrees.
       activations = agreed.activations;
     } in
     let works = reverse old.pending.items in (
+      env,
+      outer,
       after,
-      subst (λ (r : Run). Agrees env r after) (sym c.keep.ensures.same) moved,
-      stores env c.args.fits (pending_of env works) (operands_of old) s value (sym fine.0 ∙ top.top) (ap (is_in c.args.fits.range) (sym fine.0) ∙ fine.1)
-          ∙ ap (λ l. pending_of env works l after) (sym (under.below ∙ ap below_top top.below))
-          ∙ ap (λ (r : Run). pending_of env (reverse r.pending.items) (operands_of popped) after) (sym same)
-          ∙ ap (λ (r : Run). rest_of env r after) (sym c.keep.ensures.same),
+      subst (λ (r : Run). Agrees env outer r after) (sym c.keep.ensures.same) moved,
+      stores env c.args.fits (pending_of env outer works) (operands_of old) s value (sym fine.0 ∙ top.top) (ap (is_in c.args.fits.range) (sym fine.0) ∙ fine.1)
+          ∙ ap (λ l. pending_of env outer works l after) (sym (under.below ∙ ap below_top top.below))
+          ∙ ap (λ (r : Run). pending_of env outer (reverse r.pending.items) (operands_of popped) after) (sym same)
+          ∙ ap (λ (r : Run). rest_of env outer r after) (sym c.keep.ensures.same),
     )

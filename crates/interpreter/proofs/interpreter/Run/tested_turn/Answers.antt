@@ -1,7 +1,7 @@
 use Rattle.std.proofs.Common.{◌≡◌, suc, ◌-◌, List, refl, reverse, arith, sym, ap, ◌∙◌}
 use Rattle.meaning.specs.Effect.{State, and_then, take_turn}
 use Rattle.meaning.specs.Meaning.{value_of}
-use Rattle.interpreter.specs.declared.work.Work.{Work}
+use Rattle.interpreter_state.specs.declared.work.Work.{Work}
 use Rattle.interpreter.specs.Pending.{Agrees, giving, operands_of, pending_of, resumed}
 use Rattle.interpreter.proofs.Resuming.{continues_as, reverse_pushed}
 use Rattle.interpreter.proofs.Weights.{tested_turn_weighs}
@@ -11,28 +11,31 @@ pub returns-clause-weight : goal.returns-clause-weight
 returns-clause-weight c =
     let old = c.args.self.now in
     let some : old.turns ≡ suc (old.turns - 1) = omega (arith, c.if-self-eq0.false) in
-    tested_turn_weighs old.pending.items c.put.new.pending.items c.args.next c.args.condition.now c.args.later old.turns (old.turns - 1) _ c.plan.result some
-    c.in_ok-put.ensures c.plan.ensures.weight
+    tested_turn_weighs old.tree.now old.activation old.pending.items old.callers.items old.turns (old.turns - 1) some c.put.new.pending.items c.args.next
+    c.args.condition.now c.args.later _ c.plan.result c.in_ok-put.ensures c.plan.ensures.weight
 
 pub returns-clause-does : goal.returns-clause-does
-returns-clause-does c = λ env s agrees.
+returns-clause-does c = λ env outer s agrees.
     let old = c.args.self.now in
     let left = old.turns - 1 in
     let some : old.turns ≡ suc left = omega (arith, c.if-self-eq0.false) in
     let after : State = record s { turns = left } in
-    let moved : Agrees env (record old { turns = left }) after = record {
+    let moved : Agrees env outer (record old { turns = left }) after = record {
       visible = agrees.visible;
-      types = agrees.types;
+      calls = agrees.calls;
+      waits = agrees.waits;
+      deep = let deep = agrees.deep in omega (arith, deep, some);
+      few = let few = agrees.few in omega (arith, few, some);
       store = agrees.store;
       input = agrees.input;
       output = agrees.output;
       turns = refl;
       activations = agrees.activations;
     } in
-    let works = pending_of env (reverse old.pending.items) in
+    let works = pending_of env outer (reverse old.pending.items) in
     let tested = giving (value_of c.args.condition.now env) (resumed env c.args.later works) in
-    continues_as env old c.plan.new.self _ _ c.plan.result
+    continues_as env outer old c.plan.new.self _ _ c.plan.result
     (ap (λ n. and_then (take_turn n s) (λ _. resumed env c.args.next tested (operands_of old))) (sym agrees.turns ∙ some)
-    ∙ ap (λ (l : List Work). resumed env c.args.next (giving (value_of c.args.condition.now env) (pending_of env l)) (operands_of old) after)
+    ∙ ap (λ (l : List Work). resumed env c.args.next (giving (value_of c.args.condition.now env) (pending_of env outer l)) (operands_of old) after)
     (sym (reverse_pushed _ _ _ _ c.in_ok-put.ensures refl)))
-    (c.plan.ensures.does env after moved)
+    (c.plan.ensures.does env outer after moved)

@@ -9,25 +9,29 @@ pub returns-clause-weight : goal.returns-clause-weight
 returns-clause-weight c =
     let old = c.args.self.now in
     let some : old.turns ≡ suc (old.turns - 1) = omega (arith, c.if-self-eq0.false) in
-    turn_weighs old.pending.items c.args.next c.args.later old.turns (old.turns - 1) _ c.plan.result some c.plan.ensures.weight
+    turn_weighs old.tree.now old.activation old.pending.items old.callers.items old.turns (old.turns - 1) some c.args.next c.args.later _ c.plan.result
+    c.plan.ensures.weight
 
 pub returns-clause-does : goal.returns-clause-does
-returns-clause-does c = λ env s agrees.
+returns-clause-does c = λ env outer s agrees.
     let old = c.args.self.now in
     let left = old.turns - 1 in
     let some : old.turns ≡ suc left = omega (arith, c.if-self-eq0.false) in
     let after : State = record s { turns = left } in
-    let moved : Agrees env (record old { turns = left }) after = record {
+    let moved : Agrees env outer (record old { turns = left }) after = record {
       visible = agrees.visible;
-      types = agrees.types;
+      calls = agrees.calls;
+      waits = agrees.waits;
+      deep = let deep = agrees.deep in omega (arith, deep, some);
+      few = let few = agrees.few in omega (arith, few, some);
       store = agrees.store;
       input = agrees.input;
       output = agrees.output;
       turns = refl;
       activations = agrees.activations;
     } in
-    let works = pending_of env (reverse old.pending.items) in
-    continues_as env old c.plan.new.self _ _ c.plan.result
+    let works = pending_of env outer (reverse old.pending.items) in
+    continues_as env outer old c.plan.new.self _ _ c.plan.result
     (ap (λ n. and_then (take_turn n s) (λ _. resumed env c.args.next (resumed env c.args.later works) (operands_of old)))
     (sym agrees.turns ∙ some))
-    (c.plan.ensures.does env after moved)
+    (c.plan.ensures.does env outer after moved)

@@ -1,3 +1,7 @@
+use Rattle.std.proofs.Common.{◌+◌, ◌<◌, OnOk, subst}
+use Rattle.interpreter_state.specs.declared.work.Work.TheVariants as work
+use Rattle.interpreter.specs.declared.interpreter.Run.{Run}
+use Rattle.interpreter.specs.Weight.{callees_in, pending_weight, weight_of}
 use Rattle.std.proofs.Common.{◌≡◌, false, reverse, sym, ◌∙◌, ap}
 use Rattle.meaning.specs.Meaning.{is_so}
 use Rattle.interpreter.specs.Pending.{top_of, below_top, repeating, operands_of}
@@ -6,13 +10,19 @@ use Rattle.interpreter.proofs.Unrolling.{does-unless}
 use Rattle.interpreter.proofs.interpreter.Run.unless.Goals as goal
 
 pub returns-else-truth_of-clause-does : goal.returns-else-truth_of-clause-does
-returns-else-truth_of-clause-does c = λ env s agrees.
+returns-else-truth_of-clause-does c = λ env outer s agrees.
     let old = c.args.self.now in
     let statements = c.args.statements in
     let condition = c.args.condition in
     let operands = operands_of old in
     let so : is_so (top_of operands) ≡ false = ap is_so (sym c.popped.ensures.top) ∙ sym c.truth_of.ensures ∙ c.if-truth_of.false in
-    goes_on_below old c.popped.new.self c.repeat_round.new.self env s (λ env. repeating env statements.now condition.now) (below_top operands)
+    goes_on_below old c.popped.new.self c.repeat_round.new.self env outer s (λ env. repeating env statements.now condition.now) (below_top operands)
     c.repeat_round.result _ c.popped.ensures.same c.popped.ensures.below
-    (does-unless env statements condition (reverse old.pending.items) operands s so)
+    (does-unless env outer statements condition (reverse old.pending.items) operands s so)
     agrees c.repeat_round.ensures.does
+
+pub returns-else-truth_of-clause-fewer : goal.returns-else-truth_of-clause-fewer
+returns-else-truth_of-clause-fewer c =
+    subst (λ (r : Run). OnOk c.repeat_round.result (pending_weight c.repeat_round.new.self <
+    pending_weight r + weight_of (callees_in r) r.turns (work.Unless c.args.statements c.args.condition)))
+    c.popped.ensures.same c.repeat_round.ensures.fewer

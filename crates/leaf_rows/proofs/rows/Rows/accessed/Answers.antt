@@ -1,4 +1,4 @@
-use Rattle.std.proofs.Common.{arith, ◌≡◌, ◌∙◌, sym, ap, subst, ◌+◌, ◌<◌, ◌^◌, [], map, drop, suc, Some, ℕ, List, Option}
+use Rattle.std.proofs.Common.{◌∙◌, sym, ap, ◌+◌, map, drop, List}
 use Rattle.std.proofs.lemmas.List.{drop_all, drop_more}
 use Rattle.std.specs.Prelude.{pos, slice_index_or}
 use Rattle.types.specs.Forms.{Form}

@@ -1,4 +1,4 @@
-use Rattle.std.proofs.Common.{arith, ◌≡◌, ◌∙◌, sym, ap, subst, ◌+◌, ◌<◌, ◌^◌, map, Some, ℕ, List, Option, sum_by}
+use Rattle.std.proofs.Common.{arith, ◌≡◌, ◌∙◌, sym, ap, subst, ◌+◌, ◌<◌, ◌^◌, map, Some, List, sum_by}
 use Rattle.types.specs.Forms.{Form, Record, field_form, form_of}
 use Rattle.types.specs.Types.{form_at}
 use Rattle.types.specs.declared.form.Field.{Field}

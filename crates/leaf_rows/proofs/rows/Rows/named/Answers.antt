@@ -1,8 +1,7 @@
-use Rattle.std.proofs.Common.{◌≡◌, ◌∙◌, sym, ap, subst, ◌+◌, ◌<◌, ◌^◌, ◌∷◌, [], map, drop, Some, None, ℕ, List, Option, refl}
+use Rattle.std.proofs.Common.{◌≡◌, ◌∙◌, sym, ap, subst, ◌+◌, ◌<◌, ◌^◌, ◌∷◌, [], map, drop, Some, ℕ, List}
 use Rattle.std.proofs.lemmas.List.{drop_all, drop_more}
 use Rattle.std.specs.Prelude.{slice_get}
 use Rattle.types.specs.Types.{element_of, field_of}
-use Rattle.types.specs.declared.form.TypeId.{TypeId}
 use Rattle.typed_tree.specs.declared.tree.Tree.{Tree}
 use Rattle.typed_tree.specs.declared.tree.Variable.{Variable}
 use Rattle.domain.specs.Facts as fact
@@ -10,7 +9,7 @@ use Rattle.certificate.specs.Contents.{said_path, said_step}
 use Rattle.certificate.specs.declared.facts.Step.{Step}
 use Rattle.leaf_rows.specs.Rows.{variable_named}
 use Rattle.leaf_rows.specs.View.{end_of}
-use Rattle.leaf_rows.proofs.Naming.{NamesOn, element_on, field_on, named_all, no_element_on, no_field_on, none_answered}
+use Rattle.leaf_rows.proofs.Naming.{NamesOn, element_on, field_on, named_all}
 use Rattle.leaf_rows.proofs.Variables.{part_under, under_of}
 use Rattle.leaf_rows.proofs.rows.Rows.named.Goals as goal
 use Rattle.leaf_rows.proofs.rows.Rows.named.Goals.{in-Element+in_ok-type_id-in-Element, in-Field+in_ok-field-in-Field}

@@ -1,4 +1,4 @@
-use Rattle.std.proofs.Common.{arith, ◌≡◌, ◌∙◌, sym, ap, subst, ◌+◌, ◌<◌, ◌≤◌, ◌++◌, ◌∷◌, [], length, map, take, Some, None, ℕ, List, Option}
+use Rattle.std.proofs.Common.{arith, ◌≡◌, ◌∙◌, sym, ap, subst, ◌+◌, ◌<◌, ◌≤◌, ◌++◌, ◌∷◌, [], length, take, List}
 use Rattle.std.proofs.Common.{append-nil}
 use Rattle.std.proofs.lemmas.List.{take_more}
 use Rattle.std.proofs.lemmas.List.Concat.{flat_map-append}
@@ -6,13 +6,14 @@ use Rattle.std.proofs.lemmas.Option.{slice_get_past}
 use Rattle.std.specs.Prelude.{flat_map, slice_index_or}
 use Rattle.types.specs.Forms.{Form}
 use Rattle.typed_tree.specs.declared.tree.Variable.{Variable}
+use Rattle.typed_tree.specs.declared.tree.VariableKind.TheVariants.{Local}
 use Rattle.leaf_rows.specs.View.{firsts_from, variable_ranges}
 use Rattle.leaf_rows.proofs.Counted.{all_taken}
 use Rattle.leaf_rows.proofs.Variables.{firsts_push, ranges_from}
 use Rattle.leaf_rows.proofs.rows.Rows.of.Goals as goal
 
 abbrev no_variable : Variable
-no_variable = record { block = 0; type_id = record { index = 0 } }
+no_variable = record { block = 0; type_id = record { index = 0 }; kind = Local }
 
 pub loop-variable-preserved : goal.loop-variable-preserved
 loop-variable-preserved c =

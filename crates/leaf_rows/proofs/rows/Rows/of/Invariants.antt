@@ -1,4 +1,4 @@
-use Rattle.std.proofs.Common.{◌≡◌, ◌<◌, ◌^◌, take, map}
+use Rattle.std.proofs.Common.{◌≡◌, take}
 use Rattle.std.specs.Prelude.{flat_map}
 use Rattle.leaf_rows.specs.View.{firsts_from, variable_ranges}
 use Rattle.leaf_rows.proofs.rows.Rows.of.Given as goal

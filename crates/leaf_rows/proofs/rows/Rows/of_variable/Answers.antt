@@ -1,4 +1,4 @@
-use Rattle.std.proofs.Common.{◌≡◌, ◌∙◌, sym, ap, []}
+use Rattle.std.proofs.Common.{◌∙◌, sym, ap, []}
 use Rattle.leaf_rows.proofs.Variables.{all_of_part, part_under, under_of}
 use Rattle.leaf_rows.proofs.rows.Rows.of_variable.Goals as goal
 

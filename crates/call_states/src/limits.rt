@@ -1,0 +1,176 @@
+ghost use Rattle.std.specs.Prelude.{◌≡◌, ◌+ℤ◌, ℕ, Some, pos, true};
+ghost use Rattle.std.specs.Option.{option_and_then};
+ghost use Rattle.abstract_state.specs.View.{IsFar, said_form, viewed};
+ghost use Rattle.component_states.specs.Components.{moved_bound};
+ghost use Rattle.domain.specs.Facts.{Plus, said_bound};
+ghost use Rattle.call_states.specs.Actuals.{actual_of};
+ghost use Rattle.call_states.specs.Entry.{forms_at_most, is_at_most, limit_moved, limit_of, limit_of_actual};
+ghost use Rattle.call_states.specs.Entry.{limit_of_bound};
+ghost use Rattle.call_states.specs.View.{AreBounded, AreNear, IsLimit, said_actual, said_bindings, said_limit};
+
+use crate::actuals::{Actual, Bindings, is_entire};
+use abstract_state::{Ends, State};
+use component_states::{has_value, moved};
+use domain::facts::Bound;
+use domain::interval::Interval;
+use typed_tree::tree::Tree;
+
+/// What a bound of a callee is where it is called.
+#[derive(Clone, Copy)]
+pub(crate) struct Limit {
+    /// A bound form, if there is one.
+    pub(crate) form: Option<Bound>,
+    /// The ends of the range in which it lies.
+    pub(crate) ends: Ends,
+    /// Whether it is known to have a value.
+    pub(crate) has_value: bool,
+}
+
+impl Limit {
+    /// That of a bound form.
+    pub(crate) fn of(state: &State, bound: Bound) -> Limit
+        ensures is { said_limit result ≡ limit_of (viewed state.now) (said_bound bound) }
+        ensures near { AreNear result }
+    {
+        Limit {
+            form: Some(bound),
+            ends: state.ends(bound),
+            has_value: has_value(state, bound),
+        }
+    }
+
+    /// That of a value, which lies in a range.
+    fn of_value(range: Interval, form: Option<Bound>) -> Limit
+        ensures is { said_limit result ≡ record { form = said_form form; range = range; has_value = true } }
+        ensures near { AreNear result }
+    {
+        Limit {
+            form,
+            ends: Ends::moved(range, 0),
+            has_value: true,
+        }
+    }
+
+    /// One greater by a number.
+    pub(crate) fn moved(self, by: i32) -> Limit
+        requires { AreBounded self }
+        ensures is { said_limit result ≡ limit_moved by (said_limit self) }
+        ensures bounded { AreNear self → AreBounded result }
+    {
+        Limit {
+            form: moved_form(self.form, i64::from(by)),
+            ends: Ends {
+                first: moved_end(self.ends.first, by),
+                last: moved_end(self.ends.last, by),
+            },
+            has_value: self.has_value,
+        }
+    }
+
+    /// Whether it is known to be at most another, by forms or by ranges.
+    pub(crate) fn is_at_most(&self, state: &State, other: &Limit) -> bool
+        ensures { result ≡ is_at_most (viewed state.now) (said_limit self.now) (said_limit other.now) }
+    {
+        are_at_most(state, self.form, other.form) || self.ends.is_below(other.ends)
+    }
+}
+
+/// An end plus a number.
+fn moved_end(end: i64, by: i32) -> i64
+    requires { IsFar end }
+    ensures { result ≡ end +ℤ by }
+{
+    end + i64::from(by)
+}
+
+/// A form plus a number, if it is one that bounds have.
+fn moved_form(form: Option<Bound>, by: i64) -> Option<Bound>
+    requires { IsFar by }
+    ensures { said_form result ≡ option_and_then (moved_bound by) (said_form form) }
+{
+    match form {
+        None => None,
+        Some(bound) => moved(bound, by),
+    }
+}
+
+/// Whether both forms are there, and the first is known to be at most the second.
+fn are_at_most(state: &State, one: Option<Bound>, other: Option<Bound>) -> bool
+    ensures { result ≡ forms_at_most (viewed state.now) (said_form one) (said_form other) }
+{
+    match (one, other) {
+        (Some(one), Some(other)) => state.knows_at_most(one, other),
+        _ => false,
+    }
+}
+
+/// A bound of a callee where it is called.
+pub(crate) fn limit_of(
+    tree: &Tree,
+    state: &State,
+    bindings: Bindings,
+    bound: Bound,
+) -> Option<Limit>
+    ensures { IsLimit AreBounded result
+        (limit_of_bound tree.now (viewed state.now) (said_bindings bindings.entry) (said_bound bound)) }
+{
+    match bound {
+        Bound::Number(_) => Some(Limit::of(state, bound)),
+        Bound::Plus { root, number } => limit_above(tree, state, bindings, root, number),
+    }
+}
+
+/// A variable of the callee with a number more.
+fn limit_above(
+    tree: &Tree,
+    state: &State,
+    bindings: Bindings,
+    root: u32,
+    number: i32,
+) -> Option<Limit>
+    ensures { IsLimit AreBounded result
+        (limit_of_bound tree.now (viewed state.now) (said_bindings bindings.entry) (Plus root number)) }
+{
+    let limit = limit_of_root(tree, state, bindings, root)?;
+    Some(limit.moved(number))
+}
+
+/// A variable of the callee.
+fn limit_of_root(tree: &Tree, state: &State, bindings: Bindings, root: u32) -> Option<Limit>
+    ensures { IsLimit AreNear result
+        (limit_of_actual tree.now (viewed state.now) root (actual_of (said_bindings bindings.entry) root)) }
+{
+    match bindings.actual(root) {
+        None => Some(of_variable(state, root)),
+        Some(actual) => limit_of_actual(tree, state, actual),
+    }
+}
+
+/// A formal parameter of it.
+fn limit_of_actual(tree: &Tree, state: &State, actual: &Actual) -> Option<Limit>
+    ensures { (root : ℕ) → IsLimit AreNear result
+        (limit_of_actual tree.now (viewed state.now) root (Some (said_actual actual.now))) }
+{
+    match actual {
+        Actual::Value { range, form } => Some(Limit::of_value(*range, *form)),
+        Actual::Rows(_) => None,
+        Actual::Variable {
+            root,
+            selectors,
+            ..
+        } => {
+            if is_entire(tree, *root, selectors) {
+                return Some(of_variable(state, *root));
+            }
+            None
+        }
+    }
+}
+
+/// An entire variable of the caller.
+fn of_variable(state: &State, root: u32) -> Limit
+    ensures is { said_limit result ≡ limit_of (viewed state.now) (Plus root (pos 0)) }
+    ensures near { AreNear result }
+{
+    Limit::of(state, Bound::Plus { root, number: 0 })
+}

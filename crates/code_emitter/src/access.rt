@@ -1,0 +1,49 @@
+ghost use Rattle.std.specs.Prelude.{◌≡◌, List};
+ghost use Rattle.pcode_assembler.specs.declared.instr.Instr.{Instr};
+ghost use Rattle.code_scheme.specs.Code.{reached};
+ghost use Rattle.code_emitter.specs.Reaching.{address_instr, cell_of};
+
+use code_scheme::scope::{Scope, behind_fields};
+use pcode_assembler::instr::Instr;
+use typed_tree::tree::Access;
+
+/// A cell at an offset in a frame behind so many static links.
+#[derive(Clone, Copy)]
+pub struct Cell {
+    pub level: u8,
+    pub offset: u32,
+}
+
+/// The cell of what is accessed, where that lies at an offset in a frame: fields alone select it, and from no variable
+/// parameter.
+pub fn cell_in_frame(scope: &Scope, access: &Access) -> Option<Cell>
+    ensures { (codes : List (List Instr)) → result ≡ cell_of (reached scope.now access.now codes) }
+{
+    let home = scope.home(access.root);
+    if home.refers || !behind_fields(access.selectors.as_slice()).is_empty() {
+        return None;
+    }
+    Some(Cell {
+        level: scope.links_to(home.level),
+        offset: scope.access_offset(access),
+    })
+}
+
+/// What pushes the address from which the code of the selectors goes on: that in the cell of a variable parameter, else
+/// that of the component which the fields before the first index select.
+pub fn address_in(scope: &Scope, access: &Access) -> Instr
+    ensures { result ≡ address_instr scope.now access.now }
+{
+    let home = scope.home(access.root);
+    let level = scope.links_to(home.level);
+    if home.refers {
+        return Instr::Load {
+            level,
+            offset: home.start,
+        };
+    }
+    Instr::LoadAddress {
+        level,
+        offset: scope.access_offset(access),
+    }
+}

@@ -1,0 +1,29 @@
+-- How many repeats stand in each other in a statement: so many turns are used before an instruction comes.
+use Rattle.std.proofs.Common.{ℕ, ◌+◌, max, Option, Some, None}
+use Rattle.std.specs.declared.alloc.Global.{Global}
+use Rattle.std.specs.declared.boxed.Box.{Box}
+use Rattle.typed_tree.specs.declared.tree.Stmt.{Stmt}
+use Rattle.typed_tree.specs.declared.tree.Stmt.TheOpen.{Stmt-F}
+use Rattle.typed_tree.specs.declared.tree.Stmt.TheOpen.Stmt-F.{Empty, Assign, Copy, Write, Compound, If, While, Repeat, For, Case, Call as Calling}
+use Rattle.typed_tree.specs.declared.tree.Stmt.TheFolds.{fold-Stmt}
+use Rattle.code_scheme.specs.Depth.{greatest}
+
+abbrev pub alternative_repeats : Option (Box ℕ Global) → ℕ
+alternative_repeats None = 0
+alternative_repeats (Some repeats) = repeats.value
+
+abbrev pub repeats_step : Stmt-F ℕ → ℕ
+repeats_step (Empty number) = 0
+repeats_step (Assign number becomes target indexes fits v) = 0
+repeats_step (Copy number becomes target indexes type_id v value_indexes) = 0
+repeats_step (Write number name parameters ends_line) = 0
+repeats_step (Calling call actuals) = 0
+repeats_step (Compound number statements) = greatest statements.items
+repeats_step (If number condition consequence alternative) = max consequence.value (alternative_repeats alternative)
+repeats_step (While number loop_number word condition body) = body.value
+repeats_step (Repeat number loop_number word statements condition) = greatest statements.items + 1
+repeats_step (For number loop_number word control first first_fits way last last_fits body) = body.value
+repeats_step (Case number site index constants arms) = greatest arms.items
+
+abbrev pub repeats : Stmt → ℕ
+repeats = fold-Stmt ℕ repeats_step

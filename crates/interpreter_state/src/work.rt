@@ -1,0 +1,142 @@
+ghost use Rattle.std.specs.Prelude.{◌≡◌, [], ◌∷◌, ◌++◌, OnOk};
+
+use crate::activation::Activation;
+use std::alloc::AllocError;
+use typed_tree::tree::{
+    Direction, Dyadic, Expr, Link, Monadic, Passed, RangeTest, Relation, Representation, Selector,
+    Stmt, Whole, Width, WriteParameter,
+};
+use types::TypeId;
+
+/// Work that a run has still to do. What it needs lies on the stack of operands.
+#[derive(Clone, Copy)]
+pub enum Work<'t> {
+    /// The statements of a compound statement, one after another.
+    Statements(&'t [Stmt]),
+    Statement(&'t Stmt),
+    /// The statement of an if that the topmost value chooses.
+    Choose {
+        consequence: &'t Stmt,
+        alternative: &'t Option<Box<Stmt>>,
+    },
+    /// A turn of a while, and its further rounds, if the topmost value asks for them.
+    WhileTurn {
+        condition: &'t Expr,
+        body: &'t Stmt,
+    },
+    /// Further rounds of a repeat, unless the topmost value ends it.
+    Unless {
+        statements: &'t [Stmt],
+        condition: &'t Expr,
+    },
+    /// A for statement, whose bounds are topmost, the last above the first.
+    Bounds {
+        control: u32,
+        first_fits: RangeTest,
+        direction: Direction,
+        last_fits: RangeTest,
+        body: &'t Stmt,
+    },
+    /// The rounds of a for behind that with a value of its control variable.
+    Next {
+        control: u32,
+        direction: Direction,
+        value: i32,
+        last: i32,
+        body: &'t Stmt,
+    },
+    /// The arms of a case, whose index is topmost.
+    Case {
+        site: u32,
+        constants: &'t [Vec<i32>],
+        arms: &'t [Stmt],
+    },
+    /// The parameters of a write, one after another, and behind them the line end of a writeln.
+    Parameters {
+        parameters: &'t [WriteParameter],
+        ends_line: bool,
+    },
+    /// The width of an ordinal that is written, whose value is topmost.
+    Width {
+        width: &'t Option<Width>,
+        representation: Representation,
+    },
+    /// Tests the topmost value as a width.
+    WidthTest {
+        site: u32,
+    },
+    /// Writes a value, whose width is topmost, right above it.
+    Write(Representation),
+    /// Writes a row of numbers as a string, whose width is topmost, right above it.
+    WriteRow,
+    /// Writes the topmost row as a string in so many places.
+    WriteRowIn {
+        places: usize,
+    },
+    /// Tests the topmost value and stores it at the place below it.
+    Store(RangeTest),
+    /// Stores the topmost row at the place below it, which has this type.
+    StoreRow(TypeId),
+    /// The selectors that lead on from the topmost place.
+    Select {
+        selectors: &'t [Selector],
+        indexes: &'t [Expr],
+    },
+    /// Tests the topmost value as an index of the place below it.
+    Index(RangeTest),
+    /// The value at the topmost place, tested at the site.
+    Fetch {
+        defined: u32,
+    },
+    Whole {
+        value: &'t Whole,
+        indexes: &'t [Expr],
+    },
+    /// The row at the topmost place, which has this type, tested at the site.
+    FetchRow {
+        type_id: TypeId,
+        defined: u32,
+    },
+    Value(&'t Expr),
+    /// An operation on the topmost value.
+    Monadic(Monadic),
+    /// The operators of a chain whose value so far is topmost.
+    Links(&'t [Link]),
+    /// An operation on the two topmost values.
+    Combine(Dyadic),
+    /// The operator with this number and its right side, whose left side is topmost.
+    RightSide {
+        number: u32,
+        relation: Relation,
+        right: &'t Whole,
+        indexes: &'t [Expr],
+    },
+    /// A relation of the two topmost rows.
+    Compare(Relation),
+    /// The actual parameters of a call, one after another.
+    Pass(&'t [Passed]),
+    /// Tests the topmost value.
+    Test(RangeTest),
+    /// An activation of the block with this number, to which so many operands are passed, the last one topmost.
+    Activate {
+        block: u32,
+        count: usize,
+    },
+    /// Drops the topmost value.
+    Discard,
+}
+
+/// An activation that waits for one inside it, with the work that is left in it, the next on top.
+#[derive(Drop)]
+pub struct Caller<'t> {
+    pub activation: Activation,
+    pub pending: Vec<Work<'t>>,
+}
+
+/// Puts a piece of work on top of what is left.
+pub fn put<'t>(pending: &mut Vec<Work<'t>>, work: Work<'t>) -> Result<(), AllocError>
+    ensures { OnOk result (pending.new.items ≡ pending.old.items ++ work.entry ∷ []) }
+{
+    pending.push(work)?;
+    Ok(())
+}

@@ -1,0 +1,520 @@
+-- What holds of every piece of a program because it is made of few actions: a relation of what a piece does with what it
+-- does where calls do something else, if actions that are made of related ones are related, and what the calls do is.
+use Rattle.std.specs.Prelude.{int_div, int_le, int_lt, not, if◌then◌else◌}
+use Rattle.std.specs.Int.{int_rem_euclid}
+use Rattle.std.specs.Ordering.{int_eq}
+use Rattle.std.proofs.Common.{◌≡◌, ℕ, ℤ, pos, ◌+ℤ◌, ◌-ℤ◌, ◌*ℤ◌, List, [], ◌∷◌, Bool, true, false, Option, Some, None, Vec, Global, map, slice_get}
+use Rattle.std.proofs.Common.{sym, ◌∙◌, ap, subst, refl}
+use Rattle.types.specs.Forms.{Form}
+use Rattle.types.specs.declared.form.Step.{Step}
+use Rattle.types.specs.declared.form.Step.TheVariants as step
+use Rattle.types.specs.Components.{components_of}
+use Rattle.typed_tree.specs.declared.tree.Tree.{Tree}
+use Rattle.typed_tree.specs.declared.tree.Block.{Block}
+use Rattle.typed_tree.specs.declared.tree.Call.{Call}
+use Rattle.typed_tree.specs.declared.tree.FunctionResult.{FunctionResult}
+use Rattle.typed_tree.specs.declared.tree.Variable.{Variable as DeclaredVariable}
+use Rattle.typed_tree.specs.declared.tree.Direction.{Direction}
+use Rattle.typed_tree.specs.declared.tree.RangeTest.{RangeTest}
+use Rattle.typed_tree.specs.declared.tree.Dyadic.{Dyadic}
+use Rattle.typed_tree.specs.declared.tree.Dyadic.TheVariants as dyadic
+use Rattle.typed_tree.specs.declared.tree.Monadic.{Monadic}
+use Rattle.typed_tree.specs.declared.tree.Monadic.TheVariants as monadic
+use Rattle.typed_tree.specs.declared.tree.Width.{Width}
+use Rattle.typed_tree.specs.declared.tree.WriteParameter.{WriteParameter}
+use Rattle.typed_tree.specs.declared.tree.Written.{Written}
+use Rattle.typed_tree.specs.declared.tree.Written.TheVariants.{Ordinal, String}
+use Rattle.typed_tree.specs.declared.tree.Whole.{Whole}
+use Rattle.typed_tree.specs.declared.tree.Whole.TheVariants.{Text, Variable as VariableOf}
+use Rattle.typed_tree.specs.declared.tree.Access.{Access}
+use Rattle.typed_tree.specs.declared.tree.Selector.{Selector}
+use Rattle.typed_tree.specs.declared.tree.Selector.TheVariants.{Element, Field}
+use Rattle.typed_tree.specs.WellFormed.{length_of}
+use Rattle.typed_tree.specs.declared.tree.Expr.{Expr}
+use Rattle.typed_tree.specs.declared.tree.Passed.{Passed}
+use Rattle.typed_tree.specs.declared.tree.Link.{Link}
+use Rattle.typed_tree.specs.declared.tree.Stmt.{Stmt}
+use Rattle.typed_tree.specs.declared.tree.Expr.TheOpen.{Expr-F, Passed-F, Link-F}
+use Rattle.typed_tree.specs.declared.tree.Expr.TheOpen.Expr-F.{Constant, Variable, Monadic as MonadicOf, Chain, Compare, Call as CallOf}
+use Rattle.typed_tree.specs.declared.tree.Expr.TheOpen.Passed-F.{Value as PassedValue, Whole as PassedWhole, Reference}
+use Rattle.typed_tree.specs.declared.tree.Expr.TheFolds.{map-Expr, map-Passed, map-Link, fold-roll-Expr, fold-roll-Passed, fold-roll-Link}
+use Rattle.typed_tree.specs.declared.tree.Expr.TheFolds.{ind-Expr, ind-Passed}
+use Rattle.typed_tree.specs.declared.tree.Expr.TheViews.{roll-Expr, roll-Passed, roll-Link}
+use Rattle.typed_tree.specs.declared.tree.Stmt.TheOpen.{Stmt-F}
+use Rattle.typed_tree.specs.declared.tree.Stmt.TheOpen.Stmt-F.{Empty, Assign, Copy, Write, Compound, If, While, Repeat, For, Case, Call as Calling}
+use Rattle.typed_tree.specs.declared.tree.Stmt.TheFolds.{map-Stmt, fold-roll-Stmt, ind-Stmt}
+use Rattle.meaning.specs.declared.outcome.Ending.TheVariants as ending
+use Rattle.meaning.specs.declared.store.Value.{Value}
+use Rattle.meaning.specs.declared.store.Value.TheVariants.{Number}
+use Rattle.meaning.specs.Integers.{is_integer_number, is_within}
+use Rattle.meaning.specs.Store.{Environment, Place, part}
+use Rattle.meaning.specs.Counting.{has_values, value_behind}
+use Rattle.meaning.specs.Effect.{Action, Round, ◌>>=◌, give, stop, require, enter, use_turn, looped, fetch, fetch_all, store, store_all, undefine, write}
+use Rattle.meaning.specs.Effect.{is_in, is_positive, number_of, row_text, text_of}
+use Rattle.meaning.specs.Meaning.{Argument, OfValue, OfRow, OfPlace, Calls, Surroundings, Evaluation, Passing, Combination, Execution}
+use Rattle.meaning.specs.Meaning.{value_step, passed_step, link_step, effect_step, whole, operated, combined, in_turn, all_of, all_passed, call_of}
+use Rattle.meaning.specs.Meaning.{compared, selected, accessed, whole_of, values_of, default_width, width_of, written_of, parameter_of}
+use Rattle.meaning.specs.Meaning.{line_ended, is_so, turn_if, for_rounds, for_between, is_among, arm_of}
+use Rattle.meaning.specs.Meaning.{value_of, passing_of, link_of, effect_of, assign, assign_all, result_of, Activation, environment_of, executed}
+
+-- a relation of what actions do that holds of those of which pieces are made, and of one after the other
+pub record OfActions (R : (A : Type 0) → Action A → Action A → Type 0) : Type 1 where
+  pub follows : {A B : Type 0} (a b : Action A) (f g : A → Action B) → R A a b → ((x : A) → R B (f x) (g x)) → R B (a >>= f) (b >>= g)
+  pub gives : {A : Type 0} (a : A) → R A (give a) (give a)
+  pub errs : {A : Type 0} (site : ℕ) → R A (stop (ending.Error site)) (stop (ending.Error site))
+  pub enters : (number : ℕ) (visible : Environment) → R (Unit {0}) (enter number visible) (enter number visible)
+  pub fetches : (place : Option Place) (site : ℕ) → R Value (fetch place site) (fetch place site)
+  pub stores : (place : Option Place) (v : Value) → R (Unit {0}) (store place v) (store place v)
+  pub undefines : (place : Option Place) → R (Unit {0}) (undefine place) (undefine place)
+  pub writes : (bytes : List ℕ) → R (Unit {0}) (write bytes) (write bytes)
+  pub turns : R (Unit {0}) use_turn use_turn
+
+-- rounds of loops, of what they are made of
+abbrev pub while_again : Action Value → Action (Unit {0}) → Round (Unit {0})
+while_again condition body start = condition >>= λ v. turn_if (is_so v) body
+
+abbrev pub repeat_again : Action (Unit {0}) → Action Value → Round (Unit {0})
+repeat_again body condition start = use_turn >>= λ _. body >>= λ _. condition >>= λ v. give (if is_so v then None else Some tt)
+
+abbrev pub for_again : Option Place → Direction → ℤ → Action (Unit {0}) → Round ℤ
+for_again place direction last body n = store place (Number n) >>= λ _. use_turn >>= λ _. body >>= λ _. give (value_behind direction last n)
+
+-- a relation that goes from the actions of which pieces are made to whole pieces
+pub record Closed (R : (A : Type 0) → Action A → Action A → Type 0) : Type 1 where
+  pub follows : {A B : Type 0} (a b : Action A) (f g : A → Action B) → R A a b → ((x : A) → R B (f x) (g x)) → R B (a >>= f) (b >>= g)
+  pub gives : {A : Type 0} (a : A) → R A (give a) (give a)
+  pub errs : {A : Type 0} (site : ℕ) → R A (stop (ending.Error site)) (stop (ending.Error site))
+  pub enters : (number : ℕ) (visible : Environment) → R (Unit {0}) (enter number visible) (enter number visible)
+  pub fetches : (place : Option Place) (site : ℕ) → R Value (fetch place site) (fetch place site)
+  pub stores : (place : Option Place) (v : Value) → R (Unit {0}) (store place v) (store place v)
+  pub undefines : (place : Option Place) → R (Unit {0}) (undefine place) (undefine place)
+  pub writes : (bytes : List ℕ) → R (Unit {0}) (write bytes) (write bytes)
+  pub turns : R (Unit {0}) use_turn use_turn
+  pub whiles : (condition test : Action Value) (body other : Action (Unit {0})) → R Value condition test → R (Unit {0}) body other
+      → R (Unit {0}) (looped (while_again condition body) tt) (looped (while_again test other) tt)
+  pub repeats : (body other : Action (Unit {0})) (condition test : Action Value) → R (Unit {0}) body other → R Value condition test
+      → R (Unit {0}) (looped (repeat_again body condition) tt) (looped (repeat_again other test) tt)
+  pub fors : (place : Option Place) (direction : Direction) (last : ℤ) (body other : Action (Unit {0})) → R (Unit {0}) body other → (first : ℤ)
+      → R (Unit {0}) (looped (for_again place direction last body) first) (looped (for_again place direction last other) first)
+
+-- one that goes from the rounds of a loop to the loop is such a relation
+module _ (R : (A : Type 0) → Action A → Action A → Type 0) (actions : OfActions R) where
+  turn_if_related : (so : Bool) (body other : Action (Unit {0})) → R (Unit {0}) body other → R (Option (Unit {0})) (turn_if so body) (turn_if so other)
+  turn_if_related false body other done = actions.gives None
+  turn_if_related true body other done =
+      actions.follows _ _ _ _ actions.turns (λ _. actions.follows _ _ _ _ done (λ _. actions.gives (Some tt)))
+
+  pub closed_by_rounds :
+      ((A : Type 0) (round other : Round A) → ((a : A) → R (Option A) (round a) (other a)) → (a : A) → R (Unit {0}) (looped round a) (looped other a))
+      → Closed R
+  closed_by_rounds loops = record {
+    follows = λ a b f g one each. actions.follows a b f g one each;
+    gives = actions.gives;
+    errs = actions.errs;
+    enters = actions.enters;
+    fetches = actions.fetches;
+    stores = actions.stores;
+    undefines = actions.undefines;
+    writes = actions.writes;
+    turns = actions.turns;
+    whiles = λ condition test body other tested done.
+        loops (Unit {0}) (while_again condition body) (while_again test other)
+        (λ start. actions.follows _ _ _ _ tested (λ v. turn_if_related (is_so v) body other done)) tt;
+    repeats = λ body other condition test done tested.
+        loops (Unit {0}) (repeat_again body condition) (repeat_again other test)
+        (λ start. actions.follows _ _ _ _ actions.turns
+        (λ _. actions.follows _ _ _ _ done (λ _. actions.follows _ _ _ _ tested (λ v. actions.gives (if is_so v then None else Some tt))))) tt;
+    fors = λ place direction last body other done first.
+        loops ℤ (for_again place direction last body) (for_again place direction last other)
+        (λ n. actions.follows _ _ _ _ (actions.stores place (Number n))
+        (λ _. actions.follows _ _ _ _ actions.turns (λ _. actions.follows _ _ _ _ done (λ _. actions.gives (value_behind direction last n))))) first;
+  }
+
+module _ (R : (A : Type 0) → Action A → Action A → Type 0) (closed : Closed R) where
+  -- ---- what doesn't depend on calls
+
+  pub of_require : (b : Bool) (site : ℕ) → R (Unit {0}) (require b site) (require b site)
+  of_require true site = closed.gives tt
+  of_require false site = closed.errs site
+
+  pub of_fetch_all : (p : Option Place) (components : List (List Step)) (site : ℕ)
+      → R (List ℤ) (fetch_all p components site) (fetch_all p components site)
+  of_fetch_all p [] site = closed.gives []
+  of_fetch_all p (steps ∷ components) site =
+      closed.follows _ _ _ _ (closed.fetches (part p steps) site)
+      (λ v. closed.follows _ _ _ _ (of_fetch_all p components site) (λ numbers. closed.gives (number_of v ∷ numbers)))
+
+  pub of_store_all : (p : Option Place) (components : List (List Step)) (numbers : List ℤ)
+      → R (Unit {0}) (store_all p components numbers) (store_all p components numbers)
+  of_store_all p [] numbers = closed.gives tt
+  of_store_all p (steps ∷ components) [] = closed.gives tt
+  of_store_all p (steps ∷ components) (n ∷ numbers) =
+      closed.follows _ _ _ _ (closed.stores (part p steps) (Number n)) (λ _. of_store_all p components numbers)
+
+  -- a test, and then a value
+  pub of_tested : (b : Bool) (site : ℕ) (v : Value) → R Value (require b site >>= λ _. give v) (require b site >>= λ _. give v)
+  of_tested b site v = closed.follows _ _ _ _ (of_require b site) (λ _. closed.gives v)
+
+  pub of_whole : (overflow : ℕ) (n : ℤ) → R Value (whole overflow n) (whole overflow n)
+  of_whole overflow n = of_tested (is_integer_number n) overflow (Number n)
+
+  pub of_operated : (operation : Monadic) (v : Value) → R Value (operated operation v) (operated operation v)
+  of_operated monadic.Plus (Number a) = closed.gives _
+  of_operated monadic.Minus (Number a) = closed.gives _
+  of_operated monadic.Not (Number a) = closed.gives _
+  of_operated monadic.Abs (Number a) = closed.gives _
+  of_operated (monadic.Sqr overflow) (Number a) = of_whole overflow (a *ℤ a)
+  of_operated monadic.Odd (Number a) = closed.gives _
+  of_operated monadic.Ord (Number a) = closed.gives _
+  of_operated (monadic.Chr no_char) (Number a) = of_tested (is_within (pos 0) (pos 127) a) no_char (Number a)
+  of_operated (monadic.Succ no_successor last) (Number a) = of_tested (int_lt a last) no_successor (Number (a +ℤ pos 1))
+  of_operated (monadic.Pred no_predecessor first) (Number a) = of_tested (int_lt first a) no_predecessor (Number (a -ℤ pos 1))
+
+  pub of_combined : (operation : Dyadic) (left right : Value) → R Value (combined operation left right) (combined operation left right)
+  of_combined (dyadic.Plus overflow) (Number a) (Number b) = of_whole overflow (a +ℤ b)
+  of_combined (dyadic.Minus overflow) (Number a) (Number b) = of_whole overflow (a -ℤ b)
+  of_combined (dyadic.Times overflow) (Number a) (Number b) = of_whole overflow (a *ℤ b)
+  of_combined (dyadic.Div by_zero) (Number a) (Number b) = of_tested (not (int_eq b (pos 0))) by_zero (Number (int_div a b))
+  of_combined (dyadic.Mod by_zero_or_less) (Number a) (Number b) = of_tested (int_le (pos 1) b) by_zero_or_less (Number (int_rem_euclid a b))
+  of_combined dyadic.And (Number a) (Number b) = closed.gives _
+  of_combined dyadic.Or (Number a) (Number b) = closed.gives _
+  of_combined (dyadic.Relation r) (Number a) (Number b) = closed.gives _
+
+  pub of_line_ended : (ends_line : Bool) → R (Unit {0}) (line_ended ends_line) (line_ended ends_line)
+  of_line_ended true = closed.writes (10 ∷ [])
+  of_line_ended false = closed.gives tt
+
+  -- one of two actions
+  pub of_chosen : {A : Type 0} (b : Bool) (one two other second : Action A) → R A one two → R A other second
+      → R A (if b then one else other) (if b then two else second)
+  of_chosen true one two other second first rest = first
+  of_chosen false one two other second first rest = rest
+
+  -- what is passed is written to a value parameter
+  pub of_assign : (types : List Form) (place : Option Place) (formal : Option DeclaredVariable) (argument : Argument)
+      → R (Unit {0}) (assign types place formal argument) (assign types place formal argument)
+  of_assign types place formal (OfValue v) = closed.stores place v
+  of_assign types place None (OfRow numbers) = closed.gives tt
+  of_assign types place (Some formal) (OfRow numbers) = of_store_all place (components_of types formal.type_id) numbers
+  of_assign types place None (OfPlace other) = closed.gives tt
+  of_assign types place (Some formal) (OfPlace other) = closed.gives tt
+
+  pub of_assign_all : (tree : Tree) (visible : Environment) (roots : List ℕ) (arguments : List Argument)
+      → R (Unit {0}) (assign_all tree visible roots arguments) (assign_all tree visible roots arguments)
+  of_assign_all tree visible [] arguments = closed.gives tt
+  of_assign_all tree visible (root ∷ roots) [] = closed.gives tt
+  of_assign_all tree visible (root ∷ roots) (argument ∷ arguments) =
+      closed.follows _ _ _ _ (of_assign tree.types (visible.variables root) (slice_get tree.variables.items root) argument)
+      (λ _. of_assign_all tree visible roots arguments)
+
+  pub of_result : (result : Option FunctionResult) (visible : Environment) → R Value (result_of result visible) (result_of result visible)
+  of_result None visible = closed.gives _
+  of_result (Some result) visible = closed.fetches (visible.variables result.root) result.defined
+
+  -- what calls do is related
+  abbrev pub RelatedCalls : Calls → Calls → Type 0
+  RelatedCalls calls others =
+      (number : ℕ) (arguments : List Argument) (caller : Environment) → R Value (calls number arguments caller) (others number arguments caller)
+
+  -- ---- pieces that stand where these calls are done, or those
+
+  module _ (visible : Environment) (calls others : Calls) (related : RelatedCalls calls others) where
+    abbrev here : Surroundings
+    here = record { visible = visible; calls = calls }
+
+    abbrev there : Surroundings
+    there = record { visible = visible; calls = others }
+
+    abbrev IsRelated : Expr → Type 0
+    IsRelated e = R Value (value_of e here) (value_of e there)
+
+    abbrev IsRelatedPassed : Passed → Type 0
+    IsRelatedPassed p = R Argument (passing_of p here) (passing_of p there)
+
+    abbrev IsRelatedLink : Link → Type 0
+    IsRelatedLink l = (v : Value) → R Value (link_of l here v) (link_of l there v)
+
+    abbrev RelatedExpr : Type 0
+    RelatedExpr = (e : Expr) × IsRelated e
+
+    abbrev RelatedPassed : Type 0
+    RelatedPassed = (p : Passed) × IsRelatedPassed p
+
+    abbrev RelatedLink : Type 0
+    RelatedLink = (l : Link) × IsRelatedLink l
+
+    pub of_in_turn : (links : List RelatedLink) (v : Value)
+        → R Value (in_turn (map link_of (map (λ l. l.0) links)) here v) (in_turn (map link_of (map (λ l. l.0) links)) there v)
+    of_in_turn [] v = closed.gives v
+    of_in_turn (link ∷ links) v = closed.follows _ _ _ _ (link.1 v) (λ w. of_in_turn links w)
+
+    -- the place to which selectors lead
+    pub of_selected : (selectors : List Selector) (indexes : List RelatedExpr) (p : Option Place)
+        → R (Option Place) (selected selectors (values_of (map (λ e. e.0) indexes)) here p)
+        (selected selectors (values_of (map (λ e. e.0) indexes)) there p)
+    of_selected [] indexes p = closed.gives p
+    of_selected (Field position offset ∷ selectors) indexes p = of_selected selectors indexes (part p (step.Field position ∷ []))
+    of_selected (Element fits cells ∷ selectors) [] p = closed.gives None
+    of_selected (Element fits cells ∷ selectors) (index ∷ indexes) p =
+        closed.follows _ _ _ _ index.1
+        (λ v. closed.follows _ _ _ _ (of_require (is_in fits.range v) fits.site)
+        (λ _. of_selected selectors indexes (part p (step.Element (number_of v) ∷ []))))
+
+    -- the place that is accessed
+    pub of_accessed : (access : Access) (indexes : List RelatedExpr)
+        → R (Option Place) (accessed access (values_of (map (λ e. e.0) indexes)) here) (accessed access (values_of (map (λ e. e.0) indexes)) there)
+    of_accessed access indexes =
+        closed.follows _ _ _ _ (closed.enters access.number visible)
+        (λ _. of_selected access.selectors.items indexes (visible.variables access.root))
+
+    -- the components of a whole value
+    pub of_components : (value : Whole) (indexes : List RelatedExpr)
+        → R (List ℤ) (whole_of value (values_of (map (λ e. e.0) indexes)) here) (whole_of value (values_of (map (λ e. e.0) indexes)) there)
+    of_components (Text number characters) indexes = closed.follows _ _ _ _ (closed.enters number visible) (λ _. closed.gives (map pos characters.items))
+    of_components (VariableOf access type_id cells defined) indexes =
+        closed.follows _ _ _ _ (of_accessed access indexes) (λ p. of_fetch_all p (components_of visible.types type_id) defined)
+
+    -- actual parameters, from left to right
+    pub of_all_passed : (actuals : List RelatedPassed)
+        → R (List Argument) (all_passed (map passing_of (map (λ p. p.0) actuals)) here) (all_passed (map passing_of (map (λ p. p.0) actuals)) there)
+    of_all_passed [] = closed.gives []
+    of_all_passed (one ∷ rest) =
+        closed.follows _ _ _ _ one.1 (λ argument. closed.follows _ _ _ _ (of_all_passed rest) (λ arguments. closed.gives (argument ∷ arguments)))
+
+    pub of_call : (call : Call) (actuals : List RelatedPassed)
+        → R Value (call_of call (map passing_of (map (λ p. p.0) actuals)) here) (call_of call (map passing_of (map (λ p. p.0) actuals)) there)
+    of_call call actuals =
+        closed.follows _ _ _ _ (closed.enters call.number visible)
+        (λ _. closed.follows _ _ _ _ (of_all_passed actuals) (λ arguments. related call.block arguments visible))
+
+    -- the expressions of one layer
+    abbrev valued : Expr-F Expr Passed Link → Evaluation
+    valued y = value_step (map-Expr Expr Passed Link Evaluation Passing Combination value_of passing_of link_of y)
+
+    abbrev passed_on : Passed-F Expr Passed Link → Passing
+    passed_on y = passed_step (map-Passed Expr Passed Link Evaluation Passing Combination value_of passing_of link_of y)
+
+    abbrev linked : Link-F Expr Passed Link → Combination
+    linked y = link_step (map-Link Expr Passed Link Evaluation Passing Combination value_of passing_of link_of y)
+
+    abbrev bare : Expr-F RelatedExpr RelatedPassed RelatedLink → Expr-F Expr Passed Link
+    bare = map-Expr RelatedExpr RelatedPassed RelatedLink Expr Passed Link (λ e. e.0) (λ p. p.0) (λ l. l.0)
+
+    abbrev bare_passed : Passed-F RelatedExpr RelatedPassed RelatedLink → Passed-F Expr Passed Link
+    bare_passed = map-Passed RelatedExpr RelatedPassed RelatedLink Expr Passed Link (λ e. e.0) (λ p. p.0) (λ l. l.0)
+
+    abbrev bare_link : Link-F RelatedExpr RelatedPassed RelatedLink → Link-F Expr Passed Link
+    bare_link = map-Link RelatedExpr RelatedPassed RelatedLink Expr Passed Link (λ e. e.0) (λ p. p.0) (λ l. l.0)
+
+    pub of_layer : (y : Expr-F RelatedExpr RelatedPassed RelatedLink) → R Value (valued (bare y) here) (valued (bare y) there)
+    of_layer (Constant number value) = closed.follows _ _ _ _ (closed.enters number visible) (λ _. closed.gives (Number value))
+    of_layer (Variable access indexes defined) =
+        closed.follows _ _ _ _ (of_accessed access indexes.items) (λ p. closed.fetches p defined)
+    of_layer (MonadicOf number operation operand) =
+        closed.follows _ _ _ _ (closed.enters number visible) (λ _. closed.follows _ _ _ _ operand.value.1 (λ v. of_operated operation v))
+    of_layer (Chain first rest) = closed.follows _ _ _ _ first.value.1 (λ v. of_in_turn rest.items v)
+    of_layer (Compare number relation left left_indexes right right_indexes) =
+        closed.follows _ _ _ _ (of_components left left_indexes.items)
+        (λ a. closed.follows _ _ _ _ (closed.enters number visible)
+        (λ _. closed.follows _ _ _ _ (of_components right right_indexes.items) (λ b. closed.gives (compared relation a b))))
+    of_layer (CallOf call actuals) = of_call call actuals.items
+
+    pub of_passed_layer : (y : Passed-F RelatedExpr RelatedPassed RelatedLink) → R Argument (passed_on (bare_passed y) here) (passed_on (bare_passed y) there)
+    of_passed_layer (PassedValue value fits) =
+        closed.follows _ _ _ _ value.1
+        (λ v. closed.follows _ _ _ _ (of_require (is_in fits.range v) fits.site) (λ _. closed.gives (OfValue v)))
+    of_passed_layer (PassedWhole type_id value indexes) =
+        closed.follows _ _ _ _ (of_components value indexes.items) (λ numbers. closed.gives (OfRow numbers))
+    of_passed_layer (Reference type_id access indexes) =
+        closed.follows _ _ _ _ (of_accessed access indexes.items) (λ place. closed.gives (OfPlace place))
+
+    pub of_link_layer : (y : Link-F RelatedExpr RelatedPassed RelatedLink) (left : Value)
+        → R Value (linked (bare_link y) here left) (linked (bare_link y) there left)
+    of_link_layer y left =
+        closed.follows _ _ _ _ (closed.enters y.number visible)
+        (λ _. closed.follows _ _ _ _ y.operand.1 (λ v. of_combined y.operation left v))
+
+    pub of_rolled : (x : Expr-F Expr Passed Link) (y : Expr-F RelatedExpr RelatedPassed RelatedLink) → bare y ≡ x → IsRelated (roll-Expr x)
+    of_rolled x y is =
+        subst (λ (f : Evaluation). R Value (f here) (f there))
+        (sym (fold-roll-Expr Evaluation Passing Combination value_step passed_step link_step x ∙ ap valued (sym is))) (of_layer y)
+
+    pub of_rolled_passed : (x : Passed-F Expr Passed Link) (y : Passed-F RelatedExpr RelatedPassed RelatedLink) → bare_passed y ≡ x
+        → IsRelatedPassed (roll-Passed x)
+    of_rolled_passed x y is =
+        subst (λ (f : Passing). R Argument (f here) (f there))
+        (sym (fold-roll-Passed Evaluation Passing Combination value_step passed_step link_step x ∙ ap passed_on (sym is))) (of_passed_layer y)
+
+    pub of_rolled_link : (x : Link-F Expr Passed Link) (y : Link-F RelatedExpr RelatedPassed RelatedLink) → bare_link y ≡ x → IsRelatedLink (roll-Link x)
+    of_rolled_link x y is left =
+        subst (λ (f : Combination). R Value (f here left) (f there left))
+        (sym (fold-roll-Link Evaluation Passing Combination value_step passed_step link_step x ∙ ap linked (sym is))) (of_link_layer y left)
+
+    pub of_value : (e : Expr) → IsRelated e
+    of_value = ind-Expr IsRelated IsRelatedPassed IsRelatedLink of_rolled of_rolled_passed of_rolled_link
+
+    pub of_passing : (p : Passed) → IsRelatedPassed p
+    of_passing = ind-Passed IsRelated IsRelatedPassed IsRelatedLink of_rolled of_rolled_passed of_rolled_link
+
+    -- expressions, and actual parameters, are related
+    abbrev all_related : List Expr → List RelatedExpr
+    all_related [] = []
+    all_related (index ∷ indexes) = (index, of_value index) ∷ all_related indexes
+
+    all_indexes : (indexes : List Expr) → map (λ e. e.0) (all_related indexes) ≡ indexes
+    all_indexes [] = refl
+    all_indexes (index ∷ indexes) = ap (λ others. index ∷ others) (all_indexes indexes)
+
+    abbrev actuals_related : List Passed → List RelatedPassed
+    actuals_related [] = []
+    actuals_related (one ∷ rest) = (one, of_passing one) ∷ actuals_related rest
+
+    all_actuals : (actuals : List Passed) → map (λ p. p.0) (actuals_related actuals) ≡ actuals
+    all_actuals [] = refl
+    all_actuals (one ∷ rest) = ap (λ others. one ∷ others) (all_actuals rest)
+
+    pub of_access : (access : Access) (indexes : List Expr)
+        → R (Option Place) (accessed access (values_of indexes) here) (accessed access (values_of indexes) there)
+    of_access access indexes =
+        subst (λ all. R (Option Place) (accessed access (values_of all) here) (accessed access (values_of all) there)) (all_indexes indexes)
+        (of_accessed access (all_related indexes))
+
+    pub of_whole_value : (value : Whole) (indexes : List Expr) → R (List ℤ) (whole_of value (values_of indexes) here) (whole_of value (values_of indexes) there)
+    of_whole_value value indexes =
+        subst (λ all. R (List ℤ) (whole_of value (values_of all) here) (whole_of value (values_of all) there)) (all_indexes indexes)
+        (of_components value (all_related indexes))
+
+    pub of_called : (call : Call) (actuals : List Passed) → R Value (call_of call (map passing_of actuals) here) (call_of call (map passing_of actuals) there)
+    of_called call actuals =
+        subst (λ all. R Value (call_of call (map passing_of all) here) (call_of call (map passing_of all) there)) (all_actuals actuals)
+        (of_call call (actuals_related actuals))
+
+    pub of_width : (width : Option Width) (default : ℤ) → R Value (width_of width default here) (width_of width default there)
+    of_width None default = closed.gives _
+    of_width (Some width) default = closed.follows _ _ _ _ (of_value width.value) (λ w. of_tested (is_positive w) width.site w)
+
+    pub of_written : (value : Written) (width : Option Width) → R (Unit {0}) (written_of value width here) (written_of value width there)
+    of_written (Ordinal value representation) width =
+        closed.follows _ _ _ _ (of_value value)
+        (λ v. closed.follows _ _ _ _ (of_width width (default_width representation)) (λ w. closed.writes (text_of representation v w)))
+    of_written (String value indexes) width =
+        closed.follows _ _ _ _ (of_whole_value value indexes.items)
+        (λ components. closed.follows _ _ _ _ (of_width width (pos (length_of value))) (λ w. closed.writes (row_text components w)))
+
+    pub of_parameters : (parameters : List WriteParameter)
+        → R (Unit {0}) (all_of (map parameter_of parameters) here) (all_of (map parameter_of parameters) there)
+    of_parameters [] = closed.gives tt
+    of_parameters (parameter ∷ parameters) =
+        closed.follows _ _ _ _ (of_written parameter.value parameter.width) (λ _. of_parameters parameters)
+
+    -- ---- the rounds of a for
+
+    pub of_for_rounds : (control : ℕ) (first_fits : RangeTest) (direction : Direction) (last_fits : RangeTest) (body : Execution)
+        → R (Unit {0}) (body here) (body there) → (first last : ℤ)
+        → R (Unit {0}) (for_rounds control first_fits direction last_fits body here first last)
+        (for_rounds control first_fits direction last_fits body there first last)
+    of_for_rounds control first_fits direction last_fits body done first last =
+        closed.follows _ _ _ _ (of_require (is_in first_fits.range (Number first)) first_fits.site)
+        (λ _. closed.follows _ _ _ _ (of_require (is_in last_fits.range (Number last)) last_fits.site)
+        (λ _. closed.fors (visible.variables control) direction last (body here) (body there) done first))
+
+    pub of_for_between : (control : ℕ) (first_fits : RangeTest) (direction : Direction) (last_fits : RangeTest) (body : Execution)
+        → R (Unit {0}) (body here) (body there) → (first last : Value)
+        → R (Unit {0}) (for_between control first_fits direction last_fits body here first last)
+        (for_between control first_fits direction last_fits body there first last)
+    of_for_between control first_fits direction last_fits body done (Number first) (Number last) =
+        of_chosen (has_values direction first last) (for_rounds control first_fits direction last_fits body here first last)
+        (for_rounds control first_fits direction last_fits body there first last) (give tt) (give tt)
+        (of_for_rounds control first_fits direction last_fits body done first last) (closed.gives tt)
+
+    -- ---- statements
+
+    abbrev IsRelatedStmt : Stmt → Type 0
+    IsRelatedStmt e = R (Unit {0}) (effect_of e here) (effect_of e there)
+
+    abbrev RelatedStmt : Type 0
+    RelatedStmt = (e : Stmt) × IsRelatedStmt e
+
+    pub of_all : (statements : List RelatedStmt)
+        → R (Unit {0}) (all_of (map effect_of (map (λ e. e.0) statements)) here) (all_of (map effect_of (map (λ e. e.0) statements)) there)
+    of_all [] = closed.gives tt
+    of_all (statement ∷ statements) = closed.follows _ _ _ _ statement.1 (λ _. of_all statements)
+
+    -- the arm of a case at a value, or its error
+    pub of_arm : (site : ℕ) (rows : List (Vec ℤ Global)) (arms : List RelatedStmt) (n : ℤ)
+        → R (Unit {0}) (arm_of site rows (map effect_of (map (λ e. e.0) arms)) n here) (arm_of site rows (map effect_of (map (λ e. e.0) arms)) n there)
+    of_arm site [] arms n = closed.errs site
+    of_arm site (row ∷ rows) [] n = closed.errs site
+    of_arm site (row ∷ rows) (arm ∷ arms) n =
+        of_chosen (is_among row.items n) (effect_of arm.0 here) (effect_of arm.0 there)
+        (arm_of site rows (map effect_of (map (λ e. e.0) arms)) n here) (arm_of site rows (map effect_of (map (λ e. e.0) arms)) n there) arm.1
+        (of_arm site rows arms n)
+
+    -- the statements of one layer
+    abbrev done : Stmt-F Stmt → Execution
+    done y = effect_step (map-Stmt Stmt Execution effect_of y)
+
+    abbrev bare_stmt : Stmt-F RelatedStmt → Stmt-F Stmt
+    bare_stmt = map-Stmt RelatedStmt Stmt (λ e. e.0)
+
+    pub of_stmt_layer : (y : Stmt-F RelatedStmt) → R (Unit {0}) (done (bare_stmt y) here) (done (bare_stmt y) there)
+    of_stmt_layer (Empty number) = closed.enters number visible
+    of_stmt_layer (Assign number becomes target indexes fits value) =
+        closed.follows _ _ _ _ (closed.enters number visible)
+        (λ _. closed.follows _ _ _ _ (of_access target indexes.items)
+        (λ p. closed.follows _ _ _ _ (of_value value)
+        (λ v. closed.follows _ _ _ _ (of_require (is_in fits.range v) fits.site) (λ _. closed.stores p v))))
+    of_stmt_layer (Copy number becomes target indexes type_id value value_indexes) =
+        closed.follows _ _ _ _ (closed.enters number visible)
+        (λ _. closed.follows _ _ _ _ (of_access target indexes.items)
+        (λ p. closed.follows _ _ _ _ (of_whole_value value value_indexes.items)
+        (λ numbers. of_store_all p (components_of visible.types type_id) numbers)))
+    of_stmt_layer (Write number name parameters ends_line) =
+        closed.follows _ _ _ _ (closed.enters number visible)
+        (λ _. closed.follows _ _ _ _ (of_parameters parameters.items) (λ _. of_line_ended ends_line))
+    of_stmt_layer (Calling call actuals) = closed.follows _ _ _ _ (of_called call actuals.items) (λ _. closed.gives tt)
+    of_stmt_layer (Compound number statements) = closed.follows _ _ _ _ (closed.enters number visible) (λ _. of_all statements.items)
+    of_stmt_layer (If number condition consequence None) =
+        closed.follows _ _ _ _ (closed.enters number visible)
+        (λ _. closed.follows _ _ _ _ (of_value condition)
+        (λ v. of_chosen (is_so v) (effect_of consequence.value.0 here) (effect_of consequence.value.0 there) (give tt) (give tt) consequence.value.1
+        (closed.gives tt)))
+    of_stmt_layer (If number condition consequence (Some alternative)) =
+        closed.follows _ _ _ _ (closed.enters number visible)
+        (λ _. closed.follows _ _ _ _ (of_value condition)
+        (λ v. of_chosen (is_so v) (effect_of consequence.value.0 here) (effect_of consequence.value.0 there) (effect_of alternative.value.0 here)
+        (effect_of alternative.value.0 there) consequence.value.1 alternative.value.1))
+    of_stmt_layer (While number loop_number place condition body) =
+        closed.follows _ _ _ _ (closed.enters number visible)
+        (λ _. closed.whiles (value_of condition here) (value_of condition there) (effect_of body.value.0 here) (effect_of body.value.0 there)
+        (of_value condition) body.value.1)
+    of_stmt_layer (Repeat number loop_number place statements condition) =
+        let all : Execution = all_of (map effect_of (map (λ e. e.0) statements.items)) in
+        closed.follows _ _ _ _ (closed.enters number visible)
+        (λ _. closed.repeats (all here) (all there) (value_of condition here) (value_of condition there) (of_all statements.items) (of_value condition))
+    of_stmt_layer (For number loop_number place control first first_fits direction last last_fits body) =
+        closed.follows _ _ _ _ (closed.enters number visible)
+        (λ _. closed.follows _ _ _ _ (of_value first)
+        (λ a. closed.follows _ _ _ _ (of_value last)
+        (λ b. closed.follows _ _ _ _ (of_for_between control first_fits direction last_fits (effect_of body.value.0) body.value.1 a b)
+        (λ _. closed.undefines (visible.variables control)))))
+    of_stmt_layer (Case number site index constants arms) =
+        closed.follows _ _ _ _ (closed.enters number visible)
+        (λ _. closed.follows _ _ _ _ (of_value index) (λ v. of_arm site constants.items arms.items (number_of v)))
+
+    pub of_effect : (e : Stmt) → IsRelatedStmt e
+    of_effect = ind-Stmt IsRelatedStmt
+        (λ x y is. subst (λ (f : Execution). R (Unit {0}) (f here) (f there))
+        (sym (fold-roll-Stmt Execution effect_step x ∙ ap done (sym is))) (of_stmt_layer y))
+
+    pub of_statements : (statements : List Stmt) → R (Unit {0}) (all_of (map effect_of statements) here) (all_of (map effect_of statements) there)
+    of_statements [] = closed.gives tt
+    of_statements (statement ∷ statements) = closed.follows _ _ _ _ (of_effect statement) (λ _. of_statements statements)
+
+  -- an activation of a block, but for its begin and its end
+  pub of_executed : (tree : Tree) (calls others : Calls) → RelatedCalls calls others → (block : Block) (activation : Activation)
+      → R Value (executed tree calls block activation) (executed tree others block activation)
+  of_executed tree calls others related block activation =
+      let visible = environment_of tree activation in
+      closed.follows _ _ _ _ (of_assign_all tree visible block.heading.parameters.items activation.arguments)
+      (λ _. closed.follows _ _ _ _ (of_effect visible calls others related block.body) (λ _. of_result block.heading.result visible))

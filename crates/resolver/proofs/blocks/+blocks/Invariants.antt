@@ -1,0 +1,10 @@
+use Rattle.declarations.specs.Known.{AreKnownRoutines}
+use Rattle.resolver.proofs.BlockForms.{RoutinesFrom}
+use Rattle.resolver.proofs.blocks.+blocks.Given as goal
+
+-- the routines so far are made, and those behind them are left; their names are known
+abbrev pub invariant-routines-loop-next : goal.invariant-routines-loop-next
+invariant-routines-loop-next l = record {
+  from : RoutinesFrom l.written l.initial.typer l.initial.made.items l.next-index l.made.items l.typer;
+  known : AreKnownRoutines l.written l.typer.regions;
+}

@@ -1,0 +1,110 @@
+ghost use Rattle.std.specs.Prelude.{◌≡◌, map};
+ghost use Rattle.syntax_tree.specs.declared.Block.TheViews.{out-Routine};
+ghost use Rattle.typing.specs.Names.{heading_names};
+ghost use Rattle.typing.specs.Outcomes.{Takes};
+ghost use Rattle.typing.specs.Passing.{each};
+ghost use Rattle.typing.specs.Routines as spec;
+ghost use Rattle.typing.specs.Routines.{typed_block, typed_routine};
+ghost use Rattle.declarations.specs.Known.{AreKnown, AreKnownRoutines};
+ghost use Rattle.resolver.specs.Made.{MakesBlocks, MakesBody};
+
+use crate::statements::compound;
+use crate::typed::MadeBlock;
+use declarations::{BegunRoutine, begin_block, begin_routine, declare};
+use place::Place;
+use syntax_tree as syntax;
+use syntax_tree::{Name, Routine};
+use typed_tree::fault::TypeFault;
+use typed_tree::tree::{Block, Heading, Stmt};
+use typing::{Typer, heading_name};
+
+/// The statements of a block, behind its declarations (6.2.1). The blocks of its routines are made too.
+#[cycle(blocks)]
+pub(crate) fn body(
+    typer: &mut Typer,
+    made: &mut Vec<MadeBlock>,
+    written: &syntax::Block,
+) -> Result<Stmt, TypeFault>
+    requires known { AreKnown (typed_block written.now).names typer.old.regions }
+    ensures { MakesBody made.old.items made.new.items ((typed_block written.now).typing typer.old) result typer.new }
+{
+    declare(typer, written)?;
+    routines(typer, made, &written.routines)?;
+    typer.all_came()?;
+    compound(typer, &written.statements)
+}
+
+// Procedures and functions, one after another.
+#[cycle(blocks)]
+fn routines(
+    typer: &mut Typer,
+    made: &mut Vec<MadeBlock>,
+    written: &[Routine],
+) -> Result<(), TypeFault>
+    requires known { AreKnownRoutines written.now typer.old.regions }
+    ensures { MakesBlocks made.old.items made.new.items
+        (each (λ r. r.typing) (map typed_routine written.now) typer.old) result typer.new }
+{
+    for next in written {
+        routine(typer, made, next)?;
+    }
+    Ok(())
+}
+
+// A procedure or a function: its heading, and then its block or the directive forward (6.6.1, 6.6.2).
+#[cycle(blocks)]
+fn routine(typer: &mut Typer, made: &mut Vec<MadeBlock>, written: &Routine) -> Result<(), TypeFault>
+    requires known { AreKnown (heading_names (out-Routine written.now).heading) typer.old.regions }
+    ensures { MakesBlocks made.old.items made.new.items ((typed_routine written.now).typing typer.old) result
+        typer.new }
+{
+    let begun = begin_routine(typer, &written.heading)?;
+    let name = heading_name(&written.heading);
+    match &written.block {
+        None => forward(typer, begun, name.place),
+        Some(block) => {
+            typer.told_waiting(begun.number, None)?;
+            routine_block(typer, made, block, begun.number, &name)
+        }
+    }
+}
+
+// The directive forward stands behind the first heading alone: else the name is declared twice (S1).
+fn forward(typer: &mut Typer, begun: BegunRoutine, place: Place) -> Result<(), TypeFault>
+    ensures { Takes (spec.forward begun.is_first begun.number place typer.old) result typer.new }
+{
+    if !begun.is_first {
+        return Err(TypeFault::DeclaredTwice(place));
+    }
+    typer.told_waiting(begun.number, Some(place))
+}
+
+// The block of a routine, behind its heading.
+#[cycle(blocks)]
+fn routine_block(
+    typer: &mut Typer,
+    made: &mut Vec<MadeBlock>,
+    written: &syntax::Block,
+    number: u32,
+    name: &Name,
+) -> Result<(), TypeFault>
+    ensures { MakesBlocks made.old.items made.new.items
+        (spec.routine_block number name.now (typed_block written.now) typer.old) result typer.new }
+{
+    let begun = begin_block(typer, number, written)?;
+    let body = body(typer, made, written)?;
+    let result = typer.result_at_end(name.place, written.end, begun.root)?;
+    typer.end_block(begun.round);
+    let heading = Heading {
+        around: begun.around,
+        parameters: begun.parameters,
+        result,
+    };
+    let block = Block {
+        heading,
+        body,
+        end: written.end,
+    };
+    made.push(MadeBlock { number, block })?;
+    Ok(())
+}

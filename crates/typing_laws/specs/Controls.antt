@@ -1,0 +1,36 @@
+-- Control variables (ISO 7185:1990, 6.8.3.9): no other block than that whose for statement a variable controls assigns
+-- it, passes it to a variable parameter, or uses it as a control variable. It says nothing of the statement of the for.
+use Rattle.std.specs.Prelude.{◌≡◌, ℕ, ◌++◌, List, [], ◌∷◌, map}
+use Rattle.typed_tree.specs.Look.{Look, Mark, For, ForVariable, Target, WholeTarget, blocks_of_look, next_of}
+
+-- the variable that a form alone may change, by its root
+abbrev pub mark_changes : Mark → List ℕ
+mark_changes (Target root selectors indexes) = root ∷ []
+mark_changes (WholeTarget root selectors indexes type_id) = root ∷ []
+mark_changes (ForVariable type_id root selectors indexes callee position) = root ∷ []
+mark_changes (For number loop_number place control direction) = control ∷ []
+mark_changes other = []
+
+-- the variable that controls a for statement
+abbrev pub mark_controls : Mark → List ℕ
+mark_controls (For number loop_number place control direction) = control ∷ []
+mark_controls other = []
+
+-- the roots that forms have, each with the block in which its form stands
+abbrev pub in_blocks : (Mark → List ℕ) → Look → List (ℕ × ℕ)
+in_blocks roots [] = []
+in_blocks roots (mark ∷ marks) =
+    map (λ root. (next_of (blocks_of_look (mark ∷ marks)), root)) (roots mark) ++ in_blocks roots marks
+
+-- it holds of each of these
+abbrev pub Each : {A : Type 0} → (A → Type 0) → List A → Type 0
+Each Holds [] = Unit {0}
+Each Holds (one ∷ others) = Holds one × Each Holds others
+
+-- what changes the variable of a for statement stands in the block of that
+abbrev pub IsKeptBy : Look → ℕ × ℕ → Type 0
+IsKeptBy look control = Each (λ change. change.1 ≡ control.1 → change.0 ≡ control.0) (in_blocks mark_changes look)
+
+-- the variable of each for statement is changed in its block alone
+abbrev pub AreUnthreatened : Look → Type 0
+AreUnthreatened look = Each (IsKeptBy look) (in_blocks mark_controls look)
