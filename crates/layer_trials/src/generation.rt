@@ -23,12 +23,13 @@ fn code_run_told(alloc: Global, row: &(&str, u32)) -> Result<String, Fail> {
     run_told(alloc, &code, row.1.max(1).min(9), 1000)
 }
 
-/// Programs and the cells of the store, of which a width beside its value takes one.
-static RUNS: [((&str, u32), &str); 7] = [
+/// Programs and the cells of the store, of which a width beside its value takes one, and so does what is assigned to.
+static RUNS: [((&str, u32), &str); 8] = [
     (
-        ("a := 7; b := a - 10; writeln(a + b, -a)", 8),
+        ("a := 7; b := a - 10; writeln(a + b, -a)", 9),
         "         4        -7\n",
     ),
+    (("a := 7; b := a - 10; writeln(a + b, -a)", 8), "full"),
     (("write(-7 mod 2)", 8), "        -1"),
     // The left operand is undefined, and it is the first that is looked at.
     (("write(a div b)", 8), "error"),
