@@ -1,6 +1,6 @@
 -- The facts that the program keeps: those that its rows say, and its orders behind them.
 use Rattle.std.proofs.Common.{arith, ◌≡◌, ◌∙◌, sym, ap, ap₂, refl, subst, ℕ, zero, suc, pos, ◌+◌, ◌<◌, ◌≤◌, Bool, true, false, not, ◌&&◌, ◌||◌, cond, ◌⊎◌}
-use Rattle.std.proofs.Common.{⊎_elim, inl, inr, List, [], ◌∷◌, ◌++◌, length, map, replicate, set, take, nat_lt, nat_eq, get_or, filter, Option, Some, None}
+use Rattle.std.proofs.Common.{⊎_elim, inl, inr, List, [], ◌∷◌, ◌++◌, length, map, set, take, nat_lt, nat_eq, get_or, filter, Option, Some, None}
 use Rattle.std.specs.List.{cons_option, filter_map, list_any}
 use Rattle.std.specs.Ordering.{is_eq}
 use Rattle.std.specs.declared.cmp.Ordering.{Ordering}
@@ -15,11 +15,11 @@ use Rattle.domain.specs.Interval.{Interval}
 use Rattle.domain.specs.Facts.{Path, Bound, Number, Plus, Fact, Defined, entire, fact_order, has_fact, put, with_fact}
 use Rattle.abstract_state.specs.declared.state.Row.{Row}
 use Rattle.abstract_state.specs.declared.orders.Order.{Order as KeptOrder}
-use Rattle.abstract_state.specs.State.{State, Facts, Live, gives, joined_facts, says_at_most, start, with_defined, with_facts, with_range}
+use Rattle.abstract_state.specs.State.{State, Facts, Live, gives, joined_facts, of_types, says_at_most, with_defined, with_facts, with_range}
 use Rattle.abstract_state.specs.Changes.{changed, with_change, with_some}
 use Rattle.abstract_state.specs.Loops.{defines, in_place, replaced, with_forgotten}
-use Rattle.abstract_state.specs.View.{defined_from, no_row, said_order, said_some}
-use Rattle.abstract_state.proofs.Rows.{AreJoined, all-ranges, and-back, bit, filter-defined, has-row, none-defined, past, range-kept, range-set}
+use Rattle.abstract_state.specs.View.{AreJoined, defined_from, no_row, said_order, said_some, type_row}
+use Rattle.abstract_state.proofs.Rows.{all-ranges, and-back, bit, filter-defined, has-row, none-defined, past, range-kept, range-set}
 use Rattle.abstract_state.proofs.Rows.{ranges-both, ranges_of, row-defined, same-defined, tested-bit, tested_bits, with-had}
 
 abbrev pub said_orders : List KeptOrder → List Fact
@@ -166,10 +166,8 @@ ranged-set rows orders root range row is =
     (cases_lt root (length rows))
 
 -- so many rows that say nothing
-pub started : (rows : List Row) (n : ℕ) → rows ≡ replicate n no_row → kept_state rows [] ≡ start n
-started rows n are =
-    ap (λ (some : List Row). kept_state some []) are
-    ∙ ap₂ state_of (all-ranges n no_row) (ap (λ (d : List Fact). d ++ []) (none-defined n 0 no_row refl))
+pub typed : (limits : List Interval) → kept_state (map type_row limits) [] ≡ of_types limits
+typed limits = ap₂ state_of (all-ranges limits) (ap (λ (d : List Fact). d ++ []) (none-defined 0 limits))
 
 -- ---- changes
 

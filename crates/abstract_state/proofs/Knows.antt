@@ -1,10 +1,10 @@
 -- What a state says of a run, with what the walk keeps of its states: a row for each variable. The steps of a run keep
 -- it.
 use Rattle.std.proofs.Common.{arith, ◌≡◌, ⊎_elim, ◌⊎◌, inl, inr, ◌∙◌, sym, ap, refl, subst, ℕ, zero, suc, Bool, true, cond, List, [], ◌∷◌, get_or, length}
-use Rattle.std.proofs.Common.{set, Option, Some, None}
+use Rattle.std.proofs.Common.{set, Option, Some}
 use Rattle.std.specs.Prelude.{nat_lt}
 use Rattle.std.proofs.lemmas.Bool.{cond_both}
-use Rattle.std.proofs.lemmas.List.{length-replicate, length-set}
+use Rattle.std.proofs.lemmas.List.{length-set}
 use Rattle.std.proofs.lemmas.List.Elements.{All-contains}
 use Rattle.domain.specs.Interval.{Interval, vacant}
 use Rattle.domain.specs.Facts.{Fact, Defined, entire, with_fact}
@@ -12,7 +12,7 @@ use Rattle.meaning.specs.declared.store.Value.{Value}
 use Rattle.meaning.specs.declared.store.Value.TheVariants.{Number}
 use Rattle.types.specs.declared.form.Step.{Step}
 use Rattle.meaning.specs.Store.{Place, Environment, Store, stored}
-use Rattle.abstract_state.specs.State.{State, Facts, Dead, Live, gives_fact, joined_states, start, range_of, is_defined, with_defined, with_range, unless_empty}
+use Rattle.abstract_state.specs.State.{State, Facts, Dead, Live, gives_fact, joined_states, range_of, is_defined, with_defined, with_range, unless_empty}
 use Rattle.abstract_state.specs.Changes.{with_some}
 use Rattle.abstract_state.specs.Holds.{Moment, FactsHold, Holds, HasValue, IsIn, StateHolds, part_of, value_at}
 pub use Rattle.abstract_state.specs.Knows.{IsHeld, Knows, Shows, moment}
@@ -30,21 +30,6 @@ known-holds variables env (Live facts) store known = known.hold
 pub holds-known : (env : Environment) (state : State) (store : Store) → StateHolds state (moment env store) → Knows 0 env state store
 holds-known env Dead store holds = holds
 holds-known env (Live facts) store holds = record { rows_are = omega arith; hold = holds }
-
--- ---- the start of a block
-
-none-at : (found : Option Place) (steps : List Step) (v : Value) → part_of [] found steps ≡ Some v → ⊥
-none-at None steps v is = cc
-none-at (Some p) steps v is = cc
-
-pub known-start : (env : Environment) (variables : ℕ) → Knows variables env (start variables) []
-known-start env variables = record {
-  rows_are = omega (arith, length-replicate variables vacant);
-  hold = record {
-    ranges = λ root steps v named is. absurd (none-at (env.variables root) steps v is);
-    facts = λ one inside. absurd (omega (arith, inside.1));
-  };
-}
 
 -- ---- entire variables
 

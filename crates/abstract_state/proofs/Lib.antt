@@ -14,3 +14,4 @@ pub mod Refined
 pub mod Rows
 pub mod Shapes
 pub mod Steady
+pub mod OnTypes

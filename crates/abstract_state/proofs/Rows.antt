@@ -1,6 +1,6 @@
 -- The rows of the checker's state, as facts.
 use Rattle.std.proofs.Common.{arith, ◌≡◌, ◌∙◌, sym, ap, refl, ℕ, zero, suc, ◌+◌, ◌<◌, ◌≤◌, Bool, true}
-use Rattle.std.proofs.Common.{false, ◌&&◌, ◌||◌, cond, ⊎_elim, max, filter, List, [], ◌∷◌, length, map, replicate, set, get_or, ap₂}
+use Rattle.std.proofs.Common.{false, ◌&&◌, ◌||◌, cond, ⊎_elim, max, filter, List, [], ◌∷◌, length, map, set, get_or, ap₂}
 use Rattle.std.proofs.lemmas.Bool.Decides.{nat_tests}
 use Rattle.std.specs.declared.cmp.Ordering.{Ordering}
 use Rattle.std.specs.declared.cmp.Ordering.TheVariants.{Less, Equal, Greater}
@@ -11,8 +11,7 @@ use Rattle.abstract_state.specs.declared.state.Row.{Row}
 use Rattle.std.proofs.lemmas.Bool.{cases_lt}
 use Rattle.std.proofs.lemmas.List.{set-get_or}
 use Rattle.abstract_state.specs.State.{joined_ranges}
-use Rattle.abstract_state.specs.View.{defined_from, joined_row, no_row}
-use Rattle.sparse_list.specs.Sparse.{AreJoined as BothJoined}
+use Rattle.abstract_state.specs.View.{defined_from, no_row, type_row}
 
 -- ---- facts that variables are defined stand in the order of the variables
 
@@ -144,16 +143,14 @@ range-kept [] i row kept = refl
 range-kept (first ∷ rows) zero row kept = ap (λ range. range ∷ ranges_of rows) (sym kept)
 range-kept (first ∷ rows) (suc i) row kept = ap (λ ranges. first.range ∷ ranges) (range-kept rows i row kept)
 
--- the start of a block
-pub none-defined : (n from : ℕ) (row : Row) → row.is_defined ≡ false → defined_from from (replicate n row) ≡ []
-none-defined zero from row none = refl
-none-defined (suc n) from row none =
-    ap (λ b. cond b (Defined (entire from) ∷ defined_from (suc from) (replicate n row)) (defined_from (suc from) (replicate n row))) none
-    ∙ none-defined n (suc from) row none
+-- variables of whose rows none is defined
+pub none-defined : (from : ℕ) (limits : List Interval) → defined_from from (map type_row limits) ≡ []
+none-defined from [] = refl
+none-defined from (range ∷ limits) = none-defined (suc from) limits
 
-pub all-ranges : (n : ℕ) (row : Row) → ranges_of (replicate n row) ≡ replicate n row.range
-all-ranges zero row = refl
-all-ranges (suc n) row = ap (λ ranges. row.range ∷ ranges) (all-ranges n row)
+pub all-ranges : (limits : List Interval) → ranges_of (map type_row limits) ≡ limits
+all-ranges [] = refl
+all-ranges (range ∷ limits) = ap (λ ranges. range ∷ ranges) (all-ranges limits)
 
 -- no row stands there
 pub past : (rows : List Row) (i : ℕ) (none : Row) → length rows ≤ i → get_or rows i none ≡ none
@@ -249,22 +246,3 @@ ranges-both (row ∷ one) (o ∷ other) [] count each = absurd (omega (arith, co
 ranges-both (row ∷ one) (o ∷ other) (r ∷ both) count each =
     range-pair r.range (joined row.range o.range) (ranges_of both) (joined_ranges (ranges_of one) (ranges_of other)) (each 0)
     (ranges-both one other both (omega (arith, count)) (λ i. each (suc i)))
-
--- ---- rows of two ways, joined
-
--- rows behind two ways, as many as those of the way that has more
-pub record AreJoined (one other both : List Row) : Type 0 where
-  pub count : length both ≡ max (length one) (length other)
-  pub each : (root : ℕ) → get_or both root no_row ≡ joined_row (get_or one root no_row) (get_or other root no_row)
-
--- behind the last row of both, neither has one
-pub joined-rows : (one other both : List Row) → BothJoined joined_row no_row one other both → AreJoined one other both
-joined-rows one other both are = record {
-  count = are.count;
-  each = λ root.
-      ⊎_elim (λ inside. are.each root inside)
-      (λ beyond.
-      past both root no_row (omega (arith, are.count, beyond))
-      ∙ sym (ap₂ joined_row (past one root no_row (omega (arith, beyond))) (past other root no_row (omega (arith, beyond)))))
-      (cases_lt root (max (length one) (length other)));
-}

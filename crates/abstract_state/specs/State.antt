@@ -2,7 +2,7 @@
 -- (ISO 7185:1990, 6.5.1: a variable is undefined or has a value); which facts that gives; and what it knows behind two
 -- ways that meet. It does not say how such a state comes about, nor what it means for a run.
 use Rattle.std.specs.Prelude.{ℕ, ℤ, pos, ◌+ℤ◌, neg_ℤ, int_le, Bool, true, false, not, ◌&&◌, ◌||◌, List, [], ◌∷◌, filter}
-use Rattle.std.specs.Prelude.{if◌then◌else◌, length, nat_eq, nat_lt, replicate, slice_index_or, slice_set}
+use Rattle.std.specs.Prelude.{if◌then◌else◌, length, nat_eq, nat_lt, slice_index_or, slice_set}
 use Rattle.std.specs.List.{list_any}
 use Rattle.types.specs.declared.form.OrdinalRange.{OrdinalRange}
 use Rattle.domain.specs.Interval.{Interval, common, is_included, is_vacant, joined, vacant}
@@ -28,9 +28,9 @@ integer = record { first = neg_ℤ maxint; last = maxint }
 abbrev pub limits_of : OrdinalRange → Interval
 limits_of range = common integer (record { first = range.first; last = range.last })
 
--- the start of a block of so many variables: each is undefined
-abbrev pub start : ℕ → State
-start variables = Live (record { ranges = replicate variables vacant; facts = [] })
+-- of variables, whose types have these values, nothing else is known
+abbrev pub of_types : List Interval → State
+of_types limits = Live (record { ranges = limits; facts = [] })
 
 -- no run comes here
 abbrev pub is_dead : State → Bool

@@ -1,6 +1,7 @@
 -- The states of the program as the definitions see them. It does not say what a state means.
 use Rattle.std.specs.Prelude.{◌≡◌, ℕ, suc, ℤ, pos, neg_ℤ, ◌≤ℤ◌, ◌&&◌, false, List, [], ◌∷◌, ◌++◌, Option, Some, None}
-use Rattle.std.specs.Prelude.{if◌then◌else◌, map, length, slice_set, ◌≤◌}
+use Rattle.std.specs.Prelude.{if◌then◌else◌, map, max, length, slice_index_or, slice_set, ◌≤◌}
+use Rattle.sparse_list.specs.Sparse.{over}
 use Rattle.std.specs.List.{insert}
 use Rattle.domain.specs.declared.facts.Bound.{Bound as KeptBound}
 use Rattle.domain.specs.Interval.{Interval, vacant, joined}
@@ -32,17 +33,25 @@ abbrev pub said_form : Option KeptBound → Option Bound
 said_form None = None
 said_form (Some bound) = Some (said_bound bound)
 
--- what facts of the program say
-abbrev pub viewed_facts : KeptFacts → Facts
-viewed_facts known = record {
-  ranges = map (λ row. row.range) known.rows.items;
-  facts = defined_from 0 known.rows.items ++ map said_order known.orders.items;
+-- the row of a variable of which nothing but the values of its type is known
+abbrev pub type_row : Interval → Row
+type_row limits = record { range = limits; is_defined = false }
+
+-- the rows of variables whose types have these values
+abbrev pub rows_on : (limits : List Interval) → KeptFacts → List Row
+rows_on limits known = over known.rows (map type_row limits)
+
+-- what facts of the program say where the types of variables have these values
+abbrev pub viewed_facts : (limits : List Interval) → KeptFacts → Facts
+viewed_facts limits known = record {
+  ranges = map (λ row. row.range) (rows_on limits known);
+  facts = defined_from 0 (rows_on limits known) ++ map said_order known.orders.items;
 }
 
--- what a state of the program says
-abbrev pub viewed : Kept → State
-viewed kept.Dead = Dead
-viewed (kept.Live known) = Live (viewed_facts known)
+-- what a state of the program says there
+abbrev pub viewed : (limits : List Interval) → Kept → State
+viewed limits kept.Dead = Dead
+viewed limits (kept.Live known) = Live (viewed_facts limits known)
 
 -- the row of a variable that has no value
 abbrev pub no_row : Row
@@ -52,6 +61,12 @@ no_row = record { range = vacant; is_defined = false }
 abbrev pub joined_row : Row → Row → Row
 joined_row one other =
     record { range = joined one.range other.range; is_defined = one.is_defined && other.is_defined }
+
+-- rows behind two ways, as many as those of the way that has more
+pub record AreJoined (one other both : List Row) : Type 0 where
+  pub count : length both ≡ max (length one) (length other)
+  pub each : (root : ℕ) → slice_index_or both root no_row
+      ≡ joined_row (slice_index_or one root no_row) (slice_index_or other root no_row)
 
 -- a number that is far from the greatest of 64 bits
 abbrev pub IsNear : ℤ → Type 0

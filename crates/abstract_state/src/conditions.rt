@@ -1,4 +1,4 @@
-ghost use Rattle.std.specs.Prelude.{◌≡◌, IfOk, if◌then◌else◌, map};
+ghost use Rattle.std.specs.Prelude.{◌≡◌, IfOk, List, if◌then◌else◌, map};
 ghost use Rattle.std.specs.List.{list_all};
 ghost use Rattle.domain.specs.Facts.{said_bound};
 ghost use Rattle.domain.specs.Interval.{always_true, never_true};
@@ -25,11 +25,13 @@ impl State {
     /// What is known where a condition, whose value lies in the range, had a truth value.
     pub fn branch(
         &mut self,
+        limits: &[Interval],
         condition: &Expr,
         range: Interval,
         truth: bool,
     ) -> Result<(), AllocError>
-        ensures { IfOk result (λ _. viewed self.new ≡ branched truth condition.now range (viewed self.old)) }
+        ensures { IfOk result (λ _. viewed limits.now self.new
+            ≡ branched truth condition.now range (viewed limits.now self.old)) }
     {
         if excludes(range, truth) {
             *self = State::Dead;
@@ -37,13 +39,19 @@ impl State {
         if holds_call(condition) {
             return Ok(());
         }
-        self.refine(condition, truth)
+        self.refine(limits, condition, truth)
     }
 
     /// What a condition tells that had a truth value, if no call in it changes that.
-    fn refine(&mut self, condition: &Expr, truth: bool) -> Result<(), AllocError>
+    fn refine(
+        &mut self,
+        limits: &[Interval],
+        condition: &Expr,
+        truth: bool,
+    ) -> Result<(), AllocError>
         ensures { IfOk result
-            (λ _. viewed self.new ≡ (condition_of condition.now).refined truth (viewed self.old)) }
+            (λ _. viewed limits.now self.new
+            ≡ (condition_of condition.now).refined truth (viewed limits.now self.old)) }
     {
         match condition {
             Expr::Constant { .. } | Expr::Variable { .. } => Ok(()),
@@ -52,15 +60,15 @@ impl State {
                 operation: Monadic::Not,
                 operand,
                 ..
-            } => self.refine(operand, !truth),
+            } => self.refine(limits, operand, !truth),
             Expr::Monadic { .. } => Ok(()),
             Expr::Chain { first, rest } => {
                 if !all_take_both(rest, truth) {
-                    return self.refine_single(first, rest, truth);
+                    return self.refine_single(limits, first, rest, truth);
                 }
-                self.refine(first, truth)?;
+                self.refine(limits, first, truth)?;
                 for link in rest {
-                    self.refine(&link.operand, truth)?;
+                    self.refine(limits, &link.operand, truth)?;
                 }
                 Ok(())
             }
@@ -68,15 +76,23 @@ impl State {
     }
 
     /// The same of a single operator.
-    fn refine_single(&mut self, first: &Expr, rest: &[Link], truth: bool) -> Result<(), AllocError>
-        ensures { IfOk result (λ _. viewed self.new
-            ≡ single_refined truth (condition_of first.now).form (map conjunct_of rest.now) (viewed self.old)) }
+    fn refine_single(
+        &mut self,
+        limits: &[Interval],
+        first: &Expr,
+        rest: &[Link],
+        truth: bool,
+    ) -> Result<(), AllocError>
+        ensures { IfOk result (λ _. viewed limits.now self.new
+            ≡ single_refined truth (condition_of first.now).form (map conjunct_of rest.now)
+            (viewed limits.now self.old)) }
     {
         if rest.len() != 1 {
             return Ok(());
         }
         let link = &rest[0];
         self.refine_operation(
+            limits,
             link.operation,
             bound_form(first),
             bound_form(&link.operand),
@@ -87,16 +103,22 @@ impl State {
     /// The same of an operation on operands that may have bound forms.
     fn refine_operation(
         &mut self,
+        limits: &[Interval],
         operation: Dyadic,
         left: Option<Bound>,
         right: Option<Bound>,
         truth: bool,
     ) -> Result<(), AllocError>
-        ensures { IfOk result (λ _. viewed self.new
-            ≡ operation_refined operation truth (said_form left) (said_form right) (viewed self.old)) }
+        ensures { IfOk result (λ _. viewed limits.now self.new
+            ≡ operation_refined operation truth (said_form left) (said_form right) (viewed limits.now self.old)) }
     {
         match operation {
-            Dyadic::Relation(relation) => self.refine_relation(told(relation, truth), left, right),
+            Dyadic::Relation(relation) => self.refine_relation(
+                limits,
+                told(relation, truth),
+                left,
+                right,
+            ),
             Dyadic::Plus { .. }
             | Dyadic::Minus { .. }
             | Dyadic::Times { .. }
@@ -110,12 +132,14 @@ impl State {
     /// A relation of operands holds: something is known where both have bound forms.
     fn refine_relation(
         &mut self,
+        limits: &[Interval],
         relation: Relation,
         left: Option<Bound>,
         right: Option<Bound>,
     ) -> Result<(), AllocError>
         ensures { IfOk result
-            (λ _. viewed self.new ≡ related_forms relation (said_form left) (said_form right) (viewed self.old)) }
+            (λ _. viewed limits.now self.new
+            ≡ related_forms relation (said_form left) (said_form right) (viewed limits.now self.old)) }
     {
         let Some(left) = left else {
             return Ok(());
@@ -123,48 +147,57 @@ impl State {
         let Some(right) = right else {
             return Ok(());
         };
-        self.relate(relation, left, right)
+        self.relate(limits, relation, left, right)
     }
 
     /// A relation of two bounds holds from here on.
     pub fn relate(
         &mut self,
+        limits: &[Interval],
         relation: Relation,
         left: Bound,
         right: Bound,
     ) -> Result<(), AllocError>
         ensures { IfOk result
-            (λ _. viewed self.new ≡ related relation (said_bound left) (said_bound right) (viewed self.old)) }
+            (λ _. viewed limits.now self.new
+            ≡ related relation (said_bound left) (said_bound right) (viewed limits.now self.old)) }
     {
         match relation {
             Relation::Equal => {
-                self.order(left, 0, right)?;
-                self.order(right, 0, left)
+                self.order(limits, left, 0, right)?;
+                self.order(limits, right, 0, left)
             }
-            Relation::NotEqual => { self.part(left, right) }
-            Relation::Less => self.order(left, 1, right),
-            Relation::Greater => self.order(right, 1, left),
-            Relation::LessOrEqual => self.order(left, 0, right),
-            Relation::GreaterOrEqual => self.order(right, 0, left),
+            Relation::NotEqual => { self.part(limits, left, right) }
+            Relation::Less => self.order(limits, left, 1, right),
+            Relation::Greater => self.order(limits, right, 1, left),
+            Relation::LessOrEqual => self.order(limits, left, 0, right),
+            Relation::GreaterOrEqual => self.order(limits, right, 0, left),
         }
     }
 
     /// A bound plus a number is at most another.
-    fn order(&mut self, left: Bound, gap: i32, right: Bound) -> Result<(), AllocError>
+    fn order(
+        &mut self,
+        limits: &[Interval],
+        left: Bound,
+        gap: i32,
+        right: Bound,
+    ) -> Result<(), AllocError>
         ensures { IfOk result
-            (λ _. viewed self.new ≡ with_le (said_bound left) gap (said_bound right) (viewed self.old)) }
+            (λ _. viewed limits.now self.new
+            ≡ with_le (said_bound left) gap (said_bound right) (viewed limits.now self.old)) }
     {
-        let first = self.ends(left).first;
-        let last = self.ends(right).last;
+        let first = self.ends(limits, left).first;
+        let last = self.ends(limits, right).last;
         self.insert_order(left, gap, right)?;
-        self.at_most(left, difference(last, gap))?;
-        self.at_least(right, sum(first, gap))
+        self.at_most(limits, left, difference(last, gap))?;
+        self.at_least(limits, right, sum(first, gap))
     }
 
     /// The order of two variables, where both bounds have one.
     pub fn insert_order(&mut self, left: Bound, gap: i32, right: Bound) -> Result<(), AllocError>
-        ensures { IfOk result
-            (λ _. viewed self.new ≡ with_order (said_bound left) gap (said_bound right) (viewed self.old)) }
+        ensures { IfOk result (λ _. (limits : List Interval) → viewed limits self.new
+            ≡ with_order (said_bound left) gap (said_bound right) (viewed limits self.old)) }
     {
         match (left, right) {
             (
@@ -181,33 +214,35 @@ impl State {
     }
 
     /// Two bounds are different.
-    fn part(&mut self, left: Bound, right: Bound) -> Result<(), AllocError>
+    fn part(&mut self, limits: &[Interval], left: Bound, right: Bound) -> Result<(), AllocError>
         ensures { IfOk result
-            (λ _. viewed self.new ≡ with_different (said_bound left) (said_bound right) (viewed self.old)) }
+            (λ _. viewed limits.now self.new
+            ≡ with_different (said_bound left) (said_bound right) (viewed limits.now self.old)) }
     {
-        let ends = self.ends(right);
-        self.unlike(left, ends)?;
-        let ends = self.ends(left);
-        self.unlike(right, ends)
+        let ends = self.ends(limits, right);
+        self.unlike(limits, left, ends)?;
+        let ends = self.ends(limits, left);
+        self.unlike(limits, right, ends)
     }
 
     /// A bound isn't the one number of a range.
-    fn unlike(&mut self, bound: Bound, ends: Ends) -> Result<(), AllocError>
+    fn unlike(&mut self, limits: &[Interval], bound: Bound, ends: Ends) -> Result<(), AllocError>
         requires { AreEnds ends (record { first = ends.first; last = ends.last }) }
-        ensures { IfOk result (λ _. viewed self.new
-            ≡ unlike (said_bound bound) (record { first = ends.first; last = ends.last }) (viewed self.old)) }
+        ensures { IfOk result (λ _. viewed limits.now self.new
+            ≡ unlike (said_bound bound) (record { first = ends.first; last = ends.last })
+            (viewed limits.now self.old)) }
     {
         if ends.first == ends.last {
-            return self.isnt(bound, ends.first);
+            return self.isnt(limits, bound, ends.first);
         }
         Ok(())
     }
 
     /// A bound is at most a number.
-    fn at_most(&mut self, bound: Bound, number: i64) -> Result<(), AllocError>
+    fn at_most(&mut self, limits: &[Interval], bound: Bound, number: i64) -> Result<(), AllocError>
         requires { IsNear number }
         ensures { IfOk result
-            (λ _. viewed self.new ≡ bound_at_most (said_bound bound) number (viewed self.old)) }
+            (λ _. viewed limits.now self.new ≡ bound_at_most (said_bound bound) number (viewed limits.now self.old)) }
     {
         match bound {
             Bound::Number(own) => {
@@ -215,17 +250,17 @@ impl State {
                 Ok(())
             }
             Bound::Plus { root, number: own } => {
-                let range = self.range(root).at_most(difference(number, own));
-                self.narrow(root, range)
+                let range = self.range(limits, root).at_most(difference(number, own));
+                self.narrow(limits, root, range)
             }
         }
     }
 
     /// A bound is at least a number.
-    fn at_least(&mut self, bound: Bound, number: i64) -> Result<(), AllocError>
+    fn at_least(&mut self, limits: &[Interval], bound: Bound, number: i64) -> Result<(), AllocError>
         requires { IsNear number }
         ensures { IfOk result
-            (λ _. viewed self.new ≡ bound_at_least (said_bound bound) number (viewed self.old)) }
+            (λ _. viewed limits.now self.new ≡ bound_at_least (said_bound bound) number (viewed limits.now self.old)) }
     {
         match bound {
             Bound::Number(own) => {
@@ -233,16 +268,17 @@ impl State {
                 Ok(())
             }
             Bound::Plus { root, number: own } => {
-                let range = self.range(root).at_least(difference(number, own));
-                self.narrow(root, range)
+                let range = self.range(limits, root).at_least(difference(number, own));
+                self.narrow(limits, root, range)
             }
         }
     }
 
     /// A bound isn't a number.
-    fn isnt(&mut self, bound: Bound, number: i64) -> Result<(), AllocError>
+    fn isnt(&mut self, limits: &[Interval], bound: Bound, number: i64) -> Result<(), AllocError>
         requires { IsNear number }
-        ensures { IfOk result (λ _. viewed self.new ≡ bound_isnt (said_bound bound) number (viewed self.old)) }
+        ensures { IfOk result (λ _. viewed limits.now self.new
+            ≡ bound_isnt (said_bound bound) number (viewed limits.now self.old)) }
     {
         match bound {
             Bound::Number(own) => {
@@ -251,15 +287,16 @@ impl State {
             }
             Bound::Plus { root, number: own } => {
                 let number = difference(number, own);
-                let range = without_last(number, without_first(number, self.range(root)));
-                self.narrow(root, range)
+                let range = without_last(number, without_first(number, self.range(limits, root)));
+                self.narrow(limits, root, range)
             }
         }
     }
 
     /// No run comes here, if so.
     fn unless(&mut self, excluded: bool)
-        ensures { viewed self.new ≡ (if excluded then Dead else viewed self.old) }
+        ensures { (limits : List Interval) → viewed limits self.new
+            ≡ (if excluded then Dead else viewed limits self.old) }
     {
         if excluded {
             *self = State::Dead;
@@ -267,10 +304,15 @@ impl State {
     }
 
     /// The values of a variable lie in a range; no run goes on from an empty one.
-    pub fn narrow(&mut self, root: u32, range: Interval) -> Result<(), AllocError>
-        ensures { IfOk result (λ _. viewed self.new ≡ narrowed root range (viewed self.old)) }
+    pub fn narrow(
+        &mut self,
+        limits: &[Interval],
+        root: u32,
+        range: Interval,
+    ) -> Result<(), AllocError>
+        ensures { IfOk result (λ _. viewed limits.now self.new ≡ narrowed root range (viewed limits.now self.old)) }
     {
-        self.set_range(root, range)?;
+        self.set_range(limits, root, range)?;
         self.unless_empty(range);
         Ok(())
     }

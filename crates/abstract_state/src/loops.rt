@@ -1,4 +1,4 @@
-ghost use Rattle.std.specs.Prelude.{◌≡◌, IfOk, map, slice_index_or};
+ghost use Rattle.std.specs.Prelude.{◌≡◌, IfOk, List, map, slice_index_or};
 ghost use Rattle.domain.specs.Facts.{said};
 ghost use Rattle.domain.specs.Interval.{vacant};
 ghost use Rattle.abstract_state.specs.State.{gives_fact};
@@ -23,63 +23,72 @@ impl State {
         controls: &[u32],
         claims: &[Fact],
     ) -> Result<(), AllocError>
-        ensures { IfOk result (λ _. viewed self.new ≡ head (λ root. slice_index_or limits.now root vacant)
-            touched.now controls.now (map said claims.now) (viewed self.old)) }
+        ensures { IfOk result (λ _. viewed limits.now self.new ≡ head (λ root. slice_index_or limits.now root vacant)
+            touched.now controls.now (map said claims.now) (viewed limits.now self.old)) }
     {
         self.touch_all(limits, touched)?;
-        self.forget_all(controls)?;
-        self.claim_all(claims)
+        self.forget_all(limits, controls)?;
+        self.claim_all(limits, claims)
     }
 
     /// Each of several variables may have another value within its limits.
     fn touch_all(&mut self, limits: &[Interval], touched: &[u32]) -> Result<(), AllocError>
-        ensures { IfOk result (λ _. viewed self.new
-            ≡ all_touched (λ root. slice_index_or limits.now root vacant) touched.now (viewed self.old)) }
+        ensures { IfOk result (λ _. viewed limits.now self.new
+            ≡ all_touched (λ root. slice_index_or limits.now root vacant) touched.now (viewed limits.now self.old)) }
     {
         for root in touched {
-            self.touch(*root, limit(limits, *root))?;
+            self.touch(limits, *root, limit(limits, *root))?;
         }
         Ok(())
     }
 
     /// A variable may have another value of the range.
-    pub fn touch(&mut self, root: u32, range: Interval) -> Result<(), AllocError>
-        ensures { IfOk result (λ _. viewed self.new ≡ with_touched (λ _. range) root (viewed self.old)) }
+    pub fn touch(
+        &mut self,
+        limits: &[Interval],
+        root: u32,
+        range: Interval,
+    ) -> Result<(), AllocError>
+        ensures { IfOk result (λ _. viewed limits.now self.new
+            ≡ with_touched (λ _. range) root (viewed limits.now self.old)) }
     {
         self.change(root, None);
-        self.set_range(root, range)
+        self.set_range(limits, root, range)
     }
 
     /// Each of several variables may be undefined.
-    fn forget_all(&mut self, controls: &[u32]) -> Result<(), AllocError>
-        ensures { IfOk result (λ _. viewed self.new ≡ all_forgotten controls.now (viewed self.old)) }
+    fn forget_all(&mut self, limits: &[Interval], controls: &[u32]) -> Result<(), AllocError>
+        ensures { IfOk result (λ _. viewed limits.now self.new
+            ≡ all_forgotten controls.now (viewed limits.now self.old)) }
     {
         for root in controls {
-            self.forget(*root)?;
+            self.forget(limits, *root)?;
         }
         Ok(())
     }
 
     /// Adds claims to what is known.
-    pub fn claim_all(&mut self, claims: &[Fact]) -> Result<(), AllocError>
-        ensures { IfOk result (λ _. viewed self.new ≡ with_claims (map said claims.now) (viewed self.old)) }
+    pub fn claim_all(&mut self, limits: &[Interval], claims: &[Fact]) -> Result<(), AllocError>
+        ensures { IfOk result (λ _. viewed limits.now self.new
+            ≡ with_claims (map said claims.now) (viewed limits.now self.old)) }
     {
         for claim in claims {
-            self.claim(claim)?;
+            self.claim(limits, claim)?;
         }
         Ok(())
     }
 
     /// A range is met with what is known.
-    fn claim(&mut self, claim: &Fact) -> Result<(), AllocError>
-        ensures { IfOk result (λ _. viewed self.new ≡ with_claim (said claim.now) (viewed self.old)) }
+    fn claim(&mut self, limits: &[Interval], claim: &Fact) -> Result<(), AllocError>
+        ensures { IfOk result (λ _. viewed limits.now self.new
+            ≡ with_claim (said claim.now) (viewed limits.now self.old)) }
     {
         match claim {
             Fact::Range { root, range } => {
-                let both = self.range(*root).meet(range);
-                self.set_range(*root, both)
+                let both = self.range(limits, *root).meet(range);
+                self.set_range(limits, *root, both)
             }
-            Fact::Defined { root } => self.define(*root),
+            Fact::Defined { root } => self.define(limits, *root),
             Fact::Order {
                 root,
                 other,
@@ -93,22 +102,22 @@ impl State {
     }
 
     /// Whether a fact is given; a dead state gives each.
-    pub fn gives(&self, fact: &Fact) -> bool
-        ensures { result ≡ gives_fact (viewed self.now) (said fact.now) }
+    pub fn gives(&self, limits: &[Interval], fact: &Fact) -> bool
+        ensures { result ≡ gives_fact (viewed limits.now self.now) (said fact.now) }
     {
         match self {
             State::Dead => true,
-            State::Live(known) => known.gives_fact(fact),
+            State::Live(known) => known.gives_fact(limits, fact),
         }
     }
 
     /// A variable may be undefined.
-    fn forget(&mut self, root: u32) -> Result<(), AllocError>
-        ensures { IfOk result (λ _. viewed self.new ≡ with_forgotten root (viewed self.old)) }
+    fn forget(&mut self, limits: &[Interval], root: u32) -> Result<(), AllocError>
+        ensures { IfOk result (λ _. viewed limits.now self.new ≡ with_forgotten root (viewed limits.now self.old)) }
     {
         match self {
             State::Dead => Ok(()),
-            State::Live(known) => known.forget(root),
+            State::Live(known) => known.forget(limits, root),
         }
     }
 
@@ -119,7 +128,8 @@ impl State {
         root: u32,
         bound: Option<Bound>,
     ) -> Result<(), AllocError>
-        ensures { IfOk result (λ _. viewed self.new ≡ replaced root (said_form bound) (viewed self.old)) }
+        ensures { IfOk result (λ _. (limits : List Interval) → viewed limits self.new
+            ≡ replaced root (said_form bound) (viewed limits self.old)) }
     {
         match self {
             State::Dead => Ok(()),
@@ -128,11 +138,11 @@ impl State {
     }
 
     /// A variable is undefined from here on.
-    pub fn undefine(&mut self, root: u32) -> Result<(), AllocError>
-        ensures { IfOk result (λ _. viewed self.new ≡ with_undefined root (viewed self.old)) }
+    pub fn undefine(&mut self, limits: &[Interval], root: u32) -> Result<(), AllocError>
+        ensures { IfOk result (λ _. viewed limits.now self.new ≡ with_undefined root (viewed limits.now self.old)) }
     {
-        self.touch(root, Interval::EMPTY)?;
-        self.forget(root)
+        self.touch(limits, root, Interval::EMPTY)?;
+        self.forget(limits, root)
     }
 }
 

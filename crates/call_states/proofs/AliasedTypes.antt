@@ -30,10 +30,11 @@ use Rattle.abstract_state.specs.Knows.{IsKept, Shows, moment}
 use Rattle.abstract_state.specs.Loops.{is_among}
 use Rattle.abstract_state.specs.State.{integer}
 use Rattle.abstract_state.proofs.Apart.{part}
+use Rattle.leaf_rows.specs.Limits.{all_limits, limits_at, limits_or_integer, row_limits, type_limits}
 use Rattle.leaf_rows.specs.Rows.{Parts, Row, all_parts, no_parts, rows_of, values_at}
 use Rattle.leaf_rows.proofs.Accessed.{row-is}
 use Rattle.component_states.specs.Holds.{IsOfRow, component_at}
-use Rattle.structured_states.specs.Loops.{Round, all_control, all_limits, all_list, limits_at, limits_or_integer, row_limits, touched, type_limits}
+use Rattle.structured_states.specs.Loops.{Round, all_control, all_list, touched}
 use Rattle.structured_states.specs.Pairs.{aliases_of}
 use Rattle.call_states.specs.Aliases.{Stored, same_values, variable_values}
 use Rattle.call_states.specs.Environments.{Begun, LiesIn, Proper, Typed, place_type, type_led}

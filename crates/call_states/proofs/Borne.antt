@@ -25,6 +25,7 @@ use Rattle.abstract_state.specs.Holds.{IsIn, Moment, part_of, value_at}
 use Rattle.abstract_state.specs.Knows.{moment}
 use Rattle.abstract_state.specs.State.{is_entire}
 use Rattle.leaf_rows.specs.Leaves.{leaves_of}
+use Rattle.leaf_rows.specs.Limits.{all_limits}
 use Rattle.leaf_rows.specs.Rows.{all_parts, is_structured, no_parts, rows_accessed, rows_of, rows_under}
 use Rattle.abstract_state.specs.Loops.{is_among}
 use Rattle.leaf_rows.proofs.Accessed.{IsOf, contains-has, has-contains, row-leaf, rows-are, rows-count}
@@ -32,7 +33,7 @@ use Rattle.leaf_rows.proofs.Components.{map-at}
 use Rattle.leaf_rows.proofs.Selected.{Matches}
 use Rattle.component_states.specs.Components.{Entire, Reach}
 use Rattle.component_states.specs.Holds.{component_at}
-use Rattle.structured_states.specs.Loops.{all_limits, is_ordinal_variable, names_entire, rows_named}
+use Rattle.structured_states.specs.Loops.{is_ordinal_variable, names_entire, rows_named}
 use Rattle.call_states.specs.Actuals.{Actual, Bearer, Binding, Components, OfRows, OfValue, OfVariable, Passed, Variable, all_of_rows, are_of_rows}
 use Rattle.call_states.specs.Actuals.{are_of_types, bearers_at, bearers_for, bearers_named, bearers_of, bound_to, is_copy_for, is_of_type}
 use Rattle.call_states.specs.Environments.{Begun}

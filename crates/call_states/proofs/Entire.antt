@@ -1,5 +1,5 @@
 -- What has the values of an access: an entire variable, or components alone.
-use Rattle.std.proofs.Common.{◌≡◌, ◌∙◌, ap, refl, ℕ, ℤ, true, false, cond, List, [], ◌∷◌, map, Option, Some, None, pos}
+use Rattle.std.proofs.Common.{◌≡◌, ◌∙◌, ap, refl, ℕ, ℤ, true, false, cond, List, [], ◌∷◌, map, IfSome, Option, Some, None, pos}
 use Rattle.std.specs.Option.{option_and_then}
 use Rattle.typed_tree.specs.declared.tree.Selector.{Selector}
 use Rattle.typed_tree.specs.declared.tree.Tree.{Tree}
@@ -10,7 +10,7 @@ use Rattle.leaf_rows.specs.Rows.{rows_accessed, rows_of}
 use Rattle.call_states.specs.declared.limits.Limit.{Limit as KeptLimit}
 use Rattle.call_states.specs.Actuals.{Components, Variable, borne_by}
 use Rattle.call_states.specs.Entry.{Limit, limit_moved, limit_of, limit_of_variable}
-use Rattle.call_states.specs.View.{AreBounded, AreNear, IsLimit, is_entire, said_limit}
+use Rattle.call_states.specs.View.{AreBounded, AreNear, IsLimit, is_entire, said_limit, said_some_limit}
 
 pub entire-borne : (tree : Tree) (root : ℕ) (selectors : List Selector) (reach : Reach) → is_entire tree root selectors ≡ true
     → borne_by tree root selectors reach ≡ Variable root ∷ []
@@ -43,3 +43,16 @@ pub limit-moved : (found : Option Limit) (limit moved : KeptLimit) (n : ℤ) →
     → IsLimit AreBounded (Some moved) (option_and_then (λ one. Some (limit_moved n one)) found)
 limit-moved None limit moved n is moved_is bounded = absurd is
 limit-moved (Some one) limit moved n is moved_is bounded = (moved_is ∙ ap (limit_moved n) is.0, bounded is.1)
+
+-- what an optional limit is
+pub limit-bounds : (IsRight : KeptLimit → Type 0) (limit : Option KeptLimit) (wanted : Option Limit) → IsLimit IsRight limit wanted → IfSome limit IsRight
+limit-bounds IsRight None wanted is = tt
+limit-bounds IsRight (Some limit) None is = absurd is
+limit-bounds IsRight (Some limit) (Some wanted) is = is.1
+
+pub limit-says : (IsRight : KeptLimit → Type 0) (limit : Option KeptLimit) (wanted : Option Limit) → IsLimit IsRight limit wanted
+    → said_some_limit limit ≡ wanted
+limit-says IsRight None None is = refl
+limit-says IsRight None (Some wanted) is = absurd is
+limit-says IsRight (Some limit) None is = absurd is
+limit-says IsRight (Some limit) (Some wanted) is = ap Some is.0

@@ -36,6 +36,7 @@ use Rattle.abstract_state.specs.State as variables
 use Rattle.abstract_state.specs.State.{at_most, bound_range, is_below, is_defined, is_entire, moved}
 use Rattle.abstract_state.proofs.Given.{bound-in, defined-number, entire-steps, named-entire}
 use Rattle.abstract_state.proofs.Ranged.{included-in}
+use Rattle.leaf_rows.specs.Limits.{all_limits}
 use Rattle.leaf_rows.specs.Rows.{all_parts, first_index, index_at, no_parts, rows_accessed, rows_of, rows_under}
 use Rattle.leaf_rows.proofs.Accessed.{IsOf}
 use Rattle.component_states.specs.Components as components
@@ -44,7 +45,7 @@ use Rattle.component_states.specs.Holds.{HasComponent, Holds, Knows}
 use Rattle.component_states.specs.States.{State, all_of_row, gives_reached, is_dead}
 use Rattle.component_states.proofs.Bounds.{at_most-holds, moved-is, value-is}
 use Rattle.component_states.proofs.Listed.{any-of, each-of}
-use Rattle.structured_states.specs.Loops.{all_limits, component_claims, component_facts, names_entire, plain, plain_facts, rows_named}
+use Rattle.structured_states.specs.Loops.{component_claims, component_facts, names_entire, plain, plain_facts, rows_named}
 use Rattle.call_states.specs.Actuals.{Actual, Bearer, Binding, Components, OfRows, OfValue, OfVariable, Passed, Variable, actual_of, are_of_types}
 use Rattle.call_states.specs.Actuals.{bearers_named}
 use Rattle.call_states.specs.Actuals.{bearers_at, bearers_for, bearers_of, bound_to}

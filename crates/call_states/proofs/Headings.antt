@@ -43,6 +43,14 @@ pub heading-at : (tree : Tree) (number : ℕ) (block : Block) → slice_get tree
     → slice_get (outline_of tree).headings number ≡ Some block.heading
 heading-at tree number block is = slice_get-map heading_of tree.blocks.items number ∙ ap (option_map heading_of) is
 
+-- a block that encloses one of a number does so by the heading that is found there
+pub round-cases : (tree : Tree) (block own : ℕ) (found : Option Block) → is_round (outline_of tree) block own ≡ true
+    → slice_get tree.blocks.items block ≡ found → of_one (λ (b : Block). encloses own block b.heading) found ≡ true
+round-cases tree block own None round is =
+    absurd (false≢true
+    (sym (ap (of_one (encloses own block)) (slice_get-map heading_of tree.blocks.items block ∙ ap (option_map heading_of) is)) ∙ round))
+round-cases tree block own (Some found) round is = sym (ap (of_one (encloses own block)) (heading-at tree block found is)) ∙ round
+
 some-block : (found : Option Block) (heading : Heading) → option_map heading_of found ≡ Some heading
     → (block : Block) × (found ≡ Some block) × (block.heading ≡ heading)
 some-block None heading is = absurd (cc)

@@ -26,5 +26,6 @@ pub mod Places
 pub mod Reached
 pub mod Rows
 pub mod Sectioned
+pub mod SeenAliases
 pub mod Separated
 pub mod Started

@@ -13,7 +13,7 @@ use Rattle.typed_tree.specs.declared.tree.VariableKind.{VariableKind}
 use Rattle.typed_tree.specs.declared.tree.VariableKind.TheVariants as kind
 use Rattle.meaning.specs.Meaning.{Argument, environment_of, home_of, place_for, place_passed, seen_from}
 use Rattle.meaning.specs.Store.{Environment, Store}
-use Rattle.structured_states.specs.Loops.{all_limits}
+use Rattle.leaf_rows.specs.Limits.{all_limits}
 use Rattle.call_states.specs.Actuals.{Actual, Binding, actual_of, are_of_types, bound_to, is_of_type}
 use Rattle.call_states.specs.Starts.{is_own}
 use Rattle.call_states.proofs.Callee.{IsCalled, activation_of, parameter-listed}

@@ -1,11 +1,11 @@
 -- What is known where an activation of a block begins: its own variables and its result are undefined, its value parameters are defined, each other
 -- variable has a value of its type or none, and what is claimed holds.
-use Rattle.std.proofs.Common.{arith, ◌≡◌, ⊎_elim, ◌∙◌, sym, ap, refl, subst, ℕ, zero, suc, ◌+◌, ◌<◌, true, false, cond, not}
+use Rattle.std.proofs.Common.{arith, ◌≡◌, ⊎_elim, ◌∙◌, sym, ap, refl, subst, ℕ, zero, suc, ◌+◌, ◌<◌, true, false, cond}
 use Rattle.std.proofs.Common.{◌&&◌, ◌||◌, nat_eq, List, [], ◌∷◌, length, map, Option, Some, None}
 use Rattle.std.specs.Cmp.Lexicographic.{pointwise}
 use Rattle.std.specs.List.{All, Contains}
 use Rattle.std.specs.Prelude.{slice_get, slice_index_or}
-use Rattle.std.proofs.lemmas.Bool.{and_parts, both_ways, cond_both, eq-eqb, eqb-true, false≢true, not-true, or_cases, or_left}
+use Rattle.std.proofs.lemmas.Bool.{and_parts, both_ways, cond_both, eq-eqb, eqb-true, false≢true, or_cases, or_left}
 use Rattle.std.proofs.lemmas.List.{get_or-map, length-map}
 use Rattle.std.proofs.lemmas.List.Elements.{All-nil}
 use Rattle.std.proofs.lemmas.Option.{get_or_from_slice_get, none-some, slice_get_within}
@@ -33,17 +33,19 @@ use Rattle.abstract_state.specs.State as variables
 use Rattle.abstract_state.proofs.Given.{named-entire}
 use Rattle.abstract_state.proofs.Knows.{defined-known}
 use Rattle.abstract_state.proofs.Looped.{claims-known}
+use Rattle.leaf_rows.specs.Limits.{limits_or_integer, type_limits}
 use Rattle.leaf_rows.specs.Rows.{Parts, Row, all_parts, no_parts, parts_of, rows_of, values_at}
 use Rattle.leaf_rows.proofs.Accessed.{IsRow, contains-has, has-contains, indexes-are, row-is}
 use Rattle.component_states.specs.Components.{RowState, no_row, row_at}
 use Rattle.component_states.specs.Holds.{ComponentsHold, Knows}
 use Rattle.component_states.proofs.Looped.{with_claims-hold}
-use Rattle.structured_states.specs.Loops.{component_facts, limits_or_integer, plain_facts, type_limits}
+use Rattle.structured_states.specs.Loops.{component_facts, plain_facts}
 use Rattle.call_states.specs.Environments.{Begun, Proper, Typed, place_type}
-use Rattle.call_states.specs.Starts.{block_start, components_start, is_own, is_passed_value, is_undefined_at_start, row_start, start_range, values_defined}
+use Rattle.call_states.specs.Starts.{block_start, components_start, is_own, is_passed_value, row_start, values_defined}
 use Rattle.call_states.specs.Starts.{variable_start, variables_start}
 use Rattle.call_states.proofs.AliasedTypes.{InTypes, declared-limits, in-types, seen, stored-of}
 use Rattle.call_states.proofs.Assigned.{Received, received}
+use Rattle.call_states.proofs.Beginning.{own-no_variable}
 use Rattle.call_states.proofs.Callee.{IsCalled, Outer, Own, PassedTo, Seen, activation_of, parameter-listed, seen-as}
 use Rattle.call_states.proofs.Claimed.{AllHold}
 use Rattle.call_states.proofs.Entered.{behind_assignments, distinct, homes, nothing-begun, own-home, own-undefined, own-where, typed-behind, value-not_variable}
@@ -66,24 +68,10 @@ module _ (tree : Tree) (pairs : List (ℕ × ℕ)) (number activations : ℕ) (v
   in_types = in-types tree pairs number activations visible store proper typed
 
   -- a variable with a value is none that is undefined
-  has-start : (root : ℕ) (variable : Variable) (rest : List Step) (v : Value) → slice_get declared root ≡ Some variable
-      → value_at (moment visible store) root rest ≡ Some v → is_undefined_at_start tree number variable ≡ true → ⊥
-  has-start root variable rest v is at none =
-      ⊎_elim
-      (λ away.
-      let home = stored-of store (visible.variables root) rest v at in
-      let there = seen tree pairs number activations visible proper root home.0 home.1 in
-      let round : is_round (outline_of tree) number variable.block ≡ true =
-      sym (ap (of_one (λ (x : Variable). is_round (outline_of tree) number x.block)) is) ∙ there in
-      both_ways (is_round (outline_of tree) number variable.block) (not-true (is_round (outline_of tree) number variable.block) away) round)
-      (λ own. undefined root variable rest v is own at)
-      (or_cases (not (is_round (outline_of tree) number variable.block)) (is_own number variable) none)
-
   in-start : (root : ℕ) (variable : Variable) (rest : List Step) (v : Value) (limits : Interval) → slice_get declared root ≡ Some variable
-      → value_at (moment visible store) root rest ≡ Some v → IsIn limits v → IsIn (start_range tree number variable limits) v
+      → value_at (moment visible store) root rest ≡ Some v → IsIn limits v → IsIn (cond (is_own number variable) vacant limits) v
   in-start root variable rest v limits is at inside =
-      cond_both (is_undefined_at_start tree number variable) vacant limits (λ range. IsIn range v)
-      (λ none. absurd (has-start root variable rest v is at none)) (λ some. inside)
+      cond_both (is_own number variable) vacant limits (λ range. IsIn range v) (λ own. absurd (undefined root variable rest v is own at)) (λ other. inside)
 
   -- ---- variables
 
@@ -141,46 +129,15 @@ module _ (tree : Tree) (pairs : List (ℕ × ℕ)) (number activations : ℕ) (v
 
   -- ---- rows
 
-  -- what is known of a row of a variable that is visible
-  abbrev seen-start : Row → Variable → RowState
-  seen-start row variable = record {
-    range = start_range tree number variable (limits_or_integer row.leaf.values);
-    is_defined = is_passed_value number variable;
-    index = row.leaf.index;
-  }
-
   -- what is known of a row that has a component
   row-state : (row : ℕ) (steps : List Step) (is : IsRow tree row steps)
-      → row_at (components_start tree number) row ≡ row_start tree number is.row (Some is.leaf.variable)
+      → row_at (components_start tree number) row ≡ row_start number is.row (Some is.leaf.variable)
   row-state row steps is =
-      let own = λ (r : Row). row_start tree number r (slice_get declared r.root) in
+      let own = λ (r : Row). row_start number r (slice_get declared r.root) in
       let e : 0 + is.leaf.root ≡ is.leaf.root = omega arith in
       get_or-map own (rows_of tree) row is.row no_row (slice_get_within (rows_of tree) row is.row is.is)
       ∙ ap own (get_or_from_slice_get (rows_of tree) row is.row is.row is.is)
-      ∙ ap (row_start tree number is.row) (ap (slice_get declared) (is.leaf.root_is ∙ e) ∙ is.leaf.variable_is)
-
-  -- one that isn't visible has no value, and of one that is what is known is of the block's start
-  in-row : (row : Row) (root : ℕ) (variable : Variable) (steps : List Step) (v : Value) → slice_get declared root ≡ Some variable
-      → value_at (moment visible store) root steps ≡ Some v → IsIn (limits_or_integer row.leaf.values) v
-      → IsIn (row_start tree number row (Some variable)).range v
-  in-row row root variable steps v is at own =
-      cond_both (is_round (outline_of tree) number variable.block) (seen-start row variable) no_row (λ (state : RowState). IsIn state.range v)
-      (λ round. in-start root variable steps v (limits_or_integer row.leaf.values) is at own)
-      (λ away.
-      absurd
-      (has-start root variable steps v is at
-      (or_left (not (is_round (outline_of tree) number variable.block)) (is_own number variable) (ap not away))))
-
-  row-passed : (row : Row) (variable : Variable) → (row_start tree number row (Some variable)).is_defined ≡ true → is_passed_value number variable ≡ true
-  row-passed row variable =
-      cond_both (is_round (outline_of tree) number variable.block) (seen-start row variable) no_row
-      (λ (state : RowState). state.is_defined ≡ true → is_passed_value number variable ≡ true) (λ round is. is) (λ away is. absurd (false≢true is))
-
-  row-index : (row : Row) (variable : Variable) (range : OrdinalRange) → (row_start tree number row (Some variable)).index ≡ Some range
-      → row.leaf.index ≡ Some range
-  row-index row variable range =
-      cond_both (is_round (outline_of tree) number variable.block) (seen-start row variable) no_row
-      (λ (state : RowState). state.index ≡ Some range → row.leaf.index ≡ Some range) (λ round is. is) (λ away is. absurd (none-some range is))
+      ∙ ap (row_start number is.row) (ap (slice_get declared) (is.leaf.root_is ∙ e) ∙ is.leaf.variable_is)
 
   row-root : (row : ℕ) (steps : List Step) (is : IsRow tree row steps)
       → slice_get declared (slice_index_or (all_parts tree) row no_parts).root ≡ Some is.leaf.variable
@@ -190,7 +147,7 @@ module _ (tree : Tree) (pairs : List (ℕ × ℕ)) (number activations : ℕ) (v
 
   components-known : ComponentsHold (all_parts tree) (components_start tree number) (moment visible store)
   components-known = record {
-    count = (let own = λ (r : Row). row_start tree number r (slice_get declared r.root) in
+    count = (let own = λ (r : Row). row_start number r (slice_get declared r.root) in
         let one = length-map (rows_of tree) own in
         let other = length-map (rows_of tree) (parts_of tree) in
         omega (arith, one, other));
@@ -202,18 +159,18 @@ module _ (tree : Tree) (pairs : List (ℕ × ℕ)) (number activations : ℕ) (v
         let own : IsIn (limits_or_integer is.row.leaf.values) v =
         subst (λ (range : Option OrdinalRange). IsIn (limits_or_integer range) v) values (in_types.components row steps v of_row at) in
         subst (λ (state : RowState). IsIn state.range v) (sym (row-state row steps is))
-        (in-row is.row root is.leaf.variable steps v (row-root row steps is) at own);
+        (in-start root is.leaf.variable steps v (limits_or_integer is.row.leaf.values) (row-root row steps is) at own);
     defined = λ row defined_is steps of_row.
         let is = row-is tree row steps of_row in
         let passed : is_passed_value number is.leaf.variable ≡ true =
-        row-passed is.row is.leaf.variable (sym (ap (λ (state : RowState). state.is_defined) (row-state row steps is)) ∙ defined_is) in
+        sym (ap (λ (state : RowState). state.is_defined) (row-state row steps is)) ∙ defined_is in
         defined (slice_index_or (all_parts tree) row no_parts).root is.leaf.variable steps (row-root row steps is) passed
         (has-contains (components_of tree.types is.leaf.variable.type_id) steps is.of_type);
     indexes = λ row range index_is steps of_row.
         let is = row-is tree row steps of_row in
         indexes-are tree row steps range of_row
         (ap (Rattle.std.specs.Option.option_and_then (λ (r : Row). r.leaf.index)) is.is
-        ∙ row-index is.row is.leaf.variable range (sym (ap (λ (state : RowState). state.index) (row-state row steps is)) ∙ index_is));
+        ∙ sym (ap (λ (state : RowState). state.index) (row-state row steps is)) ∙ index_is);
     stretches = λ stretch inside. absurd (omega (arith, inside.1));
   }
 
@@ -235,12 +192,6 @@ argument-at tree activations [] (argument ∷ arguments) fit i root is = absurd 
 argument-at tree activations (first ∷ roots) [] fit i root is = absurd fit
 argument-at tree activations (first ∷ roots) (argument ∷ arguments) fit zero root is = (argument, refl)
 argument-at tree activations (first ∷ roots) (argument ∷ arguments) fit (suc i) root is = argument-at tree activations roots arguments fit.3 i root is
-
-own-no_variable : (one : VariableKind) → (is_local_kind one || is_result_kind one) ≡ true → (is_variable_kind one ≡ false) × (is_value_kind one ≡ false)
-own-no_variable kind.Local is = (refl, refl)
-own-no_variable kind.Result is = (refl, refl)
-own-no_variable kind.ValueParameter is = absurd (false≢true is)
-own-no_variable kind.VariableParameter is = absurd (false≢true is)
 
 module _ (tree : Tree) (pairs : List (ℕ × ℕ)) (number : ℕ) (block : Block) (arguments : List Argument) (caller : Environment) (activations from : ℕ)
     (call : IsCalled tree pairs number block arguments caller activations from) where

@@ -11,9 +11,10 @@ use Rattle.domain.specs.Interval.{Interval, is_included}
 use Rattle.domain.specs.Facts.{Bound, Path}
 use Rattle.abstract_state.specs.Loops.{is_among}
 use Rattle.abstract_state.specs.State.{integer, limits_of}
+use Rattle.leaf_rows.specs.Limits.{limits_at}
 use Rattle.leaf_rows.specs.Rows.{is_structured, rows_accessed, rows_of, rows_under, values_at}
 use Rattle.component_states.specs.Components.{At, Entire, Index, Inside, Reach}
-use Rattle.structured_states.specs.Loops.{is_ordinal_variable, limits_at, names_entire, rows_named}
+use Rattle.structured_states.specs.Loops.{is_ordinal_variable, names_entire, rows_named}
 
 -- an actual parameter: an ordinal, where it lies and its bound form, if it has one; a copy, where its components lie,
 -- leaf by leaf; or a variable, by its root, its selectors and what they reach

@@ -11,7 +11,7 @@ use Rattle.typed_tree.specs.declared.tree.Selector.TheVariants.{Element, Field}
 use Rattle.typed_tree.specs.WellFormed.{is_one_of}
 use Rattle.abstract_state.specs.Loops.{is_among}
 use Rattle.call_states.specs.Actuals.{Actual, OfValue, OfRows, OfVariable, Binding}
-use Rattle.structured_states.specs.Pairs.{aliases_of}
+use Rattle.structured_states.specs.Pairs.{Listed, aliases_in, aliases_of}
 
 -- selectors from one variable lead to different fields of a record
 abbrev pub are_parted : List Selector → List Selector → Bool
@@ -51,16 +51,18 @@ module _ (pairs : List (ℕ × ℕ)) where
   is_listed_round tree around formal root =
       not (is_declared_in around (slice_get tree.variables.items root)) || is_listed formal root
 
-  -- a variable parameter to which a variable is passed: with that and its aliases, and with each parameter behind it
-  abbrev pub is_actual_separate : Tree → List ℕ → List Binding → ℕ → Actual → Bool
-  is_actual_separate tree around others formal (OfValue range form) = true
-  is_actual_separate tree around others formal (OfRows ranges) = true
-  is_actual_separate tree around others formal (OfVariable root selectors reach) =
-      list_all (is_listed_round tree around formal) (root ∷ aliases_of pairs root)
-      && list_all (is_listed_with formal root selectors) others
+-- a variable parameter to which a variable is passed in a block: with that and its aliases there, and with each
+-- parameter behind it
+abbrev pub is_actual_separate : Listed → (caller : ℕ) → List ℕ → List Binding → ℕ → Actual → Bool
+is_actual_separate listed caller around others formal (OfValue range form) = true
+is_actual_separate listed caller around others formal (OfRows ranges) = true
+is_actual_separate listed caller around others formal (OfVariable root selectors reach) =
+    list_all (is_listed_round listed.pairs listed.tree around formal) (root ∷ aliases_in listed caller root)
+    && list_all (is_listed_with listed.pairs formal root selectors) others
 
-  -- what is passed to a block, round which there are some, makes listed aliases alone
-  abbrev pub are_separate : Tree → List ℕ → List Binding → Bool
-  are_separate tree around [] = true
-  are_separate tree around (binding ∷ bindings) =
-      is_actual_separate tree around bindings binding.root binding.actual && are_separate tree around bindings
+-- what is passed in one block to another, round which there are some, makes listed aliases alone
+abbrev pub are_separate : Listed → (caller : ℕ) → List ℕ → List Binding → Bool
+are_separate listed caller around [] = true
+are_separate listed caller around (binding ∷ bindings) =
+    is_actual_separate listed caller around bindings binding.root binding.actual
+    && are_separate listed caller around bindings

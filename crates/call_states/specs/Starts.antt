@@ -1,7 +1,7 @@
 -- What is known where an activation of a block begins (ISO 7185:1990, 6.2.3.2, 6.6.3.2): its own variables and its
--- result are undefined, its value parameters are defined, each other variable that is visible has a value of its type
--- or none; and what a certificate claims beside that. It does not say that calls keep to these claims.
-use Rattle.std.specs.Prelude.{ℕ, suc, ◌&&◌, ◌||◌, Bool, not, List, [], ◌∷◌, Option, Some, None, if◌then◌else◌, length}
+-- result are undefined, its value parameters are defined, each other variable has a value of its type or none; and what
+-- a certificate claims beside that. It does not say that calls keep to these claims.
+use Rattle.std.specs.Prelude.{ℕ, suc, ◌&&◌, ◌||◌, Bool, List, [], ◌∷◌, Option, if◌then◌else◌, length}
 use Rattle.std.specs.Prelude.{map, min, nat_eq, slice_get}
 use Rattle.std.specs.List.{range_with_len}
 use Rattle.domain.specs.Interval.{Interval, vacant}
@@ -9,14 +9,15 @@ use Rattle.domain.specs.Facts.{Fact}
 use Rattle.types.specs.Types.{is_ordinal}
 use Rattle.typed_tree.specs.declared.tree.Tree.{Tree}
 use Rattle.typed_tree.specs.declared.tree.Variable.{Variable}
-use Rattle.typed_tree.specs.WellFormed.{is_local_kind, is_result_kind, is_round, is_value_kind, outline_of}
+use Rattle.typed_tree.specs.WellFormed.{is_local_kind, is_result_kind, is_value_kind, of_one}
 use Rattle.abstract_state.specs.State as variables
 use Rattle.abstract_state.specs.Loops.{with_claims}
+use Rattle.leaf_rows.specs.Limits.{limits_or_integer, type_limits}
 use Rattle.leaf_rows.specs.Rows.{Row, rows_of}
 use Rattle.component_states.specs.Components as components
-use Rattle.component_states.specs.Components.{Components, RowState, no_row}
+use Rattle.component_states.specs.Components.{Components, RowState}
 use Rattle.component_states.specs.States.{State}
-use Rattle.structured_states.specs.Loops.{component_facts, limits_or_integer, plain_facts, type_limits}
+use Rattle.structured_states.specs.Loops.{component_facts, plain_facts}
 
 -- a block declares a variable as one of its own, or as its result
 abbrev pub is_own : ℕ → Variable → Bool
@@ -27,17 +28,9 @@ is_own block variable =
 abbrev pub is_passed_value : ℕ → Variable → Bool
 is_passed_value block variable = nat_eq variable.block block && is_value_kind variable.kind
 
--- a variable has no value where an activation of a block begins
-abbrev pub is_undefined_at_start : Tree → ℕ → Variable → Bool
-is_undefined_at_start tree block variable =
-    not (is_round (outline_of tree) block variable.block) || is_own block variable
-
--- where its values lie then, if those of its type lie here
-abbrev pub start_range : Tree → ℕ → Variable → Interval → Interval
-start_range tree block variable limits = if is_undefined_at_start tree block variable then vacant else limits
-
+-- where the values of a variable lie where an activation of a block begins
 abbrev pub variable_start : Tree → ℕ → Variable → Interval
-variable_start tree block variable = start_range tree block variable (type_limits tree.types variable)
+variable_start tree block variable = if is_own block variable then vacant else type_limits tree.types variable
 
 -- the ordinal value parameters of a block among variables, of which the first has this root, are defined
 abbrev pub values_defined : Tree → ℕ → ℕ → List Variable → variables.State → variables.State
@@ -52,21 +45,17 @@ variables_start tree block =
     values_defined tree block 0 tree.variables.items
     (variables.Live (record { ranges = map (variable_start tree block) tree.variables.items; facts = [] }))
 
--- the same of a row of a variable, if that is visible
-abbrev pub row_start : Tree → ℕ → Row → Option Variable → RowState
-row_start tree block row None = no_row
-row_start tree block row (Some variable) =
-    if is_round (outline_of tree) block variable.block
-    then record {
-      range = start_range tree block variable (limits_or_integer row.leaf.values);
-      is_defined = is_passed_value block variable;
-      index = row.leaf.index;
-    }
-    else no_row
+-- the same of a row of a variable
+abbrev pub row_start : ℕ → Row → Option Variable → RowState
+row_start block row variable = record {
+  range = if of_one (is_own block) variable then vacant else limits_or_integer row.leaf.values;
+  is_defined = of_one (is_passed_value block) variable;
+  index = row.leaf.index;
+}
 
 abbrev pub components_start : Tree → ℕ → Components
 components_start tree block = record {
-  rows = map (λ row. row_start tree block row (slice_get tree.variables.items row.root)) (rows_of tree);
+  rows = map (λ row. row_start block row (slice_get tree.variables.items row.root)) (rows_of tree);
   stretches = [];
 }
 

@@ -1,20 +1,19 @@
 -- Calls of the program as the definitions see them: what is passed, what is claimed of blocks, what calls change. It
 -- does not say what is known of them.
-use Rattle.std.specs.Prelude.{ℕ, suc, ℤ, neg_ℤ, pos, ◌≡◌, ◌<◌, ◌≤ℤ◌, ◌&&◌, ◌++◌, Bool, false, List, [], ◌∷◌, Option}
-use Rattle.std.specs.Prelude.{Some, None, flat_map, get_or, if◌then◌else◌, length, map, min, nat_eq, slice_get}
-use Rattle.std.specs.Prelude.{slice_set}
+use Rattle.std.specs.Prelude.{ℕ, suc, ℤ, neg_ℤ, pos, ◌≡◌, ◌<◌, ◌≤ℤ◌, ◌++◌, Bool, false, List, [], ◌∷◌, Option}
+use Rattle.std.specs.Prelude.{Some, None, get_or, if◌then◌else◌, length, map, min, nat_eq, slice_set}
 use denote.Ref.{Bor}
-use Rattle.domain.specs.Interval.{Interval, vacant}
+use Rattle.domain.specs.Interval.{vacant}
 use Rattle.types.specs.Types.{is_ordinal}
-use Rattle.typed_tree.specs.declared.tree.Block.{Block}
 use Rattle.typed_tree.specs.declared.tree.Selector.{Selector}
 use Rattle.typed_tree.specs.declared.tree.Tree.{Tree}
 use Rattle.typed_tree.specs.declared.tree.Variable.{Variable}
 use Rattle.abstract_state.specs.State as variables
-use Rattle.leaf_rows.specs.Rows.{Row, rows_of, rows_under}
+use Rattle.leaf_rows.specs.Rows.{rows_of, rows_under}
 use Rattle.component_states.specs.Components as components
-use Rattle.component_states.specs.Components.{RowState, with_row}
-use Rattle.call_states.specs.Starts.{is_passed_value, row_start, variable_start}
+use Rattle.component_states.specs.Components.{with_defined, with_touched}
+use Rattle.component_states.specs.States.{State}
+use Rattle.call_states.specs.Starts.{is_own, is_passed_value}
 use Rattle.structured_states.specs.Loops.{is_ordinal_variable}
 use Rattle.certificate.specs.declared.Section.{Section as KeptSection}
 use Rattle.certificate.specs.Contents.{said_fact}
@@ -74,64 +73,37 @@ pub record AreFound (old new : List (Option (Bor KeptSection))) (found : ℕ →
 
 -- ---- where a block begins
 
--- the variables of a block by those of each block, and those that are visible in one
+-- the variables of a block by those of each block
 abbrev pub own_roots : Tree → List (List ℕ) → ℕ → List ℕ
 own_roots tree declared block = get_or declared (min block (length tree.blocks.items)) []
 
-abbrev pub visible_by : Tree → List (List ℕ) → ℕ → Option Block → List ℕ
-visible_by tree declared block None = []
-visible_by tree declared block (Some found) =
-    flat_map (own_roots tree declared) found.heading.around.items ++ own_roots tree declared block
+-- a variable is undefined, and so are its rows
+abbrev pub begun_undefined : Tree → ℕ → State → State
+begun_undefined tree root state = record {
+  variables = variables.with_range root vacant state.variables;
+  components = with_touched (λ row. vacant) (rows_under (rows_of tree) root []) state.components;
+}
 
-abbrev pub visible_roots : Tree → List (List ℕ) → ℕ → List ℕ
-visible_roots tree declared block = visible_by tree declared block (slice_get tree.blocks.items block)
+-- each component of some rows is defined
+abbrev pub rows_defined : List ℕ → components.Components → components.Components
+rows_defined [] known = known
+rows_defined (row ∷ rows) known = rows_defined rows (with_defined row known)
 
--- some variables have their ranges
-abbrev pub range_begun : Tree → ℕ → Option Variable → Interval
-range_begun tree block None = vacant
-range_begun tree block (Some variable) = variable_start tree block variable
+-- a value parameter is defined, which may be ordinal, and so are its rows
+abbrev pub begun_passed : Tree → ℕ → (is_ordinal : Bool) → State → State
+begun_passed tree root is_ordinal state = record {
+  variables = if is_ordinal then variables.with_defined root state.variables else state.variables;
+  components = rows_defined (rows_under (rows_of tree) root []) state.components;
+}
 
-abbrev pub ranges_begun : Tree → ℕ → List ℕ → variables.State → variables.State
-ranges_begun tree block [] state = state
-ranges_begun tree block (root ∷ roots) state =
-    ranges_begun tree block roots
-    (variables.with_range root (range_begun tree block (slice_get tree.variables.items root)) state)
-
--- those of them are defined that are ordinal value parameters
-abbrev pub value_begun : Tree → ℕ → ℕ → Option Variable → variables.State → variables.State
-value_begun tree block root None state = state
-value_begun tree block root (Some variable) state =
-    if is_passed_value block variable && is_ordinal tree.types variable.type_id
-    then variables.with_defined root state
+-- a variable begins, if it is there
+abbrev pub begun : Tree → ℕ → ℕ → Option Variable → State → State
+begun tree block root None state = state
+begun tree block root (Some variable) state =
+    if is_own block variable then begun_undefined tree root state
+    else if is_passed_value block variable
+    then begun_passed tree root (is_ordinal tree.types variable.type_id) state
     else state
-
-abbrev pub values_begun : Tree → ℕ → List ℕ → variables.State → variables.State
-values_begun tree block [] state = state
-values_begun tree block (root ∷ roots) state =
-    values_begun tree block roots (value_begun tree block root (slice_get tree.variables.items root) state)
-
--- the row of a number in a program, where there is one, and what is known of it where a block begins
-abbrev pub no_leaf : Row
-no_leaf = record { root = 0; leaf = record { steps = []; values = None; index = None } }
-
-abbrev pub numbered : Tree → ℕ → Row
-numbered tree number = get_or (rows_of tree) number no_leaf
-
-abbrev pub row_begun : Tree → ℕ → Option Variable → ℕ → RowState
-row_begun tree block variable row = row_start tree block (numbered tree row) variable
-
--- some rows of a variable begin
-abbrev pub rows_begun : Tree → ℕ → Option Variable → List ℕ → components.Components → components.Components
-rows_begun tree block variable [] known = known
-rows_begun tree block variable (row ∷ rows) known =
-    rows_begun tree block variable rows (with_row row (row_begun tree block variable row) known)
-
--- those of several variables
-abbrev pub all_rows_begun : Tree → ℕ → List ℕ → components.Components → components.Components
-all_rows_begun tree block [] known = known
-all_rows_begun tree block (root ∷ roots) known =
-    all_rows_begun tree block roots
-    (rows_begun tree block (slice_get tree.variables.items root) (rows_under (rows_of tree) root []) known)
 
 -- a variable is put behind those of a block
 abbrev pub with_root : (block root : ℕ) → List (List ℕ) → List (List ℕ)

@@ -17,10 +17,9 @@ use component_states::{Index, Reach};
 use domain::Domain;
 use domain::facts::Bound;
 use domain::interval::Interval;
-use leaf_rows::{Rows, Span};
+use leaf_rows::{Rows, Span, limits_at};
 use std::alloc::{AllocError, Global};
 use structured_states::kept_claims::{is_ordinal_variable, names_entire, rows_named};
-use structured_states::rounds::limits_at;
 use typed_tree::tree::{Selector, Tree};
 use types::OrdinalRange;
 

@@ -9,6 +9,7 @@ ghost use Rattle.call_states.specs.Aliases.{reach_unless_alias, rows_joined, sam
 ghost use Rattle.call_states.specs.Aliases.{variable_values};
 ghost use Rattle.call_states.specs.Aliases.{with_aliases_stored};
 ghost use Rattle.call_states.specs.View.{said_stored};
+ghost use Rattle.typed_tree.specs.declared.tree.Tree.{Tree};
 
 use component_states::{Index, Reach, State};
 use domain::Domain;
@@ -35,8 +36,8 @@ pub fn store(
     aliases: &[u32],
     stored: &[Stored],
 ) -> Result<(), AllocError>
-    ensures { IfOk result (λ _. viewed state.new
-        ≡ with_aliases_stored rows.now aliases.now (map said_stored stored.now) (viewed state.old)) }
+    ensures { IfOk result (λ _. viewed rows.now state.new
+        ≡ with_aliases_stored rows.now aliases.now (map said_stored stored.now) (viewed rows.now state.old)) }
 {
     if aliases.is_empty() {
         return Ok(());
@@ -50,7 +51,7 @@ pub fn store(
 
 /// Facts that rest on some variables are known no longer.
 pub fn drop_all(state: &mut State, roots: &[u32])
-    ensures { viewed state.new ≡ all_dropped roots.now (viewed state.old) }
+    ensures { (tree : Tree) → viewed tree state.new ≡ all_dropped roots.now (viewed tree state.old) }
 {
     for root in roots {
         state.variables.change(*root, None);
@@ -66,7 +67,8 @@ fn join_aliases(
     aliases: &[u32],
 ) -> Result<(), AllocError>
     ensures { IfOk result
-        (λ _. viewed state.new ≡ aliases_joined rows.now (said_stored stored.now) aliases.now (viewed state.old)) }
+        (λ _. viewed rows.now state.new
+        ≡ aliases_joined rows.now (said_stored stored.now) aliases.now (viewed rows.now state.old)) }
 {
     for alias in aliases {
         join_alias(state, rows, stored, *alias)?;
@@ -77,11 +79,15 @@ fn join_aliases(
 /// An alias may have it, as a whole or in its components.
 fn join_alias(state: &mut State, rows: &Rows, stored: &Stored, alias: u32) -> Result<(), AllocError>
     ensures { IfOk result
-        (λ _. viewed state.new ≡ alias_joined rows.now (said_stored stored.now) alias (viewed state.old)) }
+        (λ _. viewed rows.now state.new
+        ≡ alias_joined rows.now (said_stored stored.now) alias (viewed rows.now state.old)) }
 {
     if is_same(stored.values, variable_values(rows.tree(), alias)) {
-        let range = state.variables.range(alias).join(&stored.range);
-        state.variables.set_range(alias, range)?;
+        let range = state
+            .variables
+            .range(rows.limits(), alias)
+            .join(&stored.range);
+        state.variables.set_range(rows.limits(), alias, range)?;
     }
     join_rows(state, rows, stored, rows.of_variable(alias))
 }
@@ -89,11 +95,12 @@ fn join_alias(state: &mut State, rows: &Rows, stored: &Stored, alias: u32) -> Re
 /// Components of some rows may have it.
 fn join_rows(state: &mut State, rows: &Rows, stored: &Stored, span: Span) -> Result<(), AllocError>
     ensures { IfOk result
-        (λ _. viewed state.new ≡ rows_joined rows.now (said_stored stored.now) (numbers span) (viewed state.old)) }
+        (λ _. viewed rows.now state.new
+        ≡ rows_joined rows.now (said_stored stored.now) (numbers span) (viewed rows.now state.old)) }
 {
     for row in span.first..span.end() {
         if is_same(stored.values, rows.values(row)) {
-            state.touch_row(row, state.row_range(row).join(&stored.range))?;
+            state.touch_row(rows, row, state.row_range(rows, row).join(&stored.range))?;
         }
     }
     Ok(())

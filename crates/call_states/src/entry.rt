@@ -1,8 +1,7 @@
 ghost use Rattle.std.specs.Prelude.{◌≡◌, ◌||◌, IfOk, IfSome, map, pos};
 ghost use Rattle.std.specs.List.{list_all, list_any};
 ghost use Rattle.certificate.specs.Contents.{said_fact};
-ghost use Rattle.component_states.specs.View.{said_reach, said_stretch, viewed};
-ghost use Rattle.abstract_state.specs.View as variables;
+ghost use Rattle.component_states.specs.View.{said_reach, said_stretch, viewed, viewed_variables};
 ghost use Rattle.domain.specs.Facts.{Plus, said_bound};
 ghost use Rattle.domain.specs.Interval.{is_included};
 ghost use Rattle.call_states.specs.Entry.{are_borne_between, are_given, are_ordered, are_reached, has_between};
@@ -30,7 +29,7 @@ pub fn are_given(
     claims: &[Claim],
 ) -> Result<bool, AllocError>
     ensures { IfOk result (λ given. given
-        ≡ are_given rows.now (said_bindings bindings.entry) (viewed state.now) (map said_fact claims.now)) }
+        ≡ are_given rows.now (said_bindings bindings.entry) (viewed rows.now state.now) (map said_fact claims.now)) }
 {
     if state.is_dead() {
         return Ok(true);
@@ -52,14 +51,14 @@ fn is_given(
     claim: &Claim,
 ) -> Result<bool, AllocError>
     ensures { IfOk result
-        (λ given. given ≡ is_given rows.now (said_bindings bindings.entry) (viewed state.now) (said_fact claim.now)) }
+        (λ given. given
+        ≡ is_given rows.now (said_bindings bindings.entry) (viewed rows.now state.now) (said_fact claim.now)) }
 {
-    let tree = rows.tree();
     let variables = &state.variables;
     match claim {
         Claim::Range { path, range } => {
             let bearers = bearers_named(alloc, rows, bindings, path)?;
-            Ok(are_within(state, &bearers, *range))
+            Ok(are_within(rows, state, &bearers, *range))
         }
         Claim::Defined { path } => {
             let bearers = bearers_named(alloc, rows, bindings, path)?;
@@ -67,8 +66,8 @@ fn is_given(
         }
         Claim::Stretch { path, first, last } => {
             let bearers = bearers_named(alloc, rows, bindings, path)?;
-            let first = limit_of(tree, variables, bindings, *first);
-            let last = limit_of(tree, variables, bindings, *last);
+            let first = limit_of(rows, variables, bindings, *first);
+            let last = limit_of(rows, variables, bindings, *last);
             Ok(are_between(rows, state, &bearers, first, last))
         }
         Claim::Order {
@@ -76,9 +75,9 @@ fn is_given(
             other,
             number,
         } => {
-            let first = limit_of(tree, variables, bindings, variable(*root, 0));
-            let last = limit_of(tree, variables, bindings, variable(*other, *number));
-            Ok(are_ordered(state, first, last))
+            let first = limit_of(rows, variables, bindings, variable(*root, 0));
+            let last = limit_of(rows, variables, bindings, variable(*other, *number));
+            Ok(are_ordered(rows, state, first, last))
         }
     }
 }
@@ -91,29 +90,30 @@ fn variable(root: u32, number: i32) -> Bound
 }
 
 /// Whether the values of each bearer lie in a range.
-fn are_within(state: &State, bearers: &[Bearer], range: Interval) -> bool
-    ensures { result ≡ list_all (λ bearer. is_included (range_borne (viewed state.now) (said_bearer bearer)) range)
+fn are_within(rows: &Rows, state: &State, bearers: &[Bearer], range: Interval) -> bool
+    ensures { result
+        ≡ list_all (λ bearer. is_included (range_borne (viewed rows.now state.now) (said_bearer bearer)) range)
         bearers.now }
 {
     bearers
         .iter()
-        .all(|bearer| range_borne(state, *bearer).leq(&range))
+        .all(|bearer| range_borne(rows, state, *bearer).leq(&range))
 }
 
 /// Where the values of a bearer lie.
-fn range_borne(state: &State, bearer: Bearer) -> Interval
-    ensures { result ≡ range_borne (viewed state.now) (said_bearer bearer) }
+fn range_borne(rows: &Rows, state: &State, bearer: Bearer) -> Interval
+    ensures { result ≡ range_borne (viewed rows.now state.now) (said_bearer bearer) }
 {
     match bearer {
         Bearer::Passed(range) => range,
-        Bearer::Variable(root) => state.variables.range(root),
-        Bearer::Components { row, .. } => state.row_range(row),
+        Bearer::Variable(root) => state.variables.range(rows.limits(), root),
+        Bearer::Components { row, .. } => state.row_range(rows, row),
     }
 }
 
 /// Whether each bearer is known to be defined.
 fn are_defined(rows: &Rows, state: &State, bearers: &[Bearer]) -> bool
-    ensures { result ≡ list_all (λ bearer. is_defined_borne rows.now (viewed state.now) (said_bearer bearer))
+    ensures { result ≡ list_all (λ bearer. is_defined_borne rows.now (viewed rows.now state.now) (said_bearer bearer))
         bearers.now }
 {
     bearers
@@ -122,22 +122,22 @@ fn are_defined(rows: &Rows, state: &State, bearers: &[Bearer]) -> bool
 }
 
 fn is_defined_borne(rows: &Rows, state: &State, bearer: Bearer) -> bool
-    ensures { result ≡ is_defined_borne rows.now (viewed state.now) (said_bearer bearer) }
+    ensures { result ≡ is_defined_borne rows.now (viewed rows.now state.now) (said_bearer bearer) }
 {
     match bearer {
         Bearer::Passed(_) => true,
-        Bearer::Variable(root) => state.variables.is_defined(root),
-        Bearer::Components { row, reach } => state.gives_reached(reach, rows.index(row), row),
+        Bearer::Variable(root) => state.variables.is_defined(rows.limits(), root),
+        Bearer::Components { row, reach } => state.gives_reached(rows, reach, rows.index(row), row),
     }
 }
 
 /// Whether two limits have values, and the first is at most the second.
-fn are_ordered(state: &State, first: Option<Limit>, last: Option<Limit>) -> bool
-    ensures { result ≡ are_ordered (viewed state.now) (said_some_limit first) (said_some_limit last) }
+fn are_ordered(rows: &Rows, state: &State, first: Option<Limit>, last: Option<Limit>) -> bool
+    ensures { result ≡ are_ordered (viewed rows.now state.now) (said_some_limit first) (said_some_limit last) }
 {
     match (first, last) {
         (Some(first), Some(last)) => {
-            first.has_value && last.has_value && first.is_at_most(&state.variables, &last)
+            first.has_value && last.has_value && first.is_at_most(rows, &state.variables, &last)
         }
         _ => false,
     }
@@ -152,7 +152,7 @@ fn are_between(
     last: Option<Limit>,
 ) -> bool
     requires { IfSome last AreBounded }
-    ensures { result ≡ are_borne_between rows.now (viewed state.now) (map said_bearer bearers.now)
+    ensures { result ≡ are_borne_between rows.now (viewed rows.now state.now) (map said_bearer bearers.now)
         (said_some_limit first) (said_some_limit last) }
 {
     match (first, last) {
@@ -166,16 +166,16 @@ fn are_between(
 /// Whether there are none between the limits, or they are defined.
 fn lie_between(rows: &Rows, state: &State, bearers: &[Bearer], first: Limit, last: Limit) -> bool
     requires { AreBounded last }
-    ensures { result ≡ (is_at_most (viewed state.now).variables (limit_moved (pos 1) (said_limit last))
-        (said_limit first) || list_all (is_borne_between rows.now (viewed state.now) (said_limit first)
+    ensures { result ≡ (is_at_most (viewed rows.now state.now).variables (limit_moved (pos 1) (said_limit last))
+        (said_limit first) || list_all (is_borne_between rows.now (viewed rows.now state.now) (said_limit first)
         (said_limit last)) (map said_bearer bearers.now)) }
 {
-    last.moved(1).is_at_most(&state.variables, &first)
+    last.moved(1).is_at_most(rows, &state.variables, &first)
         || all_between(rows, state, bearers, first, last)
 }
 
 fn all_between(rows: &Rows, state: &State, bearers: &[Bearer], first: Limit, last: Limit) -> bool
-    ensures { result ≡ list_all (λ bearer. is_borne_between rows.now (viewed state.now) (said_limit first)
+    ensures { result ≡ list_all (λ bearer. is_borne_between rows.now (viewed rows.now state.now) (said_limit first)
         (said_limit last) (said_bearer bearer)) bearers.now }
 {
     bearers
@@ -184,7 +184,7 @@ fn all_between(rows: &Rows, state: &State, bearers: &[Bearer], first: Limit, las
 }
 
 fn is_between(rows: &Rows, state: &State, bearer: Bearer, first: Limit, last: Limit) -> bool
-    ensures { result ≡ is_borne_between rows.now (viewed state.now) (said_limit first) (said_limit last)
+    ensures { result ≡ is_borne_between rows.now (viewed rows.now state.now) (said_limit first) (said_limit last)
         (said_bearer bearer) }
 {
     match bearer {
@@ -203,36 +203,43 @@ fn is_reached(
     first: Limit,
     last: Limit,
 ) -> bool
-    ensures { result ≡ are_reached rows.now (viewed state.now) (said_limit first) (said_limit last) row
+    ensures { result ≡ are_reached rows.now (viewed rows.now state.now) (said_limit first) (said_limit last) row
         (said_reach reach.now) }
 {
-    if state.gives_reached(*reach, rows.index(row), row) {
+    if state.gives_reached(rows, *reach, rows.index(row), row) {
         return true;
     }
     match reach {
-        Reach::Entire => holds_between(state, row, first, last),
+        Reach::Entire => holds_between(rows, state, row, first, last),
         Reach::At(_) | Reach::Inside(_) => false,
     }
 }
 
 /// Whether a stretch of a row is held that has all between two limits.
-fn holds_between(state: &State, row: u32, first: Limit, last: Limit) -> bool
-    ensures { result ≡ list_any (has_between (variables.viewed state.now.variables) row (said_limit first)
-        (said_limit last)) (viewed state.now).components.stretches }
+fn holds_between(rows: &Rows, state: &State, row: u32, first: Limit, last: Limit) -> bool
+    ensures { result ≡ list_any (has_between (viewed_variables rows.now state.now.variables) row (said_limit first)
+        (said_limit last)) (viewed rows.now state.now).components.stretches }
 {
     for held in state.stretches() {
-        if has_between(&state.variables, row, first, last, *held) {
+        if has_between(rows, &state.variables, row, first, last, *held) {
             return true;
         }
     }
     false
 }
 
-fn has_between(state: &Variables, row: u32, first: Limit, last: Limit, held: Stretch) -> bool
-    ensures { result ≡ has_between (variables.viewed state.now) row (said_limit first) (said_limit last)
+fn has_between(
+    rows: &Rows,
+    state: &Variables,
+    row: u32,
+    first: Limit,
+    last: Limit,
+    held: Stretch,
+) -> bool
+    ensures { result ≡ has_between (viewed_variables rows.now state.now) row (said_limit first) (said_limit last)
         (said_stretch held) }
 {
     held.row == row
-        && Limit::of(state, held.first).is_at_most(state, &first)
-        && last.is_at_most(state, &Limit::of(state, held.last))
+        && Limit::of(rows, state, held.first).is_at_most(rows, state, &first)
+        && last.is_at_most(rows, state, &Limit::of(rows, state, held.last))
 }

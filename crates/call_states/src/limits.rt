@@ -1,6 +1,7 @@
 ghost use Rattle.std.specs.Prelude.{◌≡◌, ◌+ℤ◌, ℕ, Some, pos, true};
 ghost use Rattle.std.specs.Option.{option_and_then};
-ghost use Rattle.abstract_state.specs.View.{IsFar, said_form, viewed};
+ghost use Rattle.abstract_state.specs.View.{IsFar, said_form};
+ghost use Rattle.component_states.specs.View.{viewed_variables};
 ghost use Rattle.component_states.specs.Components.{moved_bound};
 ghost use Rattle.domain.specs.Facts.{Plus, said_bound};
 ghost use Rattle.call_states.specs.Actuals.{actual_of};
@@ -13,7 +14,7 @@ use abstract_state::{Ends, State};
 use component_states::{has_value, moved};
 use domain::facts::Bound;
 use domain::interval::Interval;
-use typed_tree::tree::Tree;
+use leaf_rows::Rows;
 
 /// What a bound of a callee is where it is called.
 #[derive(Clone, Copy)]
@@ -28,14 +29,14 @@ pub(crate) struct Limit {
 
 impl Limit {
     /// That of a bound form.
-    pub(crate) fn of(state: &State, bound: Bound) -> Limit
-        ensures is { said_limit result ≡ limit_of (viewed state.now) (said_bound bound) }
+    pub(crate) fn of(rows: &Rows, state: &State, bound: Bound) -> Limit
+        ensures is { said_limit result ≡ limit_of (viewed_variables rows.now state.now) (said_bound bound) }
         ensures near { AreNear result }
     {
         Limit {
             form: Some(bound),
-            ends: state.ends(bound),
-            has_value: has_value(state, bound),
+            ends: state.ends(rows.limits(), bound),
+            has_value: has_value(rows, state, bound),
         }
     }
 
@@ -68,10 +69,11 @@ impl Limit {
     }
 
     /// Whether it is known to be at most another, by forms or by ranges.
-    pub(crate) fn is_at_most(&self, state: &State, other: &Limit) -> bool
-        ensures { result ≡ is_at_most (viewed state.now) (said_limit self.now) (said_limit other.now) }
+    pub(crate) fn is_at_most(&self, rows: &Rows, state: &State, other: &Limit) -> bool
+        ensures { result
+            ≡ is_at_most (viewed_variables rows.now state.now) (said_limit self.now) (said_limit other.now) }
     {
-        are_at_most(state, self.form, other.form) || self.ends.is_below(other.ends)
+        are_at_most(rows, state, self.form, other.form) || self.ends.is_below(other.ends)
     }
 }
 
@@ -95,61 +97,64 @@ fn moved_form(form: Option<Bound>, by: i64) -> Option<Bound>
 }
 
 /// Whether both forms are there, and the first is known to be at most the second.
-fn are_at_most(state: &State, one: Option<Bound>, other: Option<Bound>) -> bool
-    ensures { result ≡ forms_at_most (viewed state.now) (said_form one) (said_form other) }
+fn are_at_most(rows: &Rows, state: &State, one: Option<Bound>, other: Option<Bound>) -> bool
+    ensures { result ≡ forms_at_most (viewed_variables rows.now state.now) (said_form one) (said_form other) }
 {
     match (one, other) {
-        (Some(one), Some(other)) => state.knows_at_most(one, other),
+        (Some(one), Some(other)) => state.knows_at_most(rows.limits(), one, other),
         _ => false,
     }
 }
 
 /// A bound of a callee where it is called.
 pub(crate) fn limit_of(
-    tree: &Tree,
+    rows: &Rows,
     state: &State,
     bindings: Bindings,
     bound: Bound,
 ) -> Option<Limit>
     ensures { IsLimit AreBounded result
-        (limit_of_bound tree.now (viewed state.now) (said_bindings bindings.entry) (said_bound bound)) }
+        (limit_of_bound rows.now
+        (viewed_variables rows.now state.now) (said_bindings bindings.entry) (said_bound bound)) }
 {
     match bound {
-        Bound::Number(_) => Some(Limit::of(state, bound)),
-        Bound::Plus { root, number } => limit_above(tree, state, bindings, root, number),
+        Bound::Number(_) => Some(Limit::of(rows, state, bound)),
+        Bound::Plus { root, number } => limit_above(rows, state, bindings, root, number),
     }
 }
 
 /// A variable of the callee with a number more.
 fn limit_above(
-    tree: &Tree,
+    rows: &Rows,
     state: &State,
     bindings: Bindings,
     root: u32,
     number: i32,
 ) -> Option<Limit>
     ensures { IsLimit AreBounded result
-        (limit_of_bound tree.now (viewed state.now) (said_bindings bindings.entry) (Plus root number)) }
+        (limit_of_bound rows.now
+        (viewed_variables rows.now state.now) (said_bindings bindings.entry) (Plus root number)) }
 {
-    let limit = limit_of_root(tree, state, bindings, root)?;
+    let limit = limit_of_root(rows, state, bindings, root)?;
     Some(limit.moved(number))
 }
 
 /// A variable of the callee.
-fn limit_of_root(tree: &Tree, state: &State, bindings: Bindings, root: u32) -> Option<Limit>
+fn limit_of_root(rows: &Rows, state: &State, bindings: Bindings, root: u32) -> Option<Limit>
     ensures { IsLimit AreNear result
-        (limit_of_actual tree.now (viewed state.now) root (actual_of (said_bindings bindings.entry) root)) }
+        (limit_of_actual rows.now
+        (viewed_variables rows.now state.now) root (actual_of (said_bindings bindings.entry) root)) }
 {
     match bindings.actual(root) {
-        None => Some(of_variable(state, root)),
-        Some(actual) => limit_of_actual(tree, state, actual),
+        None => Some(of_variable(rows, state, root)),
+        Some(actual) => limit_of_actual(rows, state, actual),
     }
 }
 
 /// A formal parameter of it.
-fn limit_of_actual(tree: &Tree, state: &State, actual: &Actual) -> Option<Limit>
+fn limit_of_actual(rows: &Rows, state: &State, actual: &Actual) -> Option<Limit>
     ensures { (root : ℕ) → IsLimit AreNear result
-        (limit_of_actual tree.now (viewed state.now) root (Some (said_actual actual.now))) }
+        (limit_of_actual rows.now (viewed_variables rows.now state.now) root (Some (said_actual actual.now))) }
 {
     match actual {
         Actual::Value { range, form } => Some(Limit::of_value(*range, *form)),
@@ -159,8 +164,8 @@ fn limit_of_actual(tree: &Tree, state: &State, actual: &Actual) -> Option<Limit>
             selectors,
             ..
         } => {
-            if is_entire(tree, *root, selectors) {
-                return Some(of_variable(state, *root));
+            if is_entire(rows.tree(), *root, selectors) {
+                return Some(of_variable(rows, state, *root));
             }
             None
         }
@@ -168,9 +173,9 @@ fn limit_of_actual(tree: &Tree, state: &State, actual: &Actual) -> Option<Limit>
 }
 
 /// An entire variable of the caller.
-fn of_variable(state: &State, root: u32) -> Limit
-    ensures is { said_limit result ≡ limit_of (viewed state.now) (Plus root (pos 0)) }
+fn of_variable(rows: &Rows, state: &State, root: u32) -> Limit
+    ensures is { said_limit result ≡ limit_of (viewed_variables rows.now state.now) (Plus root (pos 0)) }
     ensures near { AreNear result }
 {
-    Limit::of(state, Bound::Plus { root, number: 0 })
+    Limit::of(rows, state, Bound::Plus { root, number: 0 })
 }

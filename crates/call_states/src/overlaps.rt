@@ -1,19 +1,28 @@
-ghost use Rattle.std.specs.Prelude.{◌≡◌, ◌∷◌, ℕ, List, slice_get};
+ghost use Rattle.std.specs.Prelude.{◌≡◌, ◌∷◌, ℕ, List, IfOk, slice_get};
 ghost use Rattle.std.specs.List.{list_all};
 ghost use Rattle.std.specs.Option.{unwrap_or};
 ghost use Rattle.typed_tree.specs.declared.tree.Selector.{Selector};
-ghost use Rattle.structured_states.specs.Pairs.{aliases_of};
+ghost use Rattle.structured_states.specs.Pairs.{aliases_in};
 ghost use Rattle.call_states.specs.Overlaps.{are_parted, are_separate, is_actual_listed, is_actual_separate};
 ghost use Rattle.call_states.specs.Overlaps.{is_declared_in, is_listed_round, is_listed_with, may_overlap};
 ghost use Rattle.call_states.specs.View.{said_actual, said_bindings};
 
 use crate::actuals::{Actual, Bindings};
+use std::alloc::{AllocError, Global};
 use structured_states::pairs::Pairs;
 use typed_tree::tree::{Selector, Tree};
 
-/// Whether what is passed to a block, round which there are some, makes listed aliases alone (ISO 7185:1990, 6.6.3.3).
-pub fn are_separate(pairs: &Pairs, tree: &Tree, around: &[u32], bindings: Bindings) -> bool
-    ensures { result ≡ are_separate pairs.now tree.now around.now (said_bindings bindings.entry) }
+/// Whether what is passed in one block to another, round which there are some, makes listed aliases alone
+/// (ISO 7185:1990, 6.6.3.3).
+pub fn are_separate(
+    alloc: Global,
+    pairs: &Pairs,
+    caller: u32,
+    around: &[u32],
+    bindings: Bindings,
+) -> Result<bool, AllocError>
+    ensures { IfOk result
+        (λ are. are ≡ are_separate pairs.now caller around.now (said_bindings bindings.entry)) }
 {
     let roots = bindings.roots;
     let actuals = bindings.actuals;
@@ -22,62 +31,73 @@ pub fn are_separate(pairs: &Pairs, tree: &Tree, around: &[u32], bindings: Bindin
             roots: &roots[i + 1..],
             actuals: &actuals[i + 1..],
         };
-        if !is_separate(pairs, tree, around, others, roots[i], &actuals[i]) {
-            return false;
+        if !is_separate(alloc, pairs, caller, around, others, roots[i], &actuals[i])? {
+            return Ok(false);
         }
     }
-    true
+    Ok(true)
 }
 
 /// Whether this holds of what is passed to a formal parameter, behind which there are others.
 fn is_separate(
+    alloc: Global,
     pairs: &Pairs,
-    tree: &Tree,
+    caller: u32,
     around: &[u32],
     others: Bindings,
     formal: u32,
     actual: &Actual,
-) -> bool
-    ensures { result ≡ is_actual_separate pairs.now tree.now around.now (said_bindings others.entry) formal
-        (said_actual actual.now) }
+) -> Result<bool, AllocError>
+    ensures { IfOk result (λ is. is
+        ≡ is_actual_separate pairs.now caller around.now (said_bindings others.entry) formal (said_actual actual.now)) }
 {
     match actual {
-        Actual::Value { .. } => true,
-        Actual::Rows(_) => true,
+        Actual::Value { .. } => Ok(true),
+        Actual::Rows(_) => Ok(true),
         Actual::Variable {
             root,
             selectors,
             ..
         } => {
-            are_listed_round(pairs, tree, around, formal, *root)
-                && are_listed_with(pairs, formal, *root, selectors, others)
+            Ok(
+                are_listed_round(alloc, pairs, caller, around, formal, *root)?
+                    && are_listed_with(pairs, formal, *root, selectors, others),
+            )
         }
     }
 }
 
-/// Whether a variable parameter is a listed pair with a variable and with each alias of it that is declared round the
-/// block.
-fn are_listed_round(pairs: &Pairs, tree: &Tree, around: &[u32], formal: u32, root: u32) -> bool
-    ensures { result ≡ list_all (is_listed_round pairs.now tree.now around.now formal)
-        (root ∷ aliases_of pairs.now root) }
+/// Whether a variable parameter is a listed pair with a variable and with each alias of it in the calling block that is
+/// declared round the called one.
+fn are_listed_round(
+    alloc: Global,
+    pairs: &Pairs,
+    caller: u32,
+    around: &[u32],
+    formal: u32,
+    root: u32,
+) -> Result<bool, AllocError>
+    ensures { IfOk result (λ are. are
+        ≡ list_all (is_listed_round pairs.now.pairs pairs.now.tree around.now formal)
+        (root ∷ aliases_in pairs.now caller root)) }
 {
-    is_listed_round(pairs, tree, around, formal, root)
-        && are_listed(pairs, tree, around, formal, pairs.aliases(root))
+    let aliases = pairs.aliases_in(alloc, caller, root)?;
+    Ok(is_listed_round(pairs, around, formal, root) && are_listed(pairs, around, formal, &aliases))
 }
 
 /// The same of some variables.
-fn are_listed(pairs: &Pairs, tree: &Tree, around: &[u32], formal: u32, roots: &[u32]) -> bool
-    ensures { result ≡ list_all (is_listed_round pairs.now tree.now around.now formal) roots.now }
+fn are_listed(pairs: &Pairs, around: &[u32], formal: u32, roots: &[u32]) -> bool
+    ensures { result ≡ list_all (is_listed_round pairs.now.pairs pairs.now.tree around.now formal) roots.now }
 {
     roots
         .iter()
-        .all(|root| is_listed_round(pairs, tree, around, formal, *root))
+        .all(|root| is_listed_round(pairs, around, formal, *root))
 }
 
-fn is_listed_round(pairs: &Pairs, tree: &Tree, around: &[u32], formal: u32, root: u32) -> bool
-    ensures { result ≡ is_listed_round pairs.now tree.now around.now formal root }
+fn is_listed_round(pairs: &Pairs, around: &[u32], formal: u32, root: u32) -> bool
+    ensures { result ≡ is_listed_round pairs.now.pairs pairs.now.tree around.now formal root }
 {
-    !is_declared_in(tree, around, root) || pairs.has(formal, root)
+    !is_declared_in(pairs.tree(), around, root) || pairs.has(formal, root)
 }
 
 /// Whether a variable is declared in one of some blocks.
@@ -100,7 +120,8 @@ fn are_listed_with(
     selectors: &[Selector],
     others: Bindings,
 ) -> bool
-    ensures { result ≡ list_all (is_listed_with pairs.now formal root selectors.now) (said_bindings others.entry) }
+    ensures { result
+        ≡ list_all (is_listed_with pairs.now.pairs formal root selectors.now) (said_bindings others.entry) }
 {
     let roots = others.roots;
     let actuals = others.actuals;
@@ -120,7 +141,7 @@ fn is_listed_with(
     other: u32,
     actual: &Actual,
 ) -> bool
-    ensures { result ≡ is_actual_listed pairs.now formal root selectors.now other (said_actual actual.now) }
+    ensures { result ≡ is_actual_listed pairs.now.pairs formal root selectors.now other (said_actual actual.now) }
 {
     match actual {
         Actual::Value { .. } => true,
@@ -144,7 +165,7 @@ fn may_overlap(
     other: u32,
     other_selectors: &[Selector],
 ) -> bool
-    ensures { result ≡ may_overlap pairs.now root selectors.now other other_selectors.now }
+    ensures { result ≡ may_overlap pairs.now.pairs root selectors.now other other_selectors.now }
 {
     root == other && !are_parted(selectors, other_selectors) || pairs.has(root, other)
 }

@@ -1,24 +1,20 @@
-ghost use Rattle.std.specs.Prelude.{◌≡◌, ◌++◌, ◌<◌, [], IfOk, Some, flat_map, length, map, replicate, slice_get, suc};
-ghost use Rattle.abstract_state.specs.View.{viewed as viewed_variables};
+ghost use Rattle.std.specs.Prelude.{◌≡◌, ◌<◌, [], IfOk, length, map, replicate, slice_get, suc};
 ghost use Rattle.certificate.specs.Contents.{said_fact};
-ghost use Rattle.component_states.specs.Components.{with_row};
+ghost use Rattle.component_states.specs.Components.{with_touched};
 ghost use Rattle.component_states.specs.States.{over_components};
 ghost use Rattle.component_states.specs.View.{viewed};
+ghost use Rattle.domain.specs.Interval.{vacant};
 ghost use Rattle.leaf_rows.specs.View.{numbers};
-ghost use Rattle.typed_tree.specs.WellFormed.{is_round, outline_of};
 ghost use Rattle.call_states.specs.Starts.{all_declared, block_start, components_start, is_own, is_passed_value};
-ghost use Rattle.call_states.specs.Starts.{is_undefined_at_start, start_range, variables_start};
-ghost use Rattle.call_states.specs.View.{all_rows_begun, own_roots, range_begun, ranges_begun, row_begun, rows_begun};
-ghost use Rattle.call_states.specs.View.{value_begun, values_begun, visible_roots, with_root};
+ghost use Rattle.call_states.specs.Starts.{variables_start};
+ghost use Rattle.call_states.specs.View.{begun, begun_passed, begun_undefined, own_roots, rows_defined, with_root};
 
-use abstract_state::State as Variables;
 use certificate::Fact as Claim;
 use component_states::State;
 use domain::interval::Interval;
 use leaf_rows::{Rows, Span};
 use std::alloc::{AllocError, Global};
 use structured_states::kept_claims::{component_facts, plain_facts};
-use structured_states::rounds::{limits_or_integer, row_limits};
 use typed_tree::tree::{Tree, Variable, VariableKind};
 
 /// The root numbers of the variables that each block of a program declares, by its number, and behind them those of
@@ -80,18 +76,17 @@ pub fn block_start(
     claims: &[Claim],
 ) -> Result<State, AllocError>
     ensures { map (λ row. row.items) declared.now ≡ all_declared rows.now
-        → IfOk result (λ state. viewed state ≡ block_start rows.now block (map said_fact claims.now)) }
+        → IfOk result (λ state. viewed rows.now state ≡ block_start rows.now block (map said_fact claims.now)) }
 {
-    let tree = rows.tree();
     let mut state = unclaimed(alloc, rows, declared, block)?;
-    let facts = plain_facts(alloc, tree, claims)?;
-    state.variables.claim_all(&facts)?;
+    let facts = plain_facts(alloc, rows.tree(), claims)?;
+    state.variables.claim_all(rows.limits(), &facts)?;
     let facts = component_facts(alloc, rows, claims)?;
-    state.claim_all(&facts)?;
+    state.claim_all(rows, &facts)?;
     Ok(state)
 }
 
-/// The same where nothing is claimed.
+/// The same where nothing is claimed: what a block declares itself begins there.
 fn unclaimed(
     alloc: Global,
     rows: &Rows,
@@ -99,57 +94,16 @@ fn unclaimed(
     block: u32,
 ) -> Result<State, AllocError>
     ensures { map (λ row. row.items) declared.now ≡ all_declared rows.now
-        → IfOk result (λ state. viewed state ≡ record {
+        → IfOk result (λ state. viewed rows.now state ≡ record {
           variables = variables_start rows.now block;
           components = components_start rows.now block;
         }) }
 {
-    let tree = rows.tree();
-    let visible = visible_roots(alloc, tree, declared, block)?;
-    let mut state = State::undefined(alloc, tree.variables.len(), rows.count());
-    begin_ranges(&mut state.variables, tree, block, &visible)?;
-    begin_values(
-        &mut state.variables,
-        tree,
-        block,
-        own_roots(tree, declared, block),
-    )?;
-    begin_rows(&mut state, rows, block, &visible)?;
+    let mut state = State::of_types(alloc);
+    for root in own_roots(rows.tree(), declared, block) {
+        begin(&mut state, rows, block, *root)?;
+    }
     Ok(state)
-}
-
-/// The variables that a block sees: those of the blocks round it, and its own.
-fn visible_roots(
-    alloc: Global,
-    tree: &Tree,
-    declared: &[Vec<u32>],
-    block: u32,
-) -> Result<Vec<u32>, AllocError>
-    ensures { IfOk result
-        (λ roots. roots.items ≡ visible_roots tree.now (map (λ row. row.items) declared.now) block) }
-{
-    let mut roots = Vec::new(alloc);
-    if let Some(found) = tree.blocks.get(block as usize) {
-        add_roots(&mut roots, tree, declared, &found.heading.around)?;
-        roots.extend_from_slice(own_roots(tree, declared, block))?;
-    }
-    Ok(roots)
-}
-
-/// Puts the variables of several blocks behind others.
-fn add_roots(
-    roots: &mut Vec<u32>,
-    tree: &Tree,
-    declared: &[Vec<u32>],
-    blocks: &[u32],
-) -> Result<(), AllocError>
-    ensures { IfOk result (λ _. roots.new.items
-        ≡ roots.old.items ++ flat_map (own_roots tree.now (map (λ row. row.items) declared.now)) blocks.now) }
-{
-    for block in blocks {
-        roots.extend_from_slice(own_roots(tree, declared, *block))?;
-    }
-    Ok(())
 }
 
 /// The variables that a block declares, by those of each.
@@ -162,171 +116,77 @@ fn own_roots<'a>(tree: &Tree, declared: &'a [Vec<u32>], block: u32) -> &'a [u32]
     }
 }
 
-/// Where the values of some variables lie at the start.
-fn begin_ranges(
-    state: &mut Variables,
-    tree: &Tree,
-    block: u32,
-    roots: &[u32],
-) -> Result<(), AllocError>
-    ensures { IfOk result
-        (λ _. viewed_variables state.new ≡ ranges_begun tree.now block roots.now (viewed_variables state.old)) }
+/// A variable of the block begins: it is undefined, or was passed as a value.
+fn begin(state: &mut State, rows: &Rows, block: u32, root: u32) -> Result<(), AllocError>
+    ensures { IfOk result (λ _. viewed rows.now state.new
+        ≡ begun rows.now block root (slice_get rows.now.variables.items root) (viewed rows.now state.old)) }
 {
-    for root in roots {
-        state.set_range(*root, range_at(tree, block, variable_at(tree, *root)))?;
-    }
-    Ok(())
-}
-
-/// The variable of a number.
-fn variable_at(tree: &Tree, root: u32) -> Option<Variable>
-    ensures { result ≡ slice_get tree.now.variables.items root }
-{
-    tree.variables.get(root as usize).copied()
-}
-
-/// Where the values of a variable lie at the start, if it is there.
-fn range_at(tree: &Tree, block: u32, variable: Option<Variable>) -> Interval
-    ensures { result ≡ range_begun tree.now block variable }
-{
-    match variable {
-        None => Interval::EMPTY,
-        Some(variable) => {
-            let limits = limits_or_integer(tree.types.range(variable.type_id));
-            start_range(tree, block, variable, limits)
-        }
-    }
-}
-
-/// The ordinal value parameters among some variables are defined at the start.
-fn begin_values(
-    state: &mut Variables,
-    tree: &Tree,
-    block: u32,
-    roots: &[u32],
-) -> Result<(), AllocError>
-    ensures { IfOk result
-        (λ _. viewed_variables state.new ≡ values_begun tree.now block roots.now (viewed_variables state.old)) }
-{
-    for root in roots {
-        begin_value(state, tree, block, *root)?;
-    }
-    Ok(())
-}
-
-/// A variable is defined at the start, if it is such a parameter.
-fn begin_value(state: &mut Variables, tree: &Tree, block: u32, root: u32) -> Result<(), AllocError>
-    ensures { IfOk result (λ _. viewed_variables state.new
-        ≡ value_begun tree.now block root (slice_get tree.now.variables.items root) (viewed_variables state.old)) }
-{
-    match variable_at(tree, root) {
+    match rows.tree().variables.get(root as usize) {
         None => Ok(()),
         Some(variable) => {
-            if is_passed_value(block, variable) && tree.types.is_ordinal(variable.type_id) {
-                return state.define(root);
+            if is_own(block, *variable) {
+                begin_undefined(state, rows, root)
+            } else if is_passed_value(block, *variable) {
+                begin_passed(
+                    state,
+                    rows,
+                    root,
+                    rows.tree().types.is_ordinal(variable.type_id),
+                )
+            } else {
+                Ok(())
             }
-            Ok(())
         }
     }
 }
 
-/// What is known of the rows of some variables at the start.
-fn begin_rows(state: &mut State, rows: &Rows, block: u32, roots: &[u32]) -> Result<(), AllocError>
-    ensures { IfOk result (λ _. viewed state.new
-        ≡ over_components (λ _. all_rows_begun rows.now block roots.now) (viewed state.old)) }
+/// A variable begins undefined.
+fn begin_undefined(state: &mut State, rows: &Rows, root: u32) -> Result<(), AllocError>
+    ensures { IfOk result
+        (λ _. viewed rows.now state.new ≡ begun_undefined rows.now root (viewed rows.now state.old)) }
 {
-    for root in roots {
-        let variable = variable_at(rows.tree(), *root);
-        begin_span(state, rows, block, variable, rows.of_variable(*root))?;
-    }
-    Ok(())
+    state
+        .variables
+        .set_range(rows.limits(), root, Interval::EMPTY)?;
+    clear(state, rows, rows.of_variable(root))
 }
 
-/// What is known of some rows of a variable.
-fn begin_span(
-    state: &mut State,
-    rows: &Rows,
-    block: u32,
-    variable: Option<Variable>,
-    span: Span,
-) -> Result<(), AllocError>
-    ensures { IfOk result (λ _. viewed state.new
-        ≡ over_components (λ _. rows_begun rows.now block variable (numbers span)) (viewed state.old)) }
+/// No component of some rows has a value.
+fn clear(state: &mut State, rows: &Rows, span: Span) -> Result<(), AllocError>
+    ensures { IfOk result (λ _. viewed rows.now state.new
+        ≡ over_components (λ _. with_touched (λ row. vacant) (numbers span)) (viewed rows.now state.old)) }
 {
     for row in span.first..span.end() {
-        begin_row(state, rows, block, variable, row)?;
+        state.touch_row(rows, row, Interval::EMPTY)?;
     }
     Ok(())
 }
 
-/// What is known of a row of a variable, if that is there.
-fn begin_row(
+/// A value parameter begins, which may be ordinal.
+fn begin_passed(
     state: &mut State,
     rows: &Rows,
-    block: u32,
-    variable: Option<Variable>,
-    row: u32,
+    root: u32,
+    is_ordinal: bool,
 ) -> Result<(), AllocError>
-    ensures { IfOk result (λ _. viewed state.new
-        ≡ over_components (λ _. with_row row (row_begun rows.now block variable row)) (viewed state.old)) }
+    ensures { IfOk result
+        (λ _. viewed rows.now state.new ≡ begun_passed rows.now root is_ordinal (viewed rows.now state.old)) }
 {
-    match variable {
-        None => state.begin_row(row, Interval::EMPTY, false, None),
-        Some(variable) => begin_row_of(state, rows, block, variable, row),
+    if is_ordinal {
+        state.variables.define(rows.limits(), root)?;
     }
+    define(state, rows, rows.of_variable(root))
 }
 
-/// What is known of a row of a variable, if that is visible.
-fn begin_row_of(
-    state: &mut State,
-    rows: &Rows,
-    block: u32,
-    variable: Variable,
-    row: u32,
-) -> Result<(), AllocError>
-    ensures { IfOk result (λ _. viewed state.new
-        ≡ over_components (λ _. with_row row (row_begun rows.now block (Some variable) row)) (viewed state.old)) }
+/// Each component of some rows has a value.
+fn define(state: &mut State, rows: &Rows, span: Span) -> Result<(), AllocError>
+    ensures { IfOk result (λ _. viewed rows.now state.new
+        ≡ over_components (λ _. rows_defined (numbers span)) (viewed rows.now state.old)) }
 {
-    let tree = rows.tree();
-    if is_round(tree, block, variable.block) {
-        let range = start_range(tree, block, variable, row_limits(rows, row));
-        state.begin_row(
-            row,
-            range,
-            is_passed_value(block, variable),
-            rows.index(row),
-        )
-    } else {
-        state.begin_row(row, Interval::EMPTY, false, None)
+    for row in span.first..span.end() {
+        state.define_row(rows, row)?;
     }
-}
-
-/// Where the values of a variable lie at the start, if those of its type lie here.
-fn start_range(tree: &Tree, block: u32, variable: Variable, limits: Interval) -> Interval
-    ensures { result ≡ start_range tree.now block variable limits }
-{
-    if is_undefined_at_start(tree, block, variable) {
-        Interval::EMPTY
-    } else {
-        limits
-    }
-}
-
-/// Whether a variable has no value at the start.
-fn is_undefined_at_start(tree: &Tree, block: u32, variable: Variable) -> bool
-    ensures { result ≡ is_undefined_at_start tree.now block variable }
-{
-    !is_round(tree, block, variable.block) || is_own(block, variable)
-}
-
-/// Whether a block is that of a number, or stands round it.
-fn is_round(tree: &Tree, number: u32, block: u32) -> bool
-    ensures { result ≡ is_round (outline_of tree.now) number block }
-{
-    match tree.blocks.get(number as usize) {
-        None => false,
-        Some(found) => block == number || found.heading.around.contains(&block),
-    }
+    Ok(())
 }
 
 /// Whether a block declares a variable as one of its own, or as its result.

@@ -27,20 +27,21 @@ use Rattle.abstract_state.specs.Loops.{is_among, replaced, with_undefined}
 use Rattle.abstract_state.proofs.Apart.{part}
 use Rattle.abstract_state.proofs.Changed.{assigned-known}
 use Rattle.abstract_state.proofs.Looped.{replaced-known, undefined-known}
+use Rattle.leaf_rows.specs.Limits.{all_limits, limits_at, limits_or_integer}
 use Rattle.leaf_rows.specs.Rows.{Parts, all_parts}
 use Rattle.leaf_rows.proofs.Accessed.{components-inner}
 use Rattle.component_states.specs.States.{State, over_bound, over_change}
 use Rattle.component_states.specs.Holds.{Knows}
 use Rattle.component_states.specs.Laws.{IsNumberOf, OneChanges}
 use Rattle.component_states.proofs.Changed.{bounds-hold, changes-hold, none-loose}
-use Rattle.structured_states.specs.Loops.{all_limits, limits_at, limits_or_integer}
-use Rattle.structured_states.specs.Pairs.{aliases_of}
+use Rattle.structured_states.specs.Pairs.{aliases_in}
 use Rattle.structured_states.specs.Ways.{Way, next, turn_ended}
 use Rattle.structured_states.proofs.OnWay.{Between, MayBe, ended-known, next-of_form}
 use Rattle.call_states.specs.Aliases.{Stored, unless_alias, variable_values, with_aliases_stored}
 use Rattle.call_states.specs.Environments.{LiesIn, Proper, place_type}
 use Rattle.call_states.proofs.Aliased.{IsReady, aliases-ready}
 use Rattle.call_states.proofs.AliasedStores.{AreWritten, IsApart, Pairs, at-head, head-or_tail, one-kept, one-written, whole-changes}
+use Rattle.call_states.proofs.SeenAliases.{listed_pairs}
 use Rattle.call_states.proofs.AliasedTypes.{AreStoredAs, AreTyped, are-aliased, declared, seen, shows, values-limits, whole-type}
 use Rattle.cert_checker.specs.Walk.{assigned_to}
 
@@ -132,7 +133,7 @@ module _ (tree : Tree) (pairs : List (ℕ × ℕ)) (block activations : ℕ) (en
       (variable.0.type_id, typed, subst (λ (p : List Step × ℤ). LiesIn tree.types variable.0.type_id (Number p.1)) same lies)
 
   abbrev aliases : List ℕ
-  aliases = aliases_of pairs root
+  aliases = aliases_in (listed_pairs tree pairs) block root
 
   -- what an assignment tells of the aliases
   abbrev told : Interval → List Stored

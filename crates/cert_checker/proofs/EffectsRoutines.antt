@@ -88,7 +88,7 @@ module _ (tree : Tree) (well : IsWellFormed tree) (certificate : Certificate) (u
   pub body-here : (number : ℕ) (block : Block) → slice_get tree.blocks.items number ≡ Some block → BodyYields tree blocks number block
   body-here number block is =
       subst (λ (n : ℕ). BodyYields tree blocks n block) (zero-add number)
-      (bodies-yield (first_context tree certificate) 0 tree.blocks.items (record { state = dead; unbroken = unbroken; value_is = refl }) number block is)
+      (bodies-yield (first_context tree certificate) 0 tree.blocks.items (record { state = dead tree; unbroken = unbroken; value_is = refl }) number block is)
 
   module _ (calls : Calls) (leave : CallsLeave tree blocks calls) (number : ℕ) (block : Block) (is : slice_get tree.blocks.items number ≡ Some block)
       (arguments : List Argument) (caller : Environment) (s : State) where

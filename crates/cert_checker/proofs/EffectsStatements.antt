@@ -46,7 +46,8 @@ use Rattle.domain.specs.Interval.{Interval, is_included}
 use Rattle.component_states.specs.Components.{Reach}
 use Rattle.component_states.specs.States.{State, over_bound, over_change, over_variables}
 use Rattle.structured_states.specs.Cases.{arm_start, constants_before}
-use Rattle.structured_states.specs.Loops.{claims_at, limits_at, round_of, with_own, without_own}
+use Rattle.leaf_rows.specs.Limits.{limits_at}
+use Rattle.structured_states.specs.Loops.{claims_at, round_of, with_own, without_own}
 use Rattle.structured_states.specs.Ways.{Way, next, turn_begun, turn_ended, way_of, way_out, where_counts}
 use Rattle.call_states.specs.Sections.{BlockClaims}
 use Rattle.call_states.specs.Starts.{is_own}

@@ -241,7 +241,7 @@ blocks-entered number (block ∷ blocks) context state =
 
 -- and that over a program
 pub program-entered : (tree : Tree) (certificate : Certificate) → numbers_of (program_walk tree certificate).linked ≡ entries_of tree
-program-entered tree certificate = blocks-entered 0 tree.blocks.items (first_context tree certificate) dead
+program-entered tree certificate = blocks-entered 0 tree.blocks.items (first_context tree certificate) (dead tree)
 
 pub links_entries : (tree : Tree) (certificate : Certificate) → LinksEntries tree certificate
 links_entries tree certificate = record { of_block = block-entered; of_program = program-entered tree certificate }

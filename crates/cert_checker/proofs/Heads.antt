@@ -5,13 +5,14 @@ use Rattle.domain.specs.Facts.{Fact}
 use Rattle.meaning.specs.Store.{Environment, Store}
 use Rattle.abstract_state.specs.Knows.{IsKept, Shows}
 use Rattle.abstract_state.proofs.Looped.{head-known}
+use Rattle.leaf_rows.specs.Limits.{all_limits, limits_at, row_limits}
 use Rattle.leaf_rows.specs.Rows.{all_parts, rows_of, rows_touched}
 use Rattle.leaf_rows.proofs.Accessed.{components-inner}
 use Rattle.component_states.specs.Holds.{Knows}
 use Rattle.component_states.specs.Laws.{AreEntire}
 use Rattle.component_states.specs.States.{State}
 use Rattle.component_states.proofs.Looped.{heads-hold}
-use Rattle.structured_states.specs.Loops.{Round, all_limits, component_facts, head_of, limits_at, plain_facts, row_limits, touched}
+use Rattle.structured_states.specs.Loops.{Round, component_facts, head_of, plain_facts, touched}
 pub use Rattle.call_states.proofs.Claimed.{AllHold, given-claims}
 use Rattle.call_states.proofs.AliasedTypes.{InTypes}
 use Rattle.exit_states.proofs.Behind.{rows-touched}

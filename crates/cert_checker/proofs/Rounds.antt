@@ -1,19 +1,23 @@
 -- What the turns of a loop change, the loop touches, and the aliases of that: at its head, and inside it as far as they are visible.
 use Rattle.std.proofs.Common.{◌≡◌, ⊎_elim, ◌∙◌, sym, ap, refl, subst, ℕ, Bool, true, false, not, ◌&&◌, ◌||◌, nat_eq, List, [], ◌∷◌, ◌++◌, Some}
 use Rattle.std.proofs.Common.{None}
-use Rattle.std.specs.List.{list_all}
-use Rattle.std.proofs.lemmas.Bool.{and_parts, eqb-true, or_cases, or_left, or_right}
+use Rattle.std.specs.Prelude.{slice_get}
+use Rattle.std.proofs.lemmas.Bool.{and_parts, eqb-true, false_from_ne_true, or_cases, or_left, or_right}
 use Rattle.std.proofs.lemmas.List.Folds.{list_any-append}
 use Rattle.std.proofs.lemmas.List.Elements.{Contains-push_cases}
-use Rattle.typed_tree.specs.WellFormed.{is_visible, outline_of}
+use Rattle.typed_tree.specs.declared.tree.Loop.{Loop}
+use Rattle.typed_tree.specs.declared.tree.Tree.{Tree}
+use Rattle.meaning.specs.Store.{Environment, Store}
+use Rattle.abstract_state.specs.Knows.{IsKept}
 use Rattle.abstract_state.specs.Loops.{is_among}
-use Rattle.structured_states.specs.Loops.{Round, all_but, round_of, without_own}
-use Rattle.structured_states.specs.Pairs.{aliases_of, all_aliases}
+use Rattle.structured_states.specs.Loops.{Round, aliases_there, all_but, round_of, without_own}
+use Rattle.structured_states.specs.Pairs.{Listed, aliases_in, aliases_of, all_aliases_in, blocks_seen, declared_aliases, declares}
 use Rattle.structured_states.proofs.Touched.{among-but, inside-parts, touched_parts}
+use Rattle.call_states.proofs.Lists.{among-contains, contains-among, filtered, of-flat}
 use Rattle.call_states.proofs.Places.{listed-pair, pair-back, pair-listed}
+use Rattle.call_states.proofs.SeenAliases.{all-alias-seen}
 use Rattle.expression_checker.specs.Walk.{Context}
-use Rattle.expression_checker.proofs.Sound.{Goes, IsClosed, World, is_seen}
-use Rattle.cert_checker.specs.Walk.{are_hidden}
+use Rattle.expression_checker.proofs.Sound.{Goes, IsClosed, World, is_seen, listed_in}
 
 not-both : (b : Bool) → b ≡ true → b ≡ false → ⊥
 not-both b is isnt = cc
@@ -21,42 +25,69 @@ not-both b is isnt = cc
 false-true : ◌≡◌ {A = Bool} false true → ⊥
 false-true is = cc
 
--- an alias of one of several variables is one of theirs
-pub among-all : (pairs : List (ℕ × ℕ)) (roots : List ℕ) (root alias : ℕ) → is_among root roots ≡ true → is_among alias (aliases_of pairs root) ≡ true
-    → is_among alias (all_aliases pairs roots) ≡ true
-among-all pairs [] root alias among is = absurd (false-true among)
-among-all pairs (other ∷ roots) root alias among is =
-    list_any-append (λ (x : ℕ). nat_eq x alias) (aliases_of pairs other) (all_aliases pairs roots)
-    ∙ ⊎_elim
-    (λ (same : nat_eq other root ≡ true).
-    or_left (is_among alias (aliases_of pairs other)) (is_among alias (all_aliases pairs roots))
-    (subst (λ (r : ℕ). is_among alias (aliases_of pairs r) ≡ true) (sym (eqb-true other root same)) is))
-    (λ (later : is_among root roots ≡ true).
-    or_right (is_among alias (aliases_of pairs other)) (is_among alias (all_aliases pairs roots)) (among-all pairs roots root alias later is))
-    (or_cases (nat_eq other root) (is_among root roots) among)
-
 -- an alias of a variable has it as an alias
 pub aliases-back : (pairs : List (ℕ × ℕ)) (root alias : ℕ) → is_among alias (aliases_of pairs root) ≡ true → is_among root (aliases_of pairs alias) ≡ true
 aliases-back pairs root alias is = pair-listed pairs alias root (pair-back pairs root alias (listed-pair pairs root alias is))
 
+-- an alias that is visible in a block is listed
+alias-listed : (world : World) (block root alias : ℕ) → is_among alias (aliases_in (listed_in world) block root) ≡ true
+    → is_among alias (aliases_of world.pairs root) ≡ true
+alias-listed world block root alias is =
+    let listed = listed_in world in
+    let blocks = blocks_seen world.tree block in
+    let found = of-flat (declared_aliases listed root) blocks alias (among-contains (aliases_in listed block root) alias is) in
+    contains-among (aliases_of world.pairs root) alias (filtered (declares world.tree found.0) (aliases_of world.pairs root) alias found.2).0
+
+-- what is kept but for a variable and its aliases there, is kept but for all that are listed
+pub kept-wider : (world : World) (block : ℕ) (env : Environment) (root : ℕ) (before after : Store)
+    → IsKept env (root ∷ aliases_in (listed_in world) block root) [] before after → IsKept env (root ∷ aliases_of world.pairs root) [] before after
+kept-wider world block env root before after kept = record {
+  values = λ other apart steps. kept.values other (narrow other apart) steps;
+  defined = λ other none steps has. kept.defined other none steps has;
+}
+  where
+    narrow : (other : ℕ) → is_among other (root ∷ aliases_of world.pairs root) ≡ false
+        → is_among other (root ∷ aliases_in (listed_in world) block root) ≡ false
+    narrow other apart =
+        false_from_ne_true (is_among other (root ∷ aliases_in (listed_in world) block root))
+        (λ is.
+        not-both (is_among other (root ∷ aliases_of world.pairs root))
+        (⊎_elim (λ same. or_left (nat_eq root other) (is_among other (aliases_of world.pairs root)) same)
+        (λ alias. or_right (nat_eq root other) (is_among other (aliases_of world.pairs root)) (alias-listed world block root other alias))
+        (or_cases (nat_eq root other) (is_among other (aliases_in (listed_in world) block root)) is)) apart)
+
 -- ---- a loop
 
-module _ (world : World) (block : ℕ) (context : Context) (number : ℕ) (pairs_are : context.pairs ≡ world.pairs) where
+-- a loop of a number has a row in the table, with this block
+abbrev pub StandsIn : World → (block number : ℕ) → Type 0
+StandsIn world block number = (row : Loop) × (slice_get world.tree.loops.items number ≡ Some row) × (row.block ≡ block)
+
+module _ (world : World) (block : ℕ) (context : Context) (number : ℕ) (tree_is : context.tree ≡ world.tree) (pairs_are : context.pairs ≡ listed_in world)
+    (stands : StandsIn world block number) where
   abbrev loop : Round
   loop = round_of context.tree context.pairs context.claims number
 
-  among-aliases : (root alias : ℕ) → is_among root (loop.controls ++ loop.changes) ≡ true → is_among alias (aliases_of world.pairs root) ≡ true
+  abbrev roots : List ℕ
+  roots = loop.controls ++ loop.changes
+
+  -- its aliases are those in its block
+  aliases-are : loop.aliases ≡ all_aliases_in (listed_in world) block roots
+  aliases-are =
+      ap (λ (listed : Listed). aliases_there listed roots (slice_get context.tree.loops.items number)) pairs_are
+      ∙ ap (λ (tree : Tree). aliases_there (listed_in world) roots (slice_get tree.loops.items number)) tree_is
+      ∙ ap (aliases_there (listed_in world) roots) stands.1 ∙ ap (λ (b : ℕ). all_aliases_in (listed_in world) b roots) stands.2
+
+  among-aliases : (root alias : ℕ) → is_among root roots ≡ true → is_among alias (aliases_of world.pairs root) ≡ true → is_seen world block alias ≡ true
       → is_among alias loop.aliases ≡ true
-  among-aliases root alias among is =
-      among-all context.pairs (loop.controls ++ loop.changes) root alias among
-      (subst (λ (pairs : List (ℕ × ℕ)). is_among alias (aliases_of pairs root) ≡ true) (sym pairs_are) is)
+  among-aliases root alias among is shown =
+      ap (is_among alias) aliases-are ∙ all-alias-seen world.tree world.pairs block roots root alias among is shown
 
   -- round its body, where it is no for statement
   pub loop-closed : IsClosed world block loop
   loop-closed root alias shown other among is =
       touched_parts None loop alias
       ∙ or_right (is_among alias loop.controls) (is_among alias loop.changes || is_among alias loop.aliases)
-      (or_right (is_among alias loop.changes) (is_among alias loop.aliases) (among-aliases root alias among is))
+      (or_right (is_among alias loop.changes) (is_among alias loop.aliases) (among-aliases root alias among is other))
 
   -- and where it is one, whose control variable has no aliases that are visible
   pub inside-closed : (control : ℕ) → is_seen world block control ≡ true
@@ -74,7 +105,7 @@ module _ (world : World) (block : ℕ) (context : Context) (number : ℕ) (pairs
       or_right (is_among root loop.controls) (is_among root loop.changes)
       (and_parts (not (nat_eq control root)) (is_among root loop.changes) (sym (among-but root control loop.changes) ∙ two)).1)
       (or_cases (is_among root (all_but control loop.controls)) (is_among root (all_but control loop.changes)) (sym parts ∙ among)) in
-      let listed = among-aliases root alias inner is in
+      let listed = among-aliases root alias inner is other in
       let apart : nat_eq control alias ≡ false = none (nat_eq control alias)
       (λ same.
       not-both (is_seen world block root) shown
@@ -101,23 +132,3 @@ goes-inside world context round closed goes = record {
   closed = λ other inside. ⊎_elim (λ old. goes.closed other old) (λ same. subst (λ (r : Round). IsClosed world context.block r) same closed)
       (Contains-push_cases context.rounds round other inside);
 }
-
--- ---- hidden variables
-
-false-one : (test : ℕ → Bool) (roots : List ℕ) (root : ℕ) → list_all (λ (r : ℕ). not (test r)) roots ≡ true → is_among root roots ≡ true → test root ≡ false
-false-one test [] root all among = absurd (false-true among)
-false-one test (other ∷ roots) root all among =
-    let parts = and_parts (not (test other)) (list_all (λ (r : ℕ). not (test r)) roots) all in
-    ⊎_elim
-    (λ (same : nat_eq other root ≡ true). subst (λ (r : ℕ). test r ≡ false) (eqb-true other root same) (not-true (test other) parts.0))
-    (λ (later : is_among root roots ≡ true). false-one test roots root parts.1 later) (or_cases (nat_eq other root) (is_among root roots) among)
-  where
-    not-true : (b : Bool) → not b ≡ true → b ≡ false
-    not-true true is = absurd (false-true is)
-    not-true false is = refl
-
-pub hidden-in : (world : World) (context : Context) (roots : List ℕ) → context.tree ≡ world.tree → are_hidden context roots ≡ true → (root : ℕ)
-    → is_among root roots ≡ true → is_seen world context.block root ≡ false
-hidden-in world context roots tree_is all root among =
-    ap (λ t. is_visible (outline_of t) context.block root) (sym tree_is)
-    ∙ false-one (λ (r : ℕ). is_visible (outline_of context.tree) context.block r) roots root all among

@@ -38,9 +38,10 @@ use Rattle.abstract_state.specs.Knows.{IsOfForm, moment}
 use Rattle.abstract_state.specs.State.{limits_of}
 use Rattle.abstract_state.proofs.Ranged.{IsKnown, included-in, is_in-limits}
 use Rattle.abstract_state.proofs.Refined.{expression-kept, form-known}
+use Rattle.leaf_rows.specs.Limits.{all_limits, limits_at}
 use Rattle.leaf_rows.specs.Rows.{rows_accessed, rows_of}
 use Rattle.component_states.specs.Components.{Reach}
-use Rattle.structured_states.specs.Loops.{all_limits, all_list, limits_at}
+use Rattle.structured_states.specs.Loops.{all_list}
 use Rattle.call_states.specs.Aliases.{variable_values}
 use Rattle.call_states.proofs.Passed.{indexes-integer, reached-later}
 use Rattle.expression_checker.specs.declared.fault.Rule.TheVariants.{Changes}

@@ -33,7 +33,8 @@ use Rattle.abstract_state.proofs.Knows.{defined-stored, entire-value, nonempty-k
 use Rattle.abstract_state.proofs.Ranged.{common-in}
 use Rattle.component_states.specs.Holds.{Knows}
 use Rattle.component_states.specs.States.{State, dead}
-use Rattle.structured_states.specs.Loops.{all_limits, gives_claims, is_ordinal_variable, limits_or_integer, names_entire, plain, plain_facts}
+use Rattle.leaf_rows.specs.Limits.{all_limits, limits_or_integer}
+use Rattle.structured_states.specs.Loops.{gives_claims, is_ordinal_variable, names_entire, plain, plain_facts}
 use Rattle.call_states.specs.Aliases.{variable_values}
 use Rattle.call_states.specs.Environments.{Fine, Leaves, LeavesPassed, Proper}
 use Rattle.exit_states.specs.Exit.{claimed_of_variable, exit_range, result_range}
@@ -202,7 +203,7 @@ module _ (tree : Tree) (certificate : Certificate) (unbroken : (program_walk tre
   walked : (number : ℕ) (block : Block) → slice_get tree.blocks.items number ≡ Some block → IsWalked world first number block
   walked number block is =
       subst (λ (n : ℕ). IsWalked world first n block) (zero-add number)
-      (blocks-walked world first 0 tree.blocks.items dead unbroken (record { ids = λ id inside. inside; linked = λ one inside. inside }) number block is)
+      (blocks-walked world first 0 tree.blocks.items (dead tree) unbroken (record { ids = λ id inside. inside; linked = λ one inside. inside }) number block is)
 
   block-loops : (number : ℕ) (block : Block) → slice_get tree.blocks.items number ≡ Some block → AreLoops tree.loops.items number (loops_of_block block)
   block-loops number block is =

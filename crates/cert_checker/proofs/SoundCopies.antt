@@ -22,10 +22,10 @@ use Rattle.meaning.specs.Effect as effect
 use Rattle.meaning.specs.Meaning as meaning
 use Rattle.meaning.specs.Meaning.{Surroundings, accessed, values_of}
 use Rattle.abstract_state.proofs.Refined.{whole-kept}
+use Rattle.leaf_rows.specs.Limits.{all_limits}
 use Rattle.leaf_rows.specs.Rows.{is_structured, rows_accessed, rows_of}
 use Rattle.leaf_rows.proofs.Accessed.{row-leaf, rows-count}
 use Rattle.component_states.specs.Components.{Reach}
-use Rattle.structured_states.specs.Loops.{all_limits}
 use Rattle.expression_checker.specs.Walk as flow
 use Rattle.expression_checker.specs.Walk.{fits_whole}
 use Rattle.expression_checker.proofs.Fitting.{contains-at, fits-lie, many-numbers, same-type}

@@ -1,5 +1,5 @@
 -- For statements are sound: in each turn the control variable lies on its way, and the body leaves it as it is.
-use Rattle.std.proofs.Common.{arith, ◌≡◌, ⊎_elim, ◌∙◌, sym, ap, refl, subst, ℕ, ◌<◌, ℤ, Bool, true, false, cond, ◌&&◌, ◌||◌, List, [], ◌∷◌, ◌++◌}
+use Rattle.std.proofs.Common.{arith, ◌≡◌, ⊎_elim, ◌∙◌, sym, ap, ap₂, refl, length, subst, ℕ, ◌<◌, ℤ, Bool, true, false, cond, ◌&&◌, ◌||◌, List, [], ◌∷◌, ◌++◌}
 use Rattle.std.proofs.Common.{Option, Some, None, nat_eq}
 use Rattle.std.specs.Ordering.{int_eq}
 use Rattle.std.specs.Prelude.{◌≤◌, is_some}
@@ -31,8 +31,9 @@ use Rattle.abstract_state.proofs.Ranged.{included-in, is_in-limits, limits-is_in
 use Rattle.component_states.specs.States.{State, over_bound, over_change, over_variables}
 use Rattle.component_states.specs.Holds.{Knows}
 use Rattle.component_states.specs.Laws.{AreEntire}
-use Rattle.structured_states.specs.Loops.{Round, all_control, all_limits, controls_inside, limits_at, round_of, touched, with_own, without_own}
-use Rattle.structured_states.specs.Pairs.{aliases_of}
+use Rattle.leaf_rows.specs.Limits.{all_limits, limits_at}
+use Rattle.structured_states.specs.Loops.{Round, all_control, controls_inside, round_of, touched, with_own, without_own}
+use Rattle.structured_states.specs.Pairs.{aliases_of, Listed, aliases_in}
 use Rattle.structured_states.specs.Ways as ways
 use Rattle.structured_states.specs.Ways.{Way, met, step, turn_begun, turn_ended, way_out, where_counts, with_values}
 use Rattle.structured_states.proofs.OnWay.{Between, MayBe, begun-known, counts-known, counts-ordered, kept-may, met-in, next-between}
@@ -40,8 +41,9 @@ use Rattle.structured_states.proofs.OnWay.{ordered-itself, untouched-form}
 use Rattle.structured_states.proofs.Touched.{inside-uncontrolled, inside-untouched, own-controls, own-untouched}
 use Rattle.call_states.specs.Aliases.{variable_values}
 use Rattle.call_states.specs.Environments.{Fine, Proper}
-use Rattle.call_states.proofs.AliasedStores.{AreWritten, IsApart, all-pass, aliases-apart, hidden-apart, one-kept}
+use Rattle.call_states.proofs.AliasedStores.{AreWritten, IsApart, all-pass, hidden-apart, one-kept}
 use Rattle.call_states.proofs.AliasedTypes.{declared, shows, written-begun, written-typed}
+use Rattle.call_states.proofs.SeenAliases.{apart-seen, listed_pairs, none-seen}
 use Rattle.expression_checker.specs.Walk as flow
 use Rattle.expression_checker.specs.Walk.{Context, Walked, Walking, followed}
 use Rattle.expression_checker.specs.declared.fault.Rule.TheVariants.{Changes}
@@ -49,13 +51,13 @@ use Rattle.expression_checker.proofs.Keeping.{Keeps, keeps-itself, keeps-then}
 use Rattle.expression_checker.proofs.Sound.{Any_value, Good, Goes, Here, IsForetold, IsPartOf, Passes, Sound, Stands, World, good-give, good-then, good-weaker}
 use Rattle.expression_checker.proofs.Sound.{here-behind, is_seen, nothing-new, over-known, part-left, part-right, parts_in, proper-grown, sites_in, stands-as}
 use Rattle.expression_checker.proofs.Sound.{unbroken-left, unbroken-right, variables_in}
-use Rattle.expression_checker.proofs.SoundCalls.{by-world}
+use Rattle.expression_checker.proofs.SoundCalls.{in_world, by-world}
 use Rattle.expression_checker.proofs.SoundOperations.{within-sound}
 use Rattle.cert_checker.specs.Walk as walk
-use Rattle.cert_checker.specs.Walk.{are_hidden, steady_in}
+use Rattle.cert_checker.specs.Walk.{steady_in}
 use Rattle.cert_checker.proofs.Changes.{assigned-knows, bound-knows, ended-knows, gone-knows, whole, whole-has, whole-typed, whole-written}
 use Rattle.cert_checker.proofs.Keeping.{gone-alone, gone-begun, gone-changes, gone-keeps, gone-none, gone-typed}
-use Rattle.cert_checker.proofs.Rounds.{goes-inside, hidden-in, inside-closed}
+use Rattle.cert_checker.proofs.Rounds.{StandsIn, goes-inside, inside-closed}
 use Rattle.cert_checker.proofs.SoundLoops.{AreFine, RoundEnds, here-as, inner, loop-good, loop_begun, rounds-outer, rounds-own}
 use Rattle.cert_checker.proofs.SoundLoops.{turn-then, ways-good, with_head}
 use Rattle.cert_checker.proofs.Written.{Foretold, kept-rule}
@@ -124,6 +126,11 @@ all-controls root rounds one outer own =
 abbrev all_in : World → ℕ → ℕ → List ℕ
 all_in world number control = control ∷ controls_inside world.tree number
 
+-- a list without items
+none-there : (items : List ℕ) → nat_eq (length items) 0 ≡ true → items ≡ []
+none-there [] none = refl
+none-there (item ∷ items) none = let same = eqb-true (length (item ∷ items)) 0 none in absurd (omega (arith, same))
+
 -- a control variable that is visible in a block, where none of its aliases is
 pub record IsOwn (world : World) (block : ℕ) (env : Environment) (few : ℕ) (control : ℕ) : Type 0 where
   pub proper : Proper world.tree world.pairs block few env
@@ -187,7 +194,7 @@ module _ (world : World) (block : ℕ) (env : Environment) (few : ℕ) (control 
       })
 
 module _ (world : World) (ranges : world.limits ≡ all_limits world.tree) (block : ℕ) (env : Surroundings)
-    (number : ℕ) (execution : meaning.Execution) (body : Walking (Unit {0}))
+    (number : ℕ) (in_table : StandsIn world block number) (execution : meaning.Execution) (body : Walking (Unit {0}))
     (one : Sound {A = Unit {0}} {B = Unit {0}} world block env.visible Any_value (execution env) body) where
   abbrev visible : Environment
   visible = env.visible
@@ -371,7 +378,7 @@ module _ (world : World) (ranges : world.limits ≡ all_limits world.tree) (bloc
     both_included = is_included (limits_of way.first.fits.range) limits && is_included (limits_of way.last.fits.range) limits
 
     abbrev none_seen : Bool
-    none_seen = are_hidden context (aliases_of context.pairs way.control)
+    none_seen = nat_eq (length (walk.aliases_here context way.control)) 0
 
     may-control : all_control way.control context.rounds ≡ true
     may-control = (and_parts (all_control way.control context.rounds) (none_seen && both_included) may).0
@@ -391,16 +398,17 @@ module _ (world : World) (ranges : world.limits ≡ all_limits world.tree) (bloc
       seen = seen;
       ordinal = ordinal;
       hidden = λ alias among.
-          subst (λ (b : ℕ). is_seen world b alias ≡ false) here.block_is
-          (hidden-in world context (aliases_of context.pairs way.control) here.stands.goes.tree_is may-hide alias
-          (subst (λ (pairs : List (ℕ × ℕ)). is_among alias (aliases_of pairs way.control) ≡ true) (sym here.stands.goes.pairs_are) among));
+          none-seen world.tree world.pairs block way.control alias
+          (sym (ap₂ (λ (listed : Listed) (b : ℕ). aliases_in listed b way.control) here.stands.goes.pairs_are here.block_is)
+          ∙ none-there (walk.aliases_here context way.control) may-hide) among;
     }
 
     goes-in : (state : State) (s : effect.State) → Here world block visible context state s → IsOwn world block visible s.activations way.control
         → Goes world (inner context number (Some way.control))
     goes-in state s here is_own =
         goes-inside world context (without_own (Some way.control) (round_of context.tree context.pairs context.claims number))
-        (inside-closed world context.block context number here.stands.goes.pairs_are way.control
+        (inside-closed world context.block context number here.stands.goes.tree_is here.stands.goes.pairs_are
+        (in_table.0, in_table.1, in_table.2 ∙ sym here.block_is) way.control
         (subst (λ (b : ℕ). is_seen world b way.control ≡ true) (sym here.block_is) is_own.seen)
         (λ alias among. subst (λ (b : ℕ). is_seen world b alias ≡ false) (sym here.block_is) (is_own.hidden alias among))) here.stands.goes
 
@@ -478,18 +486,23 @@ module _ (world : World) (ranges : world.limits ≡ all_limits world.tree) (bloc
           let tree = world.tree in
           let pairs = world.pairs in
           let few = v.activations in
-          let aliases = aliases_of pairs way.control in
+          let aliases = aliases_in (listed_pairs tree pairs) block way.control in
           let place = home world block visible few way.control is_own in
           let at_place = at_home world block visible few way.control is_own in
           let are = whole-written visible aliases way.control place at_place
-          (aliases-apart visible pairs here.proper.separate way.control place at_place) v.store x in
+          (apart-seen tree pairs block few visible here.proper way.control place at_place) v.store x in
           let typed = whole-typed tree pairs block few visible here.proper way.control place at_place x ordinal x_typed in
           by-world world context
           (λ (other : Context).
           Knows (parts_in world) (variables_in world) visible (walk.assign way.control way.first.form (Ordinal first.value) other last.after).after start)
           here.stands.goes
+          (subst
+          (λ (b : ℕ).
+          Knows (parts_in world) (variables_in world) visible
+          (walk.assign way.control way.first.form (Ordinal first.value) (record (in_world world context) { block = b }) last.after).after start)
+          (sym here.block_is)
           (assigned-knows tree pairs block few visible here.proper way.control place at_place x v.store start are typed first.value way.first.form last.after
-          in_first (may-of_form v.store way.first.form x forms.0) here.stands.known)
+          in_first (may-of_form v.store way.first.form x forms.0) here.stands.known))
 
       rounds-good : Good world (Foretold world visible context turns v.store) v (rounds_action v)
       rounds-good =

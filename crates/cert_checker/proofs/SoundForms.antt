@@ -47,7 +47,8 @@ use Rattle.component_states.specs.States.{State, dead, is_dead, joined_states, o
 use Rattle.component_states.proofs.Joins.{join-holds}
 use Rattle.structured_states.specs.Cases.{at_constants, constants_before}
 use Rattle.call_states.specs.Aliases.{variable_values}
-use Rattle.structured_states.specs.Loops.{all_limits, controls_inside}
+use Rattle.leaf_rows.specs.Limits.{all_limits}
+use Rattle.structured_states.specs.Loops.{controls_inside}
 use Rattle.structured_states.specs.Ways.{form_before, way_of}
 use Rattle.structured_states.proofs.OnWay.{of-form_may}
 use Rattle.expression_checker.specs.Walk as flow
@@ -68,6 +69,7 @@ use Rattle.cert_checker.proofs.SoundAssignments.{assigned, assignment-sound, ord
 use Rattle.cert_checker.proofs.SoundCase.{arm-missing, arms-behind, at-constants_known, entire-number, first-constants}
 use Rattle.cert_checker.proofs.SoundCopies.{copied, copying-sound}
 use Rattle.cert_checker.proofs.SoundFor.{for-good}
+use Rattle.cert_checker.proofs.Rounds.{StandsIn}
 use Rattle.cert_checker.proofs.SoundLoops.{here-as, sound-choice, sound-loop, sound-repeat, sound-while}
 use Rattle.cert_checker.proofs.Written.{Foretold}
 
@@ -172,8 +174,8 @@ module _ (world : World) (limits_are : world.limits ≡ all_limits world.tree) (
   bounds-good : (number : ℕ) (place : Place) (control : ℕ) (first : Expr) (first_fits : RangeTest) (direction : Direction) (last : Expr) (last_fits : RangeTest)
       (execution : Execution) (walking : Walking (Unit {0})) → SoundAction world block visible (execution env) walking → is_seen world block control ≡ true
       → is_some (variable_values world.tree control) ≡ true
-      → AreEntire (parts_in world) (control ∷ controls_inside world.tree number) → first_fits.site < sites_in world → last_fits.site < sites_in world
-      → (from to : Known) (a b : Value) (context : Context) (state : State) (t : effect.State)
+      → AreEntire (parts_in world) (control ∷ controls_inside world.tree number) → StandsIn world block number → first_fits.site < sites_in world
+      → last_fits.site < sites_in world → (from to : Known) (a b : Value) (context : Context) (state : State) (t : effect.State)
       → (walk.for_walk number place walking (way_of control direction first first_fits last last_fits from to) context state).broken ≡ []
       → IsPartOf world (walk.for_walk number place walking (way_of control direction first first_fits last last_fits from to) context state)
       → Here world block visible context state t → IsOfForm (moment visible t.store) (form_before first last) a
@@ -182,10 +184,10 @@ module _ (world : World) (limits_are : world.limits ≡ all_limits world.tree) (
       → Good world (Foretold world visible context
       (walk.for_walk number place walking (way_of control direction first first_fits last last_fits from to) context state) t.store) t
       (effect.◌>>=◌ (meaning.for_between control first_fits direction last_fits execution env a b) (λ done. effect.undefine (visible.variables control)) t)
-  bounds-good number place control first first_fits direction last last_fits execution walking one seen ordinal controls_are first_site last_site
+  bounds-good number place control first first_fits direction last last_fits execution walking one seen ordinal controls_are stands first_site last_site
       (Ordinal from) (Ordinal to)
       (Number x) (Number y) context state t unbroken part here first_form last_form in_first in_last =
-      for-good world limits_are block env number execution walking one place context state
+      for-good world limits_are block env number stands execution walking one place context state
       (way_of control direction first first_fits last last_fits (Ordinal from) (Ordinal to))
       x y seen ordinal controls_are first_site last_site t unbroken part here (of-form_may visible t.store (form_before first last) x first_form)
       (of-form_may visible t.store (bound_form last) y last_form) in_first in_last
@@ -202,15 +204,16 @@ module _ (world : World) (limits_are : world.limits ≡ all_limits world.tree) (
   for-sound : (number : ℕ) (place : Place) (control : ℕ) (first : Expr) (first_fits : RangeTest) (direction : Direction) (last : Expr) (last_fits : RangeTest)
       (execution : Execution) (walking : Walking (Unit {0})) → SoundAction world block visible (execution env) walking → is_seen world block control ≡ true
       → is_some (variable_values world.tree control) ≡ true
-      → AreEntire (parts_in world) (control ∷ controls_inside world.tree number) → well_expr first ≡ true → first_fits.site < sites_in world
+      → AreEntire (parts_in world) (control ∷ controls_inside world.tree number) → StandsIn world block number → well_expr first ≡ true
+      → first_fits.site < sites_in world
       → well_expr last ≡ true → last_fits.site < sites_in world
       → SoundAction world block visible
       (effect.◌>>=◌ (value_of first env) (λ a. effect.◌>>=◌ (value_of last env) (λ b.
       effect.◌>>=◌ (meaning.for_between control first_fits direction last_fits execution env a b) (λ done. effect.undefine (visible.variables control)))))
       (flow.◌>>=◌ (value_walk first) (λ from. flow.◌>>=◌ (value_walk last) (λ to.
       walk.for_walk number place walking (way_of control direction first first_fits last last_fits from to))))
-  for-sound number place control first first_fits direction last last_fits execution walking one seen ordinal controls_are first_well first_site last_well
-      last_site context state s unbroken part here =
+  for-sound number place control first first_fits direction last last_fits execution walking one seen ordinal controls_are stands first_well first_site
+      last_well last_site context state s unbroken part here =
       let from = value_walk first context state in
       let to = value_walk last context from.after in
       let rest = walk.for_walk number place walking (way_of control direction first first_fits last last_fits from.value to.value) context to.after in
@@ -238,7 +241,7 @@ module _ (world : World) (limits_are : world.limits ≡ all_limits world.tree) (
         kept = keeps-then visible context.rounds s.store t.store w.store first_told.so.kept
             (keeps-then visible context.rounds t.store u.store w.store last_told.so.kept then.so.kept);
       })
-      (bounds-good number place control first first_fits direction last last_fits execution walking one seen ordinal controls_are first_site last_site
+      (bounds-good number place control first first_fits direction last last_fits execution walking one seen ordinal controls_are stands first_site last_site
       from.value to.value a b
       context to.after u (unbroken-right to.broken rest.broken more_unbroken) (part-right world to rest more_part) here_last form
       (form-known last env t u b last_is) first_told.so.tie last_told.so.tie)))
@@ -314,7 +317,7 @@ module _ (world : World) (limits_are : world.limits ≡ all_limits world.tree) (
       let test = flow.tested closed site passed context state in
       let tested = walk.index_test site constants range context state in
       let root = root_of (condition_of index).form in
-      let rest = walk.arms_walk test.after root rows walks context dead in
+      let rest = walk.arms_walk test.after root rows walks context (dead context.tree) in
       let whole = walk.case_walk site index rows walks (Ordinal range) context state in
       let same_length = length-map (bodies arms) statement_walk in
       either-way (meaning.is_among constants n)
@@ -327,7 +330,7 @@ module _ (world : World) (limits_are : world.limits ≡ all_limits world.tree) (
       (meaning.arm_of site rows (map effect_of (bodies arms)) n env t)
       (λ done u gives told. record { tie = tt; stands = told.so.stands; kept = told.so.kept })
       (arms-good site test.after root n context t base_here (λ r is. entire-number (condition_of index).form (moment visible t.store) n r form is) rows arms
-      dead well loops (unbroken-right tested.broken rest.broken unbroken) (part-right world tested rest part)
+      (dead context.tree) well loops (unbroken-right tested.broken rest.broken unbroken) (part-right world tested rest part)
       (subst (λ k. meaning.is_among (constants_before k rows) n ≡ true) same_length among)))
       (λ missing.
       let unclosed : (is_dead state || closed) ≡ true → ⊥ = λ is.
@@ -416,6 +419,7 @@ module _ (world : World) (limits_are : world.limits ≡ all_limits world.tree) (
       entered-sound {A = Unit {0}} {B = Unit {0}} world block visible Any_value number (effect.looped round tt) (walk.loop_walk loop_number place None walked)
       (sound-loop world limits_are block visible loop_number place round tt walked
       (inside-entire loop_number (inside_of body.value.0).controls (controls-ordinal world.tree block body.value.0 parts.1) loops.0)
+      (loops.0.0, loops.0.1, loops.0.2)
       (λ a. sound-while world block env condition (effect_of body.value.0) (statement_walk body.value.0)
       (value-sound world block env laws calls condition parts.0) (body.value.1 parts.1 loops.1)))
   statement-layer (Repeat number loop_number place statements condition) well loops =
@@ -428,6 +432,7 @@ module _ (world : World) (limits_are : world.limits ≡ all_limits world.tree) (
       entered-sound {A = Unit {0}} {B = Unit {0}} world block visible Any_value number (effect.looped round tt) (walk.loop_walk loop_number place None walked)
       (sound-loop world limits_are block visible loop_number place round tt walked
       (inside-entire loop_number (all_inside (map inside_of inner)).controls (all-ordinal world.tree block inner parts.0) loops.0)
+      (loops.0.0, loops.0.1, loops.0.2)
       (λ a. sound-repeat world block env condition body bodies (all-sound statements.items parts.0 loops.1)
       (value-sound world block env laws calls condition parts.1)))
   statement-layer (For number loop_number place control first first_fits direction last last_fits body) well loops =
@@ -453,7 +458,8 @@ module _ (world : World) (limits_are : world.limits ≡ all_limits world.tree) (
       (ordinal-values world.tree control (leads-type outline block (is_ordinal (types_in world)) control [] 0 leads_there))
       (ordinal-entire world.tree (control ∷ controls_inside world.tree loop_number)
       (one-ordinal world.tree control (controls_inside world.tree loop_number) (control-ordinal world.tree block control one.0)
-      (inside-ordinal world.tree block loop_number (inside_of body.value.0).controls (controls-ordinal world.tree block body.value.0 five.1) loops.0))) two.0
+      (inside-ordinal world.tree block loop_number (inside_of body.value.0).controls (controls-ordinal world.tree block body.value.0 five.1) loops.0)))
+      (loops.0.0, loops.0.1, loops.0.2) two.0
       (site-within world limits_are block env laws calls first_fits three.0) four.0 (site-within world limits_are block env laws calls last_fits five.0))
   statement-layer (Case number site index constants arms) well loops =
       let inner = bodies arms.items in

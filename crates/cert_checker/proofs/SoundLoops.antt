@@ -26,7 +26,8 @@ use Rattle.component_states.specs.States.{State, joined_states}
 use Rattle.component_states.specs.Holds.{Knows}
 use Rattle.component_states.specs.Laws.{AreEntire}
 use Rattle.component_states.proofs.Joins.{join-holds}
-use Rattle.structured_states.specs.Loops.{Round, all_limits, claims_at, controls_inside, gives_claims, head_of, round_of, touched, with_own, without_own}
+use Rattle.leaf_rows.specs.Limits.{all_limits}
+use Rattle.structured_states.specs.Loops.{Round, claims_at, controls_inside, gives_claims, head_of, round_of, touched, with_own, without_own}
 use Rattle.call_states.specs.Environments.{Fine, Proper}
 use Rattle.call_states.proofs.AliasedTypes.{in-types, shows}
 use Rattle.call_states.proofs.Claimed.{AllHold, given-claims}
@@ -39,7 +40,7 @@ use Rattle.expression_checker.proofs.Sound.{Any_value, Good, Goes, Here, IsForet
 use Rattle.expression_checker.proofs.Sound.{here-behind, nothing-new, over-known, part-left, part-right, parts_in, proper-grown, stands-as, unbroken-left}
 use Rattle.expression_checker.proofs.Sound.{unbroken-right, variables_in}
 use Rattle.cert_checker.proofs.Heads.{head-of_known}
-use Rattle.cert_checker.proofs.Rounds.{goes-inside, loop-closed}
+use Rattle.cert_checker.proofs.Rounds.{StandsIn, goes-inside, loop-closed}
 use Rattle.cert_checker.proofs.Written.{Foretold, kept-rule}
 
 -- ---- where a walk stands
@@ -378,16 +379,17 @@ plain-ends world env context again out start (Some a) store (stood, kept) = (sto
 pub sound-loop : {A : Type 0} (world : World) → world.limits ≡ all_limits world.tree → (block : ℕ) (env : Environment)
     (number : ℕ) (place : SourcePlace) (round : effect.Round A) (a : A)
     (walking : Walking State) → AreEntire (parts_in world) (controls_inside world.tree number)
-    → ((b : A) → SoundRound world block env (round b) walking)
+    → StandsIn world block number → ((b : A) → SoundRound world block env (round b) walking)
     → Sound {A = Unit {0}} {B = Unit {0}} world block env Any_value (effect.looped round a) (walk.loop_walk number place None walking)
-sound-loop {A} world ranges block env number place round a walking controls_are each context state s unbroken part here =
+sound-loop {A} world ranges block env number place round a walking controls_are stands each context state s unbroken part here =
     let within = inner context number None in
     let begun = loop_begun context number None state in
     let turn = walking within begun in
     let goes = here.stands.goes in
     loop-good world ranges block env number place None round walking (λ b store. store) (λ b store. Unit {0}) context state a s
     (λ b t grown fine fits. record { typed = fine.typed; begun = fine.begun })
-    (goes-inside world context (round_of context.tree context.pairs context.claims number) (loop-closed world context.block context number goes.pairs_are) goes)
+    (goes-inside world context (round_of context.tree context.pairs context.claims number)
+    (loop-closed world context.block context number goes.tree_is goes.pairs_are (stands.0, stands.1, stands.2 ∙ sym here.block_is)) goes)
     (subst (λ (tree : Tree). AreEntire (parts_in world) (controls_inside tree number)) (sym goes.tree_is) controls_are)
     (λ b t grown fine unbroken part holds fits.
     good-weaker world (EndsHold world env within turn.after turn.value t.store {A = A})

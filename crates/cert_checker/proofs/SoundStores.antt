@@ -25,6 +25,7 @@ use Rattle.abstract_state.specs.Loops.{is_among, with_touched}
 use Rattle.abstract_state.proofs.Apart.{part}
 use Rattle.abstract_state.proofs.Looped as looped
 use Rattle.abstract_state.proofs.Ranged.{included-in}
+use Rattle.leaf_rows.specs.Limits.{all_limits, limits_at}
 use Rattle.leaf_rows.specs.Rows.{Parts, Row, all_parts, no_parts, rows_of, values_at}
 use Rattle.leaf_rows.proofs.Accessed.{components-inner, row-is, rows-apart}
 use Rattle.component_states.specs.Components.{At, Components, Entire, Index, Inside, Reach, all_stored}
@@ -32,8 +33,7 @@ use Rattle.component_states.specs.Holds.{ComponentsHold, IsOfRow, Knows, compone
 use Rattle.component_states.specs.Laws.{AreApart, AreComponents, AreLoose, AreStored, IsReach, IsReachApart, IsReached, bound_rests}
 use Rattle.component_states.specs.States.{State}
 use Rattle.component_states.proofs.Stored.{formless-hold, stores-hold}
-use Rattle.structured_states.specs.Loops.{all_limits, limits_at}
-use Rattle.structured_states.specs.Pairs.{aliases_of}
+use Rattle.structured_states.specs.Pairs.{aliases_in}
 use Rattle.call_states.specs.Actuals.{lies_among}
 use Rattle.call_states.specs.Aliases.{Stored, index_unless_alias, reach_unless_alias, unless_alias, with_aliases_stored}
 use Rattle.call_states.specs.Environments.{Proper, Typed, place_type}
@@ -42,6 +42,7 @@ use Rattle.call_states.proofs.AliasedStores.{AreWritten, Pairs, all-pass, at-hea
 use Rattle.call_states.proofs.AliasedTypes.{AreStoredAs, AreTyped, are-aliased, in-types, part-type, row-type, shows, written-typed}
 use Rattle.call_states.proofs.ComponentTypes.{component-typed}
 use Rattle.call_states.proofs.Passed.{IsIndexOn, IsReachedBy}
+use Rattle.call_states.proofs.SeenAliases.{listed_pairs}
 use Rattle.cert_checker.specs.Walk.{Stores}
 
 abbrev pub root_at : List Parts → ℕ → ℕ
@@ -248,26 +249,27 @@ module _ (tree : Tree) (pairs : List (ℕ × ℕ)) (block activations : ℕ) (en
 -- what is known where numbers were stored to what is reached of a variable
 pub made-knows : (tree : Tree) (pairs : List (ℕ × ℕ)) (block activations : ℕ) (env : Environment) (proper : Proper tree pairs block activations env)
     (root : ℕ) (home : Place) → env.variables root ≡ Some home → (numbers : Pairs) (stores : Stores) → AreTargets (all_parts tree) root numbers stores
-    → (before after : Store) → AreWritten env (aliases_of pairs root) root numbers before after → AreTyped tree env root numbers → Typed tree before
-    → (reach : Reach) → IsReach env before (reach_unless_alias (aliases_of pairs root) reach)
-    → (IsFormed (reach_unless_alias (aliases_of pairs root) reach)
-    → AreReached (all_parts tree) env (reach_unless_alias (aliases_of pairs root) reach) numbers stores before)
+    → (before after : Store) → AreWritten env (aliases_in (listed_pairs tree pairs) block root) root numbers before after
+    → AreTyped tree env root numbers → Typed tree before
+    → (reach : Reach) → IsReach env before (reach_unless_alias (aliases_in (listed_pairs tree pairs) block root) reach)
+    → (IsFormed (reach_unless_alias (aliases_in (listed_pairs tree pairs) block root) reach)
+    → AreReached (all_parts tree) env (reach_unless_alias (aliases_in (listed_pairs tree pairs) block root) reach) numbers stores before)
     → (state : State) → Knows (all_parts tree) (length tree.variables.items) env state before
     → Knows (all_parts tree) (length tree.variables.items) env
     (record {
       variables = with_touched (limits_at (all_limits tree)) root
-          (with_aliases_stored tree (aliases_of pairs root)
+          (with_aliases_stored tree (aliases_in (listed_pairs tree pairs) block root)
           (map (λ (one : ℕ × Interval). record { values = values_at (rows_of tree) one.0; range = one.1 }) stores) state).variables;
       components = all_stored
-          (with_aliases_stored tree (aliases_of pairs root)
+          (with_aliases_stored tree (aliases_in (listed_pairs tree pairs) block root)
           (map (λ (one : ℕ × Interval). record { values = values_at (rows_of tree) one.0; range = one.1 }) stores) state).variables
-          (reach_unless_alias (aliases_of pairs root) reach) stores
-          (with_aliases_stored tree (aliases_of pairs root)
+          (reach_unless_alias (aliases_in (listed_pairs tree pairs) block root) reach) stores
+          (with_aliases_stored tree (aliases_in (listed_pairs tree pairs) block root)
           (map (λ (one : ℕ × Interval). record { values = values_at (rows_of tree) one.0; range = one.1 }) stores) state).components;
     }) after
 made-knows tree pairs block activations env proper root home at numbers stores targets before after written typed typed_store reach is_reach reached state
     known =
-    let aliases = aliases_of pairs root in
+    let aliases = aliases_in (listed_pairs tree pairs) block root in
     let parts = all_parts tree in
     let variables = length tree.variables.items in
     let shown = shows tree pairs block activations env proper in

@@ -26,14 +26,14 @@ use Rattle.cert_checker.specs.Walk.{statement_walk, all_of, branches, enter_head
 use Rattle.cert_checker.specs.Walk.{blocks_walk, first_context}
 use Rattle.cert_checker.specs.Walk.{program_walk, here, inside, loop_walk, parted, repeat_round, while_round, where_so}
 use Rattle.cert_checker.specs.View.{at_state, claims_in, context_of, else_walk, AtHead, EntersLoop, IsBehind, IsMoved, LeavesLoop, loop_in, Meets}
-use Rattle.cert_checker.specs.View.{Parts, Walks}
+use Rattle.cert_checker.specs.View.{Parts, Walks, viewed_in}
 use Rattle.cert_checker.specs.View.{AreLoops, Goes, IsLoop}
 use Rattle.structured_states.specs.Loops.{Claims, Round, claims_at, gives_claims, head_of, round_of, with_own, without_own}
 use Rattle.typed_tree.specs.declared.tree.Tree.{Tree}
 use denote.Ref.{Bor}
-use Rattle.std.proofs.lemmas.List.{length-map}
 use Rattle.certificate.specs.declared.LoopClaims.{LoopClaims}
 use Rattle.structured_states.specs.declared.rounds.Round.{Round as KeptRound}
+use Rattle.structured_states.specs.Pairs.{Listed}
 use Rattle.structured_states.specs.View.{all_loop_aliases, loop_of_round, said_claims}
 use Rattle.certificate.specs.declared.Certificate.{Certificate}
 use Rattle.expression_checker.specs.declared.fault.Rule.{Rule}
@@ -43,6 +43,7 @@ use Rattle.expression_checker.specs.declared.flow.Flow.{Flow}
 use Rattle.expression_checker.specs.declared.grounds.Grounds.{Grounds}
 use Rattle.expression_checker.specs.View as expressions
 use Rattle.expression_checker.proofs.Steps.{breach-first, breach-same, breach-stays, counted-both}
+use Rattle.expression_checker.specs.View.{state_of}
 
 -- ---- the walk, form by form
 
@@ -70,7 +71,7 @@ Does walking old before new after value = AreLoops (context_of old) old.aliases.
 
 -- it gave up over a piece
 abbrev pub Stops : {A : Type 0} → Walking A → Walk → CheckFault → Type 0
-Stops walking old fault = AreLoops (context_of old) old.aliases.now → IsBreachOf (walking (context_of old) (viewed old.flow.state)) fault
+Stops walking old fault = AreLoops (context_of old) old.aliases.now → IsBreachOf (walking (context_of old) (state_of old.flow)) fault
 
 -- it has them where it goes by the same
 pub loops-same : (old new : Walk) (context : Context) → context_of new ≡ context → new.aliases.now ≡ old.aliases.now
@@ -78,23 +79,33 @@ pub loops-same : (old new : Walk) (context : Context) → context_of new ≡ con
 loops-same old new context same aliases ready =
     subst (λ (context : Context). AreLoops context new.aliases.now) (sym same) (subst (AreLoops context) (sym aliases) ready)
 
+-- ---- what states say
+
+-- a state says the same where the checker goes by the same
+pub viewed-same : (old new : Walk) (state : Kept) → context_of new ≡ context_of old → viewed_in new state ≡ viewed_in old state
+viewed-same old new state same = ap (λ (context : Context). viewed context.tree state) same
+
+-- where only the state of the checker was changed
+pub viewed-moved : (old new : Walk) (state : Kept) → new.flow.state ≡ state → new ≡ at_state new.flow.state old → state_of new.flow ≡ viewed_in old state
+viewed-moved old new state is only = ap (λ (walk : Walk). state_of walk.flow) only ∙ ap (viewed_in old) is
+
 -- ---- one piece of a walk after another
 
 module _ {A B : Type 0} (first : Walking A) (next : A → Walking B) (old mid : Walk) (before between : Visits) (a : A)
     (one : Walks first old before mid between a) where
   abbrev begun : Walked A
-  begun = first (context_of old) (viewed old.flow.state)
+  begun = first (context_of old) (state_of old.flow)
 
   abbrev later : Walked B
-  later = next a (context_of mid) (viewed mid.flow.state)
+  later = next a (context_of mid) (state_of mid.flow)
 
   -- from where the first piece left the checker, the next is what it is behind the first
   then-same : later ≡ next begun.value (context_of old) begun.after
   then-same =
-      ap (λ (context : Context). next a context (viewed mid.flow.state)) one.context_is
-      ∙ ap (λ x. next x (context_of old) (viewed mid.flow.state)) one.value_is ∙ ap (next begun.value (context_of old)) one.state_is
+      ap (λ (context : Context). next a context (state_of mid.flow)) one.context_is
+      ∙ ap (λ x. next x (context_of old) (state_of mid.flow)) one.value_is ∙ ap (next begun.value (context_of old)) one.state_is
 
-  both-broken : later.broken ≡ ((first >>= next) (context_of old) (viewed old.flow.state)).broken
+  both-broken : later.broken ≡ ((first >>= next) (context_of old) (state_of old.flow)).broken
   both-broken = sym (ap (λ w. begun.broken ++ w.broken) (sym then-same) ∙ ap (λ b. b ++ later.broken) one.unbroken)
 
   pub walks-then : (new : Walk) (after : Visits) (b : B) → Walks (next a) mid between new after b → Walks (first >>= next) old before new after b
@@ -113,8 +124,8 @@ module _ {A B : Type 0} (first : Walking A) (next : A → Walking B) (old mid : 
   }
 
   -- the first breach of the next is that of both
-  breach-later : (fault : CheckFault) → IsBreachOf later fault → IsBreachOf ((first >>= next) (context_of old) (viewed old.flow.state)) fault
-  breach-later fault is = breach-same later ((first >>= next) (context_of old) (viewed old.flow.state)) fault both-broken is
+  breach-later : (fault : CheckFault) → IsBreachOf later fault → IsBreachOf ((first >>= next) (context_of old) (state_of old.flow)) fault
+  breach-later fault is = breach-same later ((first >>= next) (context_of old) (state_of old.flow)) fault both-broken is
 
   -- the checker has the aliases of the loops behind the first
   loops-then : AreLoops (context_of old) old.aliases.now → AreLoops (context_of mid) mid.aliases.now
@@ -160,7 +171,7 @@ goes-then first next old mid new before between after a (Err fault) one two = λ
 -- the checker gave up over the first piece: so it does over both
 pub goes-stopped : {A B : Type 0} (first : Walking A) (next : A → Walking B) (old new : Walk) (before after : Visits) (fault : CheckFault)
     → Stops first old fault → Goes (first >>= next) old before (Err fault) new after
-goes-stopped first next old new before after fault is = λ ready. breach-first (context_of old) first next (viewed old.flow.state) fault (is ready)
+goes-stopped first next old new before after fault is = λ ready. breach-first (context_of old) first next (state_of old.flow) fault (is ready)
 
 -- by what a walk is
 pub goes-as : {A : Type 0} (walk form : Walking A) (old new : Walk) (before after : Visits) (result : Result A CheckFault) → walk ≡ form
@@ -169,7 +180,7 @@ goes-as walk form old new before after result is goes = subst (λ w. Goes w old 
 
 -- two walks that are the same from here
 pub goes-here : {A : Type 0} (walk form : Walking A) (old new : Walk) (before after : Visits) (result : Result A CheckFault)
-    → walk (context_of old) (viewed old.flow.state) ≡ form (context_of old) (viewed old.flow.state)
+    → walk (context_of old) (state_of old.flow) ≡ form (context_of old) (state_of old.flow)
     → Goes form old before result new after → Goes walk old before result new after
 goes-here walk form old new before after (Ok value) is goes = λ ready.
     let one = goes ready in
@@ -183,7 +194,7 @@ goes-here walk form old new before after (Ok value) is goes = λ ready.
       unbroken = ap (λ w. w.broken) is ∙ one.unbroken;
     }
 goes-here walk form old new before after (Err fault) is goes = λ ready.
-    breach-same (form (context_of old) (viewed old.flow.state)) (walk (context_of old) (viewed old.flow.state)) fault (ap (λ w. w.broken) (sym is))
+    breach-same (form (context_of old) (state_of old.flow)) (walk (context_of old) (state_of old.flow)) fault (ap (λ w. w.broken) (sym is))
     (goes ready)
 
 -- what the checker answers where a rule asks for something
@@ -206,12 +217,12 @@ asked-told false rule place old visits = λ ready. refl
 -- what a rule asks for where the checker is
 pub asked-goes : (walk : Walking (Unit {0})) (kept is_kept : Bool) (rule : Rule) (place : SourcePlace) (old : Walk) (visits : Visits)
     (result : Result (Unit {0}) CheckFault)
-    → walk (context_of old) (viewed old.flow.state) ≡ asked kept rule place (context_of old) (viewed old.flow.state) → is_kept ≡ kept
+    → walk (context_of old) (state_of old.flow) ≡ asked kept rule place (context_of old) (state_of old.flow) → is_kept ≡ kept
     → result ≡ answered is_kept rule place → Goes walk old visits result old visits
 asked-goes walk kept is_kept rule place old visits result walk_is is told =
     subst (λ (r : Result (Unit {0}) CheckFault). Goes walk old visits r old visits) (sym told)
     (goes-here walk (asked is_kept rule place) old old visits visits (answered is_kept rule place)
-    (walk_is ∙ ap (λ k. asked k rule place (context_of old) (viewed old.flow.state)) (sym is)) (asked-told is_kept rule place old visits))
+    (walk_is ∙ ap (λ k. asked k rule place (context_of old) (state_of old.flow)) (sym is)) (asked-told is_kept rule place old visits))
 
 -- by the fault that is handed on
 pub given-up : {A : Type 0} (walk : Walking A) (old new : Walk) (before after : Visits) (fault : CheckFault) (result : Result A CheckFault)
@@ -254,9 +265,9 @@ all-end {X} walk items i old visits past =
 
 -- from where only the state of the checker was moved, a piece is walked from that state
 pub moved-same : {A : Type 0} (walking : Walking A) (state : State) (old new : Walk) → IsMoved state old new
-    → walking (context_of new) (viewed new.flow.state) ≡ walking (context_of old) state
+    → walking (context_of new) (state_of new.flow) ≡ walking (context_of old) state
 moved-same walking state old new moved =
-    ap (λ context. walking context (viewed new.flow.state)) (ap context_of moved.only_state) ∙ ap (walking (context_of old)) moved.says
+    ap (λ context. walking context (state_of new.flow)) (ap context_of moved.only_state) ∙ ap (walking (context_of old)) moved.says
 
 -- and the checker has the aliases of the loops there
 pub moved-loops : (state : State) (old new : Walk) → IsMoved state old new → AreLoops (context_of old) old.aliases.now
@@ -266,34 +277,34 @@ moved-loops state old new moved ready = subst (λ (walk : Walk). AreLoops (conte
 -- the ways of two branches, and where they meet
 pub branches-walk : (one_state other_state : State → State) (one_walk other_walk : Walking (Unit {0})) (old taken mid start done new : Walk)
     (before between after : Visits)
-    → IsMoved (one_state (viewed old.flow.state)) old taken → Does one_walk taken before mid between tt
-    → IsMoved (other_state (viewed old.flow.state)) mid start → Does other_walk start between done after tt
-    → IsMoved (joined_states (viewed mid.flow.state) (viewed done.flow.state)) done new
+    → IsMoved (one_state (state_of old.flow)) old taken → Does one_walk taken before mid between tt
+    → IsMoved (other_state (state_of old.flow)) mid start → Does other_walk start between done after tt
+    → IsMoved (joined_states (state_of mid.flow) (state_of done.flow)) done new
     → Does (parted one_state other_state one_walk other_walk) old before new after tt
 branches-walk one_state other_state one_walk other_walk old taken mid start done new before between after to_yes first_did to_no second_did met = λ ready.
-    let first : Walked (Unit {0}) = one_walk (context_of old) (one_state (viewed old.flow.state)) in
-    let second : Walked (Unit {0}) = other_walk (context_of old) (other_state (viewed old.flow.state)) in
-    let first_same = moved-same one_walk (one_state (viewed old.flow.state)) old taken to_yes in
-    let taken_ready = moved-loops (one_state (viewed old.flow.state)) old taken to_yes ready in
+    let first : Walked (Unit {0}) = one_walk (context_of old) (one_state (state_of old.flow)) in
+    let second : Walked (Unit {0}) = other_walk (context_of old) (other_state (state_of old.flow)) in
+    let first_same = moved-same one_walk (one_state (state_of old.flow)) old taken to_yes in
+    let taken_ready = moved-loops (one_state (state_of old.flow)) old taken to_yes ready in
     let one = first_did taken_ready in
     let context : context_of mid ≡ context_of old = one.context_is ∙ ap context_of to_yes.only_state in
     let mid_ready = loops-same taken mid (context_of taken) one.context_is one.aliases_are taken_ready in
-    let two = second_did (moved-loops (other_state (viewed old.flow.state)) mid start to_no mid_ready) in
-    let second_same : other_walk (context_of start) (viewed start.flow.state) ≡ second =
-    moved-same other_walk (other_state (viewed old.flow.state)) mid start to_no ∙ ap (λ x. other_walk x (other_state (viewed old.flow.state))) context in
+    let two = second_did (moved-loops (other_state (state_of old.flow)) mid start to_no mid_ready) in
+    let second_same : other_walk (context_of start) (state_of start.flow) ≡ second =
+    moved-same other_walk (other_state (state_of old.flow)) mid start to_no ∙ ap (λ x. other_walk x (other_state (state_of old.flow))) context in
     let first_after = one.state_is ∙ ap (λ w. w.after) first_same in
     let second_after = two.state_is ∙ ap (λ w. w.after) second_same in
     let first_open = one.open_is
-    ∙ ap (λ (w : Walk). w.flow.open_ids.items ++ (one_walk (context_of taken) (viewed taken.flow.state)).open_ids) to_yes.only_state
+    ∙ ap (λ (w : Walk). w.flow.open_ids.items ++ (one_walk (context_of taken) (state_of taken.flow)).open_ids) to_yes.only_state
     ∙ ap (λ w. old.flow.open_ids.items ++ w.open_ids) first_same in
     record {
       context_is = ap context_of met.only_state ∙ two.context_is ∙ ap context_of to_no.only_state ∙ context;
       aliases_are = ap (λ (w : Walk). w.aliases.now) met.only_state ∙ two.aliases_are ∙ ap (λ (w : Walk). w.aliases.now) to_no.only_state
           ∙ one.aliases_are ∙ ap (λ (w : Walk). w.aliases.now) to_yes.only_state;
       value_is = refl;
-      state_is = met.says ∙ ap (λ s. joined_states s (viewed done.flow.state)) first_after ∙ ap (joined_states first.after) second_after;
+      state_is = met.says ∙ ap (λ s. joined_states s (state_of done.flow)) first_after ∙ ap (joined_states first.after) second_after;
       open_is = ap (λ (w : Walk). w.flow.open_ids.items) met.only_state ∙ two.open_is
-          ∙ ap (λ (w : Walk). w.flow.open_ids.items ++ (other_walk (context_of start) (viewed start.flow.state)).open_ids) to_no.only_state
+          ∙ ap (λ (w : Walk). w.flow.open_ids.items ++ (other_walk (context_of start) (state_of start.flow)).open_ids) to_no.only_state
           ∙ ap (λ w. mid.flow.open_ids.items ++ w.open_ids) second_same ∙ ap (λ ids. ids ++ second.open_ids) first_open
           ∙ append_assoc old.flow.open_ids.items first.open_ids second.open_ids;
       visits_are = two.visits_are ∙ ap (λ w. all_counted (numbers_of w.linked) between) second_same
@@ -313,14 +324,23 @@ pub branches-done : (one_state other_state : State → State) (one_walk other_wa
     → Goes (parted one_state other_state one_walk other_walk) old before result new after
 branches-done one_state other_state one_walk other_walk old taken mid start done new before between after behind otherwise
     (Ok value) parts one behind_is replaced only two
-    met =
-    let to_no : IsMoved (other_state (viewed old.flow.state)) mid start = record { only_state = only; says = ap viewed replaced ∙ parts.1 } in
+    met = λ ready.
+    let taken_ready = moved-loops (one_state (state_of old.flow)) old taken parts.0 ready in
+    let first = one taken_ready in
+    let mid_ready = loops-same taken mid (context_of taken) first.context_is first.aliases_are taken_ready in
+    let to_no : IsMoved (other_state (state_of old.flow)) mid start = record {
+      only_state = only;
+      says = viewed-moved mid start otherwise replaced only ∙ viewed-same old mid otherwise (first.context_is ∙ ap context_of parts.0.only_state) ∙ parts.1;
+    } in
+    let second = two (moved-loops (other_state (state_of old.flow)) mid start to_no mid_ready) in
+    let behind_same : viewed_in done behind ≡ state_of mid.flow =
+    viewed-same mid done behind (second.context_is ∙ ap context_of only) ∙ ap (viewed_in mid) behind_is in
     branches-walk one_state other_state one_walk other_walk old taken mid start done new before between after parts.0 one to_no two
-    (subst (λ (s : Kept). IsMoved (joined_states (viewed s) (viewed done.flow.state)) done new) behind_is met)
+    (subst (λ (s : State). IsMoved (joined_states s (state_of done.flow)) done new) behind_same met) ready
 branches-done one_state other_state one_walk other_walk old taken mid start done new before between after behind otherwise
     (Err fault) parts one behind_is replaced only two
     is = λ ready.
-    subst (IsBreachOf (parted one_state other_state one_walk other_walk (context_of old) (viewed old.flow.state))) (sym is) tt
+    subst (IsBreachOf (parted one_state other_state one_walk other_walk (context_of old) (state_of old.flow))) (sym is) tt
 
 -- the checker gave up on the first way
 pub branches-stopped : (one_state other_state : State → State) (one_walk other_walk : Walking (Unit {0})) (old taken new : Walk) (before after : Visits)
@@ -329,12 +349,12 @@ pub branches-stopped : (one_state other_state : State → State) (one_walk other
     → Parts one_state other_state old (Ok otherwise) taken → Stops one_walk taken fault
     → Goes (parted one_state other_state one_walk other_walk) old before (Err fault) new after
 branches-stopped one_state other_state one_walk other_walk old taken new before after otherwise fault parts is = λ ready.
-    let first : Walked (Unit {0}) = one_walk (context_of old) (one_state (viewed old.flow.state)) in
-    let second : Walked (Unit {0}) = other_walk (context_of old) (other_state (viewed old.flow.state)) in
-    breach-stays first second fault (parted one_state other_state one_walk other_walk (context_of old) (viewed old.flow.state)) refl
-    (breach-same (one_walk (context_of taken) (viewed taken.flow.state)) first fault
-    (ap (λ w. w.broken) (moved-same one_walk (one_state (viewed old.flow.state)) old taken parts.0))
-    (is (moved-loops (one_state (viewed old.flow.state)) old taken parts.0 ready)))
+    let first : Walked (Unit {0}) = one_walk (context_of old) (one_state (state_of old.flow)) in
+    let second : Walked (Unit {0}) = other_walk (context_of old) (other_state (state_of old.flow)) in
+    breach-stays first second fault (parted one_state other_state one_walk other_walk (context_of old) (state_of old.flow)) refl
+    (breach-same (one_walk (context_of taken) (state_of taken.flow)) first fault
+    (ap (λ w. w.broken) (moved-same one_walk (one_state (state_of old.flow)) old taken parts.0))
+    (is (moved-loops (one_state (state_of old.flow)) old taken parts.0 ready)))
 
 -- a conditional statement from its entry on
 pub if-begun : (statement : Stmt) (number : ℕ) (condition : Expr) (consequence : Box Stmt Global) (alternative : Option (Box Stmt Global)) (inner : Stmt)
@@ -377,7 +397,7 @@ loop-not_entered number place control walking old new before after fault is = λ
     let loop = loop_in number old in
     let rest = enter_head (with_own control loop) facts >>= λ _. (inside (without_own control loop) walking >>= λ behind.
     (facts_given LoopTurn place facts >>= λ _. with_state behind)) in
-    breach-first (context_of old) (facts_given LoopEntry place facts) (λ _. rest) (viewed old.flow.state) fault (is ready)
+    breach-first (context_of old) (facts_given LoopEntry place facts) (λ _. rest) (state_of old.flow) fault (is ready)
 
 module _ (number : ℕ) (place : SourcePlace) (control : Option ℕ) (walking : Walking State) (old headed : Walk) where
   module _ (at_head : AtHead number control old headed) where
@@ -394,13 +414,13 @@ module _ (number : ℕ) (place : SourcePlace) (control : Option ℕ) (walking : 
     inner_context = record (context_of old) { rounds = (context_of old).rounds ++ without_own control (loop_in number old) ∷ [] }
 
     abbrev turn : Walked State
-    turn = walking inner_context (head_of tree_of (context_of old).limits own claims.facts (viewed old.flow.state))
+    turn = walking inner_context (head_of tree_of (context_of old).limits own claims.facts (state_of old.flow))
 
     abbrev whole : Walked (Unit {0})
-    whole = loop_walk number place control walking (context_of old) (viewed old.flow.state)
+    whole = loop_walk number place control walking (context_of old) (state_of old.flow)
 
-    turn-same : walking (context_of headed) (viewed headed.flow.state) ≡ turn
-    turn-same = ap (λ (context : Context). walking context (viewed headed.flow.state)) at_head.context_is ∙ ap (walking inner_context) at_head.state_is
+    turn-same : walking (context_of headed) (state_of headed.flow) ≡ turn
+    turn-same = ap (λ (context : Context). walking context (state_of headed.flow)) at_head.context_is ∙ ap (walking inner_context) at_head.state_is
 
     -- the checker has the aliases of the loops inside it too
     inner-ready : AreLoops (context_of old) old.aliases.now → AreLoops (context_of headed) headed.aliases.now
@@ -412,14 +432,14 @@ module _ (number : ℕ) (place : SourcePlace) (control : Option ℕ) (walking : 
         ap (λ given. breach_unless given LoopEntry place
         ++ (turn.broken ++ ((facts_given LoopTurn place claims.facts (context_of old) turn.after).broken ++ []))) at_head.given
 
-    round-stopped : (fault : CheckFault) → IsBreachOf (walking (context_of headed) (viewed headed.flow.state)) fault → IsBreachOf whole fault
+    round-stopped : (fault : CheckFault) → IsBreachOf (walking (context_of headed) (state_of headed.flow)) fault → IsBreachOf whole fault
     round-stopped fault is =
         let rest : Walked (Unit {0}) = followed (facts_given LoopTurn place claims.facts (context_of old) turn.after)
         (with_state turn.value (context_of old) turn.after) in
         breach-stays turn rest fault whole entered-unbroken
-        (breach-same (walking (context_of headed) (viewed headed.flow.state)) turn fault (ap (λ w. w.broken) turn-same) is)
+        (breach-same (walking (context_of headed) (state_of headed.flow)) turn fault (ap (λ w. w.broken) turn-same) is)
 
-    module _ (rounded : Walk) (before after : Visits) (behind : Kept) (one : Walks walking headed before rounded after (viewed behind)) where
+    module _ (rounded : Walk) (before after : Visits) (behind : Kept) (one : Walks walking headed before rounded after (viewed_in headed behind)) where
       context-within : context_of rounded ≡ inner_context
       context-within = one.context_is ∙ at_head.context_is
 
@@ -429,11 +449,11 @@ module _ (number : ℕ) (place : SourcePlace) (control : Option ℕ) (walking : 
       claims-same : claims_in number rounded ≡ claims
       claims-same = ap (λ (context : Context). claims_at context.claims number) context-within
 
-      after-same : viewed rounded.flow.state ≡ turn.after
+      after-same : state_of rounded.flow ≡ turn.after
       after-same = one.state_is ∙ ap (λ w. w.after) turn-same
 
-      value-same : viewed behind ≡ turn.value
-      value-same = one.value_is ∙ ap (λ w. w.value) turn-same
+      value-same : viewed_in rounded behind ≡ turn.value
+      value-same = viewed-same headed rounded behind one.context_is ∙ one.value_is ∙ ap (λ w. w.value) turn-same
 
       tree-same : (context_of rounded).tree ≡ tree_of
       tree-same = ap (λ (context : Context). context.tree) context-within
@@ -451,15 +471,15 @@ module _ (number : ℕ) (place : SourcePlace) (control : Option ℕ) (walking : 
       loop-behind new behind_loop =
           let given : gives_claims tree_of turn.after claims.facts ≡ true =
           ap (λ (s : State). gives_claims tree_of s claims.facts) (sym after-same)
-          ∙ ap (λ (c : Claims). gives_claims tree_of (viewed rounded.flow.state) c.facts) (sym claims-same)
-          ∙ ap (λ (tree : Tree). gives_claims tree (viewed rounded.flow.state) (claims_in number rounded).facts) (sym tree-same) ∙ behind_loop.given in
+          ∙ ap (λ (c : Claims). gives_claims tree_of (state_of rounded.flow) c.facts) (sym claims-same)
+          ∙ ap (λ (tree : Tree). gives_claims tree (state_of rounded.flow) (claims_in number rounded).facts) (sym tree-same) ∙ behind_loop.given in
           record {
             context_is = behind_loop.context_is ∙ ap (λ (context : Context). record context { rounds = (context_of old).rounds }) context-within;
             aliases_are = behind_loop.aliases_are ∙ one.aliases_are ∙ at_head.aliases_are;
             value_is = refl;
             state_is = behind_loop.state_is ∙ value-same;
             open_is = ap (λ (ids : Vec ℕ Global). ids.items) behind_loop.open_is ∙ one.open_is
-                ∙ ap (λ (ids : Vec ℕ Global). ids.items ++ (walking (context_of headed) (viewed headed.flow.state)).open_ids) at_head.open_is
+                ∙ ap (λ (ids : Vec ℕ Global). ids.items ++ (walking (context_of headed) (state_of headed.flow)).open_ids) at_head.open_is
                 ∙ ap (λ (w : Walked State). old.flow.open_ids.items ++ w.open_ids) turn-same
                 ∙ ap (λ ids. old.flow.open_ids.items ++ ids) (sym (append-nil turn.open_ids));
             visits_are = one.visits_are ∙ ap (λ (w : Walked State). all_counted (numbers_of w.linked) before) turn-same
@@ -468,12 +488,12 @@ module _ (number : ℕ) (place : SourcePlace) (control : Option ℕ) (walking : 
           }
 
       loop-not_left : (fault : CheckFault)
-          → IsBreachOf (facts_given LoopTurn place (claims_in number rounded).facts (context_of rounded) (viewed rounded.flow.state)) fault
+          → IsBreachOf (facts_given LoopTurn place (claims_in number rounded).facts (context_of rounded) (state_of rounded.flow)) fault
           → IsBreachOf whole fault
       loop-not_left fault is =
-          breach-same (facts_given LoopTurn place (claims_in number rounded).facts (context_of rounded) (viewed rounded.flow.state)) whole fault
-          (ap (λ (c : Claims). breach_unless (gives_claims (context_of rounded).tree (viewed rounded.flow.state) c.facts) LoopTurn place) claims-same
-          ∙ ap (λ (tree : Tree). breach_unless (gives_claims tree (viewed rounded.flow.state) claims.facts) LoopTurn place) tree-same
+          breach-same (facts_given LoopTurn place (claims_in number rounded).facts (context_of rounded) (state_of rounded.flow)) whole fault
+          (ap (λ (c : Claims). breach_unless (gives_claims (context_of rounded).tree (state_of rounded.flow) c.facts) LoopTurn place) claims-same
+          ∙ ap (λ (tree : Tree). breach_unless (gives_claims tree (state_of rounded.flow) claims.facts) LoopTurn place) tree-same
           ∙ ap (λ (s : State). breach_unless (gives_claims tree_of s claims.facts) LoopTurn place) after-same
           ∙ sym (append-nil (breach_unless (gives_claims tree_of turn.after claims.facts) LoopTurn place)) ∙ sym whole-broken) is
 
@@ -483,7 +503,7 @@ module _ (number : ℕ) (place : SourcePlace) (control : Option ℕ) (walking : 
         → Goes (loop_walk number place control walking) old before (Err fault) new after
     loop-stopped new before after fault is = λ ready. round-stopped (entered ready) fault (is (inner-ready (entered ready) ready))
 
-    pub loop-done : (rounded : Walk) (before after : Visits) (behind : Kept) → Does walking headed before rounded after (viewed behind)
+    pub loop-done : (rounded : Walk) (before after : Visits) (behind : Kept) → Does walking headed before rounded after (viewed_in headed behind)
         → (result : Result (Unit {0}) CheckFault) (new : Walk) → LeavesLoop number place behind rounded result new
         → Goes (loop_walk number place control walking) old before result new after
     loop-done rounded before after behind does (Ok value) new left = λ ready.
@@ -502,8 +522,7 @@ module _ (number : ℕ) (place : SourcePlace) (control : Option ℕ) (walking : 
 pub loop-found : (number : ℕ) (control : Option ℕ) (walk : Walk) (round : KeptRound) (tree : Tree) (claims : List (Option (Bor LoopClaims)))
     → tree ≡ (context_of walk).tree → claims ≡ walk.claims.items → round.own ≡ control
     → said_claims round.claims ≡ claims_at (map said_claims claims) number
-    → ((pairs : List (ℕ × ℕ)) → length claims ≡ length tree.loops.items
-    → map (λ row. row.items) walk.aliases.now ≡ all_loop_aliases tree pairs (map said_claims claims)
+    → ((pairs : Listed) → map (λ row. row.items) walk.aliases.now ≡ all_loop_aliases tree pairs (map said_claims claims)
     → loop_of_round round ≡ round_of tree pairs (map said_claims claims) number)
     → AreLoops (context_of walk) walk.aliases.now → IsLoop number control walk round
 loop-found number control walk round tree claims tree_is claims_is own found loop ready =
@@ -512,9 +531,7 @@ loop-found number control walk round tree claims tree_is claims_is own found loo
     record {
       own_is = own;
       claims_are = found ∙ ap (λ (kept : List Claims). claims_at kept number) same;
-      loop_is = loop pairs
-          (sym (length-map claims said_claims) ∙ ap length same ∙ ready.0 ∙ ap (λ (t : Tree). length t.loops.items) (sym tree_is))
-          (ready.1 ∙ sym (ap₂ (λ (t : Tree) (kept : List Claims). all_loop_aliases t pairs kept) tree_is same))
+      loop_is = loop pairs (ready ∙ sym (ap₂ (λ (t : Tree) (kept : List Claims). all_loop_aliases t pairs kept) tree_is same))
           ∙ ap₂ (λ (t : Tree) (kept : List Claims). round_of t pairs kept number) tree_is same;
     }
 
@@ -552,26 +569,26 @@ pub while_round-done : (condition : Expr) (body : Walking (Unit {0})) (known : K
     (behind : Kept)
     → Does (value_walk condition) old before valued between known
     → Parts (where_so true condition known) (where_so false condition known) valued (Ok behind) taken → Does body taken between new after tt
-    → Does (while_round condition body) old before new after (viewed behind)
-while_round-done condition body known old valued taken new before between after behind one parts bodied =
-    let was : Walked (Unit {0}) = body (context_of valued) (where_so true condition known (viewed valued.flow.state)) in
-    let same = moved-same body (where_so true condition known (viewed valued.flow.state)) valued taken parts.0 in
+    → Does (while_round condition body) old before new after (viewed_in old behind)
+while_round-done condition body known old valued taken new before between after behind one parts bodied = λ first_ready.
+    let was : Walked (Unit {0}) = body (context_of valued) (where_so true condition known (state_of valued.flow)) in
+    let same = moved-same body (where_so true condition known (state_of valued.flow)) valued taken parts.0 in
     let rest = λ (known : Known). here >>= λ tested. (with_state (where_so true condition known tested) >>= λ _.
     (body >>= λ _. give (where_so false condition known tested))) in
-    goes-then (value_walk condition) rest old valued new before between after known (Ok (viewed behind)) one (λ ready.
-    let two = bodied (moved-loops (where_so true condition known (viewed valued.flow.state)) valued taken parts.0 ready) in
+    goes-then (value_walk condition) rest old valued new before between after known (Ok (viewed_in old behind)) one (λ ready.
+    let two = bodied (moved-loops (where_so true condition known (state_of valued.flow)) valued taken parts.0 ready) in
     record {
       context_is = two.context_is ∙ ap context_of parts.0.only_state;
       aliases_are = two.aliases_are ∙ ap (λ (w : Walk). w.aliases.now) parts.0.only_state;
-      value_is = parts.1;
+      value_is = sym (viewed-same old valued behind (one first_ready).context_is) ∙ parts.1;
       state_is = two.state_is ∙ ap (λ w. w.after) same;
       open_is = two.open_is
-          ∙ ap (λ (w : Walk). w.flow.open_ids.items ++ (body (context_of taken) (viewed taken.flow.state)).open_ids) parts.0.only_state
+          ∙ ap (λ (w : Walk). w.flow.open_ids.items ++ (body (context_of taken) (state_of taken.flow)).open_ids) parts.0.only_state
           ∙ ap (λ w. valued.flow.open_ids.items ++ w.open_ids) same ∙ ap (λ ids. valued.flow.open_ids.items ++ ids) (sym (append-nil was.open_ids));
       visits_are = two.visits_are ∙ ap (λ w. all_counted (numbers_of w.linked) between) same
           ∙ ap (λ linked. all_counted (numbers_of linked) between) (sym (append-nil was.linked));
       unbroken = append-nil was.broken ∙ ap (λ w. w.broken) (sym same) ∙ two.unbroken;
-    })
+    }) first_ready
 
 -- a round of a repeat: the body, and then the condition
 pub repeat_round-done : (body : Walking (Unit {0})) (condition : Expr) (known : Known) (old bodied valued taken new : Walk) (before between after : Visits)
@@ -579,39 +596,44 @@ pub repeat_round-done : (body : Walking (Unit {0})) (condition : Expr) (known : 
     → Does body old before bodied between tt → Does (value_walk condition) bodied between valued after known
     → Parts (where_so true condition known) (where_so false condition known) valued (Ok again) taken → behind ≡ taken.flow.state → new.flow.state ≡ again
     → new ≡ at_state new.flow.state taken
-    → Does (repeat_round body condition) old before new after (viewed behind)
-repeat_round-done body condition known old bodied valued taken new before between after again behind one two parts behind_is again_is only =
+    → Does (repeat_round body condition) old before new after (viewed_in old behind)
+repeat_round-done body condition known old bodied valued taken new before between after again behind one two parts behind_is again_is only = λ ready.
+    let first = one ready in
+    let second = two (loops-same old bodied (context_of old) first.context_is first.aliases_are ready) in
+    let behind_says : viewed_in old behind ≡ state_of taken.flow =
+    sym (viewed-same old valued behind (second.context_is ∙ first.context_is)) ∙ ap (viewed_in valued) behind_is
+    ∙ sym (viewed-moved valued taken taken.flow.state refl parts.0.only_state) in
     let rest = λ (known : Known). here >>= λ tested.
     (with_state (where_so false condition known tested) >>= λ _. give (where_so true condition known tested)) in
-    goes-then body (λ _. value_walk condition >>= rest) old bodied new before between after tt (Ok (viewed behind)) one
-    (goes-then (value_walk condition) rest bodied valued new between after after known (Ok (viewed behind)) two (λ ready. record {
+    goes-then body (λ _. value_walk condition >>= rest) old bodied new before between after tt (Ok (viewed_in old behind)) one
+    (goes-then (value_walk condition) rest bodied valued new between after after known (Ok (viewed_in old behind)) two (λ _. record {
       context_is = ap context_of only ∙ ap context_of parts.0.only_state;
       aliases_are = ap (λ (w : Walk). w.aliases.now) only ∙ ap (λ (w : Walk). w.aliases.now) parts.0.only_state;
-      value_is = ap viewed behind_is ∙ parts.0.says;
-      state_is = ap viewed again_is ∙ parts.1;
+      value_is = behind_says ∙ parts.0.says;
+      state_is = viewed-moved taken new again again_is only ∙ viewed-same valued taken again (ap context_of parts.0.only_state) ∙ parts.1;
       open_is = ap (λ (w : Walk). w.flow.open_ids.items) only ∙ ap (λ (w : Walk). w.flow.open_ids.items) parts.0.only_state
           ∙ sym (append-nil valued.flow.open_ids.items);
       visits_are = refl;
       unbroken = refl;
-    }))
+    })) ready
 
 -- ---- the whole program
 
 module _ (tree : Tree) (certificate : Certificate) (begun : Walk) (context_is : context_of begun ≡ first_context tree certificate)
-    (loops : AreLoops (context_of begun) begun.aliases.now) (state_is : viewed begun.flow.state ≡ dead)
+    (loops : AreLoops (context_of begun) begun.aliases.now) (state_is : state_of begun.flow ≡ dead (context_of begun).tree)
     (open_is : begun.flow.open_ids.items ≡ []) where
   abbrev over_blocks : Walking (Unit {0})
   over_blocks = blocks_walk 0 (context_of begun).tree.blocks.items
 
-  pub program-same : over_blocks (context_of begun) (viewed begun.flow.state) ≡ program_walk tree certificate
+  pub program-same : over_blocks (context_of begun) (state_of begun.flow) ≡ program_walk tree certificate
   program-same =
-      ap (λ (context : Context). blocks_walk 0 context.tree.blocks.items context (viewed begun.flow.state)) context_is
-      ∙ ap (blocks_walk 0 tree.blocks.items (first_context tree certificate)) state_is
+      ap (λ (context : Context). blocks_walk 0 context.tree.blocks.items context (state_of begun.flow)) context_is
+      ∙ ap (blocks_walk 0 tree.blocks.items (first_context tree certificate)) (state_is ∙ ap (λ (context : Context). dead context.tree) context_is)
 
   module _ (new : Walk) (before after : Visits) (walked : Does over_blocks begun before new after tt) where
     pub program-open : new.flow.open_ids.items ≡ (program_walk tree certificate).open_ids
     program-open =
-        (walked loops).open_is ∙ ap (λ ids. ids ++ (over_blocks (context_of begun) (viewed begun.flow.state)).open_ids) open_is
+        (walked loops).open_is ∙ ap (λ ids. ids ++ (over_blocks (context_of begun) (state_of begun.flow)).open_ids) open_is
         ∙ ap (λ w. w.open_ids) program-same
 
     pub program-visits : after ≡ all_counted (numbers_of (program_walk tree certificate).linked) before
@@ -622,7 +644,7 @@ module _ (tree : Tree) (certificate : Certificate) (begun : Walk) (context_is : 
 
   pub program-stopped : (fault : CheckFault) → Stops over_blocks begun fault → IsBreachOf (program_walk tree certificate) fault
   program-stopped fault is =
-      breach-same (over_blocks (context_of begun) (viewed begun.flow.state)) (program_walk tree certificate) fault (ap (λ w. w.broken) program-same)
+      breach-same (over_blocks (context_of begun) (state_of begun.flow)) (program_walk tree certificate) fault (ap (λ w. w.broken) program-same)
       (is loops)
 
   pub program-given_up : {A : Type 0} (P : A → Type 0) (result : Result A CheckFault) (fault : CheckFault)

@@ -2,17 +2,16 @@
 use Rattle.std.proofs.Common.{arith, ◌≡◌, ◌∙◌, sym, ap, ℕ, suc, ◌+◌, ◌<◌, ◌≤◌, List, [], drop, get_or, length, map, subst}
 use Rattle.std.proofs.Common.{Bool, true, false, ◌&&◌, Result, Ok, Err}
 use Rattle.std.specs.Global.{Vec}
-use Rattle.std.specs.List.{range_with_len}
-use Rattle.std.proofs.lemmas.List.{length-map}
-use Rattle.std.proofs.lemmas.List.FromFn.{length-range_with_len}
 use Rattle.certificate.specs.declared.Certificate.{Certificate}
 use Rattle.domain.specs.Interval.{Interval}
 use Rattle.typed_tree.specs.declared.tree.Tree.{Tree}
-use Rattle.structured_states.specs.Loops.{Claims, Round, all_claims, all_limits, claims_on}
+use Rattle.leaf_rows.specs.Limits.{all_limits}
+use Rattle.structured_states.specs.Loops.{Claims, Round, all_claims}
+use Rattle.structured_states.specs.Pairs.{Listed}
 use Rattle.structured_states.specs.View.{all_loop_aliases}
 use Rattle.typed_tree.specs.declared.tree.Block.{Block}
-use Rattle.component_states.specs.View.{viewed}
 use Rattle.structured_states.proofs.Claims.{item-cut, drop-past}
+use Rattle.call_states.proofs.SeenAliases.{listed_pairs}
 use Rattle.call_states.specs.Starts.{all_declared}
 use Rattle.call_states.specs.Sections.{BlockClaims, all_block_claims, all_pairs, block_claims_at}
 use Rattle.expression_checker.specs.declared.fault.CheckFault.{CheckFault}
@@ -23,6 +22,7 @@ use Rattle.cert_checker.specs.declared.walk.Walk.{Walk}
 use Rattle.cert_checker.specs.Walk.{begin, block_walk, block_walk_by, blocks_walk, facts_given, first_context, result_use, statement_walk}
 use Rattle.cert_checker.specs.View.{AreDeclared, AreLoops, Goes, Walks, context_of}
 use Rattle.cert_checker.proofs.Steps.{Does, Stops, goes-as, goes-stopped, goes-then, walks-give}
+use Rattle.expression_checker.specs.View.{state_of}
 
 -- ---- blocks, from one of them on
 
@@ -91,7 +91,7 @@ module _ (number : ℕ) (block : Block) (claims : BlockClaims) (old : Walk) (cla
 
   block-left : (fault : CheckFault) → Stops (block_walk_by number block claims) (in_block number old) fault → Stops (block_walk number block) old fault
   block-left fault stopped = λ ready.
-      subst (λ (c : BlockClaims). IsBreachOf (block_walk_by number block c (context_of (in_block number old)) (viewed old.flow.state)) fault) claims_are
+      subst (λ (c : BlockClaims). IsBreachOf (block_walk_by number block c (context_of (in_block number old)) (state_of old.flow)) fault) claims_are
       (stopped ready)
 
   pub block-stopped : (new : Walk) (before after : Visits) (fault : CheckFault) → Stops (block_walk_by number block claims) (in_block inner old) fault
@@ -152,38 +152,34 @@ none-given one plain parts result one_is none is = is ∙ sym (ap (λ p. p && pa
 
 -- ---- the program
 
-abbrev made : Tree → List Interval → List Claims → List BlockClaims → List (ℕ × ℕ) → List Round → Context
+abbrev made : Tree → List Interval → List Claims → List BlockClaims → Listed → List Round → Context
 made tree limits claims sections pairs rounds =
     record { tree = tree; limits = limits; claims = claims; blocks = sections; pairs = pairs; block = 0; rounds = rounds }
 
 -- what the checker goes by before the first block
-pub program-context : (tree found : Tree) (certificate : Certificate) (limits : List Interval) (sections : List BlockClaims) (pairs : List (ℕ × ℕ))
+pub program-context : (tree found : Tree) (certificate : Certificate) (sections : List BlockClaims) (pairs : Listed)
     (rounds : List Round) (claims : List Claims)
-    → found ≡ tree → limits ≡ all_limits found → sections ≡ all_block_claims found certificate → pairs ≡ all_pairs certificate → rounds ≡ []
+    → found ≡ tree → sections ≡ all_block_claims found certificate → pairs ≡ listed_pairs tree (all_pairs certificate) → rounds ≡ []
     → claims ≡ all_claims found certificate
-    → made tree limits claims sections pairs rounds ≡ first_context tree certificate
-program-context tree found certificate limits sections pairs rounds claims found_is limits_are sections_are pairs_are rounds_are claims_are =
-    ap (λ (l : List Interval). made tree l claims sections pairs rounds) (limits_are ∙ ap all_limits found_is)
-    ∙ ap (λ (c : List Claims). made tree (all_limits tree) c sections pairs rounds) (claims_are ∙ ap (λ (t : Tree). all_claims t certificate) found_is)
+    → made tree (all_limits tree) claims sections pairs rounds ≡ first_context tree certificate
+program-context tree found certificate sections pairs rounds claims found_is sections_are pairs_are rounds_are claims_are =
+    ap (λ (c : List Claims). made tree (all_limits tree) c sections pairs rounds) (claims_are ∙ ap (λ (t : Tree). all_claims t certificate) found_is)
     ∙ ap (λ (b : List BlockClaims). made tree (all_limits tree) (all_claims tree certificate) b pairs rounds)
     (sections_are ∙ ap (λ (t : Tree). all_block_claims t certificate) found_is)
-    ∙ ap (λ (p : List (ℕ × ℕ)). made tree (all_limits tree) (all_claims tree certificate) (all_block_claims tree certificate) p rounds) pairs_are
-    ∙ ap (made tree (all_limits tree) (all_claims tree certificate) (all_block_claims tree certificate) (all_pairs certificate)) rounds_are
+    ∙ ap (λ (p : Listed). made tree (all_limits tree) (all_claims tree certificate) (all_block_claims tree certificate) p rounds) pairs_are
+    ∙ ap (made tree (all_limits tree) (all_claims tree certificate) (all_block_claims tree certificate)
+    (listed_pairs tree (all_pairs certificate))) rounds_are
 
 -- it has the aliases of the loops
-pub program-loops : (tree found : Tree) (certificate : Certificate) (context : Context) (pairs : List (ℕ × ℕ)) (claims : List Claims)
+pub program-loops : (tree found : Tree) (certificate : Certificate) (context : Context) (pairs : Listed) (claims : List Claims)
     (aliases : List (Vec ℕ))
-    → context ≡ first_context tree certificate → found ≡ tree → pairs ≡ all_pairs certificate → claims ≡ all_claims found certificate
-    → map (λ row. row.items) aliases ≡ all_loop_aliases found pairs claims → AreLoops context aliases
+    → context ≡ first_context tree certificate → found ≡ tree → pairs ≡ listed_pairs tree (all_pairs certificate)
+    → claims ≡ all_claims found certificate → map (λ row. row.items) aliases ≡ all_loop_aliases found pairs claims → AreLoops context aliases
 program-loops tree found certificate context pairs claims aliases context_is found_is pairs_are claims_are aliases_are =
-    let count : length (all_claims tree certificate) ≡ length tree.loops.items =
-    length-map (range_with_len 0 (length tree.loops.items)) (claims_on certificate) ∙ length-range_with_len 0 (length tree.loops.items) in
-    subst (λ (c : Context). AreLoops c aliases) (sym context_is) (
-      count,
-      aliases_are ∙ ap (λ (c : List Claims). all_loop_aliases found pairs c) claims_are
-          ∙ ap (λ (p : List (ℕ × ℕ)). all_loop_aliases found p (all_claims found certificate)) pairs_are
-          ∙ ap (λ (t : Tree). all_loop_aliases t (all_pairs certificate) (all_claims t certificate)) found_is,
-    )
+    subst (λ (c : Context). AreLoops c aliases) (sym context_is)
+    (aliases_are ∙ ap (λ (c : List Claims). all_loop_aliases found pairs c) claims_are
+    ∙ ap (λ (p : Listed). all_loop_aliases found p (all_claims found certificate)) pairs_are
+    ∙ ap (λ (t : Tree). all_loop_aliases t (listed_pairs tree (all_pairs certificate)) (all_claims t certificate)) found_is)
 
 -- it has the variables that each block declares
 pub program-declared : (tree found : Tree) (certificate : Certificate) (walk : Walk) (declared made : List (Vec ℕ))

@@ -18,17 +18,17 @@ use Rattle.cert_checker.specs.declared.walk.Walk.{Walk}
 use Rattle.abstract_state.specs.declared.known.Known.{Known}
 use Rattle.abstract_state.specs.declared.known.Known.TheVariants.{Ordinal}
 use Rattle.component_states.specs.declared.state.State.{State as Kept}
-use Rattle.component_states.specs.View.{viewed}
 use Rattle.component_states.specs.States.{State, dead, joined_states, over_variables}
 use Rattle.abstract_state.specs.Conditions.{condition_of}
 use Rattle.abstract_state.specs.Forms.{root_of}
 use Rattle.structured_states.specs.Cases.{arm_start, constants_before}
 use Rattle.structured_states.proofs.Claims.{item-cut, drop-past}
-use Rattle.expression_checker.specs.Walk.{IsBreachOf, Walked, Walking, ◌>>=◌, enter, give, numbers_of, tested, value_walk, with_state}
-use Rattle.cert_checker.specs.Walk.{arm_walk, arms_walk, case_walk, here, index_test, statement_walk}
-use Rattle.cert_checker.specs.View.{Goes, IsMoved, Meets, at_state, context_of, said_state}
+use Rattle.expression_checker.specs.Walk.{IsBreachOf, Walked, Walking, ◌>>=◌, enter, give, numbers_of, tested, value_walk}
+use Rattle.cert_checker.specs.Walk.{arm_walk, arms_walk, case_walk, here, index_test, no_more, statement_walk}
+use Rattle.cert_checker.specs.View.{Goes, IsMoved, Meets, at_state, context_of, said_state, viewed_in}
 use Rattle.expression_checker.proofs.Steps.{breach-same}
-use Rattle.cert_checker.proofs.Steps.{Does, Stops, goes-as, goes-stopped, goes-then, moved-loops, moved-same, walks-give}
+use Rattle.cert_checker.proofs.Steps.{Does, Stops, goes-as, goes-stopped, goes-then, moved-loops, moved-same, viewed-moved, viewed-same, walks-give}
+use Rattle.expression_checker.specs.View.{state_of}
 
 pub statement-Case : (number site : ℕ) (index : Expr) (constants : Vec (Vec ℤ Global) Global) (arms : Vec Stmt Global)
     → statement_walk (stmt.Case number site index constants arms)
@@ -58,16 +58,17 @@ case-begun statement number site index constants arms rows items known range old
 pub case-tested : (site : ℕ) (index : Expr) (rows : List (Vec ℤ Global)) (arms : List Stmt) (range : Interval) (count : ℕ) (root : Option ℕ) (base : Kept)
     (old tested new : Walk) (before after : Visits) (result : Result (Unit {0}) CheckFault)
     → count ≡ length arms → root ≡ root_of (condition_of index).form
-    → Does (index_test site (constants_before count rows) range) old before tested before (viewed base)
-    → Goes (arms_walk (viewed base) root rows (map statement_walk arms)) tested before result new after
+    → Does (index_test site (constants_before count rows) range) old before tested before (viewed_in old base)
+    → Goes (arms_walk (viewed_in tested base) root rows (map statement_walk arms)) tested before result new after
     → Goes (case_walk site index rows (map statement_walk arms) (Ordinal range)) old before result new after
-case-tested site index rows arms range count root base old tested new before after result count_is root_is one two =
+case-tested site index rows arms range count root base old tested new before after result count_is root_is one two = λ ready.
     let inner = map statement_walk arms in
     let many : count ≡ length inner = count_is ∙ sym (length-map arms statement_walk) in
     let rest = λ (base : State). arms_walk base (root_of (condition_of index).form) rows inner in
-    goes-then (index_test site (constants_before (length inner) rows) range) rest old tested new before before after (viewed base) result
-    (subst (λ n. Does (index_test site (constants_before n rows) range) old before tested before (viewed base)) many one)
-    (subst (λ r. Goes (arms_walk (viewed base) r rows inner) tested before result new after) root_is two)
+    goes-then (index_test site (constants_before (length inner) rows) range) rest old tested new before before after (viewed_in old base) result
+    (subst (λ n. Does (index_test site (constants_before n rows) range) old before tested before (viewed_in old base)) many one)
+    (subst (λ r. Goes (arms_walk (viewed_in old base) r rows inner) tested before result new after) root_is
+    (subst (λ s. Goes (arms_walk s root rows inner) tested before result new after) (viewed-same old tested base (one ready).context_is) two)) ready
 
 pub case-not_tested : (site : ℕ) (index : Expr) (rows : List (Vec ℤ Global)) (arms : List Stmt) (range : Interval) (count : ℕ) (old new : Walk)
     (before after : Visits) (fault : CheckFault)
@@ -86,34 +87,34 @@ pub index-done : (site : ℕ) (constants : List ℤ) (range : Interval) (closed 
     (visits : Visits)
     → closed ≡ is_covered range constants → passed ≡ common range (hull constants)
     → Does (tested closed site passed) old visits mid visits value
-    → base ≡ mid.flow.state → viewed new.flow.state ≡ dead → new ≡ at_state new.flow.state mid
-    → Does (index_test site constants range) old visits new visits (viewed base)
-index-done site constants range closed passed value base old mid new visits closed_is passed_is one base_is dead_is only =
+    → base ≡ mid.flow.state → state_of new.flow ≡ dead (context_of mid).tree → new ≡ at_state new.flow.state mid
+    → Does (index_test site constants range) old visits new visits (viewed_in old base)
+index-done site constants range closed passed value base old mid new visits closed_is passed_is one base_is dead_is only = λ first_ready.
     let first = tested (is_covered range constants) site (common range (hull constants)) in
-    let rest = here >>= λ base. (with_state dead >>= λ _. give base) in
-    goes-then first (λ _. rest) old mid new visits visits visits value (Ok (viewed base))
+    let rest = here >>= λ base. (no_more >>= λ _. give base) in
+    goes-then first (λ _. rest) old mid new visits visits visits value (Ok (viewed_in old base))
     (subst (λ c. Does (tested c site (common range (hull constants))) old visits mid visits value) closed_is
     (subst (λ p. Does (tested closed site p) old visits mid visits value) passed_is one))
     (λ ready. record {
       context_is = ap context_of only;
       aliases_are = ap (λ (w : Walk). w.aliases.now) only;
-      value_is = ap viewed base_is;
+      value_is = sym (viewed-same old mid base (one first_ready).context_is) ∙ ap (viewed_in mid) base_is;
       state_is = dead_is;
       open_is = ap (λ (w : Walk). w.flow.open_ids.items) only ∙ sym (append-nil mid.flow.open_ids.items);
       visits_are = refl;
       unbroken = refl;
-    })
+    }) first_ready
 
 -- the checker gave up there
 pub index-stopped : (site : ℕ) (constants : List ℤ) (range : Interval) (closed : Bool) (passed : Interval) (old new : Walk) (visits : Visits)
     (fault : CheckFault) (result : Result Kept CheckFault)
     → closed ≡ is_covered range constants → passed ≡ common range (hull constants) → IsErr result × IsErrAnd result (λ e. e ≡ fault)
     → Stops (tested closed site passed) old fault
-    → Goes (index_test site constants range) old visits (said_state result) new visits
+    → Goes (index_test site constants range) old visits (said_state old result) new visits
 index-stopped site constants range closed passed old new visits fault (Ok base) closed_is passed_is left stopped = absurd left.1
 index-stopped site constants range closed passed old new visits fault (Err other) closed_is passed_is left stopped =
     let first = tested (is_covered range constants) site (common range (hull constants)) in
-    let rest = here >>= λ base. (with_state dead >>= λ _. give base) in
+    let rest = here >>= λ base. (no_more >>= λ _. give base) in
     subst (λ f. Goes {A = State} (index_test site constants range) old visits (Err f) new visits) (sym left.1)
     (goes-stopped first (λ _. rest) old new visits visits fault
     (subst (λ c. Stops (tested c site (common range (hull constants))) old fault) closed_is
@@ -124,38 +125,39 @@ index-stopped site constants range closed passed old new visits fault (Err other
 module _ (start : Kept) (arm : Walking (Unit {0})) (old begun : Walk) (begins : begun.flow.state ≡ start)
     (only : begun ≡ at_state begun.flow.state old) where
   abbrev was : Walked (Unit {0})
-  was = arm (context_of old) (viewed start)
+  was = arm (context_of old) (viewed_in old start)
 
-  moved : IsMoved (viewed start) old begun
-  moved = record { only_state = only; says = ap viewed begins }
+  moved : IsMoved (viewed_in old start) old begun
+  moved = record { only_state = only; says = viewed-moved old begun start begins only }
 
-  same : arm (context_of begun) (viewed begun.flow.state) ≡ was
-  same = moved-same arm (viewed start) old begun moved
+  same : arm (context_of begun) (state_of begun.flow) ≡ was
+  same = moved-same arm (viewed_in old start) old begun moved
 
   pub arm-done : (behind : Kept) (done new : Walk) (before after : Visits) (result : Result (Unit {0}) CheckFault) → behind ≡ old.flow.state
-      → Does arm begun before done after tt → Meets behind done result new → Goes (arm_walk (viewed start) arm) old before result new after
+      → Does arm begun before done after tt → Meets behind done result new → Goes (arm_walk (viewed_in old start) arm) old before result new after
   arm-done behind done new before after (Ok value) behind_is walked met = λ ready.
-      let one = walked (moved-loops (viewed start) old begun moved ready) in
+      let one = walked (moved-loops (viewed_in old start) old begun moved ready) in
+      let same_context : context_of done ≡ context_of old = one.context_is ∙ ap context_of only in
       record {
-        context_is = ap context_of met.only_state ∙ one.context_is ∙ ap context_of only;
+        context_is = ap context_of met.only_state ∙ same_context;
         aliases_are = ap (λ (w : Walk). w.aliases.now) met.only_state ∙ one.aliases_are ∙ ap (λ (w : Walk). w.aliases.now) only;
         value_is = refl;
-        state_is = met.says ∙ ap (λ s. joined_states s (viewed done.flow.state)) (ap viewed behind_is)
-            ∙ ap (joined_states (viewed old.flow.state)) (one.state_is ∙ ap (λ w. w.after) same);
+        state_is = met.says ∙ ap (λ s. joined_states s (state_of done.flow)) (viewed-same old done behind same_context ∙ ap (viewed_in old) behind_is)
+            ∙ ap (joined_states (state_of old.flow)) (one.state_is ∙ ap (λ w. w.after) same);
         open_is = ap (λ (w : Walk). w.flow.open_ids.items) met.only_state ∙ one.open_is
-            ∙ ap (λ (w : Walk). w.flow.open_ids.items ++ (arm (context_of begun) (viewed begun.flow.state)).open_ids) only
+            ∙ ap (λ (w : Walk). w.flow.open_ids.items ++ (arm (context_of begun) (state_of begun.flow)).open_ids) only
             ∙ ap (λ w. old.flow.open_ids.items ++ w.open_ids) same;
         visits_are = one.visits_are ∙ ap (λ w. all_counted (numbers_of w.linked) before) same;
         unbroken = ap (λ w. w.broken) (sym same) ∙ one.unbroken;
       }
   arm-done behind done new before after (Err fault) behind_is walked is = λ ready.
-      subst (IsBreachOf (arm_walk (viewed start) arm (context_of old) (viewed old.flow.state))) (sym is) tt
+      subst (IsBreachOf (arm_walk (viewed_in old start) arm (context_of old) (state_of old.flow))) (sym is) tt
 
   pub arm-stopped : (new : Walk) (before after : Visits) (fault : CheckFault) → Stops arm begun fault
-      → Goes (arm_walk (viewed start) arm) old before (Err fault) new after
+      → Goes (arm_walk (viewed_in old start) arm) old before (Err fault) new after
   arm-stopped new before after fault is = λ ready.
-      breach-same (arm (context_of begun) (viewed begun.flow.state)) (arm_walk (viewed start) arm (context_of old) (viewed old.flow.state)) fault
-      (ap (λ w. w.broken) same) (is (moved-loops (viewed start) old begun moved ready))
+      breach-same (arm (context_of begun) (state_of begun.flow)) (arm_walk (viewed_in old start) arm (context_of old) (state_of old.flow)) fault
+      (ap (λ w. w.broken) same) (is (moved-loops (viewed_in old start) old begun moved ready))
 
 -- ---- the arms, from one of them on
 

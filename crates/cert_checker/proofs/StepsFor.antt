@@ -15,7 +15,6 @@ use Rattle.cert_checker.specs.declared.walk.Walk.{Walk}
 use Rattle.abstract_state.specs.declared.known.Known.{Known}
 use Rattle.abstract_state.specs.State.{limits_of}
 use Rattle.component_states.specs.declared.state.State.{State as Kept}
-use Rattle.component_states.specs.View.{viewed}
 use Rattle.component_states.specs.States.{State, joined_states, over_bound, over_change, over_variables}
 use Rattle.abstract_state.specs.Loops.{with_undefined}
 use Rattle.expression_checker.specs.Walk.{IsBreachOf, Walked, Walking, ◌>>=◌, enter, give, numbers_of, value_walk, within}
@@ -27,8 +26,10 @@ use Rattle.structured_states.specs.Ways.{End, Way, end_of, form_before, met, nex
 use Rattle.expression_checker.specs.Walk.{changed_by}
 use Rattle.cert_checker.specs.Walk.{assign, control_change, for_round, for_turns, for_walk, loop_walk, parted, rounds_of, statement_walk, steady_in}
 use Rattle.cert_checker.specs.Walk.{tested_end, tested_way}
-use Rattle.cert_checker.specs.View.{AreLoops, Goes, IsMoved, Moves, Parts, context_of, said_tested}
-use Rattle.cert_checker.proofs.Steps.{Does, Stops, branches-stopped, goes-as, goes-here, goes-stopped, goes-then, moved-loops, moved-same, walks-give}
+use Rattle.cert_checker.specs.View.{AreLoops, Goes, IsMoved, Moves, Parts, context_of, said_tested, viewed_in}
+use Rattle.cert_checker.proofs.Steps.{Does, Stops, branches-stopped, goes-as, goes-here, goes-stopped, goes-then, moved-loops, moved-same, viewed-same}
+use Rattle.cert_checker.proofs.Steps.{walks-give}
+use Rattle.expression_checker.specs.View.{state_of}
 
 pub statement-For : (number loop_number : ℕ) (place : SourcePlace) (control : ℕ) (first : Expr) (first_fits : RangeTest) (direction : Direction) (last : Expr)
     (last_fits : RangeTest) (body : Box Stmt Global)
@@ -107,22 +108,23 @@ left_undefined way = over_change way.control None (with_undefined way.control)
 pub for-done : (number : ℕ) (place : SourcePlace) (body : Walking (Unit {0})) (way : Way) (never : Kept) (old taken mid new : Walk) (before after : Visits)
     (result : Result (Unit {0}) CheckFault)
     → Parts (counting true way) (counting false way) old (Ok never) taken → Does (for_turns number place body way) taken before mid after tt
-    → Moves (λ state. left_undefined way (joined_states state (viewed never))) mid result new
+    → Moves (λ state. left_undefined way (joined_states state (viewed_in mid never))) mid result new
     → Goes (for_walk number place body way) old before result new after
 for-done number place body way never old taken mid new before after (Ok value) parts turned left = λ ready.
     let turns = for_turns number place body way in
-    let first : Walked (Unit {0}) = turns (context_of old) (counting true way (viewed old.flow.state)) in
-    let same = moved-same turns (counting true way (viewed old.flow.state)) old taken parts.0 in
-    let one = turned (moved-loops (counting true way (viewed old.flow.state)) old taken parts.0 ready) in
+    let first : Walked (Unit {0}) = turns (context_of old) (counting true way (state_of old.flow)) in
+    let same = moved-same turns (counting true way (state_of old.flow)) old taken parts.0 in
+    let one = turned (moved-loops (counting true way (state_of old.flow)) old taken parts.0 ready) in
     let undefined = left_undefined way in
+    let same_context : context_of mid ≡ context_of old = one.context_is ∙ ap context_of parts.0.only_state in
     record {
-      context_is = ap context_of left.only_state ∙ one.context_is ∙ ap context_of parts.0.only_state;
+      context_is = ap context_of left.only_state ∙ same_context;
       aliases_are = ap (λ (w : Walk). w.aliases.now) left.only_state ∙ one.aliases_are ∙ ap (λ (w : Walk). w.aliases.now) parts.0.only_state;
       value_is = refl;
-      state_is = left.says ∙ ap (λ s. undefined (joined_states s (viewed never))) (one.state_is ∙ ap (λ w. w.after) same)
-          ∙ ap (λ s. undefined (joined_states first.after s)) parts.1;
+      state_is = left.says ∙ ap (λ s. undefined (joined_states s (viewed_in mid never))) (one.state_is ∙ ap (λ w. w.after) same)
+          ∙ ap (λ s. undefined (joined_states first.after s)) (viewed-same old mid never same_context ∙ parts.1);
       open_is = ap (λ (w : Walk). w.flow.open_ids.items) left.only_state ∙ one.open_is
-          ∙ ap (λ (w : Walk). w.flow.open_ids.items ++ (turns (context_of taken) (viewed taken.flow.state)).open_ids) parts.0.only_state
+          ∙ ap (λ (w : Walk). w.flow.open_ids.items ++ (turns (context_of taken) (state_of taken.flow)).open_ids) parts.0.only_state
           ∙ ap (λ w. old.flow.open_ids.items ++ w.open_ids) same
           ∙ ap (λ ids. old.flow.open_ids.items ++ ids) (sym (append-nil first.open_ids) ∙ sym (append-nil (first.open_ids ++ [])));
       visits_are = one.visits_are ∙ ap (λ w. all_counted (numbers_of w.linked) before) same
@@ -130,7 +132,7 @@ for-done number place body way never old taken mid new before after (Ok value) p
       unbroken = append-nil (first.broken ++ []) ∙ append-nil first.broken ∙ ap (λ w. w.broken) (sym same) ∙ one.unbroken;
     }
 for-done number place body way never old taken mid new before after (Err fault) parts turned left = λ ready.
-    subst (IsBreachOf (for_walk number place body way (context_of old) (viewed old.flow.state))) (sym left) tt
+    subst (IsBreachOf (for_walk number place body way (context_of old) (state_of old.flow))) (sym left) tt
 
 pub for-stopped : (number : ℕ) (place : SourcePlace) (body : Walking (Unit {0})) (way : Way) (never : Kept) (old taken new : Walk) (before after : Visits)
     (fault : CheckFault)
@@ -144,26 +146,27 @@ for-stopped number place body way never old taken new before after fault parts i
     (branches-stopped (counting true way) (counting false way) turns (give tt) old taken new before after never fault parts is)
 
 -- a round of a for
-module _ (way : Way) (body : Walking (Unit {0})) (old begun : Walk) (moved : IsMoved (over_variables (turn_begun way) (viewed old.flow.state)) old begun) where
+module _ (way : Way) (body : Walking (Unit {0})) (old begun : Walk) (moved : IsMoved (over_variables (turn_begun way) (state_of old.flow)) old begun) where
   abbrev was : Walked (Unit {0})
-  was = body (context_of old) (over_variables (turn_begun way) (viewed old.flow.state))
+  was = body (context_of old) (over_variables (turn_begun way) (state_of old.flow))
 
-  same : body (context_of begun) (viewed begun.flow.state) ≡ was
-  same = moved-same body (over_variables (turn_begun way) (viewed old.flow.state)) old begun moved
+  same : body (context_of begun) (state_of begun.flow) ≡ was
+  same = moved-same body (over_variables (turn_begun way) (state_of old.flow)) old begun moved
 
   pub for_round-done : (bodied new : Walk) (before after : Visits) (behind : Kept) → Does body begun before bodied after tt
       → Parts (over_change way.control (next way) (turn_ended way)) (over_bound way.control way.last.form (way_out way)) bodied (Ok behind) new
-      → Does (for_round way body) old before new after (viewed behind)
+      → Does (for_round way body) old before new after (viewed_in old behind)
   for_round-done bodied new before after behind done parts = λ ready.
-      let one = done (moved-loops (over_variables (turn_begun way) (viewed old.flow.state)) old begun moved ready) in
+      let one = done (moved-loops (over_variables (turn_begun way) (state_of old.flow)) old begun moved ready) in
       let after_is = one.state_is ∙ ap (λ w. w.after) same in
+      let same_context : context_of bodied ≡ context_of old = one.context_is ∙ ap context_of moved.only_state in
       record {
-        context_is = ap context_of parts.0.only_state ∙ one.context_is ∙ ap context_of moved.only_state;
+        context_is = ap context_of parts.0.only_state ∙ same_context;
         aliases_are = ap (λ (w : Walk). w.aliases.now) parts.0.only_state ∙ one.aliases_are ∙ ap (λ (w : Walk). w.aliases.now) moved.only_state;
-        value_is = parts.1 ∙ ap (over_bound way.control way.last.form (way_out way)) after_is;
+        value_is = sym (viewed-same old bodied behind same_context) ∙ parts.1 ∙ ap (over_bound way.control way.last.form (way_out way)) after_is;
         state_is = parts.0.says ∙ ap (over_change way.control (next way) (turn_ended way)) after_is;
         open_is = ap (λ (w : Walk). w.flow.open_ids.items) parts.0.only_state ∙ one.open_is
-            ∙ ap (λ (w : Walk). w.flow.open_ids.items ++ (body (context_of begun) (viewed begun.flow.state)).open_ids) moved.only_state
+            ∙ ap (λ (w : Walk). w.flow.open_ids.items ++ (body (context_of begun) (state_of begun.flow)).open_ids) moved.only_state
             ∙ ap (λ w. old.flow.open_ids.items ++ w.open_ids) same ∙ ap (λ ids. old.flow.open_ids.items ++ ids) (sym (append-nil was.open_ids));
         visits_are = one.visits_are ∙ ap (λ w. all_counted (numbers_of w.linked) before) same
             ∙ ap (λ linked. all_counted (numbers_of linked) before) (sym (append-nil was.linked));
@@ -173,7 +176,7 @@ module _ (way : Way) (body : Walking (Unit {0})) (old begun : Walk) (moved : IsM
 -- the tests of both bounds
 module _ (place : SourcePlace) (way : Way) (old : Walk) where
   abbrev start : State
-  start = viewed old.flow.state
+  start = state_of old.flow
 
   pub way-given_up : (new : Walk) (visits : Visits) (fault : CheckFault) (result : Result KeptWay CheckFault)
       → IsErr result × IsErrAnd result (λ e. e ≡ fault) → Goes {A = Way} (tested_way place way) old visits (Err fault) new visits

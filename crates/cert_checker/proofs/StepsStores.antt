@@ -22,7 +22,6 @@ use Rattle.abstract_state.specs.Conditions.{bound_form}
 use Rattle.leaf_rows.specs.Rows.{rows_accessed, rows_of}
 use Rattle.component_states.specs.Components.{Reach, all_stored, stored}
 use Rattle.component_states.specs.States.{State, over_components}
-use Rattle.component_states.specs.View.{viewed}
 use Rattle.structured_states.proofs.Claims.{item-cut}
 use Rattle.structured_states.proofs.Rowed.{rows_to, rows-next}
 use Rattle.expression_checker.specs.declared.fault.CheckFault.{CheckFault}
@@ -33,6 +32,7 @@ use Rattle.cert_checker.specs.declared.walk.Walk.{Walk}
 use Rattle.cert_checker.specs.View.{Goes, context_of}
 use Rattle.cert_checker.specs.Walk.{Stores, alike, assign, assign_component, assign_to, assignment, change, copy_to, copying, paired, reach_before, store_to}
 use Rattle.cert_checker.proofs.Steps.{Does, goes-here, goes-then}
+use Rattle.expression_checker.specs.View.{state_of}
 
 -- an assignment from the access of its target on
 pub assignment-done : (becomes : SourcePlace) (target : Access) (indexes : List Expr) (fits : RangeTest) (value : Expr) (values : Interval)
@@ -94,9 +94,9 @@ module _ (place : SourcePlace) (root : ℕ) (selectors : List Selector) (reach :
       → Goes (assign_component place root selectors reach passed) old visits result new visits
   component-goes passed range passed_is stores_are goes =
       goes-here (assign_component place root selectors reach passed) (store_to place root reach true stores) old new visits visits result
-      (ap (λ known. assign_component place root selectors reach known (context_of old) (viewed old.flow.state)) passed_is
-      ∙ ap (λ r. store_to place root reach true (alike range r) (context_of old) (viewed old.flow.state)) (sym rows_are)
-      ∙ ap (λ s. store_to place root reach true s (context_of old) (viewed old.flow.state)) (sym stores_are)) goes
+      (ap (λ known. assign_component place root selectors reach known (context_of old) (state_of old.flow)) passed_is
+      ∙ ap (λ r. store_to place root reach true (alike range r) (context_of old) (state_of old.flow)) (sym rows_are)
+      ∙ ap (λ s. store_to place root reach true s (context_of old) (state_of old.flow)) (sym stores_are)) goes
 
   -- so are the components of a whole value
   pub copy-goes : (type_id : TypeId) (value : Whole) (ranges : List Interval) (fits : Bool)
@@ -106,9 +106,9 @@ module _ (place : SourcePlace) (root : ℕ) (selectors : List Selector) (reach :
   copy-goes type_id value ranges fits fits_is stores_are goes =
       let may = fits_whole (context_of old).tree.types type_id value in
       goes-here (copy_to place root selectors reach type_id value ranges) (store_to place root reach fits stores) old new visits visits result
-      (ap (λ r. store_to place root reach (may && nat_eq (length r) (length ranges)) (paired r ranges) (context_of old) (viewed old.flow.state)) (sym rows_are)
-      ∙ ap (λ f. store_to place root reach f (paired rows ranges) (context_of old) (viewed old.flow.state)) (sym fits_is)
-      ∙ ap (λ s. store_to place root reach fits s (context_of old) (viewed old.flow.state)) (sym stores_are)) goes
+      (ap (λ r. store_to place root reach (may && nat_eq (length r) (length ranges)) (paired r ranges) (context_of old) (state_of old.flow)) (sym rows_are)
+      ∙ ap (λ f. store_to place root reach f (paired rows ranges) (context_of old) (state_of old.flow)) (sym fits_is)
+      ∙ ap (λ s. store_to place root reach fits s (context_of old) (state_of old.flow)) (sym stores_are)) goes
 
 -- ---- stores, from one of them on
 

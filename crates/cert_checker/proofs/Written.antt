@@ -1,5 +1,5 @@
 -- What a run leaves that stores a value, or the numbers of components one after another; and that the walk over such stores foretells it.
-use Rattle.std.proofs.Common.{arith, ◌≡◌, ⊎_elim, ◌∙◌, sym, ap, refl, subst, ℕ, ◌≤◌, ℤ, Bool, true, false, ◌&&◌, ◌||◌, length, List, [], ◌∷◌}
+use Rattle.std.proofs.Common.{arith, ◌≡◌, ⊎_elim, ◌∙◌, sym, ap, ap₂, refl, subst, ℕ, ◌≤◌, ℤ, Bool, true, false, ◌&&◌, ◌||◌, length, List, [], ◌∷◌}
 use Rattle.std.proofs.Common.{◌++◌, Option, Some}
 use Rattle.std.specs.List.{Contains, list_all}
 use Rattle.std.specs.Prelude.{is_some, map, slice_get}
@@ -21,26 +21,29 @@ use Rattle.abstract_state.specs.Holds.{IsIn}
 use Rattle.abstract_state.specs.Loops.{with_touched}
 use Rattle.abstract_state.specs.Knows.{IsKept, IsOfForm, moment}
 use Rattle.abstract_state.proofs.Apart.{part as part_at}
+use Rattle.leaf_rows.specs.Limits.{all_limits, limits_at}
 use Rattle.leaf_rows.specs.Rows.{is_structured, rows_accessed, rows_of, values_at}
 use Rattle.component_states.specs.Components.{Reach, all_stored}
 use Rattle.component_states.specs.Holds.{Knows}
 use Rattle.component_states.specs.States.{State}
-use Rattle.structured_states.specs.Loops.{Round, all_control, all_limits, all_list, limits_at}
-use Rattle.structured_states.specs.Pairs.{aliases_of}
+use Rattle.structured_states.specs.Loops.{Round, all_control, all_list}
+use Rattle.structured_states.specs.Pairs.{aliases_of, Listed, aliases_in}
 use Rattle.call_states.specs.Actuals.{lies_among}
 use Rattle.call_states.specs.Aliases.{reach_unless_alias, unless_alias, variable_values, with_aliases_stored}
 use Rattle.call_states.specs.Starts.{is_own}
 use Rattle.call_states.specs.Environments.{Fine, Proper}
-use Rattle.call_states.proofs.AliasedStores.{AreWritten, Pairs, aliases-apart, at-head, head-or_tail, in-tail, none-written}
+use Rattle.call_states.proofs.AliasedStores.{AreWritten, Pairs, at-head, head-or_tail, in-tail, none-written}
 use Rattle.call_states.proofs.AliasedStores.{one-kept, one-written, written-then}
 use Rattle.call_states.proofs.AliasedTypes.{AreTyped, IsClosedIn, control-keeps, listed-keeps, written-begun, written-typed}
+use Rattle.call_states.proofs.SeenAliases.{apart-seen}
 use Rattle.expression_checker.specs.declared.fault.Rule.{Rule}
 use Rattle.expression_checker.specs.declared.fault.Rule.TheVariants.{Changes}
 use Rattle.expression_checker.specs.Walk.{Context, Walked, breach_unless, followed}
 use Rattle.expression_checker.specs.Walk as flow
 use Rattle.expression_checker.proofs.Keeping.{Keeps}
 use Rattle.expression_checker.proofs.Sound.{Any_value, Good, Here, IsForetold, World, good-give, good-then, good-weaker, nothing-new, parts_in}
-use Rattle.expression_checker.proofs.Sound.{types_in, unbroken-left, variables_in}
+use Rattle.expression_checker.proofs.Sound.{listed_in, types_in, unbroken-left, variables_in}
+use Rattle.cert_checker.proofs.Rounds.{kept-wider}
 use Rattle.expression_checker.proofs.SoundAccesses.{part-then}
 use Rattle.expression_checker.proofs.SoundRows.{IsReachedBy, Matches, RowsAre}
 use Rattle.cert_checker.specs.Walk as walk
@@ -60,7 +63,12 @@ kept-rule false rule place is = absurd (cc)
 
 module _ (world : World) (limits_are : world.limits ≡ all_limits world.tree) (block : ℕ) (env : Environment) where
   abbrev aliases : ℕ → List ℕ
-  aliases root = aliases_of world.pairs root
+  aliases root = aliases_in (listed_in world) block root
+
+  -- what is kept but for those, is kept but for all that are listed
+  wider : (root : ℕ) (before after : Store) → IsKept env (root ∷ aliases root) [] before after
+      → IsKept env (root ∷ aliases_of world.pairs root) [] before after
+  wider root before after kept = kept-wider world block env root before after kept
 
   closed-here : (context : Context) (state : State) (s : effect.State) → Here world block env context state s → (round : Round)
       → Contains context.rounds round → IsClosedIn world.tree world.pairs block round
@@ -76,14 +84,15 @@ module _ (world : World) (limits_are : world.limits ≡ all_limits world.tree) (
         → Knows (parts_in world) (variables_in world) env (walk.assign root form (Ordinal range) context state).after after
     assign-known n range form context state s after here are typed inside of_form =
         let goes = here.stands.goes in
-        let assigned = λ (tree : Tree) (pairs : List (ℕ × ℕ)).
-        walk.assigned_to root range (unless_alias (aliases_of pairs root) form)
-        (with_aliases_stored tree (aliases_of pairs root) (record { values = variable_values tree root; range = range } ∷ []) state) in
+        let assigned = λ (tree : Tree) (listed : Listed) (b : ℕ).
+        walk.assigned_to root range (unless_alias (aliases_in listed b root) form)
+        (with_aliases_stored tree (aliases_in listed b root) (record { values = variable_values tree root; range = range } ∷ []) state) in
         let K = λ (after_state : State). Knows (parts_in world) (variables_in world) env after_state after in
-        subst (λ (tree : Tree). K (assigned tree context.pairs)) (sym goes.tree_is)
-        (subst (λ (pairs : List (ℕ × ℕ)). K (assigned world.tree pairs)) (sym goes.pairs_are)
+        subst (λ (tree : Tree). K (assigned tree context.pairs context.block)) (sym goes.tree_is)
+        (subst (λ (listed : Listed). K (assigned world.tree listed context.block)) (sym goes.pairs_are)
+        (subst (λ (b : ℕ). K (assigned world.tree (listed_in world) b)) (sym here.block_is)
         (assigned-knows world.tree world.pairs block s.activations env here.proper root home at n s.store after are typed range form state inside of_form
-        here.stands.known))
+        here.stands.known)))
 
     -- a value is assigned, and of the loops round it nothing else changes
     assign-good : (n : ℤ) (range : Interval) (form : Option Bound) (context : Context) (state : State) (s : effect.State)
@@ -95,7 +104,7 @@ module _ (world : World) (limits_are : world.limits ≡ all_limits world.tree) (
     assign-good n range form context state s here ordinal own inside of_form keeps =
         let before = s.store in
         let after = written before home (Number n) in
-        let apart = aliases-apart env world.pairs here.proper.separate root home at in
+        let apart = apart-seen world.tree world.pairs block s.activations env here.proper root home at in
         let are = whole-written env (aliases root) root home at apart before n in
         let typed = whole-typed world.tree world.pairs block s.activations env here.proper root home at n ordinal
         (subst (λ (limits : List Interval). IsIn (limits_at limits root) (Number n)) limits_are own) in
@@ -129,7 +138,7 @@ module _ (world : World) (limits_are : world.limits ≡ all_limits world.tree) (
         assign-good n range form context state s here ordinal own inside of_form
         (λ after kept.
         listed-keeps world.tree world.pairs block s.activations env here.proper root home at context.rounds (closed-here context state s here) s.store after
-        kept listed)
+        (wider root s.store after kept) listed)
 
     -- to one that controls a for statement in each
     pub control-good : (n : ℤ) (range : Interval) (form : Option Bound) (context : Context) (state : State) (s : effect.State)
@@ -141,7 +150,7 @@ module _ (world : World) (limits_are : world.limits ≡ all_limits world.tree) (
         assign-good n range form context state s here ordinal own inside of_form
         (λ after kept.
         control-keeps world.tree world.pairs block s.activations env here.proper root home at context.rounds (closed-here context state s here) s.store after
-        kept controls)
+        (wider root s.store after kept) controls)
 
   -- ---- stores of components, one after another
 
@@ -159,7 +168,7 @@ module _ (world : World) (limits_are : world.limits ≡ all_limits world.tree) (
         let there : part place rest ≡ Some (part_at home (way ++ rest)) =
         ap (λ (p : Option StorePlace). part p rest) place_is ∙ part-then (env.variables root) way rest
         ∙ ap (λ (p : Option StorePlace). part p (way ++ rest)) at in
-        let apart = aliases-apart env world.pairs proper.separate root home at in
+        let apart = apart-seen world.tree world.pairs block activations env proper root home at in
         let are = one-written env (aliases root) root home at apart t.store (way ++ rest) n in
         let after = written t.store (part_at home (way ++ rest)) (Number n) in
         let young = proper.begun root home at in
@@ -235,16 +244,17 @@ module _ (world : World) (limits_are : world.limits ≡ all_limits world.tree) (
         let own = aliases root in
         let reached_own = reached-unless env s.store selectors way own reach reached in
         let told = λ (tree : Tree). map (λ (one : ℕ × Interval). record { values = values_at (rows_of tree) one.0; range = one.1 }) stores in
-        let ready = λ (tree : Tree) (pairs : List (ℕ × ℕ)). with_aliases_stored tree (aliases_of pairs root) (told tree) state in
-        let made : Tree → List (ℕ × ℕ) → List Interval → State =
-        λ tree pairs limits. record {
-          variables = with_touched (limits_at limits) root (ready tree pairs).variables;
-          components = all_stored (ready tree pairs).variables (reach_unless_alias (aliases_of pairs root) reach) stores (ready tree pairs).components;
+        let ready = λ (tree : Tree) (own : List ℕ). with_aliases_stored tree own (told tree) state in
+        let made : Tree → List ℕ → List Interval → State =
+        λ tree own limits. record {
+          variables = with_touched (limits_at limits) root (ready tree own).variables;
+          components = all_stored (ready tree own).variables (reach_unless_alias own reach) stores (ready tree own).components;
         } in
         let K = λ (after_state : State). Knows (parts_in world) (variables_in world) env after_state after in
-        subst (λ (tree : Tree). K (made tree context.pairs context.limits)) (sym goes.tree_is)
-        (subst (λ (pairs : List (ℕ × ℕ)). K (made world.tree pairs context.limits)) (sym goes.pairs_are)
-        (subst (λ (limits : List Interval). K (made world.tree world.pairs limits)) (sym (goes.limits_are ∙ limits_are))
+        subst (λ (tree : Tree). K (made tree (walk.aliases_here context root) context.limits)) (sym goes.tree_is)
+        (subst (λ (aliases : List ℕ). K (made world.tree aliases context.limits))
+        (sym (ap₂ (λ (listed : Listed) (b : ℕ). aliases_in listed b root) goes.pairs_are here.block_is))
+        (subst (λ (limits : List Interval). K (made world.tree own limits)) (sym (goes.limits_are ∙ limits_are))
         (made-knows world.tree world.pairs block s.activations env here.proper root home at pairs stores fit.targets s.store after are typed here.fine.typed
         reach (is-reach world.tree root selectors id rows env s.store way matches (reach_unless_alias own reach) reached_own)
         (λ formed.
@@ -276,7 +286,7 @@ module _ (world : World) (limits_are : world.limits ≡ all_limits world.tree) (
           stands = record { goes = here.stands.goes; known = left-known stores fitting context state s u.store here typed reached left.so };
           kept =
               listed-keeps world.tree world.pairs block s.activations env here.proper root home at context.rounds (closed-here context state s here) s.store
-              u.store (one-kept env (aliases root) root pairs s.store u.store left.so) listed;
+              u.store (wider root s.store u.store (one-kept env (aliases root) root pairs s.store u.store left.so)) listed;
         })
         (all-left root home at s.activations here.proper way place place_is (components_of (types_in world) id) numbers s typed (omega arith) here.fine)
       where

@@ -1,6 +1,6 @@
 -- The checker's own values as the definitions see them, and that the checker has walked over a piece of a program.
 -- It does not say what a walk is.
-use Rattle.std.specs.Prelude.{◌≡◌, ℕ, true, List, [], ◌∷◌, ◌++◌, Option, Some, None, Result, Ok, Err, length, map}
+use Rattle.std.specs.Prelude.{◌≡◌, ℕ, true, List, [], ◌∷◌, ◌++◌, Option, Some, None, Result, Ok, Err, map}
 use Rattle.std.specs.Global.{Vec}
 use denote.Ref.{Bor}
 use Rattle.std.specs.declared.alloc.Global.{Global}
@@ -29,19 +29,23 @@ use Rattle.component_states.specs.States.{State, dead, joined_states}
 use Rattle.call_states.specs.Aliases.{Stored}
 use Rattle.call_states.specs.Starts.{all_declared}
 use Rattle.expression_checker.specs.View as expressions
+use Rattle.expression_checker.specs.View.{state_of}
 use Rattle.expression_checker.specs.Walk.{Context, IsBreachOf, Walking, give, numbers_of}
 use Rattle.cert_checker.specs.Walk.{facts_given, statement_walk}
 use Rattle.expression_checker.specs.declared.fault.Rule.TheVariants.{LoopEntry, LoopTurn}
+
+-- what a state says in the program of the checker
+abbrev pub viewed_in : Walk → Kept → State
+viewed_in walk state = viewed walk.flow.grounds.rows.now state
 
 -- what a walk of the checker goes by
 abbrev pub context_of : Walk → Context
 context_of walk = expressions.context_of walk.flow.grounds (map said_claims walk.claims.items)
 
--- the loops of a program have claims, and these are the aliases of what each changes
+-- these are the aliases of what each loop of a program changes
 abbrev pub AreLoops : Context → List (Vec ℕ) → Type 0
 AreLoops context aliases =
-    (length context.claims ≡ length context.tree.loops.items)
-    × (map (λ row. row.items) aliases ≡ all_loop_aliases context.tree context.pairs context.claims)
+    map (λ row. row.items) aliases ≡ all_loop_aliases context.tree context.pairs context.claims
 
 -- these are the variables that each block of the checker's program declares
 abbrev pub AreDeclared : List (Vec ℕ) → Walk → Type 0
@@ -53,18 +57,18 @@ pub record Walks {A : Type 0} (walking : Walking A) (old : Walk) (before : Visit
     (value : A) : Type 0 where
   pub context_is : context_of new ≡ context_of old
   pub aliases_are : new.aliases.now ≡ old.aliases.now
-  pub value_is : value ≡ (walking (context_of old) (viewed old.flow.state)).value
-  pub state_is : viewed new.flow.state ≡ (walking (context_of old) (viewed old.flow.state)).after
+  pub value_is : value ≡ (walking (context_of old) (state_of old.flow)).value
+  pub state_is : state_of new.flow ≡ (walking (context_of old) (state_of old.flow)).after
   pub open_is :
-      new.flow.open_ids.items ≡ old.flow.open_ids.items ++ (walking (context_of old) (viewed old.flow.state)).open_ids
-  pub visits_are : after ≡ all_counted (numbers_of (walking (context_of old) (viewed old.flow.state)).linked) before
-  pub unbroken : (walking (context_of old) (viewed old.flow.state)).broken ≡ []
+      new.flow.open_ids.items ≡ old.flow.open_ids.items ++ (walking (context_of old) (state_of old.flow)).open_ids
+  pub visits_are : after ≡ all_counted (numbers_of (walking (context_of old) (state_of old.flow)).linked) before
+  pub unbroken : (walking (context_of old) (state_of old.flow)).broken ≡ []
 
 -- the checker went over a piece of a program: it walked over it, or it tells the first rule that the piece breaks, or
 -- it found no memory
 abbrev pub Went : {A : Type 0} → Walking A → Walk → Visits → Result A CheckFault → Walk → Visits → Type 0
 Went walking old before (Ok value) new after = Walks walking old before new after value
-Went walking old before (Err fault) new after = IsBreachOf (walking (context_of old) (viewed old.flow.state)) fault
+Went walking old before (Err fault) new after = IsBreachOf (walking (context_of old) (state_of old.flow)) fault
 
 -- it did so, if it has the aliases of the loops
 abbrev pub Goes : {A : Type 0} → Walking A → Walk → Visits → Result A CheckFault → Walk → Visits → Type 0
@@ -78,22 +82,22 @@ at_state state walk = record walk { flow = record (walk.flow) { state = state } 
 -- the checker goes on from a state that says this, and nothing else of it changes
 pub record IsMoved (state : State) (old new : Walk) : Type 0 where
   pub only_state : new ≡ at_state new.flow.state old
-  pub says : viewed new.flow.state ≡ state
+  pub says : state_of new.flow ≡ state
 
 -- the checker goes on from a changed state; or it found no memory
 abbrev pub Moves : {A : Type 0} → (State → State) → Walk → Result A CheckFault → Walk → Type 0
-Moves change old (Ok done) new = IsMoved (change (viewed old.flow.state)) old new
+Moves change old (Ok done) new = IsMoved (change (state_of old.flow)) old new
 Moves change old (Err fault) new = fault ≡ Memory
 
 -- the checker goes on from one state, and has another; or it found no memory
 abbrev pub Parts : (one other : State → State) → Walk → Result Kept CheckFault → Walk → Type 0
 Parts one other old (Ok otherwise) new =
-    IsMoved (one (viewed old.flow.state)) old new × (viewed otherwise ≡ other (viewed old.flow.state))
+    IsMoved (one (state_of old.flow)) old new × (viewed_in old otherwise ≡ other (state_of old.flow))
 Parts one other old (Err fault) new = fault ≡ Memory
 
 -- the checker goes on where the way from an earlier state meets that to the present one; or it found no memory
 abbrev pub Meets : Kept → Walk → Result (Unit {0}) CheckFault → Walk → Type 0
-Meets before old (Ok done) new = IsMoved (joined_states (viewed before) (viewed old.flow.state)) old new
+Meets before old (Ok done) new = IsMoved (joined_states (viewed_in old before) (state_of old.flow)) old new
 Meets before old (Err fault) new = fault ≡ Memory
 
 -- the walk over the statement behind `else`, if there is one
@@ -101,10 +105,10 @@ abbrev pub else_walk : Option (Box Stmt Global) → Walking (Unit {0})
 else_walk None = give tt
 else_walk (Some statement) = statement_walk statement.value
 
--- a state of the checker that is answered, as the definitions see it
-abbrev pub said_state : Result Kept CheckFault → Result State CheckFault
-said_state (Ok state) = Ok (viewed state)
-said_state (Err fault) = Err fault
+-- a state that the checker answers, as the definitions see it
+abbrev pub said_state : Walk → Result Kept CheckFault → Result State CheckFault
+said_state walk (Ok state) = Ok (viewed_in walk state)
+said_state walk (Err fault) = Err fault
 
 -- so is the way of a control variable
 abbrev pub said_tested : Result KeptWay CheckFault → Result Way CheckFault
@@ -128,15 +132,15 @@ pub record IsLoop (number : ℕ) (control : Option ℕ) (walk : Walk) (round : K
 -- the checker came to the head of a loop, whose facts were given
 pub record AtHead (number : ℕ) (control : Option ℕ) (old new : Walk) : Type 0 where
   pub given :
-      gives_claims (context_of old).tree (viewed old.flow.state) (claims_in number old).facts ≡ true
+      gives_claims (context_of old).tree (state_of old.flow) (claims_in number old).facts ≡ true
   pub context_is : context_of new
       ≡ record (context_of old) {
         rounds = (context_of old).rounds ++ without_own control (loop_in number old) ∷ [];
       }
   pub aliases_are : new.aliases.now ≡ old.aliases.now
-  pub state_is : viewed new.flow.state
+  pub state_is : state_of new.flow
       ≡ head_of (context_of old).tree (context_of old).limits (with_own control (loop_in number old))
-      (claims_in number old).facts (viewed old.flow.state)
+      (claims_in number old).facts (state_of old.flow)
   pub open_is : new.flow.open_ids ≡ old.flow.open_ids
 
 -- the checker came to the head of a loop of a number and a place, or its facts weren't given, or it found no memory
@@ -144,16 +148,16 @@ abbrev pub EntersLoop : ℕ → Place → Option ℕ → Walk → Result (Unit {
 EntersLoop number place control old (Ok done) new =
     AreLoops (context_of old) old.aliases.now → AtHead number control old new
 EntersLoop number place control old (Err fault) new = AreLoops (context_of old) old.aliases.now
-    → IsBreachOf (facts_given LoopEntry place (claims_in number old).facts (context_of old) (viewed old.flow.state))
+    → IsBreachOf (facts_given LoopEntry place (claims_in number old).facts (context_of old) (state_of old.flow))
     fault
 
 -- the checker came behind a loop, whose facts were given
 pub record IsBehind (number : ℕ) (behind : Kept) (rounds : List Round) (old new : Walk) : Type 0 where
   pub given :
-      gives_claims (context_of old).tree (viewed old.flow.state) (claims_in number old).facts ≡ true
+      gives_claims (context_of old).tree (state_of old.flow) (claims_in number old).facts ≡ true
   pub context_is : context_of new ≡ record (context_of old) { rounds = rounds }
   pub aliases_are : new.aliases.now ≡ old.aliases.now
-  pub state_is : viewed new.flow.state ≡ viewed behind
+  pub state_is : state_of new.flow ≡ viewed_in old behind
   pub open_is : new.flow.open_ids ≡ old.flow.open_ids
 
 -- the checker came behind a loop of a number and a place that is round it, or its facts weren't given
@@ -162,7 +166,7 @@ LeavesLoop number place behind old (Ok done) new = AreLoops (context_of old) old
     → (rounds : List Round) (own : Round) → (context_of old).rounds ≡ rounds ++ own ∷ []
     → IsBehind number behind rounds old new
 LeavesLoop number place behind old (Err fault) new = AreLoops (context_of old) old.aliases.now
-    → IsBreachOf (facts_given LoopTurn place (claims_in number old).facts (context_of old) (viewed old.flow.state))
+    → IsBreachOf (facts_given LoopTurn place (claims_in number old).facts (context_of old) (state_of old.flow))
     fault
 
 -- an ordinal of the type of a row
@@ -174,5 +178,5 @@ pub record IsBegun (grounds : Grounds) (claims : VecIn (Option (Bor LoopClaims))
     (walk : Walk) : Type 0 where
   pub context_is : context_of walk ≡ expressions.context_of grounds (map said_claims claims.items)
   pub aliases_are : walk.aliases.now ≡ aliases
-  pub state_is : viewed walk.flow.state ≡ dead
+  pub state_is : state_of walk.flow ≡ dead (context_of walk).tree
   pub open_is : walk.flow.open_ids.items ≡ []

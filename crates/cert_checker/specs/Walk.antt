@@ -2,7 +2,7 @@
 -- rules that are broken, and the state at each entry into a statement or expression (ISO 7185:1990, 6.7, 6.8).
 -- It does not say that a program does what the walk says of it.
 use Rattle.std.specs.Prelude.{ℕ, suc, ℤ, drop, slice_get, Bool, true, false, ◌&&◌, List, [], ◌∷◌, ◌++◌, Option, Some}
-use Rattle.std.specs.Prelude.{None, if◌then◌else◌, map, length, nat_eq, not}
+use Rattle.std.specs.Prelude.{None, if◌then◌else◌, map, length, nat_eq}
 use Rattle.std.specs.List.{list_all}
 use Rattle.std.specs.declared.alloc.Global.{Global}
 use Rattle.std.specs.declared.boxed.Box.{Box}
@@ -25,7 +25,6 @@ use Rattle.typed_tree.specs.declared.tree.Stmt.TheOpen.Stmt-F.{Empty, Assign, Wr
 use Rattle.typed_tree.specs.declared.tree.Stmt.TheOpen.Stmt-F.{Case, Copy, Call}
 use Rattle.typed_tree.specs.declared.tree.Stmt.TheFolds.{fold-Stmt}
 use Rattle.typed_tree.specs.Calls.{holds_call, whole_holds_call}
-use Rattle.typed_tree.specs.WellFormed.{is_visible, outline_of}
 use Rattle.domain.specs.Interval.{Interval, is_included, common}
 use Rattle.domain.specs.Numbers.{hull, is_covered}
 use Rattle.domain.specs.Facts.{Bound, Fact}
@@ -36,15 +35,16 @@ use Rattle.abstract_state.specs.Changes.{assigned}
 use Rattle.abstract_state.specs.Conditions.{bound_form, branched, condition_of}
 use Rattle.abstract_state.specs.Forms.{root_of}
 use Rattle.abstract_state.specs.Loops.{with_touched, with_undefined}
+use Rattle.leaf_rows.specs.Limits.{all_limits, limits_at}
 use Rattle.leaf_rows.specs.Rows.{rows_accessed, rows_of, values_at}
 use Rattle.component_states.specs.Components.{Reach, all_stored}
 use Rattle.component_states.specs.States.{State, dead, joined_states, over_bound, over_change, over_variables}
 use Rattle.structured_states.specs.Cases.{arm_start, constants_before}
-use Rattle.structured_states.specs.Loops.{Round, all_claims, all_control, all_limits, claims_at, gives_claims}
-use Rattle.structured_states.specs.Loops.{head_of, limits_at, round_of, touched, with_own, without_own}
+use Rattle.structured_states.specs.Loops.{Round, all_claims, all_control, claims_at, gives_claims}
+use Rattle.structured_states.specs.Loops.{head_of, round_of, touched, with_own, without_own}
 use Rattle.structured_states.specs.Ways.{End, Way, met, next, steady, turn_begun, turn_ended, way_of, way_out}
 use Rattle.structured_states.specs.Ways.{where_counts, with_values}
-use Rattle.structured_states.specs.Pairs.{aliases_of}
+use Rattle.structured_states.specs.Pairs.{aliases_in}
 use Rattle.call_states.specs.Sections.{BlockClaims, all_block_claims, all_pairs, block_claims_at}
 use Rattle.call_states.specs.Starts.{block_start}
 use Rattle.call_states.specs.Aliases.{Stored, reach_unless_alias, unless_alias, variable_values, with_aliases_stored}
@@ -63,10 +63,14 @@ abbrev pub change : Place → ℕ → Interval → Walking (Unit {0})
 change place root values context =
     asked (may_change context root && is_included values (limits_at context.limits root)) Changes place context
 
+-- the aliases of a variable that are visible in the block
+abbrev pub aliases_here : Context → ℕ → List ℕ
+aliases_here context root = aliases_in context.pairs context.block root
+
 -- what is known before a store to a variable of the aliases that may have what is stored
 abbrev pub with_aliases : Context → ℕ → List Stored → State → State
 with_aliases context root stored state =
-    with_aliases_stored context.tree (aliases_of context.pairs root) stored state
+    with_aliases_stored context.tree (aliases_here context root) stored state
 
 -- an ordinal of a variable's type
 abbrev pub stored_in : Context → ℕ → Interval → Stored
@@ -80,7 +84,7 @@ assigned_to root range form state = over_change root form (assigned root range f
 abbrev pub assign : ℕ → Option Bound → Known → Walking (Unit {0})
 assign root form (Ordinal range) context =
     changed_by
-    (λ state. assigned_to root range (unless_alias (aliases_of context.pairs root) form)
+    (λ state. assigned_to root range (unless_alias (aliases_here context root) form)
     (with_aliases context root (stored_in context root range ∷ []) state)) context
 
 -- the rows of a variable that get values, each with their range
@@ -113,7 +117,7 @@ stored_to root reach stores context state = record {
 abbrev pub stores_made : ℕ → Reach → Stores → Walking (Unit {0})
 stores_made root reach stores context =
     changed_by
-    (λ state. stored_to root (reach_unless_alias (aliases_of context.pairs root) reach) stores context
+    (λ state. stored_to root (reach_unless_alias (aliases_here context root) reach) stores context
     (with_aliases context root (stored_in_rows context stores) state)) context
 
 -- values are stored at a place, if they fit
@@ -271,18 +275,13 @@ loop_walk number place control walking context =
 
 -- ---- for statements
 
--- none of some variables is visible in the block
-abbrev pub are_hidden : Context → List ℕ → Bool
-are_hidden context roots =
-    list_all (λ root. not (is_visible (outline_of context.tree) context.block root)) roots
-
 -- a variable may control a for statement whose bounds are tested for two ranges: these are those of its type, in each
--- loop round it is a for statement that this variable controls, and none of its aliases is visible here
+-- loop round it is a for statement that this variable controls, and it has no aliases here
 abbrev pub may_control : Context → ℕ → (first last : OrdinalRange) → Bool
 may_control context root first last =
     let limits = limits_at context.limits root in
     all_control root context.rounds
-    && (are_hidden context (aliases_of context.pairs root)
+    && (nat_eq (length (aliases_here context root)) 0
     && (is_included (limits_of first) limits && is_included (limits_of last) limits))
 
 -- a for statement at a place changes its control variable
@@ -337,13 +336,17 @@ for_walk number place body way = do
 
 -- ---- case statements
 
+-- no run goes on
+abbrev pub no_more : Walking (Unit {0})
+no_more context = with_state (dead context.tree) context
+
 -- the test of an index at a site: what is known where it is one of the constants; no way behind the statement is known
 -- yet
 abbrev pub index_test : ℕ → List ℤ → Interval → Walking State
 index_test site constants range = do
   _ ← tested (is_covered range constants) site (common range (hull constants))
   base ← here
-  _ ← with_state dead
+  _ ← no_more
   give base
 
 -- an arm, from what is known where it is executed; behind it the way meets those through the arms before
@@ -442,11 +445,11 @@ first_context tree certificate = record {
   limits = all_limits tree;
   claims = all_claims tree certificate;
   blocks = all_block_claims tree certificate;
-  pairs = all_pairs certificate;
+  pairs = record { tree = tree; pairs = all_pairs certificate };
   block = 0;
   rounds = [];
 }
 
 -- the walk over a program by a certificate, block by block
 abbrev pub program_walk : Tree → Certificate → Walked (Unit {0})
-program_walk tree certificate = blocks_walk 0 tree.blocks.items (first_context tree certificate) dead
+program_walk tree certificate = blocks_walk 0 tree.blocks.items (first_context tree certificate) (dead tree)

@@ -105,10 +105,11 @@ impl<'a> Walk<'a> {
         ensures { (visits : Visits) → Goes (result_use function) self.old visits result self.new visits }
     {
         if let Some(own) = function {
-            if !self.flow.state.variables.is_defined(own.root) {
+            let limits = self.flow.grounds.rows.limits();
+            if !self.flow.state.variables.is_defined(limits, own.root) {
                 self.flow.open_ids.push(own.defined)?;
             }
-            let range = self.flow.state.variables.range(own.root);
+            let range = self.flow.state.variables.range(limits, own.root);
             self.flow.state.variables.unless_empty(range);
         }
         Ok(())
@@ -142,23 +143,26 @@ fn are_given(
     rows: &Rows,
     claims: &[Claim],
 ) -> Result<bool, AllocError>
-    ensures { IfOk result (λ given. given ≡ gives_claims rows.now (viewed state.now) (map said_fact claims.now)) }
+    ensures { IfOk result (λ given. given
+        ≡ gives_claims rows.now (viewed rows.now state.now) (map said_fact claims.now)) }
 {
     let plain = plain_facts(alloc, rows.tree(), claims)?;
     let components = component_facts(alloc, rows, claims)?;
-    Ok(give_all(state, &plain) && give_components(state, &components))
+    Ok(give_all(rows, state, &plain) && give_components(rows, state, &components))
 }
 
 /// Whether it gives each of several facts of variables.
-fn give_all(state: &State, facts: &[Fact]) -> bool
-    ensures { result ≡ list_all (λ fact. gives_fact (viewed state.now).variables (said fact)) facts.now }
+fn give_all(rows: &Rows, state: &State, facts: &[Fact]) -> bool
+    ensures { result ≡ list_all (λ fact. gives_fact (viewed rows.now state.now).variables (said fact)) facts.now }
 {
-    facts.iter().all(|fact| state.variables.gives(fact))
+    facts
+        .iter()
+        .all(|fact| state.variables.gives(rows.limits(), fact))
 }
 
 /// Whether it gives each of several facts of components.
-fn give_components(state: &State, facts: &[ComponentFact]) -> bool
-    ensures { result ≡ list_all (λ fact. gives_component (viewed state.now) (said_component fact)) facts.now }
+fn give_components(rows: &Rows, state: &State, facts: &[ComponentFact]) -> bool
+    ensures { result ≡ list_all (λ fact. gives_component (viewed rows.now state.now) (said_component fact)) facts.now }
 {
-    facts.iter().all(|fact| state.gives(fact))
+    facts.iter().all(|fact| state.gives(rows, fact))
 }

@@ -1,35 +1,34 @@
-ghost use Rattle.std.specs.Prelude.{◌≡◌, ◌&&◌, None, not, true, false};
-ghost use Rattle.std.specs.List.{list_all};
+ghost use Rattle.std.specs.Prelude.{◌≡◌, ◌&&◌, IfOk, None, length, nat_eq, true, false};
 ghost use Rattle.domain.specs.Interval.{is_included};
-ghost use Rattle.typed_tree.specs.WellFormed.{is_visible, outline_of};
 ghost use Rattle.abstract_state.specs.declared.known.Known.TheVariants.{Ordinal};
 ghost use Rattle.abstract_state.specs.Loops.{with_undefined};
 ghost use Rattle.abstract_state.specs.State.{limits_of};
 ghost use Rattle.abstract_state.specs.View.{said_form};
 ghost use Rattle.component_states.specs.States.{joined_states, over_bound, over_change, over_variables};
+ghost use Rattle.leaf_rows.specs.Limits.{limits_at};
+ghost use Rattle.structured_states.specs.Loops.{all_control};
 ghost use Rattle.component_states.specs.View.{viewed};
-ghost use Rattle.structured_states.specs.Loops.{all_control, limits_at};
-ghost use Rattle.structured_states.specs.Pairs.{aliases_of};
 ghost use Rattle.structured_states.specs.View.{said_way};
 ghost use Rattle.structured_states.specs.Ways.{next, turn_begun, turn_ended, way_out, where_counts};
 ghost use Rattle.expression_checker.specs.Visits.{Visits};
 ghost use Rattle.expression_checker.specs.Walk.{within};
 ghost use Rattle.cert_checker.specs.View.{AreLoops, EntersLoop, Goes, IsLoop, LeavesLoop, Moves, Parts};
-ghost use Rattle.cert_checker.specs.View.{context_of, said_tested};
-ghost use Rattle.cert_checker.specs.Walk.{are_hidden, assign, control_change, may_control, steady_in, tested_way};
+ghost use Rattle.cert_checker.specs.View.{context_of, said_tested, viewed_in};
+ghost use Rattle.cert_checker.specs.Walk.{aliases_here, assign, control_change, may_control, steady_in, tested_way};
 
 use crate::walk::Walk;
 use abstract_state::limits;
-use certificate_names::visible::is_visible;
 use component_states::State;
 use domain::Domain;
 use domain::interval::Interval;
 use expression_checker::fault::{CheckFault, Rule};
 use expression_checker::flow::asked;
+use leaf_rows::limits_at;
 use place::Place;
-use structured_states::rounds::{Round, all_control, limits_at};
+use std::alloc::AllocError;
+use structured_states::rounds::{Round, all_control};
 use structured_states::ways::Way;
-use typed_tree::tree::{RangeTest, Tree};
+use typed_tree::tree::RangeTest;
 
 // Where a loop begins and ends.
 impl<'a> Walk<'a> {
@@ -47,7 +46,7 @@ impl<'a> Walk<'a> {
         let rows = flow.grounds.rows;
         let given = round.is_given(&flow.state, rows);
         asked(given, Rule::LoopEntry, place)?;
-        round.head(self.alloc, &mut flow.state, rows, &flow.grounds.limits)?;
+        round.head(self.alloc, &mut flow.state, rows)?;
         flow.grounds.rounds.push(round)?;
         Ok(())
     }
@@ -90,19 +89,21 @@ impl<'a> Walk<'a> {
         ensures { Parts (over_variables (where_counts true (said_way way.now)))
             (over_variables (where_counts false (said_way way.now))) self.old result self.new }
     {
+        let rows = self.flow.grounds.rows;
         let mut never = self.flow.state.copied(self.alloc)?;
-        way.relate(&mut never.variables, false)?;
-        way.relate(&mut self.flow.state.variables, true)?;
+        way.relate(rows, &mut never.variables, false)?;
+        way.relate(rows, &mut self.flow.state.variables, true)?;
         Ok(never)
     }
 
     /// Goes on behind both ways, where the control variable is undefined.
     pub(crate) fn leave_way(&mut self, control: u32, never: State) -> Result<(), CheckFault>
         ensures { Moves (λ state. over_change control None (with_undefined control)
-            (joined_states state (viewed never))) self.old result self.new }
+            (joined_states state (viewed_in self.old never))) self.old result self.new }
     {
-        self.flow.state.join(self.alloc, never)?;
-        self.flow.state.undefine(control)?;
+        let rows = self.flow.grounds.rows;
+        self.flow.state.join(self.alloc, rows, never)?;
+        self.flow.state.undefine(rows, control)?;
         Ok(())
     }
 
@@ -111,8 +112,9 @@ impl<'a> Walk<'a> {
         ensures { (visits : Visits)
             → Goes (tested_way place (said_way way)) self.old visits (said_tested result) self.new visits }
     {
-        let first = way.first.met(&self.flow.state.variables);
-        let last = way.last.met(&self.flow.state.variables);
+        let rows = self.flow.grounds.rows;
+        let first = way.first.met(rows, &self.flow.state.variables);
+        let last = way.last.met(rows, &self.flow.state.variables);
         let first = self.tested_end(way.first.fits, first)?;
         let last = self.tested_end(way.last.fits, last)?;
         self.control_change(place, &way)?;
@@ -133,15 +135,16 @@ impl<'a> Walk<'a> {
         ensures { (visits : Visits) → Goes (control_change place way.now.control way.now.first.fits.range
             way.now.last.fits.range) self.now visits result self.now visits }
     {
-        asked(self.may_control(way), Rule::Changes, place)
+        asked(self.may_control(way)?, Rule::Changes, place)
     }
 
     /// Whether it is so.
-    fn may_control(&self, way: &Way) -> bool
-        ensures { result ≡ may_control (context_of self.now) way.now.control way.now.first.fits.range
-            way.now.last.fits.range }
+    fn may_control(&self, way: &Way) -> Result<bool, AllocError>
+        ensures { IfOk result (λ may. may ≡ may_control (context_of self.now) way.now.control
+            way.now.first.fits.range way.now.last.fits.range) }
     {
-        self.is_in_control(way.control) && self.has_hidden_aliases(way.control) && self.fits(way)
+        let alone = self.is_alone(way.control)?;
+        Ok(self.is_in_control(way.control) && alone && self.fits(way))
     }
 
     /// Whether in each loop round the walk is a for statement that a variable controls.
@@ -152,25 +155,22 @@ impl<'a> Walk<'a> {
     }
 
     /// Whether none of a variable's aliases is visible in the block.
-    fn has_hidden_aliases(&self, root: u32) -> bool
-        ensures { result ≡ are_hidden (context_of self.now) (aliases_of (context_of self.now).pairs root) }
+    fn is_alone(&self, root: u32) -> Result<bool, AllocError>
+        ensures { IfOk result (λ alone. alone ≡ nat_eq (length (aliases_here (context_of self.now) root)) 0) }
     {
-        let grounds = &self.flow.grounds;
-        are_hidden(
-            grounds.rows.tree(),
-            grounds.block,
-            grounds.pairs.aliases(root),
-        )
+        let block = self.flow.grounds.block;
+        let aliases = self.flow.grounds.pairs.aliases_in(self.alloc, block, root)?;
+        Ok(aliases.is_empty())
     }
 
     /// Whether both bounds are tested for the control variable's type.
     fn fits(&self, way: &Way) -> bool
         ensures { result ≡ (is_included (limits_of way.now.first.fits.range)
-            (limits_at self.now.flow.grounds.limits.items way.now.control)
+            (limits_at (context_of self.now).limits way.now.control)
             && is_included (limits_of way.now.last.fits.range)
-            (limits_at self.now.flow.grounds.limits.items way.now.control)) }
+            (limits_at (context_of self.now).limits way.now.control)) }
     {
-        let own = limits_at(&self.flow.grounds.limits, way.control);
+        let own = limits_at(self.flow.grounds.rows.limits(), way.control);
         limits(way.first.fits.range).leq(&own) && limits(way.last.fits.range).leq(&own)
     }
 
@@ -195,7 +195,7 @@ impl<'a> Walk<'a> {
     pub(crate) fn begin_turn(&mut self, way: &Way) -> Result<(), CheckFault>
         ensures { Moves (over_variables (turn_begun (said_way way.now))) self.old result self.new }
     {
-        way.begin_turn(&mut self.flow.state.variables)?;
+        way.begin_turn(self.flow.grounds.rows, &mut self.flow.state.variables)?;
         Ok(())
     }
 
@@ -207,15 +207,8 @@ impl<'a> Walk<'a> {
     {
         let mut out = self.flow.state.copied(self.alloc)?;
         out.replace(self.alloc, way.control, way.last.form)?;
-        way.end_turn(&mut self.flow.state.variables)?;
+        way.end_turn(self.flow.grounds.rows, &mut self.flow.state.variables)?;
         self.flow.state.change(way.control, way.next());
         Ok(out)
     }
-}
-
-/// Whether none of some variables is visible in a block.
-fn are_hidden(tree: &Tree, block: u32, roots: &[u32]) -> bool
-    ensures { result ≡ list_all (λ root. not (is_visible (outline_of tree.now) block root)) roots.now }
-{
-    roots.iter().all(|root| !is_visible(tree, block, *root))
 }

@@ -5,12 +5,12 @@ ghost use Rattle.typed_tree.specs.Calls.{holds_call};
 ghost use Rattle.abstract_state.specs.declared.known.Known.TheVariants.{Ordinal};
 ghost use Rattle.abstract_state.specs.Conditions.{bound_form};
 ghost use Rattle.abstract_state.specs.View.{said_form};
+ghost use Rattle.leaf_rows.specs.Limits.{limits_at};
 ghost use Rattle.leaf_rows.specs.Rows.{rows_of, values_at};
 ghost use Rattle.leaf_rows.specs.View.{numbers};
 ghost use Rattle.component_states.specs.Components.{all_stored};
 ghost use Rattle.component_states.specs.States.{over_components};
 ghost use Rattle.component_states.specs.View.{said_reach, viewed};
-ghost use Rattle.structured_states.specs.Loops.{limits_at};
 ghost use Rattle.call_states.specs.Actuals.{lies_among};
 ghost use Rattle.call_states.specs.View.{said_stored};
 ghost use Rattle.expression_checker.specs.Visits.{Visits};
@@ -33,10 +33,9 @@ use expression_checker::fault::{CheckFault, Rule};
 use expression_checker::flow::asked;
 use expression_checker::grounds::Grounds;
 use expression_checker::visits::Visits;
-use leaf_rows::{Rows, Span};
+use leaf_rows::{Rows, Span, limits_at};
 use place::Place;
 use std::alloc::{AllocError, Global};
-use structured_states::rounds::limits_at;
 use typed_tree::calls::{holds_call, whole_holds_call};
 use typed_tree::tree::{Access, Expr, RangeTest, Whole};
 use types::TypeId;
@@ -176,13 +175,14 @@ impl<'a> Walk<'a> {
     {
         let flow = &mut self.flow;
         let rows = flow.grounds.rows;
-        let aliases = flow.grounds.pairs.aliases(root);
+        let block = flow.grounds.block;
+        let aliases = flow.grounds.pairs.aliases_in(self.alloc, block, root)?;
         let stored = stored_in_rows(self.alloc, rows, stores)?;
-        aliases::store(&mut flow.state, rows, aliases, &stored)?;
-        let reach = reach_unless_alias(aliases, reach);
-        store_all(self.alloc, &mut flow.state, &reach, stores)?;
-        let values = limits_at(&flow.grounds.limits, root);
-        flow.state.variables.touch(root, values)?;
+        aliases::store(&mut flow.state, rows, &aliases, &stored)?;
+        let reach = reach_unless_alias(&aliases, reach);
+        store_all(self.alloc, rows, &mut flow.state, &reach, stores)?;
+        let values = limits_at(rows.limits(), root);
+        flow.state.variables.touch(rows.limits(), root, values)?;
         Ok(())
     }
 
@@ -206,14 +206,15 @@ impl<'a> Walk<'a> {
     {
         let flow = &mut self.flow;
         let rows = flow.grounds.rows;
-        let aliases = flow.grounds.pairs.aliases(root);
+        let block = flow.grounds.block;
+        let aliases = flow.grounds.pairs.aliases_in(self.alloc, block, root)?;
         let stored = Stored {
             values: variable_values(rows.tree(), root),
             range,
         };
-        aliases::store(&mut flow.state, rows, aliases, &[stored])?;
-        let form = form_unless_alias(aliases, form);
-        flow.state.assign(root, range, form)?;
+        aliases::store(&mut flow.state, rows, &aliases, &[stored])?;
+        let form = form_unless_alias(&aliases, form);
+        flow.state.assign(rows, root, range, form)?;
         Ok(())
     }
 }
@@ -230,10 +231,10 @@ impl<'a> Walk<'a> {
     /// Whether it is so.
     fn may_assign(&self, root: u32, values: Interval) -> bool
         ensures { result ≡ (may_change (context_of self.now) root
-            && is_included values (limits_at self.now.flow.grounds.limits.items root)) }
+            && is_included values (limits_at (context_of self.now).limits root)) }
     {
         let grounds = &self.flow.grounds;
-        grounds.may_change(root) && values.leq(&limits_at(&grounds.limits, root))
+        grounds.may_change(root) && values.leq(&limits_at(grounds.rows.limits(), root))
     }
 
     /// Components of a variable that may be changed are changed by values of their types.
@@ -293,16 +294,17 @@ fn stored_in_rows(
 /// Values are stored to rows of components.
 fn store_all(
     alloc: Global,
+    rows: &Rows,
     state: &mut State,
     reach: &Reach,
     stores: &[(u32, Interval)],
 ) -> Result<(), AllocError>
-    ensures { IfOk result (λ _. viewed state.new
-        ≡ over_components (λ known. all_stored known (said_reach reach.now) stores.now) (viewed state.old)) }
+    ensures { IfOk result (λ _. viewed rows.now state.new
+        ≡ over_components (λ known. all_stored known (said_reach reach.now) stores.now) (viewed rows.now state.old)) }
 {
     for store in stores {
         let (row, range) = *store;
-        state.store(alloc, *reach, row, range)?;
+        state.store(alloc, rows, *reach, row, range)?;
     }
     Ok(())
 }

@@ -10,7 +10,7 @@ ghost use Rattle.expression_checker.specs.View.{said_ranges, seen};
 ghost use Rattle.expression_checker.specs.Walk.{IsBreachOf, access_walk, call_walk, enter, index_pieces};
 ghost use Rattle.expression_checker.specs.Walk.{parameter_walk, passed_piece_of, value_walk, whole_walk};
 ghost use Rattle.cert_checker.specs.View.{Goes, IsBegun, Meets, Parts};
-ghost use Rattle.cert_checker.specs.View.{else_walk, said_state};
+ghost use Rattle.cert_checker.specs.View.{else_walk, said_state, viewed_in};
 ghost use Rattle.cert_checker.specs.Walk.{all_of, arm_walk, arms_walk, case_walk, for_round, for_turns, for_walk};
 ghost use Rattle.cert_checker.specs.Walk.{index_test, program_walk, repeat_round, rounds_of, statement_walk, where_so};
 ghost use Rattle.cert_checker.specs.Walk.{while_round};
@@ -32,7 +32,7 @@ use std::alloc::{AllocError, Global};
 use std::mem;
 use structured_states::cases::{arm_start, constants_before, covers};
 use structured_states::pairs::Pairs;
-use structured_states::rounds::{all_claims, all_limits, all_loop_aliases};
+use structured_states::rounds::{all_claims, all_loop_aliases};
 use structured_states::ways::{End, Way};
 use typed_tree::tree::{Access, Call, Expr, Passed, Stmt, Whole, WriteParameter};
 
@@ -61,13 +61,12 @@ pub(crate) fn program(
         (IsBreachOf (program_walk rows.now certificate.now)) }
 {
     let tree = rows.tree();
-    let pairs = Pairs::of(alloc, all_pairs(alloc, certificate)?)?;
+    let pairs = Pairs::of(alloc, tree, all_pairs(alloc, certificate)?)?;
     let claims = all_claims(alloc, tree, certificate)?;
     let aliases = all_loop_aliases(alloc, tree, &pairs, &claims)?;
     let declared = all_declared(alloc, tree)?;
     let grounds = Grounds {
         rows,
-        limits: all_limits(alloc, tree)?,
         sections: all_block_claims(alloc, tree, certificate)?,
         pairs,
         block: 0,
@@ -250,8 +249,8 @@ impl<'a> Walk<'a> {
         condition: &Expr,
         visits: &mut Visits,
     ) -> Result<State, CheckFault>
-        ensures { Goes (while_round condition.now (statement_walk body.now)) self.old visits.old (said_state result)
-            self.new visits.new }
+        ensures { Goes (while_round condition.now (statement_walk body.now)) self.old visits.old
+            (said_state self.old result) self.new visits.new }
     {
         let known = self.expression(condition, visits)?;
         let behind = self.part(condition, known)?;
@@ -268,7 +267,7 @@ impl<'a> Walk<'a> {
         visits: &mut Visits,
     ) -> Result<State, CheckFault>
         ensures { Goes (repeat_round (all_of (map statement_walk statements.now)) condition.now)
-            self.old visits.old (said_state result) self.new visits.new }
+            self.old visits.old (said_state self.old result) self.new visits.new }
     {
         self.statements(statements, visits)?;
         let known = self.expression(condition, visits)?;
@@ -335,8 +334,8 @@ impl<'a> Walk<'a> {
     /// A round of a for, from the loop's head; the state behind the loop.
     #[cycle(statement)]
     fn for_round(&mut self, body: &Stmt, way: Way, visits: &mut Visits) -> Result<State, CheckFault>
-        ensures { Goes (for_round (said_way way) (statement_walk body.now)) self.old visits.old (said_state result)
-            self.new visits.new }
+        ensures { Goes (for_round (said_way way) (statement_walk body.now)) self.old visits.old
+            (said_state self.old result) self.new visits.new }
     {
         self.begin_turn(&way)?;
         self.statement(body, visits)?;
@@ -371,11 +370,19 @@ impl<'a> Walk<'a> {
         constants: &[Vec<i32>],
         visits: &mut Visits,
     ) -> Result<(), CheckFault>
-        ensures { Goes (arms_walk (viewed base.now) index constants.now (map statement_walk arms.now))
+        ensures { Goes (arms_walk (viewed_in self.old base.now) index constants.now
+            (map statement_walk arms.now))
             self.old visits.old result self.new visits.new }
     {
         for i in 0..arms.len() {
-            let start = start_of(self.alloc, base, index, constants, i)?;
+            let start = start_of(
+                self.alloc,
+                self.flow.grounds.rows,
+                base,
+                index,
+                constants,
+                i,
+            )?;
             self.arm(&arms[i], start, visits)?;
         }
         Ok(())
@@ -384,8 +391,8 @@ impl<'a> Walk<'a> {
     /// An arm, from what is known where it is executed.
     #[cycle(statement)]
     fn arm(&mut self, arm: &Stmt, start: State, visits: &mut Visits) -> Result<(), CheckFault>
-        ensures { Goes (arm_walk (viewed start) (statement_walk arm.now)) self.old visits.old result
-            self.new visits.new }
+        ensures { Goes (arm_walk (viewed_in self.old start) (statement_walk arm.now))
+            self.old visits.old result self.new visits.new }
     {
         let behind = mem::replace(&mut self.flow.state, start);
         self.statement(arm, visits)?;
@@ -487,8 +494,12 @@ impl<'a> Walk<'a> {
     {
         let range = known.range();
         let mut otherwise = self.flow.state.copied(self.alloc)?;
-        otherwise.variables.branch(condition, range, false)?;
-        self.flow.state.variables.branch(condition, range, true)?;
+        let limits = self.flow.grounds.rows.limits();
+        otherwise.variables.branch(limits, condition, range, false)?;
+        self.flow
+            .state
+            .variables
+            .branch(limits, condition, range, true)?;
         Ok(otherwise)
     }
 
@@ -496,8 +507,9 @@ impl<'a> Walk<'a> {
     pub(crate) fn meet(&mut self, before: State) -> Result<(), CheckFault>
         ensures { Meets before self.old result self.new }
     {
+        let rows = self.flow.grounds.rows;
         let now = mem::replace(&mut self.flow.state, before);
-        self.flow.state.join(self.alloc, now)?;
+        self.flow.state.join(self.alloc, rows, now)?;
         Ok(())
     }
 }
@@ -513,7 +525,7 @@ impl<'a> Walk<'a> {
         range: Interval,
     ) -> Result<State, CheckFault>
         ensures { (visits : Visits) → Goes (index_test site (constants_before arms constants.now) range)
-            self.old visits (said_state result) self.new visits }
+            self.old visits (said_state self.old result) self.new visits }
     {
         let constants = constants_before(self.alloc, arms, constants)?;
         let passed = range.meet(&Interval::hull(&constants));
@@ -526,15 +538,16 @@ impl<'a> Walk<'a> {
 /// What is known where the arm of a number is executed, by its row of constants.
 fn start_of(
     alloc: Global,
+    rows: &Rows,
     base: &State,
     index: Option<u32>,
-    rows: &[Vec<i32>],
+    constants: &[Vec<i32>],
     number: usize,
 ) -> Result<State, AllocError>
-    ensures { IfOk result (λ start. viewed start
-        ≡ over_variables (arm_start index (slice_get rows.now number)) (viewed base.now)) }
+    ensures { IfOk result (λ start. viewed rows.now start
+        ≡ over_variables (arm_start index (slice_get constants.now number)) (viewed rows.now base.now)) }
 {
-    let variables = arm_start(alloc, &base.variables, index, rows, number)?;
+    let variables = arm_start(alloc, rows, &base.variables, index, constants, number)?;
     let mut start = base.copied(alloc)?;
     start.variables = variables;
     Ok(start)

@@ -2,7 +2,7 @@
 -- of each row of components a range, whether all of it is defined, and of which first indexes it is. It does not say
 -- what that means for a run.
 use Rattle.std.specs.Prelude.{ℕ, ℤ, pos, neg_ℤ, ◌+ℤ◌, Bool, true, false, not, ◌&&◌, ◌||◌, List, [], ◌∷◌, ◌++◌, Option}
-use Rattle.std.specs.Prelude.{Some, None, if◌then◌else◌, filter, nat_eq, replicate, slice_index_or, slice_set}
+use Rattle.std.specs.Prelude.{Some, None, if◌then◌else◌, filter, map, nat_eq, slice_index_or, slice_set}
 use Rattle.std.specs.List.{filter_map, list_any}
 use Rattle.std.specs.Ordering.{int_eq}
 use Rattle.types.specs.declared.form.OrdinalRange.{OrdinalRange}
@@ -11,6 +11,9 @@ use Rattle.domain.specs.Facts.{Bound, Number, Plus}
 use Rattle.meaning.specs.Integers.{is_integer_number}
 use Rattle.abstract_state.specs.State as variables
 use Rattle.abstract_state.specs.State.{at_most, is_defined}
+use Rattle.typed_tree.specs.declared.tree.Tree.{Tree}
+use Rattle.leaf_rows.specs.Limits.{limits_or_integer}
+use Rattle.leaf_rows.specs.Rows.{Row, rows_of}
 
 -- the components of a row whose first indexes lie between two bounds
 pub record Stretch : Type 0 where
@@ -40,9 +43,14 @@ pub data ComponentFact : Type 0 where
 abbrev pub no_row : RowState
 no_row = record { range = vacant; is_defined = false; index = None }
 
--- so many rows, none of which has a value
-abbrev pub no_values : ℕ → Components
-no_values count = record { rows = replicate count no_row; stretches = [] }
+-- a row of which nothing but the values of its type is known, and those of its first index
+abbrev pub row_of_type : Row → RowState
+row_of_type row =
+    record { range = limits_or_integer row.leaf.values; is_defined = false; index = row.leaf.index }
+
+-- nothing is known of components but their types
+abbrev pub of_types : Tree → Components
+of_types tree = record { rows = map row_of_type (rows_of tree); stretches = [] }
 
 abbrev pub row_at : Components → ℕ → RowState
 row_at known row = slice_index_or known.rows row no_row

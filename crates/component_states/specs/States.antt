@@ -7,12 +7,14 @@ use Rattle.std.specs.Int.{int_max, int_min}
 use Rattle.types.specs.declared.form.OrdinalRange.{OrdinalRange}
 use Rattle.domain.specs.Interval.{Interval, joined}
 use Rattle.domain.specs.Facts.{Bound, Number}
+use Rattle.typed_tree.specs.declared.tree.Tree.{Tree}
+use Rattle.leaf_rows.specs.Limits.{all_limits}
 use Rattle.abstract_state.specs.State as variables
 use Rattle.abstract_state.specs.State.{Dead, Live}
 use Rattle.component_states.specs.Components as components
 use Rattle.component_states.specs.Components.{ComponentFact, Components, Defined, Index, Reach, Stretch, Stretched}
 use Rattle.component_states.specs.Components.{Entire, At, Inside, RowState, all_indexes, at_index, between, bound_with}
-use Rattle.component_states.specs.Components.{gives_stretch, is_whole, no_values, row_at, with_stretches}
+use Rattle.component_states.specs.Components.{gives_stretch, is_whole, row_at, with_stretches}
 
 -- what is known of variables, and what of components
 pub record State : Type 0 where
@@ -20,12 +22,12 @@ pub record State : Type 0 where
   pub components : Components
 
 -- no run comes here
-abbrev pub dead : State
-dead = record { variables = Dead; components = no_values 0 }
+abbrev pub dead : Tree → State
+dead tree = record { variables = Dead; components = components.of_types tree }
 
--- the start of a block of so many variables, and of so many rows: none has a value
-abbrev pub start : (roots rows : ℕ) → State
-start roots rows = record { variables = variables.start roots; components = no_values rows }
+-- nothing is known but the types of variables
+abbrev pub of_types : Tree → State
+of_types tree = record { variables = variables.of_types (all_limits tree); components = components.of_types tree }
 
 abbrev pub is_dead : State → Bool
 is_dead state = variables.is_dead state.variables

@@ -1,9 +1,13 @@
 -- The states of the program as the definitions see them. It does not say what a state means.
-use Rattle.std.specs.Prelude.{◌≡◌, ◌⊎◌, ◌<◌, ℕ, suc, false, List, Option, Some, None, length, map, max}
-use Rattle.std.specs.Prelude.{slice_index_or, slice_set}
-use Rattle.std.specs.List.{Contains}
-use Rattle.sparse_list.specs.Sparse.{Sparse}
-use Rattle.abstract_state.specs.View as variables
+use Rattle.std.specs.Prelude.{◌≡◌, ℕ, suc, false, List, Option, Some, None, map}
+use Rattle.std.specs.Prelude.{slice_set}
+use Rattle.sparse_list.specs.Sparse.{over}
+use Rattle.abstract_state.specs.State as variables
+use Rattle.abstract_state.specs.View as view
+use Rattle.abstract_state.specs.declared.state.State.{State as KeptVariables}
+use Rattle.typed_tree.specs.declared.tree.Tree.{Tree}
+use Rattle.leaf_rows.specs.Limits.{all_limits, limits_or_integer}
+use Rattle.leaf_rows.specs.Rows.{Row as LeafRow, rows_of}
 use Rattle.abstract_state.specs.View.{said_form}
 use Rattle.domain.specs.Facts.{said_bound}
 use Rattle.component_states.specs.Components.{ComponentFact, Components, Index, Reach, RowState, Stretch}
@@ -47,34 +51,32 @@ said_reach (kept_reach.Inside index) = components.Inside (said_index index)
 abbrev pub said_row : Row → RowState
 said_row row = record { range = row.range; is_defined = row.is_defined; index = row.index }
 
--- what is known of components
-abbrev pub viewed_components : KeptComponents → Components
-viewed_components known = record {
-  rows = map said_row known.rows.items;
+-- the row of which nothing but the values of its type is known, and those of its first index; that of each leaf
+abbrev pub type_row : LeafRow → Row
+type_row row = record { range = limits_or_integer row.leaf.values; is_defined = false; index = row.leaf.index }
+
+abbrev pub type_rows : Tree → List Row
+type_rows tree = map type_row (rows_of tree)
+
+-- what is known of the components of a program
+abbrev pub viewed_components : Tree → KeptComponents → Components
+viewed_components tree known = record {
+  rows = map said_row (over known.rows (type_rows tree));
   stretches = map said_stretch known.stretches.items;
 }
 
--- what a state of the program says
-abbrev pub viewed : Kept → State
-viewed state = record {
-  variables = variables.viewed state.variables;
-  components = viewed_components state.components;
+-- what is known of its variables
+abbrev pub viewed_variables : Tree → KeptVariables → variables.State
+viewed_variables tree = view.viewed (all_limits tree)
+
+-- what a state says of it
+abbrev pub viewed : Tree → Kept → State
+viewed tree state = record {
+  variables = viewed_variables tree state.variables;
+  components = viewed_components tree state.components;
 }
 
 -- a stretch behind those that are kept, if there is one
 abbrev pub IsKept : Option KeptStretch → List KeptStretch → ℕ → List KeptStretch → ℕ → Type 0
 IsKept None old kept new count = (new ≡ old) × (count ≡ kept)
 IsKept (Some stretch) old kept new count = (new ≡ slice_set old kept stretch) × (count ≡ suc kept)
-
--- the rows of a number are usual ones, of which none is defined
-pub record AreUsual (rows others : Sparse Row) (none : Row) (number : ℕ) : Type 0 where
-  pub first : slice_index_or rows.items number none ≡ rows.usual
-  pub second : slice_index_or others.items number none ≡ others.usual
-  pub first_undefined : rows.usual.is_defined ≡ false
-  pub second_undefined : others.usual.is_defined ≡ false
-
--- each number of a row is among these, or its rows are usual ones, of which none is defined
-abbrev pub AreToJoin : Sparse Row → Sparse Row → List ℕ → Type 0
-AreToJoin rows others numbers =
-    (number : ℕ) (none : Row) → number < max (length rows.items) (length others.items)
-    → Contains numbers number ⊎ AreUsual rows others none number

@@ -1,11 +1,13 @@
 ghost use Rattle.std.specs.Prelude.{◌≡◌, None, Some, pos};
 ghost use Rattle.domain.specs.Facts.{Number, Plus, said_bound};
-ghost use Rattle.abstract_state.specs.View.{IsFar, said_form, viewed};
+ghost use Rattle.abstract_state.specs.View.{IsFar, said_form};
 ghost use Rattle.component_states.specs.Components.{bound_in_place, bound_with, changed_bound, has_value, is_next};
 ghost use Rattle.component_states.specs.Components.{moved_bound, same_bound, some_at_least, some_at_most};
+ghost use Rattle.component_states.specs.View.{viewed_variables};
 
 use abstract_state::State;
 use domain::facts::Bound;
+use leaf_rows::Rows;
 
 /// A number as a bound, if it is one that bounds have.
 pub(crate) fn of_number(number: i64) -> Option<Bound>
@@ -105,44 +107,46 @@ pub(crate) fn is_same(left: Bound, right: Bound) -> bool
 }
 
 /// Whether the variable of a bound, if it has one, is known to be defined.
-pub fn has_value(state: &State, bound: Bound) -> bool
-    ensures { result ≡ has_value (viewed state.now) (said_bound bound) }
+pub fn has_value(rows: &Rows, state: &State, bound: Bound) -> bool
+    ensures { result ≡ has_value (viewed_variables rows.now state.now) (said_bound bound) }
 {
     match bound {
         Bound::Number(_) => true,
-        Bound::Plus { root, .. } => state.is_defined(root),
+        Bound::Plus { root, .. } => state.is_defined(rows.limits(), root),
     }
 }
 
 /// Whether a bound is known to be the one behind another.
-pub(crate) fn is_next(state: &State, bound: Bound, next: Bound) -> bool
-    ensures { result ≡ is_next (viewed state.now) (said_bound bound) (said_bound next) }
+pub(crate) fn is_next(rows: &Rows, state: &State, bound: Bound, next: Bound) -> bool
+    ensures { result ≡ is_next (viewed_variables rows.now state.now) (said_bound bound) (said_bound next) }
 {
     let behind = moved(bound, 1);
-    is_some_at_most(state, behind, next) && is_some_at_least(state, behind, next)
+    is_some_at_most(rows, state, behind, next) && is_some_at_least(rows, state, behind, next)
 }
 
 /// Whether a bound is known to lie below another.
-pub(crate) fn is_below(state: &State, bound: Bound, other: Bound) -> bool
-    ensures { result ≡ some_at_most (viewed state.now) (moved_bound (pos 1) (said_bound bound)) (said_bound other) }
+pub(crate) fn is_below(rows: &Rows, state: &State, bound: Bound, other: Bound) -> bool
+    ensures { result
+        ≡ some_at_most
+        (viewed_variables rows.now state.now) (moved_bound (pos 1) (said_bound bound)) (said_bound other) }
 {
-    is_some_at_most(state, moved(bound, 1), other)
+    is_some_at_most(rows, state, moved(bound, 1), other)
 }
 
-fn is_some_at_most(state: &State, bound: Option<Bound>, other: Bound) -> bool
-    ensures { result ≡ some_at_most (viewed state.now) (said_form bound) (said_bound other) }
+fn is_some_at_most(rows: &Rows, state: &State, bound: Option<Bound>, other: Bound) -> bool
+    ensures { result ≡ some_at_most (viewed_variables rows.now state.now) (said_form bound) (said_bound other) }
 {
     match bound {
         None => false,
-        Some(bound) => state.knows_at_most(bound, other),
+        Some(bound) => state.knows_at_most(rows.limits(), bound, other),
     }
 }
 
-fn is_some_at_least(state: &State, bound: Option<Bound>, other: Bound) -> bool
-    ensures { result ≡ some_at_least (viewed state.now) (said_form bound) (said_bound other) }
+fn is_some_at_least(rows: &Rows, state: &State, bound: Option<Bound>, other: Bound) -> bool
+    ensures { result ≡ some_at_least (viewed_variables rows.now state.now) (said_form bound) (said_bound other) }
 {
     match bound {
         None => false,
-        Some(bound) => state.knows_at_most(other, bound),
+        Some(bound) => state.knows_at_most(rows.limits(), other, bound),
     }
 }

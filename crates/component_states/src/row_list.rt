@@ -1,13 +1,12 @@
-ghost use Rattle.std.specs.Prelude.{◌≡◌, IfOk};
-ghost use Rattle.std.specs.List.{range_with_len};
+ghost use Rattle.std.specs.Prelude.{◌≡◌, Some, slice_get};
 ghost use Rattle.domain.specs.Interval.{joined};
 ghost use Rattle.component_states.specs.States.{joined_index};
-ghost use Rattle.component_states.specs.View.{AreToJoin};
+ghost use Rattle.component_states.specs.View.{type_row};
+ghost use Rattle.leaf_rows.specs.Rows.{Row as LeafRow, rows_of};
 
 use domain::Domain;
 use domain::interval::Interval;
-use sparse_list::{SparseList, unusual_of_either};
-use std::alloc::{AllocError, Global};
+use leaf_rows::Rows;
 use types::OrdinalRange;
 
 /// What is known of a row of components.
@@ -28,6 +27,17 @@ impl Row {
         is_defined: false,
         index: None,
     };
+
+    /// That of a row of which nothing but the values of its type is known.
+    pub(crate) fn of_type(rows: &Rows, row: u32) -> Row
+        ensures { (found : LeafRow) → slice_get (rows_of rows.now) row ≡ Some found → result ≡ type_row found }
+    {
+        Row {
+            range: rows.row_limits(row),
+            is_defined: false,
+            index: rows.index(row),
+        }
+    }
 
     /// What is known of a row behind two ways, where this says whether each component is defined.
     pub(crate) fn joined(self, other: Row, is_defined: bool) -> Row
@@ -55,40 +65,4 @@ pub(crate) fn joined_index(
         first: one.first.min(other.first),
         last: one.last.max(other.last),
     })
-}
-
-/// The rows of two lists that aren't joined as the usual ones are: those that may be unusual ones, and each row where a
-/// usual one is defined, since stretches then tell whether the other is.
-pub(crate) fn to_join(
-    alloc: Global,
-    rows: &SparseList<Row>,
-    others: &SparseList<Row>,
-) -> Result<Vec<usize>, AllocError>
-    ensures { IfOk result (λ numbers. AreToJoin rows.now others.now numbers.items) }
-{
-    if rows.usual().is_defined || others.usual().is_defined {
-        return numbers_below(alloc, rows.len().max(others.len()));
-    }
-    unusual_of_either(alloc, rows, others)
-}
-
-/// The numbers below a count.
-fn numbers_below(alloc: Global, count: usize) -> Result<Vec<usize>, AllocError>
-    ensures { IfOk result (λ numbers. numbers.items ≡ range_with_len 0 count) }
-{
-    let mut numbers = Vec::with_capacity(alloc, count)?;
-    for number in 0..count {
-        numbers.push(number)?;
-    }
-    Ok(numbers)
-}
-
-/// The number of a row, if 32 bits hold it: a program has no more rows.
-pub(crate) fn number_of(row: usize) -> Result<u32, AllocError>
-    ensures { IfOk result (λ number. number ≡ row) }
-{
-    if row > u32::MAX as usize {
-        return Err(AllocError);
-    }
-    Ok(row as u32)
 }

@@ -1,17 +1,18 @@
 ghost use Rattle.std.specs.Prelude.{◌≡◌, ◌<◌, ◌++◌, [], IfOk, filter, length, map};
 ghost use Rattle.std.specs.List.{cons_option, filter_map, list_any};
 ghost use Rattle.domain.specs.Facts.{said_bound};
-ghost use Rattle.abstract_state.specs.View.{said_form, viewed};
+ghost use Rattle.abstract_state.specs.View.{said_form};
 ghost use Rattle.component_states.specs.Components.{all_indexes, at_index, between, bound_in_place, changed_bound};
 ghost use Rattle.component_states.specs.Components.{covers, is_empty, is_none, is_spanned, longer, longer_in, or_alone};
 ghost use Rattle.component_states.specs.Components.{same_stretch, with_bounds};
 ghost use Rattle.component_states.specs.Components.{with_stretch, with_stretches};
-ghost use Rattle.component_states.specs.View.{IsKept, said_some, said_stretch};
+ghost use Rattle.component_states.specs.View.{IsKept, said_some, said_stretch, viewed_variables};
 
 use crate::bound_rules;
 use crate::facts::Stretch;
 use abstract_state::State;
 use domain::facts::Bound;
+use leaf_rows::Rows;
 use std::alloc::{AllocError, Global};
 use types::OrdinalRange;
 
@@ -47,19 +48,19 @@ impl Stretch {
     }
 
     /// Whether the stretch is known to have no index.
-    pub(crate) fn is_empty(self, state: &State) -> bool
-        ensures { result ≡ is_empty (viewed state.now) (said_stretch self) }
+    pub(crate) fn is_empty(self, rows: &Rows, state: &State) -> bool
+        ensures { result ≡ is_empty (viewed_variables rows.now state.now) (said_stretch self) }
     {
-        bound_rules::is_below(state, self.last, self.first)
+        bound_rules::is_below(rows, state, self.last, self.first)
     }
 
     /// Whether another stretch is known to have all of it.
-    fn is_within(self, state: &State, held: Stretch) -> bool
-        ensures { result ≡ covers (viewed state.now) (said_stretch self) (said_stretch held) }
+    fn is_within(self, rows: &Rows, state: &State, held: Stretch) -> bool
+        ensures { result ≡ covers (viewed_variables rows.now state.now) (said_stretch self) (said_stretch held) }
     {
         self.row == held.row
-            && (state.knows_at_most(held.first, self.first)
-                && state.knows_at_most(self.last, held.last))
+            && (state.knows_at_most(rows.limits(), held.first, self.first)
+                && state.knows_at_most(rows.limits(), self.last, held.last))
     }
 
     /// What is left of it after a variable got a value, perhaps of a bound form.
@@ -81,27 +82,29 @@ impl Stretch {
     }
 
     /// The stretch of a row with an index more, if that lies just behind it or before it.
-    fn longer_in(self, state: &State, row: u32, index: Bound) -> Option<Stretch>
-        ensures { said_some result ≡ longer_in (viewed state.now) row (said_bound index) (said_stretch self) }
+    fn longer_in(self, rows: &Rows, state: &State, row: u32, index: Bound) -> Option<Stretch>
+        ensures { said_some result
+            ≡ longer_in (viewed_variables rows.now state.now) row (said_bound index) (said_stretch self) }
     {
         if self.row == row {
-            self.longer(state, index)
+            self.longer(rows, state, index)
         } else {
             None
         }
     }
 
-    fn longer(self, state: &State, index: Bound) -> Option<Stretch>
-        ensures { said_some result ≡ longer (viewed state.now) (said_bound index) (said_stretch self) }
+    fn longer(self, rows: &Rows, state: &State, index: Bound) -> Option<Stretch>
+        ensures { said_some result
+            ≡ longer (viewed_variables rows.now state.now) (said_bound index) (said_stretch self) }
     {
-        if bound_rules::is_next(state, self.last, index) {
+        if bound_rules::is_next(rows, state, self.last, index) {
             return Some(Stretch {
                 row: self.row,
                 first: self.first,
                 last: index,
             });
         }
-        if bound_rules::is_next(state, index, self.first) {
+        if bound_rules::is_next(rows, state, index, self.first) {
             return Some(Stretch {
                 row: self.row,
                 first: index,
@@ -126,25 +129,27 @@ pub(crate) fn all_indexes(row: u32, range: OrdinalRange) -> Stretch
 /// Whether one of some stretches is known to have all indexes of a row, which are of these values.
 pub(crate) fn span(
     stretches: &[Stretch],
+    rows: &Rows,
     state: &State,
     row: u32,
     index: Option<OrdinalRange>,
 ) -> bool
-    ensures { result ≡ is_spanned (viewed state.now) (map said_stretch stretches.now) row index }
+    ensures { result ≡ is_spanned (viewed_variables rows.now state.now) (map said_stretch stretches.now) row index }
 {
     match index {
         None => false,
-        Some(range) => cover(stretches, state, all_indexes(row, range)),
+        Some(range) => cover(stretches, rows, state, all_indexes(row, range)),
     }
 }
 
 /// Whether one of some stretches is known to have all of another.
-pub(crate) fn cover(stretches: &[Stretch], state: &State, stretch: Stretch) -> bool
+pub(crate) fn cover(stretches: &[Stretch], rows: &Rows, state: &State, stretch: Stretch) -> bool
     ensures { result
-        ≡ list_any (covers (viewed state.now) (said_stretch stretch)) (map said_stretch stretches.now) }
+        ≡ list_any (covers
+        (viewed_variables rows.now state.now) (said_stretch stretch)) (map said_stretch stretches.now) }
 {
     for i in 0..stretches.len() {
-        if stretch.is_within(state, stretches[i]) {
+        if stretch.is_within(rows, state, stretches[i]) {
             return true;
         }
     }
@@ -246,14 +251,15 @@ fn push(stretches: &mut Vec<Stretch>, stretch: Option<Stretch>) -> Result<(), Al
 pub(crate) fn longer_or_alone(
     alloc: Global,
     stretches: &[Stretch],
+    rows: &Rows,
     state: &State,
     row: u32,
     index: Bound,
 ) -> Result<Vec<Stretch>, AllocError>
     ensures { IfOk result (λ more. map said_stretch more.items ≡ or_alone row (said_bound index) (filter_map
-        (longer_in (viewed state.now) row (said_bound index)) (map said_stretch stretches.now))) }
+        (longer_in (viewed_variables rows.now state.now) row (said_bound index)) (map said_stretch stretches.now))) }
 {
-    let mut more = longer(alloc, stretches, state, row, index)?;
+    let mut more = longer(alloc, stretches, rows, state, row, index)?;
     if more.is_empty() {
         more.push(Stretch::at(row, index))?;
     }
@@ -264,16 +270,17 @@ pub(crate) fn longer_or_alone(
 fn longer(
     alloc: Global,
     stretches: &[Stretch],
+    rows: &Rows,
     state: &State,
     row: u32,
     index: Bound,
 ) -> Result<Vec<Stretch>, AllocError>
     ensures { IfOk result (λ more. map said_stretch more.items ≡ filter_map
-        (longer_in (viewed state.now) row (said_bound index)) (map said_stretch stretches.now)) }
+        (longer_in (viewed_variables rows.now state.now) row (said_bound index)) (map said_stretch stretches.now)) }
 {
     let mut more = Vec::new(alloc);
     for i in 0..stretches.len() {
-        let stretch = stretches[i].longer_in(state, row, index);
+        let stretch = stretches[i].longer_in(rows, state, row, index);
         push(&mut more, stretch)?;
     }
     Ok(more)
@@ -283,17 +290,18 @@ fn longer(
 pub(crate) fn others(
     alloc: Global,
     stretches: &[Stretch],
+    rows: &Rows,
     state: &State,
     row: u32,
     index: Bound,
 ) -> Result<Vec<Stretch>, AllocError>
     ensures { IfOk result (λ others. map said_stretch others.items ≡ filter
-        (λ stretch. is_none (longer_in (viewed state.now) row (said_bound index) stretch))
+        (λ stretch. is_none (longer_in (viewed_variables rows.now state.now) row (said_bound index) stretch))
         (map said_stretch stretches.now)) }
 {
     let mut others = Vec::new(alloc);
     for i in 0..stretches.len() {
-        if stretches[i].longer_in(state, row, index).is_none() {
+        if stretches[i].longer_in(rows, state, row, index).is_none() {
             others.push(stretches[i])?;
         }
     }

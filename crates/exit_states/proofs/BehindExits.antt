@@ -58,6 +58,7 @@ use Rattle.exit_states.proofs.CallChanges.{HasReturned, touched, untouched-kept}
 use Rattle.exit_states.proofs.CallLeaves.{changes, component-holds, passed-lies_at, plain-holds}
 use Rattle.call_states.proofs.Callee.{activation_of}
 use Rattle.call_states.proofs.Entered.{behind_assignments, parameter-own}
+use Rattle.call_states.proofs.SeenAliases.{listed_pairs}
 use Rattle.call_states.proofs.FormalRows.{LiesAt, actual-row, first-behind_fields, no-way, one-way, ordinal-steps, same-value}
 use Rattle.call_states.proofs.Given.{AreOutward, fact_roots}
 use Rattle.call_states.proofs.Lists.{among-contains, contains-more, in-map, of-map}
@@ -123,7 +124,7 @@ module _ (tree : Tree) (pairs : List (ℕ × ℕ)) (number : ℕ) (block : Block
   total = length tree.variables.items
 
   abbrev touches : Touches
-  touches = touches_of tree pairs bindings claims
+  touches = touches_of tree (listed_pairs tree pairs) from bindings claims
 
   abbrev IsOuterHere : ℕ → DeclaredVariable → Type 0
   IsOuterHere root variable = IsOuter tree pairs number block arguments caller activations from back.call store actuals back.are back.of_types root variable
@@ -676,7 +677,8 @@ module _ (tree : Tree) (pairs : List (ℕ × ℕ)) (number : ℕ) (block : Block
 
   -- what is known behind a call holds there
   pub behind-known : ((one : Fact) → Contains claims.exit one → MayEnd tree number claims.changes one) → (state : State)
-      → Knows (all_parts tree) total caller state store → Knows (all_parts tree) total caller (behind_call tree pairs number bindings claims state) after
+      → Knows (all_parts tree) total caller state store
+      → Knows (all_parts tree) total caller (behind_call tree (listed_pairs tree pairs) from number bindings claims state) after
   behind-known may state knows =
       exits-known claims.exit (λ one inside. inside) may
       (touched_behind tree (changes tree pairs number block arguments caller activations from store actuals claims after back)

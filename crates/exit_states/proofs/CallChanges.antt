@@ -7,7 +7,7 @@ use Rattle.std.proofs.lemmas.Bool.{and_from, and_parts, both_ways, cases_eq, eq-
 use Rattle.std.proofs.lemmas.List.Folds.{list_any-append}
 use Rattle.std.proofs.lemmas.Option.{none-some, same_Some}
 use Rattle.types.specs.declared.form.Step.{Step}
-use Rattle.typed_tree.specs.WellFormed.{is_value_kind}
+use Rattle.typed_tree.specs.WellFormed.{is_value_kind, is_visible, outline_of}
 use Rattle.typed_tree.specs.declared.tree.Block.{Block}
 use Rattle.typed_tree.specs.declared.tree.Tree.{Tree}
 use Rattle.typed_tree.specs.declared.tree.Variable.{Variable}
@@ -18,20 +18,22 @@ use Rattle.meaning.specs.Store.{Environment, Place, Store, is_beginning, overlap
 use Rattle.abstract_state.specs.Holds.{HasValue, part_of, value_at}
 use Rattle.abstract_state.specs.Knows.{moment}
 use Rattle.abstract_state.specs.Loops.{is_among}
-use Rattle.structured_states.specs.Loops.{all_limits}
-use Rattle.structured_states.specs.Pairs.{aliases_of, all_aliases}
+use Rattle.leaf_rows.specs.Limits.{all_limits}
+use Rattle.structured_states.specs.Pairs.{all_aliases_in}
 use Rattle.call_states.specs.Actuals.{Actual, Binding, OfRows, OfValue, OfVariable, actual_of, are_of_types, bound_to}
 use Rattle.call_states.specs.Environments.{Begun, Leaves, Proper, Typed}
 use Rattle.exit_states.specs.Exit.{root_changed, roots_changed}
 use Rattle.call_states.specs.Sections.{BlockClaims}
+use Rattle.call_states.proofs.AliasedTypes.{seen}
 use Rattle.call_states.proofs.Assigned.{same-step}
 use Rattle.call_states.proofs.Callee.{IsCalled, activation_of}
 use Rattle.call_states.proofs.Claimed.{AllHold}
 use Rattle.call_states.proofs.Entered.{own-home, own-where, passed-where, value-not_variable}
-use Rattle.call_states.proofs.Lists.{among-contains, among-flat}
+use Rattle.call_states.proofs.Lists.{among-flat}
 use Rattle.call_states.proofs.Parameters.{IsOuter, IsOutward, IsParameter, outward-cases, parameter-block}
 use Rattle.call_states.proofs.Passed.{AreArguments, Fits, IsArgument}
 use Rattle.call_states.proofs.Places.{IsPair, begin-share, overlaps-so, pair-listed, part-there, step-itself}
+use Rattle.call_states.proofs.SeenAliases.{all-alias-seen, listed_pairs}
 
 -- ---- steps
 
@@ -53,11 +55,6 @@ alone-among x = or_left (nat_eq x x) false (eq-eqb x x refl)
 
 among-alone : (roots : List ℕ) (x root : ℕ) → is_among x roots ≡ true → x ≡ root → is_among root roots ≡ true
 among-alone roots x root among same = subst (λ (r : ℕ). is_among r roots ≡ true) same among
-
--- aliases of one of several are among the aliases of all
-aliases-among : (pairs : List (ℕ × ℕ)) (roots : List ℕ) (x root : ℕ) → is_among x roots ≡ true → is_among root (aliases_of pairs x) ≡ true
-    → is_among root (all_aliases pairs roots) ≡ true
-aliases-among pairs roots x root among alias = among-flat (aliases_of pairs) roots x root (among-contains roots x among) alias
 
 -- ---- a call that returned
 
@@ -93,7 +90,7 @@ module _ (tree : Tree) (pairs : List (ℕ × ℕ)) (number : ℕ) (block : Block
   changed = roots_changed bindings claims.changes
 
   abbrev pub touched : List ℕ
-  touched = changed ++ all_aliases pairs changed
+  touched = changed ++ all_aliases_in (listed_pairs tree pairs) from changed
 
   abbrev IsOuterHere : ℕ → Variable → Type 0
   IsOuterHere root variable = IsOuter tree pairs number block arguments caller activations from back.call store actuals back.are back.of_types root variable
@@ -204,6 +201,7 @@ module _ (tree : Tree) (pairs : List (ℕ × ℕ)) (number : ℕ) (block : Block
     pub among : is_among other changed ≡ true
     pub place : Place
     pub place_is : caller.variables other ≡ Some place
+    pub shown : is_visible (outline_of tree) from root ≡ true
     pub near : (other ≡ root) ⊎ IsPair pairs other root
 
   overlapping : (p whole : Place) (steps way rest : List Step)
@@ -231,6 +229,7 @@ module _ (tree : Tree) (pairs : List (ℕ × ℕ)) (number : ℕ) (block : Block
         among = lies.among;
         place = lies.whole;
         place_is = lies.whole_is;
+        shown = seen tree pairs from activations caller back.call.proper root p p_is;
         near = ⊎_elim (λ one. inl one) (λ differ. inr (back.call.proper.separate lies.root root lies.whole p lies.whole_is p_is differ over))
             (cases_eq lies.root root);
       }
@@ -238,11 +237,12 @@ module _ (tree : Tree) (pairs : List (ℕ × ℕ)) (number : ℕ) (block : Block
   -- it is touched
   pub near-touched : (root : ℕ) → IsNear root → is_among root touched ≡ true
   near-touched root is =
-      list_any-append (λ (other : ℕ). nat_eq other root) changed (all_aliases pairs changed)
-      ∙ ⊎_elim (λ same. or_left (is_among root changed) (is_among root (all_aliases pairs changed)) (among-alone changed is.other root is.among same))
+      let aliases = all_aliases_in (listed_pairs tree pairs) from changed in
+      list_any-append (λ (other : ℕ). nat_eq other root) changed aliases
+      ∙ ⊎_elim (λ same. or_left (is_among root changed) (is_among root aliases) (among-alone changed is.other root is.among same))
       (λ pair.
-      or_right (is_among root changed) (is_among root (all_aliases pairs changed))
-      (aliases-among pairs changed is.other root is.among (pair-listed pairs is.other root pair)))
+      or_right (is_among root changed) (is_among root aliases)
+      (all-alias-seen tree pairs from changed is.other root is.among (pair-listed pairs is.other root pair) is.shown))
       is.near
 
   -- ---- values of the caller

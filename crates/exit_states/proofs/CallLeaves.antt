@@ -36,13 +36,14 @@ use Rattle.abstract_state.specs.Loops.{is_among}
 use Rattle.abstract_state.specs.State.{is_entire}
 use Rattle.abstract_state.proofs.Given.{entire-steps}
 use Rattle.abstract_state.proofs.Ranged.{common-in}
+use Rattle.leaf_rows.specs.Limits.{limits_or_integer}
 use Rattle.leaf_rows.specs.Rows.{all_parts, has_components, is_structured, rows_accessed, rows_of, rows_under, values_at}
 use Rattle.leaf_rows.proofs.Accessed.{IsOf, contains-has, has-contains, rows-are}
 use Rattle.leaf_rows.proofs.Components.{mapped-at}
 use Rattle.component_states.specs.Components as components
 use Rattle.component_states.specs.Components.{At, ComponentFact, Entire, Inside, Reach}
 use Rattle.component_states.specs.Holds.{Holds, component_at}
-use Rattle.structured_states.specs.Loops.{component_claims, is_ordinal_variable, limits_or_integer, names_entire, plain, rows_named}
+use Rattle.structured_states.specs.Loops.{component_claims, is_ordinal_variable, names_entire, plain, rows_named}
 use Rattle.call_states.specs.Actuals.{Actual, Bearer, Binding, Components, OfRows, OfValue, OfVariable, Passed, Variable, actual_of, all_of_rows, bearers_of}
 use Rattle.call_states.specs.Actuals.{bound_to}
 use Rattle.call_states.specs.Aliases.{variable_values}

@@ -12,12 +12,13 @@ use Rattle.domain.specs.Facts.{Bound, Number, Plus, Fact, Path, Range, Defined, 
 use Rattle.abstract_state.specs.State as variables
 use Rattle.abstract_state.specs.Changes.{ordered, with_some}
 use Rattle.abstract_state.specs.Loops.{is_among}
+use Rattle.leaf_rows.specs.Limits.{limits_or_integer}
 use Rattle.leaf_rows.specs.Rows.{index_at, rows_of, rows_touched, rows_under, values_at}
 use Rattle.component_states.specs.Components as components
 use Rattle.component_states.specs.Components.{Entire, At, Inside, moved_bound, row_at}
 use Rattle.component_states.specs.States.{State, all_of_row, over_components, over_variables}
-use Rattle.structured_states.specs.Loops.{is_ordinal_variable, limits_or_integer, names_entire, rows_named}
-use Rattle.structured_states.specs.Pairs.{all_aliases}
+use Rattle.structured_states.specs.Loops.{is_ordinal_variable, names_entire, rows_named}
+use Rattle.structured_states.specs.Pairs.{Listed, all_aliases_in}
 use Rattle.call_states.specs.Sections.{BlockClaims}
 use Rattle.call_states.specs.Aliases.{all_dropped, same_values, variable_values}
 use Rattle.call_states.specs.Actuals.{Actual, OfValue, OfRows, OfVariable, Bearer, Passed, Variable, Components}
@@ -266,15 +267,16 @@ with_exits tree block bindings touches (fact ∷ facts) state =
 
 -- ---- behind the call
 
-abbrev pub touches_of : Tree → List (ℕ × ℕ) → List Binding → BlockClaims → Touches
-touches_of tree pairs bindings claims =
+-- what a call touches in the block that makes it: the variables that it may change, and their aliases there
+abbrev pub touches_of : Tree → Listed → (caller : ℕ) → List Binding → BlockClaims → Touches
+touches_of tree listed caller bindings claims =
     let roots = roots_changed bindings claims.changes in
-    record { touched = roots ++ all_aliases pairs roots; changes = all_changes tree bindings claims }
+    record { touched = roots ++ all_aliases_in listed caller roots; changes = all_changes tree bindings claims }
 
--- what is known behind a call of the block of a number
-abbrev pub behind_call : Tree → List (ℕ × ℕ) → ℕ → List Binding → BlockClaims → State → State
-behind_call tree pairs block bindings claims state =
-    let touches = touches_of tree pairs bindings claims in
+-- what is known in one block behind a call of another
+abbrev pub behind_call : Tree → Listed → (caller block : ℕ) → List Binding → BlockClaims → State → State
+behind_call tree listed caller block bindings claims state =
+    let touches = touches_of tree listed caller bindings claims in
     with_exits tree block bindings touches claims.exit (touched_behind tree touches.changes touches.touched state)
 
 -- where the value of a function lies: its result, by its root

@@ -12,17 +12,17 @@ use Rattle.call_states.specs.Actuals as actuals
 use Rattle.exit_states.specs.Exit.{Change, Touches, all_common, is_row, is_steady, is_variable, range_behind}
 use Rattle.exit_states.specs.Exit.{roots_changed, touched_behind, with_exits}
 use Rattle.component_states.specs.States.{State}
-use Rattle.structured_states.specs.Pairs.{all_aliases}
+use Rattle.structured_states.specs.Pairs.{Listed, all_aliases_in}
 use Rattle.call_states.specs.View.{said_bearer}
 
 abbrev pub said_change : KeptChange → Change
 said_change change =
     record { bearer = said_bearer change.bearer; values = change.values; range = change.range }
 
--- the variables of the caller that a call may change, and their aliases
-abbrev pub touched_by : List (ℕ × ℕ) → List Binding → List ℕ → List ℕ
-touched_by pairs bindings changes =
-    roots_changed bindings changes ++ all_aliases pairs (roots_changed bindings changes)
+-- the variables of the caller that a call may change, and their aliases there
+abbrev pub touched_by : Listed → ℕ → List Binding → List ℕ → List ℕ
+touched_by listed caller bindings changes =
+    roots_changed bindings changes ++ all_aliases_in listed caller (roots_changed bindings changes)
 
 abbrev pub said_touches : KeptTouches → Touches
 said_touches touches = record { touched = touches.touched.now; changes = map said_change touches.changes.now }

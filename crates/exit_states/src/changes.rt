@@ -14,10 +14,9 @@ use call_states::aliases::variable_values;
 use certificate::Fact as Claim;
 use domain::Domain;
 use domain::interval::Interval;
-use leaf_rows::{Rows, Span};
+use leaf_rows::{Rows, Span, limits_or_integer};
 use std::alloc::{AllocError, Global};
 use structured_states::kept_claims::{is_ordinal_variable, names_entire, rows_named};
-use structured_states::rounds::{limits_or_integer, row_limits};
 use typed_tree::tree::Tree;
 use types::OrdinalRange;
 
@@ -196,7 +195,7 @@ fn row_change(rows: &Rows, exit: &[Claim], row: u32, bearer: Bearer) -> Change
     Change {
         bearer,
         values: rows.values(row),
-        range: row_exit_range(rows, row, exit, row_limits(rows, row)),
+        range: row_exit_range(rows, row, exit, rows.row_limits(row)),
     }
 }
 

@@ -17,6 +17,7 @@ ghost use Rattle.exit_states.specs.View.{behind, common_of, is_of, met};
 ghost use Rattle.call_states.specs.View.{said_claims, said_found};
 ghost use Rattle.exit_states.specs.View.{left_behind, said_change, said_touches, steady_at};
 ghost use Rattle.exit_states.specs.View.{touched_by};
+ghost use Rattle.typed_tree.specs.declared.tree.Tree.{Tree};
 
 use crate::changes::{Change, all_changes, exit_range, roots_changed};
 use call_states::actuals::{Actual, Bearer, Bindings, bearers_named, is_entire};
@@ -27,10 +28,9 @@ use component_states::{ComponentFact, Reach, State, Stretch, all_of_row, moved};
 use domain::Domain;
 use domain::facts::Bound;
 use domain::interval::Interval;
-use leaf_rows::{Rows, Span};
+use leaf_rows::{Rows, Span, limits_or_integer};
 use std::alloc::{AllocError, Global};
 use structured_states::pairs::Pairs;
-use structured_states::rounds::limits_or_integer;
 use typed_tree::tree::Tree;
 use types::OrdinalRange;
 
@@ -43,23 +43,24 @@ pub(crate) struct Touches<'b> {
     pub(crate) changes: &'b [Change],
 }
 
-/// Goes on behind a call of the block of a number (ISO 7185:1990, 6.7.3, 6.8.2.3), by what is claimed of that.
+/// Goes on in one block behind a call of another (ISO 7185:1990, 6.7.3, 6.8.2.3), by what is claimed of that.
 pub fn call(
     alloc: Global,
     state: &mut State,
     rows: &Rows,
     pairs: &Pairs,
+    caller: u32,
     block: u32,
     bindings: Bindings,
     claims: Option<&Section>,
 ) -> Result<(), AllocError>
-    ensures { IfOk result (λ _. viewed state.new ≡ behind_call rows.now pairs.now block (said_bindings bindings.entry)
-        (said_claims claims.entry) (viewed state.old)) }
+    ensures { IfOk result (λ _. viewed rows.now state.new ≡ behind_call rows.now pairs.now caller block
+        (said_bindings bindings.entry) (said_claims claims.entry) (viewed rows.now state.old)) }
 {
     let listed = sections::changes(claims);
     let exit = sections::exit(claims);
     let changes = all_changes(alloc, rows, bindings, listed, exit)?;
-    let touched = touched(alloc, pairs, bindings, listed)?;
+    let touched = touched(alloc, pairs, caller, bindings, listed)?;
     let touches = Touches {
         touched: &touched,
         changes: &changes,
@@ -77,8 +78,8 @@ fn go_behind(
     touches: &Touches,
     exit: &[Claim],
 ) -> Result<(), AllocError>
-    ensures { IfOk result (λ _. viewed state.new ≡ left_behind rows.now block (said_bindings bindings.entry)
-        (said_touches touches.now) (map said_fact exit.now) (viewed state.old)) }
+    ensures { IfOk result (λ _. viewed rows.now state.new ≡ left_behind rows.now block (said_bindings bindings.entry)
+        (said_touches touches.now) (map said_fact exit.now) (viewed rows.now state.old)) }
 {
     touch(state, rows, touches.changes, touches.touched)?;
     add_exits(alloc, state, rows, block, bindings, touches, exit)
@@ -92,18 +93,20 @@ pub fn result_range(tree: &Tree, claims: Option<&Section>, root: u32) -> Interva
     exit_range(tree, root, sections::exit(claims), limits)
 }
 
-/// The variables of the caller that a call may change, and their aliases.
+/// The variables of the caller that a call may change, and their aliases there.
 fn touched(
     alloc: Global,
     pairs: &Pairs,
+    caller: u32,
     bindings: Bindings,
     changes: &[u32],
 ) -> Result<Vec<u32>, AllocError>
-    ensures { IfOk result (λ touched. touched.items ≡ touched_by pairs.now (said_bindings bindings.entry) changes.now) }
+    ensures { IfOk result
+        (λ touched. touched.items ≡ touched_by pairs.now caller (said_bindings bindings.entry) changes.now) }
 {
     let roots = roots_changed(alloc, bindings, changes)?;
     let mut touched = Vec::from_slice(alloc, &roots)?;
-    pairs.add_aliases(&mut touched, &roots)?;
+    pairs.add_all_aliases(&mut touched, caller, &roots)?;
     Ok(touched)
 }
 
@@ -114,28 +117,29 @@ fn touch(
     changes: &[Change],
     touched: &[u32],
 ) -> Result<(), AllocError>
-    ensures { IfOk result (λ _. viewed state.new
-        ≡ touched_behind rows.now (map said_change changes.now) touched.now (viewed state.old)) }
+    ensures { IfOk result (λ _. viewed rows.now state.new
+        ≡ touched_behind rows.now (map said_change changes.now) touched.now (viewed rows.now state.old)) }
 {
     drop_all(state, touched);
-    touch_variables(state, rows.tree(), changes, touched)?;
+    touch_variables(state, rows, changes, touched)?;
     touch_rows(state, rows, changes, touched)
 }
 
 fn touch_variables(
     state: &mut State,
-    tree: &Tree,
+    rows: &Rows,
     changes: &[Change],
     touched: &[u32],
 ) -> Result<(), AllocError>
-    ensures { IfOk result (λ _. viewed state.new
-        ≡ over_variables (variables_behind tree.now (map said_change changes.now) touched.now) (viewed state.old)) }
+    ensures { IfOk result (λ _. viewed rows.now state.new
+        ≡ over_variables (variables_behind rows.now (map said_change changes.now) touched.now)
+        (viewed rows.now state.old)) }
 {
     for root in touched {
-        let range = state.variables.range(*root);
-        let values = variable_values(tree, *root);
+        let range = state.variables.range(rows.limits(), *root);
+        let values = variable_values(rows.tree(), *root);
         let range = behind(values, changes, &Bearer::Variable(*root), range);
-        state.variables.set_range(*root, range)?;
+        state.variables.set_range(rows.limits(), *root, range)?;
     }
     Ok(())
 }
@@ -146,8 +150,8 @@ fn touch_rows(
     changes: &[Change],
     touched: &[u32],
 ) -> Result<(), AllocError>
-    ensures { IfOk result (λ _. viewed state.new ≡ over_components (λ _. rows_behind rows.now
-        (map said_change changes.now) (rows_touched (rows_of rows.now) touched.now)) (viewed state.old)) }
+    ensures { IfOk result (λ _. viewed rows.now state.new ≡ over_components (λ _. rows_behind rows.now
+        (map said_change changes.now) (rows_touched (rows_of rows.now) touched.now)) (viewed rows.now state.old)) }
 {
     for root in touched {
         touch_span(state, rows, changes, rows.of_variable(*root))?;
@@ -161,16 +165,17 @@ fn touch_span(
     changes: &[Change],
     span: Span,
 ) -> Result<(), AllocError>
-    ensures { IfOk result (λ _. viewed state.new
-        ≡ over_components (λ _. rows_behind rows.now (map said_change changes.now) (numbers span)) (viewed state.old)) }
+    ensures { IfOk result (λ _. viewed rows.now state.new
+        ≡ over_components (λ _. rows_behind rows.now (map said_change changes.now) (numbers span))
+        (viewed rows.now state.old)) }
 {
     for row in span.first..span.end() {
         let all = Bearer::Components {
             row,
             reach: Reach::Entire,
         };
-        let range = behind(rows.values(row), changes, &all, state.row_range(row));
-        state.touch_row(row, range)?;
+        let range = behind(rows.values(row), changes, &all, state.row_range(rows, row));
+        state.touch_row(rows, row, range)?;
     }
     Ok(())
 }
@@ -253,8 +258,8 @@ fn add_exits(
     touches: &Touches,
     exit: &[Claim],
 ) -> Result<(), AllocError>
-    ensures { IfOk result (λ _. viewed state.new ≡ with_exits rows.now block (said_bindings bindings.entry)
-        (said_touches touches.now) (map said_fact exit.now) (viewed state.old)) }
+    ensures { IfOk result (λ _. viewed rows.now state.new ≡ with_exits rows.now block (said_bindings bindings.entry)
+        (said_touches touches.now) (map said_fact exit.now) (viewed rows.now state.old)) }
 {
     for claim in exit {
         add_exit(alloc, state, rows, block, bindings, touches, claim)?;
@@ -271,8 +276,8 @@ fn add_exit(
     touches: &Touches,
     claim: &Claim,
 ) -> Result<(), AllocError>
-    ensures { IfOk result (λ _. viewed state.new ≡ with_exit rows.now block (said_bindings bindings.entry)
-        (said_touches touches.now) (said_fact claim.now) (viewed state.old)) }
+    ensures { IfOk result (λ _. viewed rows.now state.new ≡ with_exit rows.now block (said_bindings bindings.entry)
+        (said_touches touches.now) (said_fact claim.now) (viewed rows.now state.old)) }
 {
     let tree = rows.tree();
     match claim {
@@ -291,7 +296,7 @@ fn add_exit(
             let bearers = bearers_named(alloc, rows, bindings, path)?;
             let first = exit_bound(tree, bindings, touches, *first);
             let last = exit_bound(tree, bindings, touches, *last);
-            define_between(state, first, last, &bearers)
+            define_between(state, rows, first, last, &bearers)
         }
         Claim::Order {
             root,
@@ -318,8 +323,8 @@ fn is_own_path(tree: &Tree, block: u32, bindings: Bindings, path: &Path) -> bool
 
 /// What bears a leaf is defined, where that is an entire variable or all of a row.
 fn define_all(state: &mut State, rows: &Rows, bearers: &[Bearer]) -> Result<(), AllocError>
-    ensures { IfOk result (λ _. viewed state.new
-        ≡ bearers_defined rows.now (map said_bearer bearers.now) (viewed state.old)) }
+    ensures { IfOk result (λ _. viewed rows.now state.new
+        ≡ bearers_defined rows.now (map said_bearer bearers.now) (viewed rows.now state.old)) }
 {
     for bearer in bearers {
         define(state, rows, *bearer)?;
@@ -328,15 +333,16 @@ fn define_all(state: &mut State, rows: &Rows, bearers: &[Bearer]) -> Result<(), 
 }
 
 fn define(state: &mut State, rows: &Rows, bearer: Bearer) -> Result<(), AllocError>
-    ensures { IfOk result (λ _. viewed state.new ≡ bearer_defined rows.now (said_bearer bearer) (viewed state.old)) }
+    ensures { IfOk result (λ _. viewed rows.now state.new
+        ≡ bearer_defined rows.now (said_bearer bearer) (viewed rows.now state.old)) }
 {
     match bearer {
         Bearer::Passed(_) => Ok(()),
-        Bearer::Variable(root) => state.variables.define(root),
+        Bearer::Variable(root) => state.variables.define(rows.limits(), root),
         Bearer::Components {
             row,
             reach: Reach::Entire,
-        } => state.claim_all(&[all_of_row(rows.index(row), row)]),
+        } => state.claim_all(rows, &[all_of_row(rows.index(row), row)]),
         Bearer::Components { .. } => Ok(()),
     }
 }
@@ -344,27 +350,29 @@ fn define(state: &mut State, rows: &Rows, bearer: Bearer) -> Result<(), AllocErr
 /// All of a row between two bounds is defined, where all of it is borne.
 fn define_between(
     state: &mut State,
+    rows: &Rows,
     first: Option<Bound>,
     last: Option<Bound>,
     bearers: &[Bearer],
 ) -> Result<(), AllocError>
-    ensures { IfOk result (λ _. viewed state.new ≡ stretches_defined (said_form first) (said_form last)
-        (map said_bearer bearers.now) (viewed state.old)) }
+    ensures { IfOk result (λ _. viewed rows.now state.new ≡ stretches_defined (said_form first) (said_form last)
+        (map said_bearer bearers.now) (viewed rows.now state.old)) }
 {
     for bearer in bearers {
-        define_stretch(state, first, last, *bearer)?;
+        define_stretch(state, rows, first, last, *bearer)?;
     }
     Ok(())
 }
 
 fn define_stretch(
     state: &mut State,
+    rows: &Rows,
     first: Option<Bound>,
     last: Option<Bound>,
     bearer: Bearer,
 ) -> Result<(), AllocError>
-    ensures { IfOk result (λ _. viewed state.new
-        ≡ stretch_defined (said_form first) (said_form last) (said_bearer bearer) (viewed state.old)) }
+    ensures { IfOk result (λ _. viewed rows.now state.new
+        ≡ stretch_defined (said_form first) (said_form last) (said_bearer bearer) (viewed rows.now state.old)) }
 {
     match (first, last, bearer) {
         (
@@ -374,15 +382,18 @@ fn define_stretch(
                 row,
                 reach: Reach::Entire,
             },
-        ) => state.claim_all(&[ComponentFact::Stretched(Stretch { row, first, last })]),
+        ) => state.claim_all(
+            rows,
+            &[ComponentFact::Stretched(Stretch { row, first, last })],
+        ),
         _ => Ok(()),
     }
 }
 
 /// One bound is at most another, where both are there and have variables.
 fn order(state: &mut State, first: Option<Bound>, last: Option<Bound>) -> Result<(), AllocError>
-    ensures { IfOk result
-        (λ _. viewed state.new ≡ bounds_ordered (said_form first) (said_form last) (viewed state.old)) }
+    ensures { IfOk result (λ _. (tree : Tree) → viewed tree state.new
+        ≡ bounds_ordered (said_form first) (said_form last) (viewed tree state.old)) }
 {
     match (first, last) {
         (Some(first), Some(last)) => state.variables.insert_order(first, 0, last),

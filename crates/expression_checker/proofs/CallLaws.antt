@@ -20,7 +20,7 @@ use Rattle.abstract_state.specs.Knows.{moment}
 use Rattle.abstract_state.specs.Loops.{is_among}
 use Rattle.component_states.specs.Holds.{Knows}
 use Rattle.component_states.specs.States.{State}
-use Rattle.structured_states.specs.Loops.{all_limits}
+use Rattle.leaf_rows.specs.Limits.{all_limits}
 use Rattle.structured_states.specs.Pairs.{aliases_of}
 use Rattle.call_states.specs.Actuals.{Actual, OfRows, OfValue, OfVariable, are_of_types, bound_to, is_of_type}
 use Rattle.call_states.specs.Environments.{Fine, Proper, Typed}
@@ -39,7 +39,7 @@ use Rattle.call_states.proofs.Parameters.{IsOutward}
 use Rattle.call_states.proofs.Passed.{AllFit, AreArguments, Fits, IsArgument}
 use Rattle.call_states.proofs.Places.{pair-listed}
 use Rattle.call_states.proofs.Separated.{callee-separate, callee-stands}
-use Rattle.expression_checker.proofs.Sound.{Called, Returned, World, activation_of, parts_in, variables_in}
+use Rattle.expression_checker.proofs.Sound.{Called, Returned, World, activation_of, listed_in, parts_in, variables_in}
 use Rattle.expression_checker.proofs.SoundCalls.{ArePassed, CallLaws, IsApartFrom, IsOfKind, MayCall, changed_by_call}
 
 gives-same : (a b : Unit {0}) (t u : effect.State) → effect.Gives a t ≡ effect.Gives b u → t ≡ u
@@ -186,7 +186,7 @@ module _ (world : World) (well : IsWellFormed world.tree) (limits_are : world.li
       -- what the walk knows holds
       pub state-behind : (t : effect.State) → t.store ≡ after → Fine tree t
           → Knows (parts_in world) (variables_in world) visible
-          (behind_call tree world.pairs number (bound_to roots actuals) (block_claims_at world.blocks number) state) after
+          (behind_call tree (listed_in world) block number (bound_to roots actuals) (block_claims_at world.blocks number) state) after
       state-behind t same fine =
           behind-known tree world.pairs number callee arguments visible s.activations block s.store actuals (block_claims_at world.blocks number) after
           (record { left = has-left; typed = subst (Typed tree) same fine.typed; exit = back.exit })

@@ -16,10 +16,9 @@ use Rattle.abstract_state.specs.declared.known.Known.{Known}
 use Rattle.abstract_state.specs.Forms.{bound_of}
 use Rattle.call_states.specs.Actuals.{Actual, OfRows, OfValue}
 use Rattle.component_states.specs.States.{State, over_variables}
-use Rattle.component_states.specs.View.{viewed}
 use Rattle.expression_checker.specs.declared.fault.CheckFault.{CheckFault}
 use Rattle.expression_checker.specs.declared.flow.Flow.{Flow}
-use Rattle.expression_checker.specs.View.{Flows, Goes, call_range, context_of, range_of_result}
+use Rattle.expression_checker.specs.View.{Flows, Goes, call_range, context_of, range_of_result, state_of}
 use Rattle.expression_checker.specs.Visits.{Visits, all_counted}
 use Rattle.expression_checker.specs.Walk as walk
 use Rattle.expression_checker.specs.Walk.{called_block, copied, fits_whole, fitting, piece_of, range_in, result_of, result_walk}
@@ -39,7 +38,7 @@ goes-alike : {A : Type 0} (one other : Walking A) (old new : Flow) (before after
     → Goes one old before result new after → Goes other old before result new after
 goes-alike one other old new before after (Ok value) same goes = λ claims.
     let f = goes claims in
-    let e = same (context_of old.grounds claims) (viewed old.state) in
+    let e = same (context_of old.grounds claims) (state_of old) in
     record {
       grounds_are = f.grounds_are;
       value_is = f.value_is ∙ ap (λ w. w.value) e;
@@ -50,8 +49,8 @@ goes-alike one other old new before after (Ok value) same goes = λ claims.
     }
 goes-alike one other old new before after (Err fault) same goes = λ claims.
     let context = context_of old.grounds claims in
-    breach-same (one context (viewed old.state)) (other context (viewed old.state)) fault
-    (ap (λ w. w.broken) (same context (viewed old.state))) (goes claims)
+    breach-same (one context (state_of old)) (other context (state_of old)) fault
+    (ap (λ w. w.broken) (same context (state_of old))) (goes claims)
 
 -- ---- from the first one on
 
@@ -112,7 +111,7 @@ pub passing-stopped : (items : List Passed) (i : ℕ) (one : Passed) (passed : L
 passing-stopped items i one passed old new before after fault inside is stops = λ claims.
     let context = context_of old.grounds claims in
     let walk = actuals_from items i in
-    breach-same (walk context (viewed old.state)) (prefixed passed walk context (viewed old.state)) fault refl
+    breach-same (walk context (state_of old)) (prefixed passed walk context (state_of old)) fault refl
     (actual-stopped items i one old new before after fault inside is stops claims)
 
 -- none is left
@@ -154,12 +153,12 @@ actuals-hold (one ∷ more) = ap₂ (λ a b. a || b) (passed-holds one) (actuals
 -- ---- the value of a function
 
 result-flows : (context : Context) (call : Call) (result : Option FunctionResult) (range : Interval) (old new : Flow) (visits : Visits)
-    → new.grounds ≡ old.grounds → new.open_ids.items ≡ old.open_ids.items → viewed new.state ≡ over_variables (unless_empty range) (viewed old.state)
+    → new.grounds ≡ old.grounds → new.open_ids.items ≡ old.open_ids.items → state_of new ≡ over_variables (unless_empty range) (state_of old)
     → range ≡ range_of_result context call result → Flows context (result_walk call result) old visits new visits (Ordinal range)
 result-flows context call None range old new visits grounds_are open_is state_is is = record {
   grounds_are = grounds_are;
   value_is = ap Ordinal is;
-  state_is = state_is ∙ ap (λ r. over_variables (unless_empty r) (viewed old.state)) is;
+  state_is = state_is ∙ ap (λ r. over_variables (unless_empty r) (state_of old)) is;
   open_is = open_is ∙ sym (append-nil old.open_ids.items);
   visits_are = refl;
   unbroken = refl;
@@ -167,14 +166,14 @@ result-flows context call None range old new visits grounds_are open_is state_is
 result-flows context call (Some result) range old new visits grounds_are open_is state_is is = record {
   grounds_are = grounds_are;
   value_is = ap Ordinal is;
-  state_is = state_is ∙ ap (λ r. over_variables (unless_empty r) (viewed old.state)) is;
+  state_is = state_is ∙ ap (λ r. over_variables (unless_empty r) (state_of old)) is;
   open_is = open_is ∙ sym (append-nil old.open_ids.items);
   visits_are = refl;
   unbroken = refl;
 }
 
 pub result-goes : (call : Call) (range : Interval) (old new : Flow) (visits : Visits)
-    → new.grounds ≡ old.grounds → new.open_ids.items ≡ old.open_ids.items → viewed new.state ≡ over_variables (unless_empty range) (viewed old.state)
+    → new.grounds ≡ old.grounds → new.open_ids.items ≡ old.open_ids.items → state_of new ≡ over_variables (unless_empty range) (state_of old)
     → range ≡ call_range (context_of old.grounds []) call
     → Goes (λ context. result_walk call (result_of (called_block context call)) context) old visits (Ok (Ordinal range)) new visits
 result-goes call range old new visits grounds_are open_is state_is is = λ claims.

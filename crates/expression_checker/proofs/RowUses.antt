@@ -17,10 +17,11 @@ use Rattle.component_states.specs.States.{State, gives_reached, is_dead, over_va
 use Rattle.component_states.specs.View.{viewed}
 use Rattle.expression_checker.specs.declared.fault.CheckFault.{CheckFault}
 use Rattle.expression_checker.specs.declared.flow.Flow.{Flow}
+use Rattle.expression_checker.specs.declared.grounds.Grounds.{Grounds}
 use Rattle.expression_checker.specs.Visits.{Visits, all_counted}
 use Rattle.expression_checker.specs.Walk.{Context, Walked, Walking, all_joined, component_use, is_covered, left_open, numbers_of, ranges_of}
 use Rattle.expression_checker.specs.Walk.{whole_use, with_used}
-use Rattle.expression_checker.specs.View.{Flows, Goes, context_of, opened}
+use Rattle.expression_checker.specs.View.{Flows, Goes, context_of, opened, state_of}
 use Rattle.expression_checker.proofs.Steps.{Stops, breach-same}
 
 -- ---- the rows of a span
@@ -58,7 +59,7 @@ covered-cut tree state reach row rows gives is = ap (λ b. b && is_covered tree 
 -- ---- a piece by what it gives
 
 flows-by : {A : Type 0} (context : Context) (walking : Walking A) (old : Flow) (before : Visits) (new : Flow) (after : Visits) (value : A)
-    (walked : Walked A) → walking context (viewed old.state) ≡ walked → new.grounds ≡ old.grounds → value ≡ walked.value → viewed new.state ≡ walked.after
+    (walked : Walked A) → walking context (state_of old) ≡ walked → new.grounds ≡ old.grounds → value ≡ walked.value → state_of new ≡ walked.after
     → new.open_ids.items ≡ old.open_ids.items ++ walked.open_ids → after ≡ all_counted (numbers_of walked.linked) before → walked.broken ≡ []
     → Flows context walking old before new after value
 flows-by context walking old before new after value walked is rows_are value_is state_is open_is visits_are unbroken = record {
@@ -69,6 +70,10 @@ flows-by context walking old before new after value walked is rows_are value_is 
   visits_are = visits_are ∙ ap (λ w. all_counted (numbers_of w.linked) before) (sym is);
   unbroken = ap (λ w. w.broken) is ∙ unbroken;
 }
+
+-- a state says the same by the grounds of a flow that came from another
+by-old : (old mid : Flow) (state : Kept) → mid.grounds ≡ old.grounds → viewed mid.grounds.rows.now state ≡ viewed old.grounds.rows.now state
+by-old old mid state are = ap (λ (grounds : Grounds). viewed grounds.rows.now state) are
 
 -- ---- the use of a component
 
@@ -90,25 +95,26 @@ component-as root selectors reach site context state tree rows is rows_are =
 
 pub component-goes : (root : ℕ) (selectors : List Selector) (reach : Reach) (site : ℕ) (rows : List ℕ) (closed : Bool) (range : Interval)
     (old mid : Flow) (last : Kept) (visits : Visits)
-    → rows ≡ rows_accessed (rows_of old.grounds.rows.now) root selectors → closed ≡ is_covered old.grounds.rows.now (viewed old.state) reach rows
-    → range ≡ all_joined (ranges_of (viewed old.state) rows) → Goes (opened closed site) old visits (Ok (tt {0})) mid visits
-    → viewed last ≡ over_variables (unless_empty range) (with_used reach rows (viewed mid.state))
+    → rows ≡ rows_accessed (rows_of old.grounds.rows.now) root selectors → closed ≡ is_covered old.grounds.rows.now (state_of old) reach rows
+    → range ≡ all_joined (ranges_of (state_of old) rows) → Goes (opened closed site) old visits (Ok (tt {0})) mid visits
+    → viewed old.grounds.rows.now last ≡ over_variables (unless_empty range) (with_used reach rows (viewed old.grounds.rows.now mid.state))
     → Goes (component_use root selectors reach site) old visits (Ok (Ordinal range)) (record mid { state = last }) visits
 component-goes root selectors reach site rows closed range old mid last visits rows_are closed_is range_is done last_is = λ claims.
     let context = context_of old.grounds claims in
     let one = done claims in
     flows-by context (component_use root selectors reach site) old visits (record mid { state = last }) visits (Ordinal range)
-    (component_at old.grounds.rows.now rows reach site (viewed old.state))
-    (component-as root selectors reach site context (viewed old.state) old.grounds.rows.now rows refl rows_are) one.grounds_are (ap Ordinal range_is)
-    (last_is ∙ ap (λ s. over_variables (unless_empty range) (with_used reach rows s)) one.state_is
-    ∙ ap (λ r. over_variables (unless_empty r) (with_used reach rows (viewed old.state))) range_is)
+    (component_at old.grounds.rows.now rows reach site (state_of old))
+    (component-as root selectors reach site context (state_of old) old.grounds.rows.now rows refl rows_are) one.grounds_are (ap Ordinal range_is)
+    (by-old old mid last one.grounds_are ∙ last_is
+    ∙ ap (λ s. over_variables (unless_empty range) (with_used reach rows s)) (sym (by-old old mid mid.state one.grounds_are) ∙ one.state_is)
+    ∙ ap (λ r. over_variables (unless_empty r) (with_used reach rows (state_of old))) range_is)
     (one.open_is ∙ ap (λ c. old.open_ids.items ++ left_open c site) closed_is) one.visits_are refl
 
 pub component-stopped : (root : ℕ) (selectors : List Selector) (reach : Reach) (site : ℕ) (closed : Bool) (old new : Flow) (before after : Visits)
     (fault : CheckFault) → Stops (opened closed site) old fault → Goes (component_use root selectors reach site) old before (Err fault) new after
 component-stopped root selectors reach site closed old new before after fault stops = λ claims.
     let context = context_of old.grounds claims in
-    breach-same (opened closed site context (viewed old.state)) (component_use root selectors reach site context (viewed old.state)) fault refl
+    breach-same (opened closed site context (state_of old)) (component_use root selectors reach site context (state_of old)) fault refl
     (stops claims)
 
 -- ---- the use of a whole value
@@ -132,18 +138,19 @@ whole-as type_id root selectors reach site context state tree rows is rows_are =
 pub whole-goes : (type_id : TypeId) (root : ℕ) (selectors : List Selector) (reach : Reach) (site : ℕ) (rows : List ℕ) (closed : Bool)
     (ranges : List Interval) (old mid : Flow) (last : Kept) (visits : Visits)
     → rows ≡ rows_accessed (rows_of old.grounds.rows.now) root selectors
-    → closed ≡ (is_dead (viewed old.state)
-    || (is_structured old.grounds.rows.now.types type_id && is_covered old.grounds.rows.now (viewed old.state) reach rows))
-    → ranges ≡ ranges_of (viewed old.state) rows → Goes (opened closed site) old visits (Ok (tt {0})) mid visits
-    → viewed last ≡ with_used reach rows (viewed mid.state)
+    → closed ≡ (is_dead (state_of old)
+    || (is_structured old.grounds.rows.now.types type_id && is_covered old.grounds.rows.now (state_of old) reach rows))
+    → ranges ≡ ranges_of (state_of old) rows → Goes (opened closed site) old visits (Ok (tt {0})) mid visits
+    → viewed old.grounds.rows.now last ≡ with_used reach rows (viewed old.grounds.rows.now mid.state)
     → Goes (whole_use type_id root selectors reach site) old visits (Ok ranges) (record mid { state = last }) visits
 whole-goes type_id root selectors reach site rows closed ranges old mid last visits rows_are closed_is ranges_are done last_is = λ claims.
     let context = context_of old.grounds claims in
     let one = done claims in
     flows-by context (whole_use type_id root selectors reach site) old visits (record mid { state = last }) visits ranges
-    (whole_at old.grounds.rows.now type_id rows reach site (viewed old.state))
-    (whole-as type_id root selectors reach site context (viewed old.state) old.grounds.rows.now rows refl rows_are) one.grounds_are ranges_are
-    (last_is ∙ ap (with_used reach rows) one.state_is)
+    (whole_at old.grounds.rows.now type_id rows reach site (state_of old))
+    (whole-as type_id root selectors reach site context (state_of old) old.grounds.rows.now rows refl rows_are) one.grounds_are ranges_are
+    (by-old old mid last one.grounds_are ∙ last_is
+    ∙ ap (with_used reach rows) (sym (by-old old mid mid.state one.grounds_are) ∙ one.state_is))
     (one.open_is ∙ ap (λ c. old.open_ids.items ++ left_open c site) closed_is) one.visits_are refl
 
 pub whole-stopped : (type_id : TypeId) (root : ℕ) (selectors : List Selector) (reach : Reach) (site : ℕ) (closed : Bool) (old new : Flow)
@@ -151,5 +158,5 @@ pub whole-stopped : (type_id : TypeId) (root : ℕ) (selectors : List Selector) 
     → Goes (whole_use type_id root selectors reach site) old before (Err fault) new after
 whole-stopped type_id root selectors reach site closed old new before after fault stops = λ claims.
     let context = context_of old.grounds claims in
-    breach-same (opened closed site context (viewed old.state)) (whole_use type_id root selectors reach site context (viewed old.state)) fault refl
+    breach-same (opened closed site context (state_of old)) (whole_use type_id root selectors reach site context (state_of old)) fault refl
     (stops claims)

@@ -34,12 +34,13 @@ use Rattle.expression_checker.specs.Walk as walk
 use Rattle.expression_checker.specs.Walk.{Breach, Context, Linked, Walked, Walking, followed, left_open}
 use Rattle.expression_checker.specs.Visits.{moment_of, visits_of}
 use Rattle.structured_states.specs.Loops.{Round, touched}
-use Rattle.structured_states.specs.Pairs.{aliases_of}
+use Rattle.structured_states.specs.Pairs.{Listed, aliases_of}
 use Rattle.call_states.specs.Environments.{Fine, Leaves as LeavesAll, LeavesPassed, Proper}
 use Rattle.exit_states.specs.Exit.{result_range}
 use Rattle.call_states.specs.Sections.{BlockClaims, block_claims_at}
 use Rattle.call_states.proofs.Claimed.{AllHold}
 use Rattle.call_states.proofs.Passed.{AllFit}
+use Rattle.call_states.proofs.SeenAliases.{listed_pairs}
 pub use Rattle.call_states.proofs.Reached.{alive}
 use Rattle.expression_checker.proofs.Keeping.{Keeps, keeps-itself, keeps-then}
 
@@ -71,6 +72,10 @@ sites_in world = length world.tree.sites.items
 abbrev pub parts_in : World → List Parts
 parts_in world = all_parts world.tree
 
+-- its pairs
+abbrev pub listed_in : World → Listed
+listed_in world = listed_pairs world.tree world.pairs
+
 -- a variable is visible in a block of it
 abbrev pub is_seen : World → ℕ → ℕ → Bool
 is_seen world block root = is_visible (outline_of world.tree) block root
@@ -90,7 +95,7 @@ IsClosed world block round =
 pub record Goes (world : World) (context : Context) : Type 0 where
   pub tree_is : context.tree ≡ world.tree
   pub limits_are : context.limits ≡ world.limits
-  pub pairs_are : context.pairs ≡ world.pairs
+  pub pairs_are : context.pairs ≡ listed_in world
   pub blocks_are : context.blocks ≡ world.blocks
   pub closed : (round : Round) → Contains context.rounds round → IsClosed world context.block round
 

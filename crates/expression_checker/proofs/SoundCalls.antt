@@ -37,7 +37,7 @@ use Rattle.expression_checker.specs.Walk as walk
 use Rattle.expression_checker.specs.Walk.{Context, PassedPiece, Walked, Walking, actuals_hold_call, actuals_walk, called_block, may_change}
 use Rattle.expression_checker.proofs.Keeping.{Keeps, keeps-itself}
 use Rattle.expression_checker.proofs.Sound.{World, Any_value, Called, Good, Goes, Here, IsClosed, IsForetold, IsPartOf, IsValue, Leaves, LiesInResult}
-use Rattle.expression_checker.proofs.Sound.{Returned, Sound, SoundCalls, SoundFrom, from-then, gives-state, good-give, good-weaker, is_seen}
+use Rattle.expression_checker.proofs.Sound.{Returned, Sound, SoundCalls, SoundFrom, from-then, gives-state, good-give, good-weaker, is_seen, listed_in}
 use Rattle.expression_checker.proofs.Sound.{part-left, parts_in, sound-anywhere, sound-enter, sound-give, sound-here, unbroken-left, unbroken-right}
 use Rattle.expression_checker.proofs.Sound.{nonempty-stands, variables_in}
 
@@ -79,7 +79,7 @@ pub record MayCall (world : World) (block number : ℕ) (callee : Block) (visibl
   pub proper : Proper world.tree world.pairs block s.activations visible
   pub known : Knows (parts_in world) (variables_in world) visible state s.store
   pub passed : ArePassed world visible callee.heading.parameters.items actuals arguments s.store
-  pub separate : are_separate world.pairs world.tree callee.heading.around.items (bound_to callee.heading.parameters.items actuals) ≡ true
+  pub separate : are_separate (listed_in world) block callee.heading.around.items (bound_to callee.heading.parameters.items actuals) ≡ true
   pub given : are_given world.tree (bound_to callee.heading.parameters.items actuals) state (block_claims_at world.blocks number).entry ≡ true
   pub typed : are_of_types world.tree world.limits (bound_to callee.heading.parameters.items actuals) ≡ true
 
@@ -102,7 +102,8 @@ pub record CallLaws (world : World) : Type 0 where
       (s t : effect.State) (v : Value) → MayCall world block number callee visible state actuals arguments s → Fine world.tree t
       → Returned world number callee arguments visible s v t.store
       → Knows (parts_in world) (variables_in world) visible
-      (behind_call world.tree world.pairs number (bound_to callee.heading.parameters.items actuals) (block_claims_at world.blocks number) state) t.store
+      (behind_call world.tree (listed_in world) block number (bound_to callee.heading.parameters.items actuals) (block_claims_at world.blocks number) state)
+      t.store
   pub kept : (block number : ℕ) (callee : Block) (visible : Environment) (state : State) (actuals : List Actual) (arguments : List Argument)
       (s t : effect.State) (v : Value) → MayCall world block number callee visible state actuals arguments s
       → Returned world number callee arguments visible s v t.store → (root : ℕ)
@@ -121,14 +122,14 @@ kept-rule false rule place is = absurd (cc)
 
 -- a context of the world's program
 abbrev pub in_world : World → Context → Context
-in_world world context = record context { tree = world.tree; limits = world.limits; pairs = world.pairs; blocks = world.blocks }
+in_world world context = record context { tree = world.tree; limits = world.limits; pairs = listed_in world; blocks = world.blocks }
 
 pub by-world : (world : World) (context : Context) (P : Context → Type 0) → Goes world context → P (in_world world context) → P context
 by-world world context P goes so =
     subst (λ tree. P (record context { tree = tree })) (sym goes.tree_is)
     (subst (λ limits. P (record context { tree = world.tree; limits = limits })) (sym goes.limits_are)
     (subst (λ pairs. P (record context { tree = world.tree; limits = world.limits; pairs = pairs })) (sym goes.pairs_are)
-    (subst (λ blocks. P (record context { tree = world.tree; limits = world.limits; pairs = world.pairs; blocks = blocks })) (sym goes.blocks_are) so)))
+    (subst (λ blocks. P (record context { tree = world.tree; limits = world.limits; pairs = listed_in world; blocks = blocks })) (sym goes.blocks_are) so)))
 
 false-is : ◌≡◌ {A = Bool} false true → ⊥
 false-is is = cc
@@ -339,7 +340,7 @@ module _ (world : World) (block : ℕ) (env : Surroundings) where
         s (env.calls call.block arguments visible s)
     call-good context state s at callable unbroken here passed =
         let own = in_world world context in
-        let separate = are_separate world.pairs world.tree (walk.around_of (slice_get world.tree.blocks.items call.block)) bindings in
+        let separate = are_separate (listed_in world) context.block (walk.around_of (slice_get world.tree.blocks.items call.block)) bindings in
         let given = are_given world.tree bindings state claims.entry in
         let lists = list_all (may_change own) changed in
         let typed = are_of_types world.tree world.limits bindings in
@@ -356,8 +357,9 @@ module _ (world : World) (block : ℕ) (env : Surroundings) where
           proper = here.proper;
           known = here.stands.known;
           passed = passed;
-          separate = subst (λ (found : Option Block). are_separate world.pairs world.tree (walk.around_of found) bindings ≡ true) at
-              (kept-rule separate Aliases call.name (unbroken-left first (second ++ (third ++ [])) unbroken));
+          separate = subst (λ (b : ℕ). are_separate (listed_in world) b callee.heading.around.items bindings ≡ true) here.block_is
+              (subst (λ (found : Option Block). are_separate (listed_in world) context.block (walk.around_of found) bindings ≡ true) at
+              (kept-rule separate Aliases call.name (unbroken-left first (second ++ (third ++ [])) unbroken)));
           given = kept-rule given CallEntry call.name (unbroken-left second (third ++ []) rest);
           typed = both.1;
         } in
@@ -369,7 +371,9 @@ module _ (world : World) (block : ℕ) (env : Surroundings) where
           tie = behind.so.result;
           stands = record {
             goes = here.stands.goes;
-            known = laws.behind block call.block callee visible state actuals arguments s t v may behind.fine behind.so;
+            known = subst (λ (b : ℕ). Knows (parts_in world) (variables_in world) visible
+                (behind_call world.tree (listed_in world) b call.block bindings claims state) t.store) (sym here.block_is)
+                (laws.behind block call.block callee visible state actuals arguments s t v may behind.fine behind.so);
           };
           kept = call-keeps context state s t v here.stands.goes here.block_is may both.0 behind.so;
         })

@@ -42,7 +42,7 @@ use Rattle.expression_checker.specs.Walk.{actuals_walk, function_walk, passed_pi
 use Rattle.expression_checker.specs.Walk.{ordinal, enter, first_breach, left_open, operated, combined, in_turn, value_walk, link_walk, numbers_of}
 use Rattle.structured_states.specs.Loops.{Claims}
 use Rattle.expression_checker.specs.declared.grounds.Grounds.{Grounds}
-use Rattle.expression_checker.specs.View.{Flows, Goes, context_of, seen}
+use Rattle.expression_checker.specs.View.{Flows, Goes, context_of, seen, state_of}
 use Rattle.structured_states.proofs.Claims.{item-cut, drop-past}
 
 -- ---- the walk, form by form
@@ -107,16 +107,16 @@ counted-both (linked ∷ one) two visits = counted-both one two (counted linked.
 module _ {A B : Type 0} (context : Context) (first : Walking A) (next : A → Walking B) (old mid : Flow) (before between : Visits) (a : A)
     (one : Flows context first old before mid between a) where
   abbrev was : Walked A
-  was = first context (viewed old.state)
+  was = first context (state_of old)
 
   abbrev then : Walked B
-  then = next a context (viewed mid.state)
+  then = next a context (state_of mid)
 
   -- from where the first piece left the flow, the next is what it is behind the first
   then-same : then ≡ next was.value context was.after
-  then-same = ap (λ x. next x context (viewed mid.state)) one.value_is ∙ ap (next was.value context) one.state_is
+  then-same = ap (λ x. next x context (state_of mid)) one.value_is ∙ ap (next was.value context) one.state_is
 
-  both-broken : then.broken ≡ ((first >>= next) context (viewed old.state)).broken
+  both-broken : then.broken ≡ ((first >>= next) context (state_of old)).broken
   both-broken = sym (ap (λ w. was.broken ++ w.broken) (sym then-same) ∙ ap (λ b. b ++ then.broken) one.unbroken)
 
   pub flows-then : (new : Flow) (after : Visits) (b : B) → Flows context (next a) mid between new after b
@@ -134,8 +134,8 @@ module _ {A B : Type 0} (context : Context) (first : Walking A) (next : A → Wa
   }
 
   -- the first breach of the next is that of both
-  pub breach-later : (fault : CheckFault) → IsBreachOf then fault → IsBreachOf ((first >>= next) context (viewed old.state)) fault
-  breach-later fault is = breach-same then ((first >>= next) context (viewed old.state)) fault both-broken is
+  pub breach-later : (fault : CheckFault) → IsBreachOf then fault → IsBreachOf ((first >>= next) context (state_of old)) fault
+  breach-later fault is = breach-same then ((first >>= next) context (state_of old)) fault both-broken is
 
 -- a piece that only gives its value
 pub flows-give : {A : Type 0} (context : Context) (value : A) (old : Flow) (visits : Visits) → Flows context (give value) old visits old visits value
@@ -159,7 +159,7 @@ breach-first {A} context first next state fault is =
 
 -- the checker gave up over a piece
 abbrev pub Stops : {A : Type 0} → Walking A → Flow → CheckFault → Type 0
-Stops walk old fault = (claims : List Claims) → IsBreachOf (walk (context_of old.grounds claims) (viewed old.state)) fault
+Stops walk old fault = (claims : List Claims) → IsBreachOf (walk (context_of old.grounds claims) (state_of old)) fault
 
 -- the first piece was walked over: what the checker did over the next is what it did over both
 pub goes-then : {A B : Type 0} (first : Walking A) (next : A → Walking B)
@@ -172,13 +172,13 @@ goes-then first next old mid new before between after a (Ok b) one two = λ clai
 goes-then first next old mid new before between after a (Err fault) one two = λ claims.
     let begun = one claims in
     breach-later (context_of old.grounds claims) first next old mid before between a begun fault
-    (subst (λ (grounds : Grounds). IsBreachOf (next a (context_of grounds claims) (viewed mid.state)) fault) begun.grounds_are (two claims))
+    (subst (λ (grounds : Grounds). IsBreachOf (next a (context_of grounds claims) (state_of mid)) fault) begun.grounds_are (two claims))
 
 -- the checker gave up over the first piece: so it does over both
 pub goes-stopped : {A B : Type 0} (first : Walking A) (next : A → Walking B) (old new : Flow) (before after : Visits) (fault : CheckFault)
     → Stops first old fault → Goes (first >>= next) old before (Err fault) new after
 goes-stopped first next old new before after fault stops =
-    λ claims. breach-first (context_of old.grounds claims) first next (viewed old.state) fault (stops claims)
+    λ claims. breach-first (context_of old.grounds claims) first next (state_of old) fault (stops claims)
 
 -- a piece that only gives its value
 pub goes-give : {A : Type 0} (value : A) (old : Flow) (visits : Visits) → Goes (give value) old visits (Ok value) old visits
@@ -258,17 +258,18 @@ use-same root site range context state = opened-same root site state.variables
     opened-same root site (variables.Live facts) = search rules
 
 pub use-goes : (root site : ℕ) (closed : Bool) (range value : Interval) (old new : Flow) (state : Kept) (before after : Visits)
-    → closed ≡ is_defined (viewed old.state).variables root → range ≡ range_of (viewed old.state).variables root
-    → viewed state ≡ defined_in root (viewed old.state)
+    → closed ≡ is_defined (state_of old).variables root → range ≡ range_of (state_of old).variables root
+    → viewed old.grounds.rows.now state ≡ defined_in root (state_of old)
     → Goes (tested closed site range) (record old { state = state }) before (Ok value) new after
     → Goes (use_of root site) old before (Ok (Ordinal value)) new after
 use-goes root site closed range value old new state before after closed_is range_is state_is done = λ claims.
     let context = context_of old.grounds claims in
-    let was : State = viewed old.state in
-    let same : tested closed site range context (viewed state) ≡ tested (is_defined was.variables root) site (range_of was.variables root) context
+    let was : State = state_of old in
+    let known = viewed old.grounds.rows.now state in
+    let same : tested closed site range context known ≡ tested (is_defined was.variables root) site (range_of was.variables root) context
     (defined_in root was) =
-    ap (λ c. tested c site range context (viewed state)) closed_is
-    ∙ ap (λ r. tested (is_defined was.variables root) site r context (viewed state)) range_is
+    ap (λ c. tested c site range context known) closed_is
+    ∙ ap (λ r. tested (is_defined was.variables root) site r context known) range_is
     ∙ ap (tested (is_defined was.variables root) site (range_of was.variables root) context) state_is in
     let one = done claims in
     record {
@@ -285,7 +286,7 @@ pub use-stopped : (root site : ℕ) (old new : Flow) (before after : Visits) (cl
     → Stops (tested closed site range) (record old { state = state }) fault → Goes (use_of root site) old before (Err fault) new after
 use-stopped root site old new before after closed range state fault stops = λ claims.
     let context = context_of old.grounds claims in
-    breach-same (tested closed site range context (viewed state)) (use_of root site context (viewed old.state)) fault refl (stops claims)
+    breach-same (tested closed site range context (viewed old.grounds.rows.now state)) (use_of root site context (state_of old)) fault refl (stops claims)
 
 -- ---- an expression that the checker has begun
 
@@ -421,7 +422,7 @@ range-in known range is = ap range_in is
 
 -- what passed a test is known in each context, and so is what is made of it
 pub passed-goes : {A B : Type 0} (walk : Walking B) (test : Walking A) (next : A → B) (passed known : A) (result : B) (old new : Flow) (visits : Visits)
-    → walk ≡ (test >>= λ x. give (next x)) → ((context : Context) → (test context (viewed old.state)).value ≡ known)
+    → walk ≡ (test >>= λ x. give (next x)) → ((context : Context) → (test context (state_of old)).value ≡ known)
     → (passed ≡ known → result ≡ next passed) → Goes test old visits (Ok passed) new visits → Goes walk old visits (Ok result) new visits
 passed-goes walk test next passed known result old new visits is known_is result_is tested = λ claims.
     let same = result_is ((tested claims).value_is ∙ known_is (context_of old.grounds claims)) in

@@ -8,7 +8,9 @@ use Rattle.typed_tree.specs.declared.tree.Call.{Call}
 use Rattle.typed_tree.specs.declared.tree.FunctionResult.{FunctionResult}
 use Rattle.domain.specs.Interval.{Interval}
 use Rattle.abstract_state.specs.State.{integer}
+use Rattle.component_states.specs.States.{State}
 use Rattle.component_states.specs.View.{viewed}
+use Rattle.leaf_rows.specs.Limits.{all_limits}
 use Rattle.expression_checker.specs.declared.fault.CheckFault.{CheckFault}
 use Rattle.structured_states.specs.Loops.{Claims}
 use Rattle.structured_states.specs.View.{kept_round}
@@ -26,7 +28,7 @@ use Rattle.expression_checker.specs.Walk.{Context, IsBreachOf, Walking, called_b
 abbrev pub context_of : Grounds → List Claims → Context
 context_of grounds claims = record {
   tree = grounds.rows.now;
-  limits = grounds.limits.items;
+  limits = all_limits grounds.rows.now;
   claims = claims;
   blocks = map said_claims grounds.sections.items;
   pairs = grounds.pairs;
@@ -48,16 +50,20 @@ range_of_result context call (Some result) =
 abbrev pub call_range : Context → Call → Interval
 call_range context call = range_of_result context call (result_of (called_block context call))
 
+-- what is known where the flow is
+abbrev pub state_of : Flow → State
+state_of flow = viewed flow.grounds.rows.now flow.state
+
 -- the flow came from an old to a new point as the walk of a piece does in a context, and has its value; it counted the
 -- entries of the piece; the piece breaks no rule
 pub record Flows {A : Type 0} (context : Context) (walking : Walking A) (old : Flow) (before : Visits) (new : Flow)
     (after : Visits) (value : A) : Type 0 where
   pub grounds_are : new.grounds ≡ old.grounds
-  pub value_is : value ≡ (walking context (viewed old.state)).value
-  pub state_is : viewed new.state ≡ (walking context (viewed old.state)).after
-  pub open_is : new.open_ids.items ≡ old.open_ids.items ++ (walking context (viewed old.state)).open_ids
-  pub visits_are : after ≡ all_counted (numbers_of (walking context (viewed old.state)).linked) before
-  pub unbroken : (walking context (viewed old.state)).broken ≡ []
+  pub value_is : value ≡ (walking context (state_of old)).value
+  pub state_is : state_of new ≡ (walking context (state_of old)).after
+  pub open_is : new.open_ids.items ≡ old.open_ids.items ++ (walking context (state_of old)).open_ids
+  pub visits_are : after ≡ all_counted (numbers_of (walking context (state_of old)).linked) before
+  pub unbroken : (walking context (state_of old)).broken ≡ []
 
 -- the flow went over a piece of a program by its grounds, whatever is claimed of loops: it came to its end, or the
 -- checker tells the first rule that the piece breaks, or it found no memory
@@ -65,7 +71,7 @@ abbrev pub Goes : {A : Type 0} → Walking A → Flow → Visits → Result A Ch
 Goes walking old before (Ok value) new after =
     (claims : List Claims) → Flows (context_of old.grounds claims) walking old before new after value
 Goes walking old before (Err fault) new after =
-    (claims : List Claims) → IsBreachOf (walking (context_of old.grounds claims) (viewed old.state)) fault
+    (claims : List Claims) → IsBreachOf (walking (context_of old.grounds claims) (state_of old)) fault
 
 -- an answer of the checker, with its value as the definitions see it
 abbrev pub seen : {A B : Type 0} → (A → B) → Result A CheckFault → Result B CheckFault

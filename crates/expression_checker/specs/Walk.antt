@@ -53,6 +53,7 @@ use Rattle.component_states.specs.Components.{Index, Reach, Entire, At, Inside, 
 use Rattle.component_states.specs.States.{State, gives_reached, is_dead, over_components, over_variables}
 use Rattle.abstract_state.specs.Loops.{is_among}
 use Rattle.structured_states.specs.Loops.{Claims, Round, all_list}
+use Rattle.structured_states.specs.Pairs.{Listed}
 use Rattle.structured_states.specs.Ways.{single}
 use Rattle.call_states.specs.Sections.{BlockClaims, block_claims_at}
 use Rattle.call_states.specs.Starts.{is_own}
@@ -68,7 +69,7 @@ pub record Context : Type 0 where
   pub limits : List Interval
   pub claims : List Claims
   pub blocks : List BlockClaims
-  pub pairs : List (ℕ × ℕ)
+  pub pairs : Listed
   pub block : ℕ
   pub rounds : List Round
 
@@ -523,7 +524,7 @@ call_change place bindings claims context =
 -- what is passed makes listed aliases alone
 abbrev pub call_aliases : Call → List Binding → Walking (Unit {0})
 call_aliases call bindings context =
-    asked (are_separate context.pairs context.tree (around_of (called_block context call)) bindings) Aliases call.name
+    asked (are_separate context.pairs context.block (around_of (called_block context call)) bindings) Aliases call.name
     context
 
 -- the facts are given that hold where the callee begins
@@ -534,7 +535,7 @@ call_entry call bindings claims context state =
 -- what is known behind a call
 abbrev pub call_behind : Call → List Binding → BlockClaims → Walking (Unit {0})
 call_behind call bindings claims context =
-    changed_by (behind_call context.tree context.pairs call.block bindings claims) context
+    changed_by (behind_call context.tree context.pairs context.block call.block bindings claims) context
 
 -- a call with these parameters, by the claims on the callee
 abbrev pub call_with : Call → BlockClaims → List Binding → Walking (Unit {0})

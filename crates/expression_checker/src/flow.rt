@@ -560,11 +560,8 @@ impl<'a> Flow<'a> {
         };
         let alloc = *self.open_ids.allocator();
         let claims = block_claims_at(&self.grounds.sections, call.block);
-        asked(
-            self.grounds.is_separate(call, bindings),
-            Rule::Aliases,
-            call.name,
-        )?;
+        let separate = self.grounds.is_separate(alloc, call, bindings)?;
+        asked(separate, Rule::Aliases, call.name)?;
         let given = are_given(
             alloc,
             self.grounds.rows,
@@ -575,11 +572,13 @@ impl<'a> Flow<'a> {
         asked(given, Rule::CallEntry, call.name)?;
         let may = self.grounds.may_call(alloc, bindings, changes(claims))?;
         asked(may, Rule::Changes, call.name)?;
+        let caller = self.grounds.block;
         exit::call(
             alloc,
             &mut self.state,
             self.grounds.rows,
             &self.grounds.pairs,
+            caller,
             call.block,
             bindings,
             claims,

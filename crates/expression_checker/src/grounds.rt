@@ -31,12 +31,10 @@ use types::{TypeId, TypeTable};
 pub struct Grounds<'a> {
     /// The rows of the program's components.
     pub rows: &'a Rows<'a>,
-    /// The values of the variables' types, by root number.
-    pub limits: Vec<Interval>,
     /// What the certificate claims of each block, by its number.
     pub sections: Vec<Option<&'a Section>>,
     /// The variables that may share a place, as they are listed.
-    pub pairs: Pairs,
+    pub pairs: Pairs<'a>,
     /// The number of the block.
     pub block: u32,
     /// The loops round the walk, the outermost first.
@@ -97,11 +95,16 @@ impl<'a> Grounds<'a> {
     }
 
     /// Whether what is passed makes listed aliases alone.
-    pub(crate) fn is_separate(&self, call: Call, bindings: Bindings) -> bool
-        ensures { result ≡ are_separate self.now.pairs self.now.rows.now
-            (around_of (slice_get self.now.rows.now.blocks.items call.block)) (said_bindings bindings.entry) }
+    pub(crate) fn is_separate(
+        &self,
+        alloc: Global,
+        call: Call,
+        bindings: Bindings,
+    ) -> Result<bool, AllocError>
+        ensures { IfOk result (λ is. is ≡ are_separate self.now.pairs self.now.block
+            (around_of (slice_get self.now.rows.now.blocks.items call.block)) (said_bindings bindings.entry)) }
     {
-        are_separate(&self.pairs, self.rows.tree(), self.around(call), bindings)
+        are_separate(alloc, &self.pairs, self.block, self.around(call), bindings)
     }
 
     /// Whether a call changes what it may, by the variables that the callee lists.
@@ -113,10 +116,10 @@ impl<'a> Grounds<'a> {
     ) -> Result<bool, AllocError>
         ensures { IfOk result (λ may. may
             ≡ (list_all (may_change (context_of self.now [])) (roots_changed (said_bindings bindings.entry) listed.now)
-            && are_of_types self.now.rows.now self.now.limits.items (said_bindings bindings.entry))) }
+            && are_of_types self.now.rows.now (context_of self.now []).limits (said_bindings bindings.entry))) }
     {
         let roots = roots_changed(alloc, bindings, listed)?;
-        Ok(self.may_change_all(&roots) && are_of_types(self.rows, &self.limits, bindings))
+        Ok(self.may_change_all(&roots) && are_of_types(self.rows, self.rows.limits(), bindings))
     }
 
     /// Whether each of some variables may be changed.

@@ -1,73 +1,50 @@
-ghost use Rattle.std.specs.Prelude.{max};
-
-use sparse_list::{Join, SparseList};
+use sparse_list::{SparseList, indices_of_either};
 use std::alloc::{AllocError, Global};
 use std::process::Abort;
 use std::test::Fail;
 
-/// A height; of two, the greater is that of both.
-#[derive(Clone, Copy)]
-struct Height {
-    meters: u32,
-}
-
-impl Join for Height {
-    ghost join = { λ one other. record { meters = max one.meters other.meters } };
-
-    fn joined(self, other: Height) -> Height {
-        Height {
-            meters: self.meters.max(other.meters),
-        }
-    }
-}
-
-const GROUND: Height = Height { meters: 0 };
-
-/// Heights on the ground but for some, which are set in this order.
-fn built(
-    alloc: Global,
-    count: usize,
-    heights: &[(usize, u32)],
-) -> Result<SparseList<Height>, AllocError> {
-    let mut list = SparseList::new(alloc, count, GROUND);
+/// Heights that are set in this order.
+fn built(alloc: Global, heights: &[(u32, u32)]) -> Result<SparseList<u32>, AllocError> {
+    let mut list = SparseList::new(alloc);
     for &(index, meters) in heights {
-        list.set(index, Height { meters })?;
+        list.set(index, meters)?;
     }
     Ok(list)
 }
 
-/// The heights of a list, and behind them the indices of those that may not be on the ground.
-fn told(alloc: Global, list: &SparseList<Height>) -> Result<String, AllocError> {
+/// The heights of a list that are stored, each with its index.
+fn told(alloc: Global, list: &SparseList<u32>) -> Result<String, AllocError> {
     let mut text = String::new(alloc);
-    for index in 0..list.len() {
-        let height = list.get_or(index, GROUND);
-        text.push_str(format!(in alloc; "{} ", height.meters)?.as_str())?;
-    }
-    for index in list.unusual(alloc)? {
-        text.push_str(format!(in alloc; ",{index}")?.as_str())?;
+    for index in list.indices(alloc)? {
+        match list.get(index) {
+            None => text.push_str(format!(in alloc; "{index} ")?.as_str())?,
+            Some(meters) => text.push_str(format!(in alloc; "{index}:{meters} ")?.as_str())?,
+        }
     }
     Ok(text)
 }
 
 #[test]
-fn items_that_are_set_stand_out(rt: HostRuntime) -> Result<(), Fail> {
+fn items_that_are_set_are_stored(rt: HostRuntime) -> Result<(), Fail> {
     let alloc = rt.alloc();
-    let list = built(alloc, 5, &[(3, 7), (1, 4), (3, 9), (5, 2)])?;
-    assert_eq!(rt; told(alloc, &list)?.as_str(), "0 4 0 9 0 ,1,3");
+    let list = built(alloc, &[(3, 7), (1, 4), (3, 9), (5, 2), (4, 6)])?;
+    assert_eq!(rt; told(alloc, &list)?.as_str(), "1:4 3:9 4:6 5:2 ");
     assert_eq!(rt;
         told(alloc, &list.copied(alloc)?)?.as_str(),
-        "0 4 0 9 0 ,1,3"
+        "1:4 3:9 4:6 5:2 "
     );
-    assert!(rt; list.get(5).is_none() && list.usual().meters == 0);
+    assert!(rt; list.get(0).is_none() && list.get(2).is_none() && list.get(6).is_none());
     Ok(())
 }
 
 #[test]
-fn lists_join_item_by_item(rt: HostRuntime) -> Result<(), Fail> {
+fn indices_of_either_list_are_told(rt: HostRuntime) -> Result<(), Fail> {
     let alloc = rt.alloc();
-    let list = built(alloc, 5, &[(1, 4), (3, 9)])?;
-    let longer = built(alloc, 7, &[(0, 1), (3, 2), (6, 8)])?;
-    let joined = list.joined(alloc, &longer, Height { meters: 3 })?;
-    assert_eq!(rt; told(alloc, &joined)?.as_str(), "1 4 0 9 0 3 8 ,0,1,3,5,6");
+    let list = built(alloc, &[(1, 4), (3, 9)])?;
+    let other = built(alloc, &[(0, 1), (3, 2), (6, 8)])?;
+    let mut indices = indices_of_either(alloc, &list, &other)?;
+    indices.sort()?;
+    indices.dedup();
+    assert_eq!(rt; indices.as_slice(), &[0, 1, 3, 6]);
     Ok(())
 }

@@ -14,6 +14,7 @@ use Rattle.types.specs.declared.form.OrdinalRange.{OrdinalRange}
 use Rattle.types.specs.declared.form.TypeId.{TypeId}
 use Rattle.typed_tree.specs.declared.tree.Tree.{Tree}
 use Rattle.typed_tree.specs.declared.tree.Variable.{Variable}
+use Rattle.domain.specs.Interval.{Interval}
 use Rattle.leaf_rows.specs.declared.part.Part.{Part}
 use Rattle.leaf_rows.specs.declared.leaf.RowRanges.{RowRanges}
 use Rattle.leaf_rows.specs.Leaves.{Leaf, LeafStep, Elements, FieldAt, begins, leaves_at, leaves_of, range_at, scalar}
@@ -330,16 +331,16 @@ under_of tree root steps =
 pub ends_of : (tree : Tree) (root : ℕ) → end_of tree.types (variable_part tree.types 0 tree.variables.items root) ≤ length (rows_of tree)
 ends_of tree root = let ends = variable_ends tree.types 0 0 tree.variables.items root in omega (arith, ends)
 
-pub ends_kept : (tree : Tree) (counts firsts : List ℕ) (rows : List RowRanges) → AreKept tree counts firsts rows → (root : ℕ)
+pub ends_kept : (tree : Tree) (counts firsts : List ℕ) (rows : List RowRanges) (limits : List Interval) → AreKept tree counts firsts rows limits → (root : ℕ)
     → end_of tree.types (variable_part tree.types 0 tree.variables.items root) < 2 ^ 32
-ends_kept tree counts firsts rows kept root =
+ends_kept tree counts firsts rows limits kept root =
     let ends = ends_of tree root in
     let same = ap length kept.rows_are ∙ length-map (rows_of tree) (λ row. ranges_of row.leaf) in
     omega (arith, ends, same, kept.few)
 
 -- a variable is found in the tables
-pub found_kept : (tree : Tree) (counts firsts : List ℕ) (rows : List RowRanges) → AreKept tree counts firsts rows → (root : ℕ)
+pub found_kept : (tree : Tree) (counts firsts : List ℕ) (rows : List RowRanges) (limits : List Interval) → AreKept tree counts firsts rows limits → (root : ℕ)
     → part_by tree.types (slice_get tree.variables.items root) (slice_get firsts root) ≡ variable_part tree.types 0 tree.variables.items root
-found_kept tree counts firsts rows kept root =
+found_kept tree counts firsts rows limits kept root =
     ap (λ l. part_by tree.types (slice_get tree.variables.items root) (slice_get l root)) kept.firsts_are
     ∙ sym (by_tables tree.types 0 tree.variables.items root)

@@ -8,6 +8,7 @@ use Rattle.types.specs.declared.form.OrdinalRange.{OrdinalRange}
 use Rattle.types.specs.declared.form.TypeId.{TypeId}
 use Rattle.typed_tree.specs.declared.tree.Tree.{Tree}
 use Rattle.typed_tree.specs.declared.tree.Variable.{Variable}
+use Rattle.domain.specs.Interval.{Interval}
 use Rattle.leaf_rows.specs.declared.leaf.RowRanges.{RowRanges}
 use Rattle.leaf_rows.specs.declared.leaf.Way.{Way}
 use Rattle.leaf_rows.specs.declared.leaf.Way.TheVariants.{Direct, Indexed}
@@ -15,6 +16,7 @@ use Rattle.leaf_rows.specs.declared.part.Part.{Part}
 use Rattle.leaf_rows.specs.declared.span.Span.{Span}
 use Rattle.leaf_rows.specs.declared.rows.NamedPart.{NamedPart}
 use Rattle.leaf_rows.specs.Leaves.{Leaf, LeafStep, Elements, FieldAt, leafed, leaves_of, scalar}
+use Rattle.leaf_rows.specs.Limits.{all_limits}
 use Rattle.leaf_rows.specs.Rows.{Named, is_structured, rows_of, rows_under}
 
 -- the numbers of a span
@@ -92,11 +94,13 @@ firsts_from types first (variable ∷ variables) =
     first ∷ firsts_from types (first + rows_count types variable) variables
 
 -- the rows of a program are kept
-pub record AreKept (tree : Tree) (counts firsts : List ℕ) (rows : List RowRanges) : Type 0 where
+pub record AreKept (tree : Tree) (counts firsts : List ℕ) (rows : List RowRanges) (limits : List Interval)
+    : Type 0 where
   pub counts_are : counts ≡ leaf_counts tree.types
   pub firsts_are : firsts ≡ firsts_from tree.types 0 tree.variables.items
   pub rows_are : rows ≡ map (λ row. ranges_of row.leaf) (rows_of tree)
   pub few : length rows < 2 ^ 32
+  pub limits_are : limits ≡ all_limits tree
 
 -- ---- parts of variables
 

@@ -2,9 +2,11 @@
 #![tactic(auto)]
 
 mod leaf;
+mod limits;
 mod part;
 mod rows;
 mod span;
 
+pub use limits::{limits_at, limits_or_integer};
 pub use rows::{NamedPart, Rows};
 pub use span::Span;

@@ -2,15 +2,18 @@ ghost use Rattle.std.specs.Prelude.{◌≡◌, ◌<◌, ◌^◌, ◌++◌, [], I
 ghost use Rattle.typed_tree.specs.declared.tree.Tree.{Tree};
 ghost use Rattle.certificate.specs.Contents.{said_path};
 ghost use Rattle.leaf_rows.specs.Leaves.{Elements, FieldAt};
+ghost use Rattle.leaf_rows.specs.Limits.{all_limits, row_limits};
 ghost use Rattle.leaf_rows.specs.Rows.{index_at, is_structured, leaf_step, part_named, rows_accessed};
 ghost use Rattle.leaf_rows.specs.Rows.{rows_of, rows_under, values_at};
 ghost use Rattle.leaf_rows.specs.View.{AreKept, IsAnswerOf, end_of, next_part, numbers, part_by, part_rows};
 ghost use Rattle.leaf_rows.specs.View.{variable_part, variable_ranges};
 
 use crate::leaf::{RowRanges, Way, add_leaves, leaf_counts, own_type};
+use crate::limits::{all_limits, limits_or_integer};
 use crate::part::{Part, field_part, part_count};
 use crate::span::Span;
 use certificate::{Path, Step};
+use domain::interval::Interval;
 use std::alloc::{AllocError, Global};
 use std::marker::Model;
 use typed_tree::tree::{Selector, Tree, Variable};
@@ -25,6 +28,8 @@ pub struct Rows<'a> {
     // The first row of each variable, or where it would be.
     firsts: Vec<u32>,
     rows: Vec<RowRanges>,
+    // The values of the type of each variable.
+    limits: Vec<Interval>,
 }
 
 impl<'a> Model for Rows<'a> {
@@ -39,7 +44,8 @@ impl<'a> Model for Rows<'a> {
 
     ghost view = { λ rows. rows.tree.now };
 
-    ghost invariant = { λ rows. AreKept rows.tree.now rows.counts.items rows.firsts.items rows.rows.items };
+    ghost invariant = { λ rows. AreKept rows.tree.now rows.counts.items rows.firsts.items rows.rows.items
+        rows.limits.items };
 }
 
 /// What a path of a certificate names.
@@ -66,11 +72,13 @@ impl<'a> Rows<'a> {
             add_variable(&tree.types, variable, &mut rows)?;
         }
         row_number(rows.len())?;
+        let limits = all_limits(alloc, tree)?;
         Ok(Rows {
             tree,
             counts,
             firsts,
             rows,
+            limits,
         })
     }
 
@@ -100,6 +108,20 @@ impl<'a> Rows<'a> {
         ensures { result ≡ index_at (rows_of self.now) row }
     {
         self.rows.get(row as usize)?.index
+    }
+
+    /// The values of the type of each variable, by root number.
+    pub fn limits(&self) -> &[Interval]
+        ensures { result.now ≡ all_limits self.now }
+    {
+        self.limits.as_slice()
+    }
+
+    /// The values of the type of a row's components.
+    pub fn row_limits(&self, row: u32) -> Interval
+        ensures { result ≡ row_limits (rows_of self.now) row }
+    {
+        limits_or_integer(self.values(row))
     }
 
     /// The rows under what is accessed, its indexes aside.

@@ -1,3 +1,2 @@
-mod Places
-mod Unusual
-mod Joined
+pub mod Places
+pub mod Over

@@ -1,16 +1,17 @@
 -- What a search finds among stored items, and what an edit at that place does.
-use Rattle.std.proofs.Common.{◌≡◌, ℕ, zero, suc, ◌+◌, ◌-◌, ◌<◌, ◌≤◌, ◌≢◌, List, [], ◌∷◌, length, get_or, set, replicate, Some, None, Result, Ok, Err, IfOk}
+use Rattle.std.proofs.Common.{◌≡◌, ℕ, zero, suc, ◌+◌, ◌-◌, ◌<◌, ◌≤◌, ◌≢◌, List, [], ◌∷◌, length, get_or, set, Some, None, Result, Ok, Err, IfOk}
+use Rattle.std.specs.Prelude.{if◌then◌else◌, nat_eq, true, false}
 use Rattle.std.proofs.Common.{IfErr, slice_get, refl, sym, ap, subst, ◌∙◌, arith}
 use Rattle.std.specs.List.{insert}
-use Rattle.std.proofs.lemmas.Option.{get_or_from_slice_get, slice_get_past, slice_get-get_or}
+use Rattle.std.proofs.lemmas.Option.{get_or_from_slice_get}
 use Rattle.std.specs.List.Sorted.{IsSearchInRange, IsBinarySearchResult, IsNonDecreasingBy}
 use Rattle.std.specs.Ordering.{nat_cmp, ordering_index}
 use Rattle.std.proofs.lemmas.Cmp.{ranked}
-use Rattle.std.proofs.lemmas.List.{length-replicate, length-set, set_comm, set_past, get_or-replicate, get_or-set_same, get_or-set_other}
+use Rattle.std.proofs.lemmas.List.{set_comm}
 use Rattle.std.proofs.lemmas.List.Edits.{length-insert, get_or-insert_below, get_or-insert_at, get_or-insert_above}
 use Rattle.std.proofs.lemmas.Bool.Decides.{nat_tests}
 use Rattle.std.proofs.lemmas.Grind.{common_steps}
-use Rattle.sparse_list.specs.Stored.{with_stored, IsAscending, IsAt, IsGapFor}
+use Rattle.sparse_list.specs.Sparse.{over, stored_at, IsAscending, IsAt, IsGapFor}
 
 -- the second of two writes at one place is left
 set_again : {T : Type 0} (items : List T) (i : ℕ) (a b : T) → set (set items i a) i b ≡ set items i b
@@ -29,49 +30,44 @@ module _ {T : Type 0} where
   tail_at : (x : ℕ × T) (l : List (ℕ × T)) (k i : ℕ) → IsAt (x ∷ l) k (suc i) → IsAt l k i
   tail_at x l k i is_at = record { in_range = omega (arith, is_at.in_range); has_index = λ pair. is_at.has_index pair }
 
-  -- there are as many items as before
-  pub length-with_stored : (l : List (ℕ × T)) (items : List T) → length (with_stored l items) ≡ length items
-  length-with_stored [] items = refl
-  length-with_stored (x ∷ l) items = length-set (with_stored l items) x.0 x.1 ∙ length-with_stored l items
-
-  -- an index that no pair has keeps its item
-  pub get_none : (l : List (ℕ × T)) (items : List T) (k : ℕ) (d : T) → NoneBefore l k (length l)
-      → get_or (with_stored l items) k d ≡ get_or items k d
-  get_none [] items k d none = refl
-  get_none (x ∷ l) items k d none =
-      get_or-set_other (with_stored l items) x.0 k x.1 d (λ same. none 0 x (omega arith) (sym same))
-      ∙ get_none l items k d (tail_none x l k _ none)
+  -- an index that no pair has has no item
+  pub stored_none : (l : List (ℕ × T)) (k : ℕ) → NoneBefore l k (length l) → stored_at l k ≡ None
+  stored_none [] k none = refl
+  stored_none (x ∷ l) k none =
+      let other : nat_eq x.0 k ≡ false = grind (arith, nat_tests, none 0 x) in
+      ap (λ same. if same then Some x.1 else stored_at l k) other ∙ stored_none l k (tail_none x l k _ none)
 
   -- the first pair that has an index gives its item
-  pub get_first : (l : List (ℕ × T)) (items : List T) (k i : ℕ) (d : T) (pair : ℕ × T) → IsAt l k i → NoneBefore l k i
-      → k < length items → get_or (with_stored l items) k d ≡ (get_or l i pair).1
-  get_first [] items k i d pair is_at none lt = absurd (omega (arith, is_at.in_range))
-  get_first (x ∷ l) items k zero d pair is_at none lt =
-      let here : x.0 ≡ k = is_at.has_index pair in
-      rw here (get_or-set_same (with_stored l items) k x.1 d (omega (arith, length-with_stored l items)))
-  get_first (x ∷ l) items k (suc i) d pair is_at none lt =
-      get_or-set_other (with_stored l items) x.0 k x.1 d (λ same. none 0 x (omega arith) (sym same))
-      ∙ get_first l items k i d pair (tail_at x l k i is_at) (tail_none x l k i none) lt
+  pub stored_first : (l : List (ℕ × T)) (k i : ℕ) (pair : ℕ × T) → IsAt l k i → NoneBefore l k i
+      → stored_at l k ≡ Some (get_or l i pair).1
+  stored_first [] k i pair is_at none = absurd (omega (arith, is_at.in_range))
+  stored_first (x ∷ l) k zero pair is_at none =
+      let here : nat_eq x.0 k ≡ true = grind (arith, nat_tests, is_at.has_index pair) in
+      ap (λ same. if same then Some x.1 else stored_at l k) here
+  stored_first (x ∷ l) k (suc i) pair is_at none =
+      let other : nat_eq x.0 k ≡ false = grind (arith, nat_tests, none 0 x) in
+      ap (λ same. if same then Some x.1 else stored_at l k) other
+      ∙ stored_first l k i pair (tail_at x l k i is_at) (tail_none x l k i none)
 
   -- another item in the first pair that has an index is one there
   pub set_first : (l : List (ℕ × T)) (items : List T) (k i : ℕ) (v : T) → IsAt l k i → NoneBefore l k i
-      → with_stored (set l i (k, v)) items ≡ set (with_stored l items) k v
+      → over (set l i (k, v)) items ≡ set (over l items) k v
   set_first [] items k i v is_at none = absurd (omega (arith, is_at.in_range))
   set_first (x ∷ l) items k zero v is_at none =
       let here : x.0 ≡ k = is_at.has_index x in
-      rw here (sym (set_again (with_stored l items) k x.1 v))
+      rw here (sym (set_again (over l items) k x.1 v))
   set_first (x ∷ l) items k (suc i) v is_at none =
       ap (λ rest. set rest x.0 x.1) (set_first l items k i v (tail_at x l k i is_at) (tail_none x l k i none))
-      ∙ set_comm (with_stored l items) k x.0 v x.1 (λ same. none 0 x (omega arith) (sym same))
+      ∙ set_comm (over l items) k x.0 v x.1 (λ same. none 0 x (omega arith) (sym same))
 
   -- so is a new pair before any that has the index
   pub set-insert : (l : List (ℕ × T)) (items : List T) (k i : ℕ) (v : T) → i ≤ length l → NoneBefore l k i
-      → with_stored (insert l i (k, v)) items ≡ set (with_stored l items) k v
+      → over (insert l i (k, v)) items ≡ set (over l items) k v
   set-insert l items k zero v le none = refl
   set-insert [] items k (suc i) v le none = absurd (omega arith)
   set-insert (x ∷ l) items k (suc i) v le none =
       ap (λ rest. set rest x.0 x.1) (set-insert l items k i v (omega arith) (tail_none x l k i none))
-      ∙ set_comm (with_stored l items) k x.0 v x.1 (λ same. none 0 x (omega arith) (sym same))
+      ∙ set_comm (over l items) k x.0 v x.1 (λ same. none 0 x (omega arith) (sym same))
 
 module _ {T : Type 0} (l : List (ℕ × T)) (rises : IsAscending l) (k : ℕ) where
   -- the comparisons with an index rise along the pairs, as a binary search asks
@@ -157,29 +153,3 @@ module _ {T : Type 0} (l : List (ℕ × T)) (k at : ℕ) (gap : IsGapFor l k at)
         gap.smaller_before i d,
         gap.greater_after (j - 1) d,
       )
-
--- ---- the items, all of which are the usual one but those stored
-
-module _ {T : Type 0} (count : ℕ) (usual : T) (l : List (ℕ × T)) where
-  pub length-items : length (with_stored l (replicate count usual)) ≡ count
-  length-items = length-with_stored l (replicate count usual) ∙ length-replicate count usual
-
-  pub get_past : (k : ℕ) → count ≤ k → slice_get (with_stored l (replicate count usual)) k ≡ None
-  get_past k le = slice_get_past (with_stored l (replicate count usual)) k (omega (arith, length-items))
-
-  pub set_past_items : (k : ℕ) (v : T) → count ≤ k
-      → set (with_stored l (replicate count usual)) k v ≡ with_stored l (replicate count usual)
-  set_past_items k v le = set_past (with_stored l (replicate count usual)) k v (omega (arith, length-items))
-
-  pub get_at : (k at : ℕ) (pair : ℕ × T) → IsAscending l → IsAt l k at → k < count
-      → slice_get (with_stored l (replicate count usual)) k ≡ Some (get_or l at pair).1
-  get_at k at pair rises is_at lt =
-      slice_get-get_or (with_stored l (replicate count usual)) k usual (omega (arith, length-items))
-      ∙ ap Some (get_first l (replicate count usual) k at usual pair is_at (none_before_at l k at is_at rises)
-      (omega (arith, length-replicate count usual)))
-
-  pub get_in_gap : (k at : ℕ) → IsGapFor l k at → k < count
-      → slice_get (with_stored l (replicate count usual)) k ≡ Some usual
-  get_in_gap k at gap lt =
-      slice_get-get_or (with_stored l (replicate count usual)) k usual (omega (arith, length-items))
-      ∙ ap Some (get_none l (replicate count usual) k usual (none_in_gap l k at gap) ∙ get_or-replicate count k usual usual lt)

@@ -1,33 +1,33 @@
--- What a contract sees of a `SparseList`. It does not say what is stored.
-use Rattle.std.specs.Prelude.{◌≡◌, ◌⊎◌, ℕ, ◌<◌, max, List, length, slice_index_or, refl}
-use Rattle.std.specs.List.{Contains}
-use Rattle.std.specs.Coded.{Coded, code_by, coded×, coded_list}
+-- A list by the items in which it may differ from another one, its base, each with its index. It does not say which are
+-- stored.
+use Rattle.std.specs.Prelude.{◌≡◌, ℕ, ◌<◌, ◌≤◌, List, [], ◌∷◌, Option, Some, None, if◌then◌else◌, length, nat_eq}
+use Rattle.std.specs.Prelude.{slice_index_or, slice_set}
 
--- the items, in order, and the one that is at each index where none was set
-pub record Sparse (T : Type 0) : Type 0 where
-  pub usual : T
-  pub items : List T
+module _ {T : Type 0} where
+  -- the base after each item was put at its index, the first one last
+  abbrev pub over : List (ℕ × T) → (base : List T) → List T
+  over [] base = base
+  over ((index, item) ∷ stored) base = slice_set (over stored base) index item
 
--- a list is stored as the pair of its fields
-abbrev pub sparse_code : {T : Type 0} → Coded T → Coded (Sparse T)
-sparse_code {T} code =
-    code_by (T × List T) (coded× code (coded_list code)) (λ list. (list.usual, list.items))
-    (λ pair. record { usual = pair.0; items = pair.1 }) (λ _. refl)
+  -- the item that is stored at an index
+  abbrev pub stored_at : List (ℕ × T) → ℕ → Option T
+  stored_at [] index = None
+  stored_at ((at, item) ∷ stored) index = if nat_eq at index then Some item else stored_at stored index
 
--- each index is among these, or its item is the usual one
-abbrev pub AreUnusual : {T : Type 0} → Sparse T → List ℕ → Type 0
-AreUnusual list indices =
-    (index : ℕ) → Contains indices index ⊎ (slice_index_or list.items index list.usual ≡ list.usual)
+  -- the indices rise, so none comes twice
+  abbrev pub IsAscending : List (ℕ × T) → Type 0
+  IsAscending stored =
+      (i j : ℕ) (pair : ℕ × T) → i < j → j < length stored
+      → (slice_index_or stored i pair).0 < (slice_index_or stored j pair).0
 
--- the same of each index of the longer of two lists
-abbrev pub AreUnusualOfEither : {T : Type 0} → Sparse T → Sparse T → List ℕ → Type 0
-AreUnusualOfEither {T} list other indices =
-    (index : ℕ) (none : T) → index < max (length list.items) (length other.items)
-    → Contains indices index
-    ⊎ ((slice_index_or list.items index none ≡ list.usual) × (slice_index_or other.items index none ≡ other.usual))
+  -- the pair at a place has the index
+  pub record IsAt (stored : List (ℕ × T)) (index place : ℕ) : Type 0 where
+    pub in_range : place < length stored
+    pub has_index : (pair : ℕ × T) → (slice_index_or stored place pair).0 ≡ index
 
--- the items of two lists joined one by one, where one that the shorter list lacks counts as one that is given
-pub record AreJoined {T : Type 0} (join : T → T → T) (none : T) (list other both : List T) : Type 0 where
-  pub count : length both ≡ max (length list) (length other)
-  pub each : (index : ℕ) → index < max (length list) (length other)
-      → slice_index_or both index none ≡ join (slice_index_or list index none) (slice_index_or other index none)
+  -- the index would go at a place: smaller ones before it, and greater ones from it on
+  pub record IsGapFor (stored : List (ℕ × T)) (index place : ℕ) : Type 0 where
+    pub in_range : place ≤ length stored
+    pub smaller_before : (i : ℕ) (pair : ℕ × T) → i < place → (slice_index_or stored i pair).0 < index
+    pub greater_after :
+        (i : ℕ) (pair : ℕ × T) → place ≤ i → i < length stored → index < (slice_index_or stored i pair).0

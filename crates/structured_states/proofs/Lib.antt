@@ -1,5 +1,6 @@
 pub mod Aliased
 pub mod Behind
+pub mod ByBlock
 pub mod Claims
 pub mod Constants
 pub mod OnWay

@@ -11,7 +11,8 @@ use Rattle.abstract_state.specs.State as variables
 use Rattle.abstract_state.specs.Loops.{head, is_among}
 use Rattle.component_states.specs.Components.{Components}
 use Rattle.component_states.specs.States.{State, over_variables}
-use Rattle.structured_states.specs.Loops.{Round, all_but, limits_at, touched, with_own, without_own}
+use Rattle.leaf_rows.specs.Limits.{limits_at}
+use Rattle.structured_states.specs.Loops.{Round, all_but, touched, with_own, without_own}
 use Rattle.structured_states.specs.View.{is_own}
 
 true-false : (a b : Bool) → a ≡ b → a ≡ true → b ≡ false → ⊥

@@ -3,24 +3,24 @@
 use Rattle.std.specs.Prelude.{ℕ, List, [], ◌∷◌, ◌++◌, Option, Some, None, Bool, false, not, ◌&&◌, if◌then◌else◌}
 use Rattle.std.specs.Prelude.{filter, flat_map, map, nat_eq, length, slice_get, slice_index_or}
 use Rattle.std.specs.List.{filter_map, list_all, range_with_len}
-use Rattle.types.specs.declared.form.OrdinalRange.{OrdinalRange}
 use Rattle.types.specs.Forms.{Form}
-use Rattle.types.specs.Types.{is_ordinal, range_of}
+use Rattle.types.specs.Types.{is_ordinal}
 use Rattle.typed_tree.specs.declared.tree.Loop.{Loop}
 use Rattle.typed_tree.specs.declared.tree.Tree.{Tree}
 use Rattle.typed_tree.specs.declared.tree.Variable.{Variable}
 use Rattle.certificate.specs.declared.Certificate.{Certificate}
 use Rattle.certificate.specs.Contents.{LoopClaims, Section, contents}
-use Rattle.domain.specs.Interval.{Interval, vacant}
+use Rattle.domain.specs.Interval.{Interval}
 use Rattle.domain.specs.Facts.{Path, Fact, Range, Defined, Stretch, Order}
-use Rattle.abstract_state.specs.State.{integer, is_entire, limits_of}
+use Rattle.abstract_state.specs.State.{is_entire}
 use Rattle.abstract_state.specs.Loops as variables
 use Rattle.abstract_state.specs.Loops.{gives_all, is_among}
-use Rattle.leaf_rows.specs.Rows.{Named, Row, index_at, part_named, rows_of, rows_touched, rows_under, values_at}
+use Rattle.leaf_rows.specs.Limits.{limits_at, row_limits}
+use Rattle.leaf_rows.specs.Rows.{Named, index_at, part_named, rows_of, rows_touched, rows_under}
 use Rattle.component_states.specs.Components as components
 use Rattle.component_states.specs.Components.{ComponentFact, Stretched}
 use Rattle.component_states.specs.States.{State, all_of_row, gives_components}
-use Rattle.structured_states.specs.Pairs.{all_aliases}
+use Rattle.structured_states.specs.Pairs.{Listed, all_aliases_in}
 
 -- what is claimed of a loop: the variables that it changes, and facts that hold whenever a turn begins
 pub record Claims : Type 0 where
@@ -115,7 +115,7 @@ abbrev pub claims_at : List Claims → ℕ → Claims
 claims_at claims number = slice_index_or claims number no_claims
 
 -- a loop round a point: the variables that its claims list, the control variables of the for statements in it, and the
--- aliases of both
+-- aliases of both that are visible in its block
 pub record Round : Type 0 where
   pub changes : List ℕ
   pub controls : List ℕ
@@ -129,12 +129,21 @@ controls_of (Some row) = row.controls.items
 abbrev pub controls_inside : Tree → ℕ → List ℕ
 controls_inside tree number = controls_of (slice_get tree.loops.items number)
 
+-- the aliases of variables that are visible in the block of a loop, by its row; none where it has no row
+abbrev pub aliases_there : Listed → List ℕ → Option Loop → List ℕ
+aliases_there listed roots None = []
+aliases_there listed roots (Some row) = all_aliases_in listed row.block roots
+
 -- the loop of a number, by the claims on all loops and by the listed pairs
-abbrev pub round_of : Tree → List (ℕ × ℕ) → List Claims → ℕ → Round
-round_of tree pairs claims number =
+abbrev pub round_of : Tree → Listed → List Claims → ℕ → Round
+round_of tree listed claims number =
     let changes = (claims_at claims number).changes in
     let controls = controls_inside tree number in
-    record { changes = changes; controls = controls; aliases = all_aliases pairs (controls ++ changes) }
+    record {
+      changes = changes;
+      controls = controls;
+      aliases = aliases_there listed (controls ++ changes) (slice_get tree.loops.items number);
+    }
 
 -- a loop at its head: a for statement has a control variable of its own
 abbrev pub with_own : Option ℕ → Round → Round
@@ -157,26 +166,6 @@ without_own (Some control) round = record {
 -- what a loop touches
 abbrev pub touched : Round → List ℕ
 touched round = round.controls ++ (round.changes ++ round.aliases)
-
--- the values of a type; those of integer, where the tree doesn't tell it
-abbrev pub limits_or_integer : Option OrdinalRange → Interval
-limits_or_integer None = integer
-limits_or_integer (Some range) = limits_of range
-
-abbrev pub type_limits : List Form → Variable → Interval
-type_limits types variable = limits_or_integer (range_of types variable.type_id)
-
--- the values of the type of each variable, by root number
-abbrev pub all_limits : Tree → List Interval
-all_limits tree = map (λ variable. type_limits tree.types variable) tree.variables.items
-
--- the values of a variable by those of all; none where there is no such variable
-abbrev pub limits_at : List Interval → ℕ → Interval
-limits_at limits root = slice_index_or limits root vacant
-
--- the values of the type of a row's components
-abbrev pub row_limits : List Row → ℕ → Interval
-row_limits rows row = limits_or_integer (values_at rows row)
 
 -- what is known at the head of a loop: what its turns leave, and the claims
 abbrev pub head_of : Tree → List Interval → Round → List Fact → State → State

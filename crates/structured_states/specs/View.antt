@@ -1,6 +1,9 @@
 -- The loops and ways of the program as the definitions see them. It does not say what is known of them.
 use Rattle.std.specs.Prelude.{ℕ, ◌≡◌, ◌<◌, Bool, true, false, List, [], ◌++◌, Option, Some, None, get_or, length, map}
-use Rattle.std.specs.Prelude.{nat_eq}
+use Rattle.std.specs.Prelude.{◌&&◌, ◌∷◌, filter, if◌then◌else◌, nat_eq}
+use Rattle.std.specs.BTreeMap.{BTreeMap, get}
+use Rattle.std.specs.Ordering.{nat_cmp, ordering_then}
+use Rattle.std.specs.declared.cmp.Ordering.{Ordering}
 use Rattle.std.specs.Global.{Vec}
 use Rattle.std.specs.List.{range_with_len}
 use denote.Ref.{Bor}
@@ -20,7 +23,7 @@ use Rattle.structured_states.specs.declared.ways.End.{End as KeptEnd}
 use Rattle.structured_states.specs.declared.ways.Way.{Way as KeptWay}
 use Rattle.structured_states.specs.Loops.{Claims, Round, claims_of, or_else, round_of, rows_named}
 use Rattle.structured_states.specs.Loops.{with_own, without_own}
-use Rattle.structured_states.specs.Pairs.{aliases_of, partner}
+use Rattle.structured_states.specs.Pairs.{Listed, aliases_of, declared_aliases, declares, partner}
 use Rattle.structured_states.specs.Ways.{End, Way}
 
 -- claims that the checker has found, as the definitions see them
@@ -64,6 +67,9 @@ said_pair pair = (pair.first, pair.second)
 abbrev pub said_pairs : List AliasPair → List (ℕ × ℕ)
 said_pairs pairs = map said_pair pairs
 
+abbrev pub listed_of : Tree → List AliasPair → Listed
+listed_of tree pairs = record { tree = tree; pairs = said_pairs pairs }
+
 -- what rows of variables hold, and the row of a number; one that isn't there has none
 abbrev pub partners_at : List (Vec ℕ) → ℕ → List ℕ
 partners_at rows root = get_or (map (λ row. row.items) rows) root []
@@ -76,18 +82,52 @@ ArePartners pairs rows = (root : ℕ) → partners_at rows root ≡ aliases_of p
 abbrev pub HaveEntered : AliasPair → (old new : List (Vec ℕ)) → Type 0
 HaveEntered pair old new = (root : ℕ) → partners_at new root ≡ partners_at old root ++ partner root (said_pair pair)
 
+-- what a table holds for a variable and a block
+abbrev pub kept_row : Option (Vec ℕ) → List ℕ
+kept_row None = []
+kept_row (Some row) = row.items
+
+abbrev pub Table : Type 0
+Table = BTreeMap (ℕ × ℕ) (Vec ℕ)
+
+-- the order of its keys
+abbrev pub key_cmp : ℕ × ℕ → ℕ × ℕ → Ordering
+key_cmp one other = ordering_then (nat_cmp one.0 other.0) (nat_cmp one.1 other.1)
+
+abbrev pub row_at : Table → (root number : ℕ) → List ℕ
+row_at table root number = kept_row (get key_cmp table (root, number))
+
+-- a table has, of each variable and each block, the aliases that the block declares
+abbrev pub AreByBlock : Listed → Table → Type 0
+AreByBlock listed table = (root number : ℕ) → row_at table root number ≡ declared_aliases listed root number
+
+-- a variable is more at a key
+abbrev pub HasAt : (key : ℕ × ℕ) → ℕ → (old new : Table) → Type 0
+HasAt key other old new = (root number : ℕ) → row_at new root number
+    ≡ row_at old root number ++ (if nat_eq key.0 root && nat_eq key.1 number then other ∷ [] else [])
+
+-- a variable is more at another and its own block
+abbrev pub HasPartner : Tree → ℕ → ℕ → (old new : Table) → Type 0
+HasPartner tree row other old new = (root number : ℕ) → row_at new root number
+    ≡ row_at old root number ++ filter (declares tree number) (if nat_eq row root then other ∷ [] else [])
+
+-- each variable of a pair has the other more, at its block
+abbrev pub HaveEnteredByBlock : Tree → AliasPair → (old new : Table) → Type 0
+HaveEnteredByBlock tree pair old new = (root number : ℕ) → row_at new root number
+    ≡ row_at old root number ++ filter (declares tree number) (partner root (said_pair pair))
+
 -- rows are as many as are wanted, and hold what they held
 pub record AreWidened (number : ℕ) (old new : List (Vec ℕ)) : Type 0 where
   pub enough : number < length new
   pub same : (root : ℕ) → partners_at new root ≡ partners_at old root
 
 -- the aliases of what a loop changes, by its number, and those of each loop
-abbrev pub loop_aliases : Tree → List (ℕ × ℕ) → List Claims → ℕ → List ℕ
-loop_aliases tree pairs claims number = (round_of tree pairs claims number).aliases
+abbrev pub loop_aliases : Tree → Listed → List Claims → ℕ → List ℕ
+loop_aliases tree listed claims number = (round_of tree listed claims number).aliases
 
-abbrev pub all_loop_aliases : Tree → List (ℕ × ℕ) → List Claims → List (List ℕ)
-all_loop_aliases tree pairs claims =
-    map (loop_aliases tree pairs claims) (range_with_len 0 (length tree.loops.items))
+abbrev pub all_loop_aliases : Tree → Listed → List Claims → List (List ℕ)
+all_loop_aliases tree listed claims =
+    map (loop_aliases tree listed claims) (range_with_len 0 (length tree.loops.items))
 
 -- a loop of the checker: the loop itself, at its head, and round its body
 abbrev pub loop_of_round : KeptRound → Round

@@ -1,11 +1,12 @@
 ghost use Rattle.std.specs.Prelude.{◌≡◌, IfOk, slice_get};
 ghost use Rattle.domain.specs.Numbers.{is_covered};
-ghost use Rattle.abstract_state.specs.View.{viewed};
+ghost use Rattle.component_states.specs.View.{viewed_variables};
 ghost use Rattle.structured_states.specs.Cases.{arm_start, at_constants, constants_before};
 
 use abstract_state::State;
 use domain::Domain;
 use domain::interval::Interval;
+use leaf_rows::Rows;
 use std::alloc::{AllocError, Global};
 
 /// The constants before so many arms, by the rows of constants.
@@ -33,14 +34,22 @@ pub fn covers(alloc: Global, constants: &[i32], range: Interval) -> Result<bool,
 }
 
 /// What is known where the index, perhaps an entire variable, is one of some constants.
-fn at_constants(state: &mut State, index: Option<u32>, constants: &[i32]) -> Result<(), AllocError>
-    ensures { IfOk result (λ _. viewed state.new ≡ at_constants index constants.now (viewed state.old)) }
+fn at_constants(
+    rows: &Rows,
+    state: &mut State,
+    index: Option<u32>,
+    constants: &[i32],
+) -> Result<(), AllocError>
+    ensures { IfOk result (λ _. viewed_variables rows.now state.new
+        ≡ at_constants index constants.now (viewed_variables rows.now state.old)) }
 {
     match index {
         None => Ok(()),
         Some(root) => {
-            let range = state.range(root).meet(&Interval::hull(constants));
-            state.narrow(root, range)
+            let range = state
+                .range(rows.limits(), root)
+                .meet(&Interval::hull(constants));
+            state.narrow(rows.limits(), root, range)
         }
     }
 }
@@ -48,18 +57,20 @@ fn at_constants(state: &mut State, index: Option<u32>, constants: &[i32]) -> Res
 /// What is known where the arm of a number is executed, by its row of constants.
 pub fn arm_start(
     alloc: Global,
+    rows: &Rows,
     state: &State,
     index: Option<u32>,
-    rows: &[Vec<i32>],
+    constants: &[Vec<i32>],
     number: usize,
 ) -> Result<State, AllocError>
-    ensures { IfOk result (λ start. viewed start ≡ arm_start index (slice_get rows.now number) (viewed state.now)) }
+    ensures { IfOk result (λ start. viewed_variables rows.now start ≡ arm_start index (slice_get constants.now number)
+        (viewed_variables rows.now state.now)) }
 {
-    match rows.get(number) {
+    match constants.get(number) {
         None => Ok(State::Dead),
         Some(row) => {
             let mut start = state.copied(alloc)?;
-            at_constants(&mut start, index, row)?;
+            at_constants(rows, &mut start, index, row)?;
             Ok(start)
         }
     }

@@ -73,21 +73,22 @@ pub fn plain_facts(alloc: Global, tree: &Tree, claims: &[Claim]) -> Result<Vec<F
 }
 
 /// Whether a state gives each claim of entire variables of ordinal types.
-pub(crate) fn plain_are_given(state: &State, tree: &Tree, claims: &[Claim]) -> bool
-    ensures { result ≡ list_all (λ claim. gives_some (viewed state.now).variables (plain tree.now (said_fact claim)))
+pub(crate) fn plain_are_given(state: &State, rows: &Rows, claims: &[Claim]) -> bool
+    ensures { result
+        ≡ list_all (λ claim. gives_some (viewed rows.now state.now).variables (plain rows.now (said_fact claim)))
         claims.now }
 {
     claims
         .iter()
-        .all(|claim| plain_is_given(state, tree, claim))
+        .all(|claim| plain_is_given(state, rows, claim))
 }
 
-fn plain_is_given(state: &State, tree: &Tree, claim: &Claim) -> bool
-    ensures { result ≡ gives_some (viewed state.now).variables (plain tree.now (said_fact claim.now)) }
+fn plain_is_given(state: &State, rows: &Rows, claim: &Claim) -> bool
+    ensures { result ≡ gives_some (viewed rows.now state.now).variables (plain rows.now (said_fact claim.now)) }
 {
-    match plain(tree, claim) {
+    match plain(rows.tree(), claim) {
         None => true,
-        Some(fact) => state.variables.gives(&fact),
+        Some(fact) => state.variables.gives(rows.limits(), &fact),
     }
 }
 
@@ -162,7 +163,8 @@ pub fn component_facts(
 /// Whether a state gives what each claim says of components.
 pub(crate) fn components_are_given(state: &State, rows: &Rows, claims: &[Claim]) -> bool
     ensures { result ≡ list_all
-        (λ claim. gives_components (viewed state.now) (component_claims rows.now (said_fact claim))) claims.now }
+        (λ claim. gives_components
+        (viewed rows.now state.now) (component_claims rows.now (said_fact claim))) claims.now }
 {
     claims
         .iter()
@@ -170,12 +172,12 @@ pub(crate) fn components_are_given(state: &State, rows: &Rows, claims: &[Claim])
 }
 
 fn claim_is_given(state: &State, rows: &Rows, claim: &Claim) -> bool
-    ensures { result ≡ gives_components (viewed state.now) (component_claims rows.now (said_fact claim.now)) }
+    ensures { result ≡ gives_components (viewed rows.now state.now) (component_claims rows.now (said_fact claim.now)) }
 {
     let span = rows_claimed(rows, claim);
     for row in span.first..span.end() {
         if let Some(fact) = row_claim(rows, claim, row) {
-            if !state.gives(&fact) {
+            if !state.gives(rows, &fact) {
                 return false;
             }
         }

@@ -1,7 +1,8 @@
-ghost use Rattle.std.specs.Prelude.{◌≡◌, ◌∷◌, ◌++◌, ℕ, List, [], IfOk, get_or, length, map};
+ghost use Rattle.std.specs.Prelude.{◌≡◌, ◌∷◌, ◌++◌, [], IfOk, get_or, map};
 ghost use Rattle.std.specs.List.{list_all};
 ghost use Rattle.abstract_state.specs.Loops as variables;
 ghost use Rattle.abstract_state.specs.Loops.{is_among};
+ghost use Rattle.leaf_rows.specs.Limits.{all_limits, limits_at, row_limits};
 ghost use Rattle.leaf_rows.specs.Rows.{rows_of, rows_touched};
 ghost use Rattle.leaf_rows.specs.View.{numbers};
 ghost use Rattle.component_states.specs.Components as components;
@@ -9,23 +10,20 @@ ghost use Rattle.component_states.specs.Components.{with_touched};
 ghost use Rattle.component_states.specs.States.{over_components, over_variables};
 ghost use Rattle.component_states.specs.View.{said_component, viewed};
 ghost use Rattle.certificate.specs.Contents.{loop_of, said_fact};
-ghost use Rattle.structured_states.specs.Loops.{all_claims, all_limits, claims_at, controls_inside, found_among};
-ghost use Rattle.structured_states.specs.Loops.{gives_claims, head_of, limits_at, limits_or_integer, plain_facts};
-ghost use Rattle.structured_states.specs.Loops.{round_of, row_limits, touched, type_limits};
+ghost use Rattle.structured_states.specs.Loops.{all_claims, claims_at, controls_inside, found_among};
+ghost use Rattle.structured_states.specs.Loops.{gives_claims, head_of, plain_facts, round_of, touched};
 ghost use Rattle.structured_states.specs.View.{AreFound, all_loop_aliases, head_round, is_own, kept_round};
-ghost use Rattle.structured_states.specs.View.{loop_of_round, said_claims};
-ghost use Rattle.structured_states.specs.Pairs.{all_aliases};
+ghost use Rattle.structured_states.specs.View.{loop_aliases, loop_of_round, said_claims};
+ghost use Rattle.structured_states.specs.Pairs.{Listed};
 
 use crate::kept_claims::{component_facts, components_are_given, plain_are_given, plain_facts};
 use crate::pairs::Pairs;
-use abstract_state::limits;
 use certificate::{Certificate, Fact as Claim, LoopClaims};
 use component_states::{ComponentFact, State};
 use domain::interval::Interval;
 use leaf_rows::{Rows, Span};
 use std::alloc::{AllocError, Global};
-use typed_tree::tree::{Tree, Variable};
-use types::{OrdinalRange, TypeTable};
+use typed_tree::tree::Tree;
 
 /// A loop round the walk.
 #[derive(Clone, Copy)]
@@ -34,7 +32,7 @@ pub struct Round<'a> {
     pub claims: Option<&'a LoopClaims>,
     /// The control variables of the for statements inside it.
     pub controls: &'a [u32],
-    /// The aliases of what it changes, and of these control variables.
+    /// The aliases of what it changes, and of these control variables, that are visible in its block.
     pub aliases: &'a [u32],
     /// Its own control variable, if it is a for statement.
     pub own: Option<u32>,
@@ -50,10 +48,9 @@ impl<'a> Round<'a> {
         number: u32,
         own: Option<u32>,
     ) -> Round<'a>
-        ensures loop_is { (pairs : List (ℕ × ℕ))
-            → length claims.now ≡ length tree.now.loops.items
-            → map (λ row. row.items) aliases.now ≡ all_loop_aliases tree.now pairs (map said_claims claims.now)
-            → loop_of_round result ≡ round_of tree.now pairs (map said_claims claims.now) number }
+        ensures loop_is { (listed : Listed)
+            → map (λ row. row.items) aliases.now ≡ all_loop_aliases tree.now listed (map said_claims claims.now)
+            → loop_of_round result ≡ round_of tree.now listed (map said_claims claims.now) number }
         ensures claims_are { said_claims result.claims ≡ claims_at (map said_claims claims.now) number }
         ensures own_is { result.own ≡ own }
     {
@@ -124,26 +121,21 @@ impl<'a> Round<'a> {
 
     /// Whether a state gives its facts.
     pub fn is_given(&self, state: &State, rows: &Rows) -> bool
-        ensures { result ≡ gives_claims rows.now (viewed state.now) (said_claims self.now.claims).facts }
+        ensures { result ≡ gives_claims rows.now (viewed rows.now state.now) (said_claims self.now.claims).facts }
     {
-        plain_are_given(state, rows.tree(), self.facts())
+        plain_are_given(state, rows, self.facts())
             && components_are_given(state, rows, self.facts())
     }
 
     /// Brings a state to its head.
-    pub fn head(
-        &self,
-        alloc: Global,
-        state: &mut State,
-        rows: &Rows,
-        limits: &[Interval],
-    ) -> Result<(), AllocError>
-        ensures { IfOk result (λ _. viewed state.new ≡ head_of rows.now limits.now (head_round self.now)
-            (said_claims self.now.claims).facts (viewed state.old)) }
+    pub fn head(&self, alloc: Global, state: &mut State, rows: &Rows) -> Result<(), AllocError>
+        ensures { IfOk result (λ _. viewed rows.now state.new
+            ≡ head_of rows.now (all_limits rows.now) (head_round self.now)
+            (said_claims self.now.claims).facts (viewed rows.now state.old)) }
     {
         let controls = self.all_controls(alloc)?;
         let touched = self.all_touched(alloc, &controls)?;
-        self.variables_head(alloc, state, rows, limits, &touched, &controls)?;
+        self.variables_head(alloc, state, rows, &touched, &controls)?;
         let claims = component_facts(alloc, rows, self.facts())?;
         components_head(state, rows, &touched, &claims)
     }
@@ -154,15 +146,17 @@ impl<'a> Round<'a> {
         alloc: Global,
         state: &mut State,
         rows: &Rows,
-        limits: &[Interval],
         touched: &[u32],
         controls: &[u32],
     ) -> Result<(), AllocError>
-        ensures { IfOk result (λ _. viewed state.new ≡ over_variables (variables.head (limits_at limits.now) touched.now
-            controls.now (plain_facts rows.now (said_claims self.now.claims).facts)) (viewed state.old)) }
+        ensures { IfOk result (λ _. viewed rows.now state.new
+            ≡ over_variables (variables.head (limits_at (all_limits rows.now)) touched.now
+            controls.now (plain_facts rows.now (said_claims self.now.claims).facts)) (viewed rows.now state.old)) }
     {
         let facts = plain_facts(alloc, rows.tree(), self.facts())?;
-        state.variables.head(limits, touched, controls, &facts)
+        state
+            .variables
+            .head(rows.limits(), touched, controls, &facts)
     }
 
     /// Its control variables, the variables that its claims list, and the aliases of both.
@@ -196,18 +190,21 @@ fn components_head(
     touched: &[u32],
     claims: &[ComponentFact],
 ) -> Result<(), AllocError>
-    ensures { IfOk result (λ _. viewed state.new ≡ over_components (λ _. components.head (row_limits (rows_of rows.now))
-        touched.now (rows_touched (rows_of rows.now) touched.now) (map said_component claims.now)) (viewed state.old)) }
+    ensures { IfOk result (λ _. viewed rows.now state.new
+        ≡ over_components (λ _. components.head (row_limits (rows_of rows.now))
+        touched.now (rows_touched (rows_of rows.now) touched.now) (map said_component claims.now))
+        (viewed rows.now state.old)) }
 {
     state.touch_roots(touched);
     touch_rows(state, rows, touched)?;
-    state.claim_all(claims)
+    state.claim_all(rows, claims)
 }
 
 /// Each row of several variables may have other values of its type.
 fn touch_rows(state: &mut State, rows: &Rows, touched: &[u32]) -> Result<(), AllocError>
-    ensures { IfOk result (λ _. viewed state.new ≡ over_components (λ _. with_touched (row_limits (rows_of rows.now))
-        (rows_touched (rows_of rows.now) touched.now)) (viewed state.old)) }
+    ensures { IfOk result (λ _. viewed rows.now state.new
+        ≡ over_components (λ _. with_touched (row_limits (rows_of rows.now))
+        (rows_touched (rows_of rows.now) touched.now)) (viewed rows.now state.old)) }
 {
     for root in touched {
         touch_span(state, rows, rows.of_variable(*root))?;
@@ -216,20 +213,14 @@ fn touch_rows(state: &mut State, rows: &Rows, touched: &[u32]) -> Result<(), All
 }
 
 fn touch_span(state: &mut State, rows: &Rows, span: Span) -> Result<(), AllocError>
-    ensures { IfOk result (λ _. viewed state.new
-        ≡ over_components (λ _. with_touched (row_limits (rows_of rows.now)) (numbers span)) (viewed state.old)) }
+    ensures { IfOk result (λ _. viewed rows.now state.new
+        ≡ over_components (λ _. with_touched (row_limits (rows_of rows.now)) (numbers span))
+        (viewed rows.now state.old)) }
 {
     for row in span.first..span.end() {
-        state.touch_row(row, row_limits(rows, row))?;
+        state.touch_row(rows, row, rows.row_limits(row))?;
     }
     Ok(())
-}
-
-/// The values of the type of a row's components.
-pub fn row_limits(rows: &Rows, row: u32) -> Interval
-    ensures { result ≡ row_limits (rows_of rows.now) row }
-{
-    limits_or_integer(rows.values(row))
 }
 
 /// Whether a variable is among some.
@@ -257,13 +248,7 @@ pub fn all_control(rounds: &[Round], root: u32) -> bool
 pub fn controls_inside(tree: &Tree, number: u32) -> &[u32]
     ensures { result.now ≡ controls_inside tree.now number }
 {
-    controls_at(tree, number as usize)
-}
-
-fn controls_at(tree: &Tree, number: usize) -> &[u32]
-    ensures { result.now ≡ controls_inside tree.now number }
-{
-    match tree.loops.get(number) {
+    match tree.loops.get(number as usize) {
         None => &[],
         Some(row) => &row.controls,
     }
@@ -326,24 +311,27 @@ pub fn all_loop_aliases(
 {
     let mut found = Vec::with_capacity(alloc, tree.loops.len())?;
     for number in 0..tree.loops.len() {
-        let controls = controls_at(tree, number);
-        found.push(both_aliases(alloc, pairs, controls, changes_at(claims, number))?)?;
+        found.push(loop_aliases(alloc, tree, pairs, claims, number)?)?;
     }
     Ok(found)
 }
 
-/// The aliases of control variables and of variables that are listed.
-fn both_aliases(
+/// The aliases of what the loop of a number changes.
+fn loop_aliases(
     alloc: Global,
+    tree: &Tree,
     pairs: &Pairs,
-    controls: &[u32],
-    changes: &[u32],
+    claims: &[Option<&LoopClaims>],
+    number: usize,
 ) -> Result<Vec<u32>, AllocError>
-    ensures { IfOk result (λ aliases. aliases.items ≡ all_aliases pairs.now (controls.now ++ changes.now)) }
+    ensures { IfOk result (λ aliases. aliases.items
+        ≡ loop_aliases tree.now pairs.now (map said_claims claims.now) number) }
 {
     let mut aliases = Vec::new(alloc);
-    pairs.add_aliases(&mut aliases, controls)?;
-    pairs.add_aliases(&mut aliases, changes)?;
+    if let Some(row) = tree.loops.get(number) {
+        pairs.add_all_aliases(&mut aliases, row.block, &row.controls)?;
+        pairs.add_all_aliases(&mut aliases, row.block, changes_at(claims, number))?;
+    }
     Ok(aliases)
 }
 
@@ -364,43 +352,5 @@ fn aliases_at(aliases: &[Vec<u32>], number: u32) -> &[u32]
     match aliases.get(number as usize) {
         None => &[],
         Some(found) => found.as_slice(),
-    }
-}
-
-/// The values of the type of each variable, by root number.
-pub fn all_limits(alloc: Global, tree: &Tree) -> Result<Vec<Interval>, AllocError>
-    ensures { IfOk result (λ found. found.items ≡ all_limits tree.now) }
-{
-    let mut found = Vec::with_capacity(alloc, tree.variables.len())?;
-    for variable in &tree.variables {
-        found.push(type_limits(&tree.types, *variable))?;
-    }
-    Ok(found)
-}
-
-/// The values of a variable's type; those of integer, where the tree doesn't tell it.
-fn type_limits(types: &TypeTable, variable: Variable) -> Interval
-    ensures { result ≡ type_limits types.now variable }
-{
-    limits_or_integer(types.range(variable.type_id))
-}
-
-/// The values of a type; those of integer, where the tree doesn't tell it.
-pub fn limits_or_integer(range: Option<OrdinalRange>) -> Interval
-    ensures { result ≡ limits_or_integer range }
-{
-    match range {
-        None => Interval::INTEGER,
-        Some(range) => limits(range),
-    }
-}
-
-/// The values of a variable by those of all.
-pub fn limits_at(limits: &[Interval], root: u32) -> Interval
-    ensures { result ≡ limits_at limits.now root }
-{
-    match limits.get(root as usize) {
-        Some(range) => *range,
-        None => Interval::EMPTY,
     }
 }

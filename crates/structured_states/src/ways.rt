@@ -1,8 +1,9 @@
-ghost use Rattle.std.specs.Prelude.{◌≡◌, ◌+ℤ◌, IfOk};
+ghost use Rattle.std.specs.Prelude.{◌≡◌, ◌+ℤ◌, List, IfOk};
 ghost use Rattle.domain.specs.Facts.{said_bound};
 ghost use Rattle.domain.specs.Interval.{IsEnd, at_least, at_most};
 ghost use Rattle.abstract_state.specs.State.{bound_range};
 ghost use Rattle.abstract_state.specs.View.{said_form, viewed};
+ghost use Rattle.component_states.specs.View.{viewed_variables};
 ghost use Rattle.structured_states.specs.Loops.{touched};
 ghost use Rattle.structured_states.specs.View.{head_round, said_end, said_way};
 ghost use Rattle.structured_states.specs.Ways.{end_of, form_before, in_order, met, next, on_way, own, relation_of};
@@ -13,6 +14,7 @@ use crate::rounds::Round;
 use abstract_state::{Known, State, bound_form};
 use domain::facts::Bound;
 use domain::interval::Interval;
+use leaf_rows::Rows;
 use std::alloc::AllocError;
 use typed_tree::calls::holds_call;
 use typed_tree::tree::{Direction, Expr, RangeTest, Relation};
@@ -51,12 +53,12 @@ impl End {
     }
 
     /// Where its value lies, met with what a state knows of its form.
-    pub fn met(&self, state: &State) -> Interval
-        ensures { result ≡ met (said_form self.now.form) (viewed state.now) self.now.values }
+    pub fn met(&self, rows: &Rows, state: &State) -> Interval
+        ensures { result ≡ met (said_form self.now.form) (viewed_variables rows.now state.now) self.now.values }
     {
         match self.form {
             None => self.values,
-            Some(bound) => near(self.values, state, bound),
+            Some(bound) => near(self.values, rows, state, bound),
         }
     }
 }
@@ -72,9 +74,9 @@ fn form_before(expression: &Expr, later: &Expr) -> Option<Bound>
 }
 
 /// The numbers of a range that a bound may be.
-fn near(range: Interval, state: &State, bound: Bound) -> Interval
-    ensures { result ≡ at_least (bound_range (viewed state.now) (said_bound bound)).first
-        (at_most (bound_range (viewed state.now) (said_bound bound)).last range) }
+fn near(range: Interval, rows: &Rows, state: &State, bound: Bound) -> Interval
+    ensures { result ≡ at_least (bound_range (viewed_variables rows.now state.now) (said_bound bound)).first
+        (at_most (bound_range (viewed_variables rows.now state.now) (said_bound bound)).last range) }
 {
     match bound {
         Bound::Number(number) => {
@@ -82,7 +84,7 @@ fn near(range: Interval, state: &State, bound: Bound) -> Interval
             range.at_most(number).at_least(number)
         }
         Bound::Plus { root, number } => {
-            let values = state.range(root);
+            let values = state.range(rows.limits(), root);
             let first = shifted(values.first(), number);
             let last = shifted(values.last(), number);
             range.at_most(last).at_least(first)
@@ -143,34 +145,42 @@ impl Way {
     }
 
     /// What is known where it has values, or where it has none.
-    pub fn relate(&self, state: &mut State, counts: bool) -> Result<(), AllocError>
-        ensures { IfOk result (λ _. viewed state.new ≡ where_counts counts (said_way self.now) (viewed state.old)) }
+    pub fn relate(&self, rows: &Rows, state: &mut State, counts: bool) -> Result<(), AllocError>
+        ensures { IfOk result (λ _. viewed_variables rows.now state.new
+            ≡ where_counts counts (said_way self.now) (viewed_variables rows.now state.old)) }
     {
         match (self.first.form, self.last.form) {
             (Some(first), Some(last)) => {
-                state.relate(relation_of(self.direction, counts), first, last)
+                state.relate(
+                    rows.limits(),
+                    relation_of(self.direction, counts),
+                    first,
+                    last,
+                )
             }
             _ => Ok(()),
         }
     }
 
     /// Where a turn begins.
-    pub fn begin_turn(&self, state: &mut State) -> Result<(), AllocError>
-        ensures { IfOk result (λ _. viewed state.new ≡ turn_begun (said_way self.now) (viewed state.old)) }
+    pub fn begin_turn(&self, rows: &Rows, state: &mut State) -> Result<(), AllocError>
+        ensures { IfOk result (λ _. viewed_variables rows.now state.new
+            ≡ turn_begun (said_way self.now) (viewed_variables rows.now state.old)) }
     {
-        let range = self.values(state.range(self.control));
-        state.narrow(self.control, range)?;
-        state.define(self.control)?;
+        let range = self.values(state.range(rows.limits(), self.control));
+        state.narrow(rows.limits(), self.control, range)?;
+        state.define(rows.limits(), self.control)?;
         in_order(state, self.direction, self.first.form, self.own())?;
         in_order(state, self.direction, self.own(), self.last.form)
     }
 
     /// Where a turn ends and another follows.
-    pub fn end_turn(&self, state: &mut State) -> Result<(), AllocError>
-        ensures { IfOk result (λ _. viewed state.new ≡ turn_ended (said_way self.now) (viewed state.old)) }
+    pub fn end_turn(&self, rows: &Rows, state: &mut State) -> Result<(), AllocError>
+        ensures { IfOk result (λ _. viewed_variables rows.now state.new
+            ≡ turn_ended (said_way self.now) (viewed_variables rows.now state.old)) }
     {
-        let range = self.values_behind(state.range(self.control));
-        state.assign(self.control, range, self.next())?;
+        let range = self.values_behind(state.range(rows.limits(), self.control));
+        state.assign(rows.limits(), self.control, range, self.next())?;
         state.unless_empty(range);
         in_order(state, self.direction, self.own(), self.last.form)
     }
@@ -259,8 +269,8 @@ fn in_order(
     before: Option<Bound>,
     after: Option<Bound>,
 ) -> Result<(), AllocError>
-    ensures { IfOk result (λ _. viewed state.new
-        ≡ in_order direction (said_form before) (said_form after) (viewed state.old)) }
+    ensures { IfOk result (λ _. (limits : List Interval) → viewed limits state.new
+        ≡ in_order direction (said_form before) (said_form after) (viewed limits state.old)) }
 {
     match (direction, before, after) {
         (Direction::To, Some(before), Some(after)) => state.insert_order(before, 0, after),

@@ -7,5 +7,5 @@ use Rattle.call_states.proofs.aliases.join_aliases.Given as goal
 -- what is left from here is what was to be done
 abbrev pub invariant-loop-alias : goal.invariant-loop-alias
 invariant-loop-alias l =
-    aliases_joined l.rows (said_stored l.stored) (drop l.alias-index l.aliases) (viewed l.state)
-    ≡ aliases_joined l.rows (said_stored l.stored) l.aliases (viewed l.fn.state)
+    aliases_joined l.rows (said_stored l.stored) (drop l.alias-index l.aliases) (viewed l.rows l.state)
+    ≡ aliases_joined l.rows (said_stored l.stored) l.aliases (viewed l.rows l.fn.state)

@@ -14,16 +14,16 @@ loop-row-preserved c =
     let tree = c.args.rows.now in
     let stored = said_stored c.args.stored.now in
     let row = c.loop-row.row in
-    let old = viewed c.loop-row.state in
+    let old = viewed tree c.loop-row.state in
     let more = over_components (λ known. with_joined row stored.range) old in
     let same = c.is_same.ensures ∙ ap (same_values stored.values) c.values.ensures in
-    join-next tree stored row c.end-row-end.result old (viewed c.if-is_same.state) _ c.loop-row-test.true
+    join-next tree stored row c.end-row-end.result old (viewed tree c.if-is_same.state) _ c.loop-row-test.true
     (elim c.if-is_same.branch [
       | then-is_same+in_ok-touch_row w ↦
-          ap viewed w.state-is ∙ w.in_ok-touch_row.ensures
+          ap (viewed tree) w.state-is ∙ w.in_ok-touch_row.ensures
           ∙ ap (λ range. over_components (λ known. with_range row range) old)
           (w.join.ensures.answer ∙ ap (λ range. joined range stored.range) w.row_range.ensures)
           ∙ ap (λ b. cond b more old) (sym w.if-is_same.true ∙ same)
-      | else-is_same w ↦ ap viewed w.state-is ∙ ap (λ b. cond b more old) (sym w.if-is_same.false ∙ same)
+      | else-is_same w ↦ ap (viewed tree) w.state-is ∙ ap (λ b. cond b more old) (sym w.if-is_same.false ∙ same)
     ])
     c.loop-row.invariant

@@ -9,5 +9,5 @@ use Rattle.call_states.proofs.aliases.join_rows.Given as goal
 -- what is left from here is what was to be done
 abbrev pub invariant-loop-row : goal.invariant-loop-row
 invariant-loop-row l =
-    rows_joined l.rows (said_stored l.stored) (rows_to l.row l.row-end) (viewed l.state)
-    ≡ rows_joined l.rows (said_stored l.stored) (numbers l.fn.span) (viewed l.fn.state)
+    rows_joined l.rows (said_stored l.stored) (rows_to l.row l.row-end) (viewed l.rows l.state)
+    ≡ rows_joined l.rows (said_stored l.stored) (numbers l.fn.span) (viewed l.rows l.fn.state)

@@ -18,7 +18,7 @@ no-items (x ∷ xs) is = absurd (omega (arith, is))
 pub returns-then-is_empty : goal.returns-then-is_empty
 returns-then-is_empty c =
     let stored = map said_stored c.args.stored.now in
-    let state = viewed c.args.state.now in
+    let state = viewed c.args.rows.now c.args.state.now in
     let none : length c.args.aliases.now ≡ 0 = search rules in
     none-joined c.args.rows.now stored state
     ∙ ap (λ aliases. with_aliases_stored c.args.rows.now aliases stored state) (sym (no-items c.args.aliases.now none))
@@ -31,7 +31,7 @@ loop-one-preserved c =
     let i = c.loop-one.one-index in
     let rest = map said_stored (drop (i + 1) stored) in
     ap (all_joined_to tree rest aliases) c.in_ok-join_aliases.ensures
-    ∙ ap (λ one. all_joined_to tree (said_stored one ∷ rest) aliases (viewed c.loop-one.state)) c.one-item.is
-    ∙ ap (λ some. all_joined_to tree (map said_stored some) aliases (viewed c.loop-one.state))
+    ∙ ap (λ one. all_joined_to tree (said_stored one ∷ rest) aliases (viewed tree c.loop-one.state)) c.one-item.is
+    ∙ ap (λ some. all_joined_to tree (map said_stored some) aliases (viewed tree c.loop-one.state))
     (sym (drop_more stored i c.one-item.result c.loop-one-test.true))
     ∙ c.loop-one.invariant

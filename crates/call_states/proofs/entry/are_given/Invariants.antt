@@ -9,5 +9,5 @@ use Rattle.call_states.proofs.entry.are_given.Given as goal
 -- what is left from here is what was to be done
 abbrev pub invariant-loop-claim : goal.invariant-loop-claim
 invariant-loop-claim l =
-    list_all (is_given l.rows (said_bindings l.bindings) (viewed l.state)) (map said_fact (drop l.claim-index l.claims))
-    ≡ list_all (is_given l.rows (said_bindings l.bindings) (viewed l.state)) (map said_fact l.claims)
+    list_all (is_given l.rows (said_bindings l.bindings) (viewed l.rows l.state)) (map said_fact (drop l.claim-index l.claims))
+    ≡ list_all (is_given l.rows (said_bindings l.bindings) (viewed l.rows l.state)) (map said_fact l.claims)

@@ -8,7 +8,7 @@ use Rattle.call_states.proofs.entry.lie_between.Goals as goal
 
 pub returns-else-is_at_most : goal.returns-else-is_at_most
 returns-else-is_at_most c =
-    let state = viewed c.args.state.now in
+    let state = viewed c.args.rows.now c.args.state.now in
     let first = said_limit c.args.first in
     let last = said_limit c.args.last in
     let test = is_borne_between c.args.rows.now state first last in

@@ -6,6 +6,6 @@ use Rattle.call_states.proofs.overlaps.are_listed_with.Goals as goal
 
 pub returns : goal.returns
 returns c =
-    ap (list_all (is_listed_with c.args.pairs.now c.args.formal c.args.root c.args.selectors.now))
+    ap (list_all (is_listed_with c.args.pairs.now.pairs c.args.formal c.args.root c.args.selectors.now))
     (bound-end c.args.others.roots.now c.args.others.actuals.now c.loop-i.i c.min-i-end.result c.min-i-end.ensures c.loop-i-test.false)
     ∙ c.loop-i.invariant

@@ -5,6 +5,6 @@ use Rattle.call_states.proofs.overlaps.are_separate.Goals as goal
 
 pub returns : goal.returns
 returns c =
-    ap (are_separate c.args.pairs.now c.args.tree.now c.args.around.now)
+    ap (are_separate c.args.pairs.now c.args.caller c.args.around.now)
     (bound-end c.args.bindings.roots.now c.args.bindings.actuals.now c.loop-i.i c.min-i-end.result c.min-i-end.ensures c.loop-i-test.false)
     ∙ c.loop-i.invariant

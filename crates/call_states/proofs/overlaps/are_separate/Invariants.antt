@@ -7,5 +7,5 @@ use Rattle.call_states.proofs.overlaps.are_separate.Given as goal
 -- what is left from here is what was to be done
 abbrev pub invariant-loop-i : goal.invariant-loop-i
 invariant-loop-i l =
-    are_separate l.pairs l.tree l.around (bound_to (drop l.i l.roots) (map said_actual (drop l.i l.actuals)))
-    ≡ are_separate l.pairs l.tree l.around (bound_to l.roots (map said_actual l.actuals))
+    are_separate l.pairs l.caller l.around (bound_to (drop l.i l.roots) (map said_actual (drop l.i l.actuals)))
+    ≡ are_separate l.pairs l.caller l.around (bound_to l.roots (map said_actual l.actuals))

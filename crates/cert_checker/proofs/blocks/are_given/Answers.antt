@@ -14,7 +14,7 @@ use Rattle.cert_checker.proofs.blocks.are_given.Goals as goal
 
 pub returns : goal.returns
 returns c =
-    let state = viewed c.args.state.now in
+    let state = viewed c.args.rows.now c.args.state.now in
     let known = state.variables in
     let claims = map said_fact c.args.claims.now in
     let tree = c.args.rows.now in

@@ -1,7 +1,8 @@
-use Rattle.std.proofs.Common.{ap, map, ℕ, ◌∙◌}
+use Rattle.std.proofs.Common.{ap, ap₂, map, ℕ, ◌∙◌}
 use Rattle.std.specs.Global.{Vec}
 use Rattle.structured_states.specs.View.{kept_round, said_claims as said_loop}
 use Rattle.call_states.specs.View.{said_claims}
+use Rattle.call_states.proofs.SeenAliases.{listed_pairs}
 use Rattle.expression_checker.specs.Visits.{all_counted}
 use Rattle.cert_checker.specs.View.{context_of}
 use Rattle.cert_checker.proofs.Entered.{program-entered}
@@ -14,11 +15,11 @@ returns-clause-sites c =
     let tree = c.args.rows.now in
     let certificate = c.args.certificate.now in
     let walk = c.new-walk.result in
-    let pairs_are = c.in_ok-pairs.ensures ∙ c.in_ok-all_pairs.ensures in
+    let pairs_are = c.in_ok-pairs.ensures ∙ ap₂ listed_pairs c.tree-tree.ensures c.in_ok-all_pairs.ensures in
     let context_is = c.new-walk.ensures.context_is
-    ∙ program-context tree c.tree-tree.result.now certificate c.in_ok-all_limits.field-0.items
+    ∙ program-context tree c.tree-tree.result.now certificate
     (map said_claims c.in_ok-all_block_claims.field-0.items) c.in_ok-pairs.pairs (map kept_round c.new.result.items)
-    (map said_loop c.in_ok-claims.claims.items) c.tree-tree.ensures c.in_ok-all_limits.ensures c.in_ok-all_block_claims.ensures pairs_are
+    (map said_loop c.in_ok-claims.claims.items) c.tree-tree.ensures c.in_ok-all_block_claims.ensures pairs_are
     (ap (map kept_round) c.new.ensures.items) c.in_ok-claims.ensures in
     let loops = program-loops tree c.tree-tree.result.now certificate (context_of walk) c.in_ok-pairs.pairs (map said_loop c.deref.result.now)
     walk.aliases.now context_is c.tree-tree.ensures pairs_are (ap (map said_loop) c.deref.ensures.value ∙ c.in_ok-claims.ensures)
@@ -32,11 +33,11 @@ returns-clause-entries c =
     let tree = c.args.rows.now in
     let certificate = c.args.certificate.now in
     let walk = c.new-walk.result in
-    let pairs_are = c.in_ok-pairs.ensures ∙ c.in_ok-all_pairs.ensures in
+    let pairs_are = c.in_ok-pairs.ensures ∙ ap₂ listed_pairs c.tree-tree.ensures c.in_ok-all_pairs.ensures in
     let context_is = c.new-walk.ensures.context_is
-    ∙ program-context tree c.tree-tree.result.now certificate c.in_ok-all_limits.field-0.items
+    ∙ program-context tree c.tree-tree.result.now certificate
     (map said_claims c.in_ok-all_block_claims.field-0.items) c.in_ok-pairs.pairs (map kept_round c.new.result.items)
-    (map said_loop c.in_ok-claims.claims.items) c.tree-tree.ensures c.in_ok-all_limits.ensures c.in_ok-all_block_claims.ensures pairs_are
+    (map said_loop c.in_ok-claims.claims.items) c.tree-tree.ensures c.in_ok-all_block_claims.ensures pairs_are
     (ap (map kept_round) c.new.ensures.items) c.in_ok-claims.ensures in
     let loops = program-loops tree c.tree-tree.result.now certificate (context_of walk) c.in_ok-pairs.pairs (map said_loop c.deref.result.now)
     walk.aliases.now context_is c.tree-tree.ensures pairs_are (ap (map said_loop) c.deref.ensures.value ∙ c.in_ok-claims.ensures)
@@ -51,11 +52,11 @@ returns-clause-rules c =
     let tree = c.args.rows.now in
     let certificate = c.args.certificate.now in
     let walk = c.new-walk.result in
-    let pairs_are = c.in_ok-pairs.ensures ∙ c.in_ok-all_pairs.ensures in
+    let pairs_are = c.in_ok-pairs.ensures ∙ ap₂ listed_pairs c.tree-tree.ensures c.in_ok-all_pairs.ensures in
     let context_is = c.new-walk.ensures.context_is
-    ∙ program-context tree c.tree-tree.result.now certificate c.in_ok-all_limits.field-0.items
+    ∙ program-context tree c.tree-tree.result.now certificate
     (map said_claims c.in_ok-all_block_claims.field-0.items) c.in_ok-pairs.pairs (map kept_round c.new.result.items)
-    (map said_loop c.in_ok-claims.claims.items) c.tree-tree.ensures c.in_ok-all_limits.ensures c.in_ok-all_block_claims.ensures pairs_are
+    (map said_loop c.in_ok-claims.claims.items) c.tree-tree.ensures c.in_ok-all_block_claims.ensures pairs_are
     (ap (map kept_round) c.new.ensures.items) c.in_ok-claims.ensures in
     let loops = program-loops tree c.tree-tree.result.now certificate (context_of walk) c.in_ok-pairs.pairs (map said_loop c.deref.result.now)
     walk.aliases.now context_is c.tree-tree.ensures pairs_are (ap (map said_loop) c.deref.ensures.value ∙ c.in_ok-claims.ensures)
@@ -69,11 +70,11 @@ returns-in_err-blocks-clause-rules c =
     let tree = c.args.rows.now in
     let certificate = c.args.certificate.now in
     let walk = c.new-walk.result in
-    let pairs_are = c.in_ok-pairs.ensures ∙ c.in_ok-all_pairs.ensures in
+    let pairs_are = c.in_ok-pairs.ensures ∙ ap₂ listed_pairs c.tree-tree.ensures c.in_ok-all_pairs.ensures in
     let context_is = c.new-walk.ensures.context_is
-    ∙ program-context tree c.tree-tree.result.now certificate c.in_ok-all_limits.field-0.items
+    ∙ program-context tree c.tree-tree.result.now certificate
     (map said_claims c.in_ok-all_block_claims.field-0.items) c.in_ok-pairs.pairs (map kept_round c.new.result.items)
-    (map said_loop c.in_ok-claims.claims.items) c.tree-tree.ensures c.in_ok-all_limits.ensures c.in_ok-all_block_claims.ensures pairs_are
+    (map said_loop c.in_ok-claims.claims.items) c.tree-tree.ensures c.in_ok-all_block_claims.ensures pairs_are
     (ap (map kept_round) c.new.ensures.items) c.in_ok-claims.ensures in
     let loops = program-loops tree c.tree-tree.result.now certificate (context_of walk) c.in_ok-pairs.pairs (map said_loop c.deref.result.now)
     walk.aliases.now context_is c.tree-tree.ensures pairs_are (ap (map said_loop) c.deref.ensures.value ∙ c.in_ok-claims.ensures)

@@ -9,5 +9,5 @@ use Rattle.exit_states.proofs.exit.touch_rows.Given as goal
 -- what is left from here is what was to be done
 abbrev pub invariant-loop-root : goal.invariant-loop-root
 invariant-loop-root l =
-    over_components (λ _. rows_behind l.rows (map said_change l.changes) (rows_touched (rows_of l.rows) (drop l.root-index l.touched))) (viewed l.state)
-    ≡ over_components (λ _. rows_behind l.rows (map said_change l.changes) (rows_touched (rows_of l.rows) l.touched)) (viewed l.fn.state)
+    over_components (λ _. rows_behind l.rows (map said_change l.changes) (rows_touched (rows_of l.rows) (drop l.root-index l.touched))) (viewed l.rows l.state)
+    ≡ over_components (λ _. rows_behind l.rows (map said_change l.changes) (rows_touched (rows_of l.rows) l.touched)) (viewed l.rows l.fn.state)

@@ -9,10 +9,11 @@ use Rattle.exit_states.proofs.exit.touch_span.Goals as goal
 
 pub loop-row-preserved : goal.loop-row-preserved
 loop-row-preserved c =
+    let tree = c.args.rows.now in
     let changes = map said_change c.args.changes.now in
     let row = c.loop-row.row in
-    behind-next c.args.rows.now changes row c.end-row-end.result c.behind-range.result (viewed c.loop-row.state) (viewed c.touch_row.new.self) _
-    c.loop-row-test.true
+    behind-next tree changes row c.end-row-end.result c.behind-range.result (viewed tree c.loop-row.state)
+    (viewed tree c.touch_row.new.self) _ c.loop-row-test.true
     (c.behind-range.ensures
     ∙ ap (λ values. behind values changes (Components row components.Entire) c.row_range.result) c.values.ensures
     ∙ ap (behind _ changes (Components row components.Entire)) c.row_range.ensures)

@@ -10,5 +10,5 @@ use Rattle.exit_states.proofs.exit.touch_span.Given as goal
 -- what is left from here is what was to be done
 abbrev pub invariant-loop-row : goal.invariant-loop-row
 invariant-loop-row l =
-    over_components (λ _. rows_behind l.rows (map said_change l.changes) (rows_to l.row l.row-end)) (viewed l.state)
-    ≡ over_components (λ _. rows_behind l.rows (map said_change l.changes) (numbers l.fn.span)) (viewed l.fn.state)
+    over_components (λ _. rows_behind l.rows (map said_change l.changes) (rows_to l.row l.row-end)) (viewed l.rows l.state)
+    ≡ over_components (λ _. rows_behind l.rows (map said_change l.changes) (numbers l.fn.span)) (viewed l.rows l.fn.state)

@@ -8,5 +8,5 @@ use Rattle.exit_states.proofs.exit.touch_variables.Given as goal
 -- what is left from here is what was to be done
 abbrev pub invariant-loop-root : goal.invariant-loop-root
 invariant-loop-root l =
-    over_variables (variables_behind l.tree (map said_change l.changes) (drop l.root-index l.touched)) (viewed l.state)
-    ≡ over_variables (variables_behind l.tree (map said_change l.changes) l.touched) (viewed l.fn.state)
+    over_variables (variables_behind l.rows (map said_change l.changes) (drop l.root-index l.touched)) (viewed l.rows l.state)
+    ≡ over_variables (variables_behind l.rows (map said_change l.changes) l.touched) (viewed l.rows l.fn.state)

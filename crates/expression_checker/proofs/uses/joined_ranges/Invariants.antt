@@ -9,7 +9,7 @@ abbrev pub invariant-loop-row : goal.invariant-loop-row
 invariant-loop-row l = record {
   after_first : l.span.first ≤ l.row;
   before_end : l.row ≤ l.span.first + l.span.count;
-  joined : l.range ≡ all_joined (ranges_of (viewed l.state) (range_with_len l.row (l.span.first + l.span.count - l.row)));
+  joined : l.range ≡ all_joined (ranges_of (viewed l.rows l.state) (range_with_len l.row (l.span.first + l.span.count - l.row)));
 }
 
 abbrev pub decreases-loop-row : goal.decreases-loop-row

@@ -8,14 +8,14 @@ use Rattle.expression_checker.proofs.uses.ranges_of.Goals as goal
 
 pub loop-row-init : goal.loop-row-init
 loop-row-init c =
-    let state = viewed c.args.state.now in
+    let state = viewed c.args.rows.now c.args.state.now in
     let end = c.end-row-end.result in
     ap (ranges_of state) (sym (from-first c.args.span end c.end-row-end.ensures))
     ∙ ap (λ items. items ++ ranges_of state (rows_from c.args.span.first end)) (sym c.new-ranges.ensures.items)
 
 pub loop-row-preserved : goal.loop-row-preserved
 loop-row-preserved c =
-    let state = viewed c.args.state.now in
+    let state = viewed c.args.rows.now c.args.state.now in
     let row = c.loop-row.row in
     let end = c.end-row-end.result in
     let items = c.loop-row.ranges.items in
@@ -29,5 +29,5 @@ pub returns : goal.returns
 returns c =
     let items = c.loop-row.ranges.items in
     sym (c.loop-row.invariant
-    ∙ ap (λ rows. items ++ ranges_of (viewed c.args.state.now) rows) (rows-past c.loop-row.row c.end-row-end.result c.loop-row-test.false)
+    ∙ ap (λ rows. items ++ ranges_of (viewed c.args.rows.now c.args.state.now) rows) (rows-past c.loop-row.row c.end-row-end.result c.loop-row-test.false)
     ∙ append-nil items)

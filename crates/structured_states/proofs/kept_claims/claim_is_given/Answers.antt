@@ -11,13 +11,13 @@ use Rattle.structured_states.proofs.kept_claims.claim_is_given.Goals as goal
 pub loop-row-init : goal.loop-row-init
 loop-row-init c =
     let span = c.rows_claimed-span.result in
-    ap (gives_components (viewed c.args.state.now))
+    ap (gives_components (viewed c.args.rows.now c.args.state.now))
     (said-all c.args.rows.now (said_fact c.args.claim.now) span.first span.count c.end-row-end.result c.end-row-end.ensures c.rows_claimed-span.ensures)
 
 pub loop-row-preserved : goal.loop-row-preserved
 loop-row-preserved c =
     let tree = c.args.rows.now in
-    let state = viewed c.args.state.now in
+    let state = viewed c.args.rows.now c.args.state.now in
     let claim = said_fact c.args.claim.now in
     let row = c.loop-row.row in
     let last = c.end-row-end.result in

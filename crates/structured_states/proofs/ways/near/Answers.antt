@@ -4,12 +4,12 @@ use Rattle.domain.specs.declared.facts.Bound.{Bound as KeptBound}
 use Rattle.domain.specs.Facts.{said_bound}
 use Rattle.domain.specs.Interval.{at_least, at_most}
 use Rattle.abstract_state.specs.State.{bound_range, range_of}
-use Rattle.abstract_state.specs.View.{viewed}
+use Rattle.component_states.specs.View.{viewed_variables}
 use Rattle.structured_states.proofs.ways.near.Goals as goal
 
 pub returns-in-Plus : goal.returns-in-Plus
 returns-in-Plus c =
-    let state = viewed c.args.state.now in
+    let state = viewed_variables c.args.rows.now c.args.state.now in
     let values = range_of state c.in-Plus.root in
     let low = to_z w64 (of_z w64 c.shifted-first.result) in
     let high = to_z w64 (of_z w64 c.shifted-last.result) in

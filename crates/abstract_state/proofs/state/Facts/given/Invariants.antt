@@ -5,4 +5,4 @@ use Rattle.abstract_state.proofs.Kept.{said_orders}
 use Rattle.abstract_state.proofs.state.Facts.given.Given as goal
 
 abbrev pub invariant-loop-i : goal.invariant-loop-i
-invariant-loop-i l = said_orders l.given.items ≡ filter (gives (viewed_facts l.self)) (said_orders (take l.i l.orders))
+invariant-loop-i l = said_orders l.given.items ≡ filter (gives (viewed_facts l.limits l.self)) (said_orders (take l.i l.orders))

@@ -8,15 +8,15 @@ use Rattle.abstract_state.proofs.state.State.refine_single.Goals as goal
 
 pub returns-then-rest-ne1 : goal.returns-then-rest-ne1
 returns-then-rest-ne1 c =
-    single-none c.args.rest.now c.args.truth (condition_of c.args.first.now).form (viewed c.args.self.now) c.if-rest-ne1.true
+    single-none c.args.rest.now c.args.truth (condition_of c.args.first.now).form (viewed c.args.limits.now c.args.self.now) c.if-rest-ne1.true
 
 pub returns : goal.returns
 returns c =
-    let state = viewed c.args.self.now in
+    let state = viewed c.args.limits.now c.args.self.now in
     let truth = c.args.truth in
     let link = c.index-rest-0.result in
     let form = (condition_of c.args.first.now).form in
-    IfOk-equal c.refine_operation.result (viewed c.refine_operation.new.self)
+    IfOk-equal c.refine_operation.result (viewed c.args.limits.now c.refine_operation.new.self)
     (operation_refined link.operation truth (said_form c.bound_form.result) (said_form c.bound_form-2.result) state)
     (single_refined truth form (map conjunct_of c.args.rest.now) state) c.refine_operation.ensures
     (ap₂ (λ (left right : Option Bound). operation_refined link.operation truth left right state) c.bound_form.ensures c.bound_form-2.ensures

@@ -8,4 +8,4 @@ use Rattle.abstract_state.proofs.state.State.touch_all.Given as goal
 abbrev pub invariant-loop-root : goal.invariant-loop-root
 invariant-loop-root l =
     let limits = λ (root : ℕ). slice_index_or l.limits root vacant in
-    all_touched limits (drop l.root-index l.touched) (viewed l.self) ≡ all_touched limits l.touched (viewed l.fn.self)
+    all_touched limits (drop l.root-index l.touched) (viewed l.limits l.self) ≡ all_touched limits l.touched (viewed l.limits l.fn.self)

@@ -1,14 +1,14 @@
-use Rattle.std.proofs.Common.{refl, length, map, true, false, Some, None, Ok, Err}
+use Rattle.std.proofs.Common.{refl, length, map, subst, ◌+◌, true, false, Some, None, Ok, Err}
+use Rattle.component_states.specs.States.{State}
 use Rattle.cert_checker.specs.Walk.{all_of, arms_walk, case_walk, for_round, for_turns, for_walk, repeat_round, rounds_of, statement_walk, where_so}
 use Rattle.cert_checker.specs.Walk.{while_round}
 use Rattle.structured_states.specs.View.{said_end, said_way}
-use Rattle.cert_checker.specs.View.{else_walk}
+use Rattle.cert_checker.specs.View.{Goes, else_walk, viewed_in}
 use Rattle.cert_checker.proofs.Steps.{all-step, all-end, given-up, if-begun, branches-done, branches-stopped, loop-done, loop-stopped, while-begun}
-use Rattle.cert_checker.proofs.Steps.{if-stopped, loop-not_entered, repeat-begun, while_round-done, repeat_round-done}
+use Rattle.cert_checker.proofs.Steps.{if-stopped, loop-not_entered, repeat-begun, viewed-same, while_round-done, repeat_round-done}
 use Rattle.cert_checker.proofs.StepsFor.{for-begun, for-done, for-first_stopped, for-last_stopped, for-stopped, rounds-go, turns-done}
 use Rattle.cert_checker.proofs.StepsFor.{turns-not_begun, turns-not_tested, way-same}
-use Rattle.cert_checker.proofs.StepsCase.{arms-end, arms-step, arms-stopped, case-begun, case-not_tested, case-tested}
-use Rattle.component_states.specs.View.{viewed}
+use Rattle.cert_checker.proofs.StepsCase.{arms_from, arms-end, arms-step, arms-stopped, case-begun, case-not_tested, case-tested}
 use Rattle.abstract_state.specs.declared.known.Known.TheVariants.{Ordinal}
 use Rattle.cert_checker.proofs.walk.Walk.+statement.Goals as goal
 
@@ -276,15 +276,21 @@ statement-returns-in_ok-to-in-For t c =
 pub arms-loop-i-preserved : goal.arms-loop-i-preserved
 arms-loop-i-preserved t c = λ result new after goes.
     let here = c.loop-i in
-    here.invariant result new after
-    (arms-step (viewed c.args.base.now) c.args.index c.args.constants.now c.args.arms.now here.i c.index-arms-i.result c.loop-i-test.true c.index-arms-i.is
-    (viewed c.in_ok-start.start) c.in_ok-start.ensures here.self c.arm.new.self new here.visits c.arm.new.visits after tt result c.in_ok-arm.ensures goes)
+    let base = c.args.base.now in
+    let arms = c.args.arms.now in
+    let left = λ (state : State). arms_from state c.args.index c.args.constants.now arms (here.i + 1) in
+    here.invariant result new after (λ ready.
+    arms-step (viewed_in here.self base) c.args.index c.args.constants.now arms here.i c.index-arms-i.result c.loop-i-test.true c.index-arms-i.is
+    (viewed_in here.self c.in_ok-start.start) c.in_ok-start.ensures here.self c.arm.new.self new here.visits c.arm.new.visits after tt result
+    c.in_ok-arm.ensures
+    (subst (λ (state : State). Goes (left state) c.arm.new.self c.arm.new.visits result new after)
+    (viewed-same here.self c.arm.new.self base (c.in_ok-arm.ensures ready).context_is) goes) ready)
 
 pub arms-returns : goal.arms-returns
 arms-returns t c =
     let here = c.loop-i in
     here.invariant (Ok tt) here.self here.visits
-    (arms-end (viewed c.args.base.now) c.args.index c.args.constants.now c.args.arms.now here.i here.self here.visits c.loop-i-test.false)
+    (arms-end (viewed_in here.self c.args.base.now) c.args.index c.args.constants.now c.args.arms.now here.i here.self here.visits c.loop-i-test.false)
 
 pub case_statement-returns-in_err-base : goal.case_statement-returns-in_err-base
 case_statement-returns-in_err-base t c =
@@ -319,10 +325,9 @@ arms-returns-in_err-arm t c =
     let after = c.arm.new.visits in
     let fault = c.in_err-arm.field-0.0 in
     let left = c.from_residual-in_err-arm in
-    let base = viewed c.args.base.now in
-    given-up (arms_walk base c.args.index c.args.constants.now
-    (map statement_walk c.args.arms.now)) c.args.self.now new c.args.visits.now after fault left.result
-    left.ensures
+    let base = viewed_in here.self c.args.base.now in
+    given-up (arms_walk (viewed_in c.args.self.now c.args.base.now) c.args.index c.args.constants.now (map statement_walk c.args.arms.now)) c.args.self.now new
+    c.args.visits.now after fault left.result left.ensures
     (here.invariant (Err fault) new after
     (arms-stopped base c.args.index c.args.constants.now c.args.arms.now here.i c.index-arms-i.result c.loop-i-test.true c.index-arms-i.is
-    (viewed c.in_ok-start.start) c.in_ok-start.ensures here.self new here.visits after fault c.in_err-arm.ensures))
+    (viewed_in here.self c.in_ok-start.start) c.in_ok-start.ensures here.self new here.visits after fault c.in_err-arm.ensures))

@@ -3,9 +3,8 @@ use Rattle.expression_checker.specs.declared.fault.CheckFault.{CheckFault}
 use Rattle.expression_checker.specs.Visits.{Visits}
 use Rattle.cert_checker.specs.declared.walk.Walk.{Walk}
 use Rattle.cert_checker.specs.Walk.{all_of, arms_walk, statement_walk}
-use Rattle.component_states.specs.View.{viewed}
 use Rattle.cert_checker.proofs.StepsCase.{arms_from}
-use Rattle.cert_checker.specs.View.{Goes}
+use Rattle.cert_checker.specs.View.{Goes, viewed_in}
 use Rattle.cert_checker.proofs.walk.Walk.+statement.Given as goal
 
 -- whatever the checker does over the statements that are left, it did it over them all
@@ -19,5 +18,5 @@ invariant-statements-loop-statement l =
 abbrev pub invariant-arms-loop-i : goal.invariant-arms-loop-i
 invariant-arms-loop-i l =
     (result : Result (Unit {0}) CheckFault) (new : Walk) (after : Visits)
-    → Goes (arms_from (viewed l.base) l.index l.constants l.arms l.i) l.self l.visits result new after
-    → Goes (arms_walk (viewed l.base) l.index l.constants (map statement_walk l.arms)) l.fn.self l.fn.visits result new after
+    → Goes (arms_from (viewed_in l.self l.base) l.index l.constants l.arms l.i) l.self l.visits result new after
+    → Goes (arms_walk (viewed_in l.fn.self l.base) l.index l.constants (map statement_walk l.arms)) l.fn.self l.fn.visits result new after

@@ -3,12 +3,33 @@ use Rattle.typed_tree.specs.Calls.{holds_call}
 use Rattle.abstract_state.specs.State.{limits_of}
 use Rattle.abstract_state.specs.Conditions.{bound_form}
 use Rattle.component_states.specs.View.{said_reach}
-use Rattle.expression_checker.specs.Walk.{fitting, index_pieces}
+use Rattle.abstract_state.specs.declared.known.Known.{Known}
+use Rattle.component_states.specs.Components.{Reach}
+use Rattle.expression_checker.specs.Walk.{◌>>=◌, access_walk, fitting, index_pieces, value_walk}
 use Rattle.cert_checker.specs.Walk.{assign_to, assignment, reach_before}
 use Rattle.cert_checker.specs.View.{context_of}
 use Rattle.cert_checker.proofs.Steps.{given-up, goes-then, goes-stopped, lifted}
 use Rattle.cert_checker.proofs.StepsStores.{assignment-done}
 use Rattle.cert_checker.proofs.walk.Walk.assignment.Goals as goal
+
+pub returns-in_err-known : goal.returns-in_err-known
+returns-in_err-known c =
+    let target = c.args.target.now in
+    let indexes = c.args.indexes.now in
+    let fits = c.args.fits in
+    let value = c.args.value.now in
+    let stored = λ (reach : Reach) (known : Known).
+    fitting fits known >>= assign_to c.args.becomes target.root target.selectors.items (reach_before (holds_call value) reach) (limits_of fits.range)
+    (bound_form value) in
+    let reach = said_reach c.in_ok-reach.reach in
+    let fault = c.in_err-known.field-0.0 in
+    let left = c.from_residual-in_err-known in
+    let new = c.expression.new.self in
+    let after = c.expression.new.visits in
+    given-up (assignment c.args.becomes target (index_pieces indexes) fits value) c.args.self.now new c.args.visits.now after fault left.result left.ensures
+    (goes-then (access_walk target (index_pieces indexes)) (λ reach. value_walk value >>= stored reach) c.args.self.now c.access.new.self new
+    c.args.visits.now c.access.new.visits after reach (Err fault) c.in_ok-reach.ensures
+    (goes-stopped (value_walk value) (stored reach) c.access.new.self new c.access.new.visits after fault c.in_err-known.ensures))
 
 pub returns-in_err-passed : goal.returns-in_err-passed
 returns-in_err-passed c =

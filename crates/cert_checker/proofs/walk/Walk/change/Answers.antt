@@ -1,6 +1,6 @@
 use Rattle.std.proofs.Common.{refl, ◌&&◌}
 use Rattle.domain.specs.Interval.{is_included}
-use Rattle.structured_states.specs.Loops.{limits_at}
+use Rattle.leaf_rows.specs.Limits.{limits_at}
 use Rattle.expression_checker.specs.Walk.{may_change}
 use Rattle.expression_checker.specs.declared.fault.Rule.TheVariants.{Changes}
 use Rattle.cert_checker.specs.View.{context_of}

@@ -10,5 +10,5 @@ returns c = λ visits.
     let way = c.args.way.now in
     let old = c.args.self.now in
     asked-goes (control_change c.args.place way.control way.first.fits.range way.last.fits.range)
-    (may_control (context_of old) way.control way.first.fits.range way.last.fits.range) c.may_control.result Changes c.args.place old visits
-    c.asked.result refl c.may_control.ensures c.asked.ensures
+    (may_control (context_of old) way.control way.first.fits.range way.last.fits.range) c.in_ok-may_control.field-0 Changes c.args.place old visits
+    c.asked.result refl c.in_ok-may_control.ensures c.asked.ensures

@@ -20,7 +20,8 @@ returns c = λ visits.
     (c.meet-passed.ensures.answer ∙ ap (common range) (c.hull.ensures.ends ∙ ap hull (c.deref.ensures.value ∙ c.in_ok-constants.ensures)))
     (lifted (tested c.in_ok-closed.closed c.args.site c.meet-passed.result) old c.test.new.self visits visits
     (Ok c.in_ok-test.field-0) (c.in_ok-test.ensures visits))
-    c.replace.ensures.value (ap viewed c.replace.ensures.after ∙ c.dead.ensures) refl
+    c.replace.ensures.value
+    (ap (viewed c.test.new.self.grounds.rows.now) c.replace.ensures.after ∙ c.dead.ensures c.test.new.self.grounds.rows.now) refl
 
 pub returns-in_err-test : goal.returns-in_err-test
 returns-in_err-test c = λ visits.

@@ -6,5 +6,5 @@ use Rattle.component_states.proofs.components.Components.claim_all.Given as goal
 -- what is left to do from here is what was to do
 abbrev pub invariant-loop-fact : goal.invariant-loop-fact
 invariant-loop-fact l =
-    with_claims (map said_component (drop l.fact-index l.facts)) (viewed_components l.self)
-    ≡ with_claims (map said_component l.facts) (viewed_components l.fn.self)
+    with_claims (map said_component (drop l.fact-index l.facts)) (viewed_components l.rows l.self)
+    ≡ with_claims (map said_component l.facts) (viewed_components l.rows l.fn.self)

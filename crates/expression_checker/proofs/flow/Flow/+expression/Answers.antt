@@ -19,11 +19,11 @@ use Rattle.abstract_state.specs.View.{said_form}
 use Rattle.call_states.specs.declared.actuals.Actual.{Actual as KeptActual}
 use Rattle.call_states.specs.Actuals.{Actual, OfValue, OfVariable}
 use Rattle.call_states.specs.View.{said_actual}
-use Rattle.component_states.specs.View.{viewed}
+use Rattle.leaf_rows.specs.Limits.{all_limits}
 use Rattle.expression_checker.specs.declared.flow.Flow.{Flow}
 use Rattle.expression_checker.specs.Walk.{actuals_hold_call, actuals_walk, call_walk, called, called_block, copied, fitting, function_walk, passed_piece_of}
 use Rattle.expression_checker.specs.Walk.{piece_of, range_in, result_of, result_walk, value_passed, variable_passed, whole_passed}
-use Rattle.expression_checker.specs.View.{Goes, said_actuals}
+use Rattle.expression_checker.specs.View.{Goes, said_actuals, state_of}
 use Rattle.expression_checker.proofs.Forms.{bound-same}
 use Rattle.expression_checker.proofs.Passing.{actuals-hold, copied-goes, passing-begun, passing-end, passing-step, passing-stopped, prefixed, result-goes}
 use Rattle.expression_checker.proofs.Passing.{value_given}
@@ -575,5 +575,6 @@ function-returns t c =
     let new : Flow = record mid { state = record mid.state { variables = c.unless_empty.new.self } } in
     goes-then (call_walk call pieces) (λ _ context. result_walk call (result_of (called_block context call)) context) c.args.self.now mid new
     c.args.visits.now after after tt (Ok (Ordinal range)) c.in_ok-call.ensures
-    (result-goes call range mid new after refl refl (ap (λ known. record (viewed mid.state) { variables = known }) c.unless_empty.ensures)
+    (result-goes call range mid new after refl refl
+    (ap (λ known. record (state_of mid) { variables = known }) (c.unless_empty.ensures (all_limits mid.grounds.rows.now)))
     c.result_range-range.ensures)

@@ -12,9 +12,9 @@ pub returns : goal.returns
 returns c = λ visits.
     let access = c.args.access.now in
     let old = c.args.self.now in
-    whole-goes c.args.type_id access.root access.selectors.items (said_reach c.args.reach.now) c.args.defined (numbers c.accessed-rows.result)
+    whole-goes c.args.type_id access.root access.selectors.items (said_reach c.args.reach.now) c.args.defined (numbers c.accessed-span.result)
     c.covers_whole.result (said_ranges c.in_ok-ranges.ranges) old c.open_unless.new.self c.define_used.new.state visits
-    (c.accessed-rows.ensures ∙ ap (rows_accessed (rows_of old.grounds.rows.now) access.root) c.deref.ensures.value)
+    (c.accessed-span.ensures ∙ ap (rows_accessed (rows_of old.grounds.rows.now) access.root) c.deref.ensures.value)
     c.covers_whole.ensures c.in_ok-ranges.ensures (c.in_ok-open_unless.ensures visits) c.in_ok-define_used.ensures
 
 pub returns-in_err-open_unless : goal.returns-in_err-open_unless

@@ -52,4 +52,5 @@ invariant_of-result c =
       firsts_are = so_far.firsts ∙ ap (firsts_from types 0) past;
       rows_are = so_far.rows ∙ ap (flat_map (variable_ranges types)) past ∙ sym (ranges_from types 0 all);
       few = (let few = c.in_ok-row_number-2.ensures.few in omega (arith, few, c.len-2.ensures, c.loop-variable.rows.ok.0));
+      limits_are = c.in_ok-limits.ensures;
     }

@@ -14,7 +14,7 @@ returns-clause-part c =
     ∙ ap (λ variable. part_by tree.types variable c.first_at.result)
     (c.variable_at.ensures ∙ ap (λ (l : List Variable). slice_get l root) c.deref.ensures.value)
     ∙ ap (part_by tree.types (slice_get tree.variables.items root)) (c.first_at.ensures ∙ ap (λ (l : List ℕ). slice_get l root) c.deref-2.ensures.value)
-    ∙ found_kept tree c.self.inside.counts.items c.self.inside.firsts.items c.self.inside.rows.items c.self.invariant root
+    ∙ found_kept tree c.self.inside.counts.items c.self.inside.firsts.items c.self.inside.rows.items c.self.inside.limits.items c.self.invariant root
     ∙ ap (λ (t : Tree). variable_part t.types 0 t.variables.items root) c.self.view_is
 
 pub returns-clause-fits : goal.returns-clause-fits
@@ -26,8 +26,8 @@ returns-clause-fits c =
     ∙ ap (λ variable. part_by tree.types variable c.first_at.result)
     (c.variable_at.ensures ∙ ap (λ (l : List Variable). slice_get l root) c.deref.ensures.value)
     ∙ ap (part_by tree.types (slice_get tree.variables.items root)) (c.first_at.ensures ∙ ap (λ (l : List ℕ). slice_get l root) c.deref-2.ensures.value)
-    ∙ found_kept tree c.self.inside.counts.items c.self.inside.firsts.items c.self.inside.rows.items c.self.invariant root in
+    ∙ found_kept tree c.self.inside.counts.items c.self.inside.firsts.items c.self.inside.rows.items c.self.inside.limits.items c.self.invariant root in
     let here : end_of tree.types c.variable_part.result < 2 ^ 32 =
     subst (λ part. end_of tree.types part < 2 ^ 32) (sym same)
-    (ends_kept tree c.self.inside.counts.items c.self.inside.firsts.items c.self.inside.rows.items c.self.invariant root) in
+    (ends_kept tree c.self.inside.counts.items c.self.inside.firsts.items c.self.inside.rows.items c.self.inside.limits.items c.self.invariant root) in
     subst (λ (t : Tree). end_of t.types c.variable_part.result < 2 ^ 32) c.self.view_is here
