@@ -3,4 +3,4 @@
 #![tactic(auto)]
 
 pub mod names;
-pub mod visible;
+mod visible;

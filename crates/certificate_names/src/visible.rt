@@ -8,7 +8,7 @@ ghost use Rattle.certificate_names.specs.Names.{is_outward, is_variable_paramete
 use typed_tree::tree::{Tree, VariableKind};
 
 /// Whether a variable is declared in a block or round it.
-pub fn is_visible(tree: &Tree, block: u32, root: u32) -> bool
+pub(crate) fn is_visible(tree: &Tree, block: u32, root: u32) -> bool
     ensures { result ≡ is_visible (outline_of tree.now) block root }
 {
     match tree.variables.get(root as usize) {
