@@ -45,6 +45,6 @@ fn indices_of_either_list_are_told(rt: HostRuntime) -> Result<(), Fail> {
     let mut indices = indices_of_either(alloc, &list, &other)?;
     indices.sort()?;
     indices.dedup();
-    assert_eq!(rt; indices.as_slice(), &[0, 1, 3, 6]);
+    assert_eq!(rt; indices.as_slice(), [0, 1, 3, 6].as_slice());
     Ok(())
 }
