@@ -1,7 +1,7 @@
 //! The words of the command `pcom`.
 #![tactic(auto)]
 
-ghost use Rattle.std.specs.Prelude.{◌≡◌, MatchResult, map};
+ghost use Rattle.std.specs.Prelude.{◌≡◌, ◌≢◌, ◌↔◌, IsTrue, MatchResult, map};
 ghost use Rattle.clap.specs.Words.{kind_of};
 ghost use Rattle.clap.specs.Built.{TakesValue};
 ghost use Rattle.clap.specs.declared.error.kind.ErrorKind.TheVariants as ErrorKind;
@@ -94,6 +94,15 @@ pub fn pcom_words<'a>(alloc: Global, words: &'a [&'a str]) -> Result<PcomWords<'
         certificate: matches.get_str("cert"),
         go: matches.get_flag("go"),
     })
+}
+
+/// Prints what clap tells, the help and the version to standard output, a fault of the words to standard error.
+/// Answers whether it is a fault.
+pub fn tell<R: Print + Eprint>(rt: &R, told: clap::Error) -> bool
+    ensures { IsTrue result ↔ ((kind_of told ≢ ErrorKind.DisplayHelp) × (kind_of told ≢ ErrorKind.DisplayVersion)) }
+{
+    let _ = told.print(rt);
+    told.use_stderr()
 }
 
 // The option `--cert FILE`.

@@ -4,7 +4,7 @@
 use report::fault::Fault;
 use report::prepared::refuse;
 use report::program::run_program;
-use report::{PcomWords, WordsFault, pcom_words};
+use report::{PcomWords, WordsFault, pcom_words, tell};
 use stack_machine::bytes::Counted;
 use std::io::Write;
 use std::process::ExitCode;
@@ -31,14 +31,13 @@ fn main(rt: HostRuntime) -> ExitCode {
     match pcom_words(alloc, &words) {
         Ok(words) => compiled(&rt, words),
         Err(WordsFault::Memory) => no_memory(&rt),
-        Err(WordsFault::Words(error)) => told(&rt, &error),
+        Err(WordsFault::Words(told)) => status_of(tell(&rt, told)),
     }
 }
 
-// The help and the version go to standard output, a fault of the words to standard error.
-fn told(rt: &HostRuntime, error: &clap::Error) -> ExitCode {
-    let _ = error.print(rt);
-    if error.use_stderr() {
+// The status where the words alone decide: that of a fault, or of the help and the version.
+fn status_of(is_fault: bool) -> ExitCode {
+    if is_fault {
         ExitCode::from(TROUBLE)
     } else {
         ExitCode::SUCCESS

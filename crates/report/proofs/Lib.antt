@@ -1,4 +1,4 @@
-mod MessagesLemmas
 mod OpenSites
 mod ProgramLemmas
 mod RefusalLemmas
+mod StepLemmas

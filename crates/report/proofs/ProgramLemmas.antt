@@ -6,12 +6,12 @@ use Rattle.stack_machine.specs.declared.machine.Machine.{Machine}
 use Rattle.stack_machine.specs.declared.stop.Stop.{Stop}
 use Rattle.stack_machine.specs.Does.{cell_count}
 use Rattle.report.specs.declared.prepared.Reported.{Reported}
-use Rattle.report.specs.Messages.{Page, Gets}
+use Rattle.report_text.specs.Messages.{Page, Gets}
 use Rattle.report.specs.Program.{End, Refused, Listed, Ran, Comes, Does, Finishes, HasMachine, IsPrepared, budget, cells, last_line, messages, report_of}
 use Rattle.report.specs.Program.{report_status, status_of}
-use Rattle.report.specs.Text.{stop_status}
+use Rattle.report_text.specs.Text.{stop_status}
 use Rattle.report.specs.Whole.{RunsStripped}
-use Rattle.report.proofs.MessagesLemmas.{Gets-then}
+use Rattle.report_text.proofs.MessagesLemmas.{Gets-then}
 
 -- no machine is made where the code isn't to be run
 pub go_without : (go : Bool) (held : Option Machine) → HasMachine go held → held ≡ None → go ≡ false

@@ -1,5 +1,5 @@
 -- The fault of a layer, as the whole compiler tells it, is a refusal of the source.
-use Rattle.std.proofs.Common.{◌≡◌, ◌≢◌, ⊎_elim, ℕ, List, [], Some, Result, Err, IfErr, map, true, refl, sym, subst}
+use Rattle.std.proofs.Common.{◌≡◌, ◌≢◌, ⊎_elim, ℕ, List, [], Some, Result, Err, map, true, refl, sym, subst}
 use Rattle.std.specs.Prelude.{MatchResult}
 use Rattle.lexer.specs.declared.token.Token.{Token}
 use Rattle.lexer.specs.declared.fault.LexFault.{LexFault}
@@ -20,22 +20,22 @@ use Rattle.certificate.specs.Text.{first_fault}
 use Rattle.code_generator.specs.declared.fault.GenFault.{GenFault}
 use Rattle.code_generator.specs.declared.fault.GenFault.TheVariants as generate
 use Rattle.code_generator.specs.Large.{is_too_large}
-use Rattle.report.specs.declared.fault.Fault.{Fault}
-use Rattle.report.specs.Faults.{lexer_fault, parser_fault, typing_fault, certificate_fault, checker_fault, generator_fault}
+use Rattle.report_text.specs.declared.fault.Fault.{Fault}
+use Rattle.report_text.specs.Faults.{lexer_fault, parser_fault, typing_fault, certificate_fault, checker_fault, generator_fault}
 use Rattle.certificate.specs.declared.Certificate.{Certificate as CertificateRead}
 use Rattle.expression_checker.specs.declared.fault.CheckFault.{CheckFault}
 use Rattle.expression_checker.specs.declared.fault.CheckFault.TheVariants as check
 use Rattle.cert_checker.specs.Promise.{IsRefusedFor}
 use Rattle.cert_checker.specs.Walk.{program_walk}
 use Rattle.report.specs.Headline.{IsWrittenAs, IsTypedTreeOf}
-use Rattle.report.specs.Typed.{IsSoundTreeOf}
+use Rattle.report.specs.Steps.{IsSoundTreeOf}
 use Rattle.report.specs.Refusals.{AreOf, IsRefusal}
 
 -- an answer that is this fault
-pub refused_by : {A : Type 0} (source text : List ℕ) (answer : Result A Fault) (y fault : Fault) → answer ≡ Err y → y ≡ fault → IsRefusal source text fault
-    → IfErr answer (IsRefusal source text)
-refused_by source text answer y fault is same h =
-    subst (λ r. IfErr r (IsRefusal source text)) (sym is) (subst (IsRefusal source text) (sym same) h)
+pub refused_by : {A : Type 0} (P : A → Type 0) (source text : List ℕ) (answer : Result A Fault) (y fault : Fault) → answer ≡ Err y → y ≡ fault
+    → IsRefusal source text fault → MatchResult answer P (IsRefusal source text)
+refused_by P source text answer y fault is same h =
+    subst (λ r. MatchResult r P (IsRefusal source text)) (sym is) (subst (IsRefusal source text) (sym same) h)
 
 -- and one of the typed tree, whatever the certificate
 pub untyped_by : (source : List ℕ) (answer : Result Tree Fault) (y fault : Fault) → answer ≡ Err y → y ≡ fault

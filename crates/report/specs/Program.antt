@@ -9,12 +9,12 @@ use Rattle.stack_machine.specs.declared.stop.Stop.{Stop}
 use Rattle.stack_machine.specs.Does.{cell_count}
 use Rattle.stack_machine.specs.Failures.{write_failures_of}
 use Rattle.report.specs.declared.compile.Compiled.{Compiled}
-use Rattle.report.specs.declared.fault.Fault.{Fault}
+use Rattle.report_text.specs.declared.fault.Fault.{Fault}
 use Rattle.report.specs.declared.prepared.Prepared.{Prepared}
 use Rattle.report.specs.declared.prepared.Reported.{Reported}
-use Rattle.report.specs.Messages.{Page, Gets}
+use Rattle.report_text.specs.Messages.{Page, Gets}
 use Rattle.report.specs.Refusals.{IsRefusal}
-use Rattle.report.specs.Text.{open_line, refusal_of, refusal_line, refusal_status, stop_line, stop_status}
+use Rattle.report_text.specs.Text.{open_line, refusal_of, refusal_line, refusal_status, stop_line, stop_status}
 use Rattle.report.specs.Whole.{IsCompiled, RunsStripped}
 
 -- how many cells a run has, and how many instructions it may take

@@ -1,18 +1,18 @@
 ghost use Rattle.std.specs.Prelude.{◌≡◌, ℕ, List, length, map, IfOk, IfErr, MatchResult};
 ghost use Rattle.certificate.specs.Contents.{Spells};
+ghost use Rattle.certificate.specs.declared.Certificate.{Certificate as CertificateRead};
 ghost use Rattle.cert_checker.specs.Promise.{CallsChangeWhatTheyList, StatesHold, Valid};
 ghost use Rattle.code_scheme.specs.Code.{program_code};
 ghost use Rattle.code_generator.specs.Follows.{Follows};
 ghost use Rattle.code_generator.specs.Tables.{site_table, point_table};
 ghost use Rattle.report.specs.Headline.{Headline, IsTypedTreeOf};
 ghost use Rattle.report.specs.Refusals.{IsRefusal, text_of};
-ghost use Rattle.report.specs.Typed.{IsSoundTreeOf};
+ghost use Rattle.report.specs.Steps.{AreCodes, IsJudgement, IsSoundTreeOf, IsWhole};
 ghost use Rattle.typed_tree.specs.Entries.{entries_of};
 ghost use Rattle.typed_tree.specs.Ids.{AreByPlace};
 ghost use Rattle.typing.specs.Sound.{stands};
 ghost use Rattle.report.specs.Whole.{IsStripped};
 
-use crate::fault::Fault;
 use cert_checker::{Verdict, check};
 use certificate::Certificate;
 use check_remover::remove::remove;
@@ -20,8 +20,10 @@ use code_generator::generate::generate;
 use lexer::tokens;
 use parser::parse;
 use pcode_assembler::code::{Code, Site};
+use report_text::fault::Fault;
 use resolver::resolve;
 use std::alloc::{AllocError, Global};
+use syntax_release::release;
 use typed_tree::tree::Tree;
 
 /// The certificate that serves where none is given: it says nothing.
@@ -75,13 +77,17 @@ pub fn compile(alloc: Global, source: &[u8], certificate: Option<&[u8]>) -> Resu
     ensures points { IfOk result (λ c. c.full.points.items ≡ point_table c.tree.points.items) }
     ensures stripped { IfOk result (λ c. IsStripped c.tree c.verdict.open_sites.items c.stripped) }
 {
+    whole(alloc, source, certificate)
+}
+
+// All steps, one behind the other, with one clause over what they give.
+fn whole(alloc: Global, source: &[u8], certificate: Option<&[u8]>) -> Result<Compiled, Fault>
+    ensures { MatchResult result (IsWhole source.now (text_of certificate.entry))
+        (IsRefusal source.now (text_of certificate.entry)) }
+{
     let tree = typed(alloc, source)?;
-    let text = certificate.unwrap_or(PLAIN_CERTIFICATE);
-    let certificate = certificate::read(alloc, text)?;
-    let verdict = check(alloc, &tree, &certificate)?;
-    let full = generate(alloc, &tree)?;
-    let open_sites = code_sites(alloc, &verdict)?;
-    let stripped = remove(alloc, &full, &open_sites)?;
+    let (certificate, verdict) = judged(alloc, &tree, certificate)?;
+    let (full, stripped) = coded(alloc, &tree, &verdict)?;
     Ok(Compiled {
         tree,
         certificate,
@@ -98,8 +104,39 @@ fn typed(alloc: Global, source: &[u8]) -> Result<Tree, Fault>
 {
     let tokens = tokens(alloc, source)?;
     let program = parse(alloc, &tokens)?;
-    let tree = resolve(alloc, &program)?;
+    let resolved = resolve(alloc, &program);
+    release(program);
+    let tree = resolved?;
     Ok(tree)
+}
+
+// The certificate and the verdict by it.
+fn judged(
+    alloc: Global,
+    tree: &Tree,
+    certificate: Option<&[u8]>,
+) -> Result<(Certificate, Verdict), Fault>
+    ensures { (source : List ℕ) → IsSoundTreeOf source tree.now
+        → MatchResult result (λ judged. IsJudgement tree.now (text_of certificate.entry) judged.0 judged.1)
+        (IsRefusal source (text_of certificate.entry)) }
+{
+    let text = certificate.unwrap_or(PLAIN_CERTIFICATE);
+    let certificate = certificate::read(alloc, text)?;
+    let verdict = check(alloc, tree, &certificate)?;
+    Ok((certificate, verdict))
+}
+
+// The code with all its checks, and the code without those of the sites that aren't open.
+fn coded(alloc: Global, tree: &Tree, verdict: &Verdict) -> Result<(Code, Code), Fault>
+    ensures { (source text : List ℕ) (certificate : CertificateRead) → IsSoundTreeOf source tree.now
+        → IsJudgement tree.now text certificate verdict.now
+        → MatchResult result (λ codes. AreCodes tree.now verdict.now.open_sites.items codes.0 codes.1)
+        (IsRefusal source text) }
+{
+    let full = generate(alloc, tree)?;
+    let open_sites = code_sites(alloc, verdict)?;
+    let stripped = remove(alloc, &full, &open_sites)?;
+    Ok((full, stripped))
 }
 
 // The open sites, as the code names them.

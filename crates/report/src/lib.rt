@@ -2,10 +2,9 @@
 #![tactic(auto)]
 
 pub mod compile;
-pub mod fault;
-pub mod messages;
 pub mod prepared;
 pub mod program;
 pub mod text;
 
-pub use command_line::{PcomWords, WordsFault, pcom_words};
+pub use command_line::{PcomWords, WordsFault, pcom_words, tell};
+pub use report_text::{fault, messages};

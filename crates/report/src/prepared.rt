@@ -1,13 +1,13 @@
 ghost use Rattle.std.specs.Prelude.{◌≡◌, ◌<◌, ◌+◌, ◌-◌, ◌^◌, ◌==◌, ℕ, if◌then◌else◌, true, IfOk, IfErr, MatchBool};
-ghost use Rattle.report.specs.Messages.{Gets, page};
+ghost use Rattle.report_text.specs.Messages.{Gets, page};
 ghost use Rattle.report.specs.Program.{End, Finishes, IsPrepared, last_line, status_of, report_status};
 ghost use Rattle.report.specs.Refusals.{IsRefusal, text_of};
-ghost use Rattle.report.specs.Text.{refusal_line, refusal_of, refusal_status, stop_line, stop_status};
+ghost use Rattle.report_text.specs.Text.{refusal_line, refusal_of, refusal_status, stop_line, stop_status};
 
 use crate::compile::{Compiled, compile};
-use crate::fault::Fault;
-use crate::messages::put;
 use crate::text::{fault_text, lines, stop_text};
+use report_text::fault::Fault;
+use report_text::messages::put;
 use stack_machine::bytes::{Feed, Sink};
 use stack_machine::machine::Machine;
 use stack_machine::stop::Stop;

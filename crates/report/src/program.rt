@@ -1,5 +1,5 @@
 ghost use Rattle.std.specs.Prelude.{◌≡◌, ◌<◌, ◌-◌, ◌^◌};
-ghost use Rattle.report.specs.Messages.{page};
+ghost use Rattle.report_text.specs.Messages.{page};
 ghost use Rattle.report.specs.Program.{Does};
 ghost use Rattle.report.specs.Refusals.{text_of};
 

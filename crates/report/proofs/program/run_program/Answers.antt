@@ -1,8 +1,8 @@
 use Rattle.std.proofs.Common.{rules, ap, subst, sym}
-use Rattle.report.specs.Messages.{Gets, page}
+use Rattle.report_text.specs.Messages.{Gets, page}
 use Rattle.report.specs.Refusals.{text_of}
 use Rattle.report.specs.Program.{Refused, IsPrepared, last_line}
-use Rattle.report.proofs.MessagesLemmas.{seen}
+use Rattle.report_text.proofs.MessagesLemmas.{seen}
 use Rattle.report.proofs.ProgramLemmas.{does}
 use Rattle.report.proofs.program.run_program.Goals as goal
 

@@ -1,7 +1,7 @@
 use Rattle.std.proofs.Common.{refl, ap, ◌∙◌}
-use Rattle.report.specs.Messages.{page}
+use Rattle.report_text.specs.Messages.{page}
 use Rattle.report.specs.Program.{Listed, Ran, report_status}
-use Rattle.report.proofs.MessagesLemmas.{nothing_more}
+use Rattle.report_text.proofs.MessagesLemmas.{nothing_more}
 use Rattle.report.proofs.ProgramLemmas.{run_answer}
 use Rattle.report.proofs.prepared.Reported.run.Goals as goal
 

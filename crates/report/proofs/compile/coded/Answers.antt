@@ -1,0 +1,60 @@
+use Rattle.std.proofs.Common.{◌≡◌, ◌∙◌, ap, subst, false, Err}
+use Rattle.std.proofs.lemmas.Bool.{false_from_ne_true}
+use Rattle.std.proofs.lemmas.Result.{err_from_is_err_and}
+use Rattle.check_remover.specs.Strip.{strip, KeepsInstructions}
+use Rattle.code_scheme.specs.Code.{program_code}
+use Rattle.code_generator.specs.Large.{is_too_large}
+use Rattle.code_generator.specs.Tables.{site_table}
+use Rattle.code_generator.proofs.Program.{stripped_follows}
+use Rattle.report.proofs.OpenSites.{errs_at_open}
+use Rattle.report.proofs.RefusalLemmas.{refused_by, generation-refusal}
+use Rattle.report.proofs.compile.coded.Goals as goal
+
+-- the checks that the remover takes out are of sites at which the program never errs
+pub returns : goal.returns
+returns c = λ source text certificate sound judged.
+    let tree = c.args.tree.now in
+    let full = c.in_ok-full.full in
+    let stripped = c.in_ok-stripped.stripped in
+    let open_sites = c.args.verdict.now.open_sites.items in
+    let few : is_too_large tree ≡ false =
+    false_from_ne_true (is_too_large tree) (λ more. absurd (cc (c.in_ok-full.was, c.generate.ensures.too_large.1 more))) in
+    let listed = c.deref.ensures.value ∙ c.in_ok-open_sites.ensures in
+    let keeps = subst (λ sites. KeepsInstructions sites (program_code tree) stripped.instructions.items) listed
+    (subst (λ code. KeepsInstructions c.deref.result.now code stripped.instructions.items) c.in_ok-full.ensures.instructions c.in_ok-stripped.ensures.kept) in
+    let sites = c.in_ok-stripped.ensures.sites ∙ c.in_ok-full.ensures.sites in
+    record {
+      instructions = c.in_ok-full.ensures.instructions;
+      sites = c.in_ok-full.ensures.sites;
+      points = c.in_ok-full.ensures.points;
+      follows = c.in_ok-full.ensures.follows sound.well_formed;
+      less = record {
+        instructions = c.in_ok-stripped.ensures.instructions ∙ ap (λ sites. strip sites full.instructions.items) listed
+            ∙ ap (strip _) c.in_ok-full.ensures.instructions;
+        sites = sites;
+        points = c.in_ok-stripped.ensures.points ∙ c.in_ok-full.ensures.points;
+      };
+      headline = record {
+        closed_never_err = judged.closed_never_err;
+        follows = stripped_follows tree (site_table open_sites) stripped sound.well_formed few sites keeps
+            (errs_at_open tree open_sites judged.closed_never_err);
+      };
+    }
+
+pub returns-in_err-full : goal.returns-in_err-full
+returns-in_err-full c = λ source text certificate sound judged.
+    let told = err_from_is_err_and c.from_residual.result c.from_residual.ensures.1 in
+    refused_by _ source text c.from_residual.result told.0 _ told.1 told.2
+    (generation-refusal source text c.args.tree.now certificate c.in_err-full.field-0.0
+    (record { typed = sound.typed; spelled = judged.spelled }) judged.valid.unbroken
+    (λ same. c.generate.ensures.too_large.0 (c.in_err-full.was ∙ ap Err same)))
+
+pub returns-in_err-open_sites : goal.returns-in_err-open_sites
+returns-in_err-open_sites c = λ source text certificate sound judged.
+    let told = err_from_is_err_and c.from_residual-in_err-open_sites.result c.from_residual-in_err-open_sites.ensures.1 in
+    refused_by _ source text c.from_residual-in_err-open_sites.result told.0 _ told.1 told.2 tt
+
+pub returns-in_err-stripped : goal.returns-in_err-stripped
+returns-in_err-stripped c = λ source text certificate sound judged.
+    let told = err_from_is_err_and c.from_residual-in_err-stripped.result c.from_residual-in_err-stripped.ensures.1 in
+    refused_by _ source text c.from_residual-in_err-stripped.result told.0 _ told.1 told.2 tt

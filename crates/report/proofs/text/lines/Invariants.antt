@@ -1,8 +1,0 @@
-use Rattle.std.proofs.Common.{◌≡◌, take}
-use Rattle.std.specs.List.{flat_map}
-use Rattle.report.specs.Text.{open_line}
-use Rattle.report.proofs.text.lines.Given as goal
-
--- the lines of the sites so far
-abbrev pub invariant-loop-site : goal.invariant-loop-site
-invariant-loop-site l = l.text.items ≡ flat_map open_line (take l.site-index l.verdict.open_sites.items)

@@ -1,0 +1,40 @@
+-- The fault that the whole compiler tells where one of its layers refuses: want of memory is told alike by all.
+-- It says nothing of which layer refuses a source.
+use Rattle.lexer.specs.declared.fault.LexFault.{LexFault}
+use Rattle.lexer.specs.declared.fault.LexFault.TheVariants as lex
+use Rattle.token_cursor.specs.declared.fault.ParseFault.{ParseFault}
+use Rattle.token_cursor.specs.declared.fault.ParseFault.TheVariants as parse
+use Rattle.typed_tree.specs.declared.fault.TypeFault.{TypeFault}
+use Rattle.typed_tree.specs.declared.fault.TypeFault.TheVariants as typing
+use Rattle.certificate.specs.declared.fault.ReadFault.{ReadFault}
+use Rattle.certificate.specs.declared.fault.ReadFault.TheVariants as read
+use Rattle.expression_checker.specs.declared.fault.CheckFault.{CheckFault}
+use Rattle.expression_checker.specs.declared.fault.CheckFault.TheVariants as check
+use Rattle.code_generator.specs.declared.fault.GenFault.{GenFault}
+use Rattle.code_generator.specs.declared.fault.GenFault.TheVariants as generate
+use Rattle.report_text.specs.declared.fault.Fault.{Fault}
+use Rattle.report_text.specs.declared.fault.Fault.TheVariants.{Memory, Lex, Parse, Typing, Certificate, Check, Generate}
+
+abbrev pub lexer_fault : LexFault → Fault
+lexer_fault lex.Memory = Memory
+lexer_fault fault = Lex fault
+
+abbrev pub parser_fault : ParseFault → Fault
+parser_fault parse.Memory = Memory
+parser_fault fault = Parse fault
+
+abbrev pub typing_fault : TypeFault → Fault
+typing_fault typing.Memory = Memory
+typing_fault fault = Typing fault
+
+abbrev pub certificate_fault : ReadFault → Fault
+certificate_fault read.Memory = Memory
+certificate_fault fault = Certificate fault
+
+abbrev pub checker_fault : CheckFault → Fault
+checker_fault check.Memory = Memory
+checker_fault fault = Check fault
+
+abbrev pub generator_fault : GenFault → Fault
+generator_fault generate.Memory = Memory
+generator_fault generate.TooLarge = Generate generate.TooLarge

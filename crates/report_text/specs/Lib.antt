@@ -1,0 +1,3 @@
+pub mod Faults
+pub mod Text
+pub mod Messages

@@ -1,0 +1,106 @@
+ghost use Rattle.std.specs.Prelude.{◌≡◌};
+ghost use Rattle.report_text.specs.Faults.{lexer_fault, parser_fault, typing_fault, certificate_fault, checker_fault};
+ghost use Rattle.report_text.specs.Faults.{generator_fault};
+ghost use Rattle.report_text.specs.declared.fault.Fault.TheVariants.{Memory};
+
+use certificate::fault::ReadFault;
+use code_generator::fault::GenFault;
+use expression_checker::fault::CheckFault;
+use lexer::fault::LexFault;
+use std::alloc::AllocError;
+use thiserror::Error;
+use token_cursor::fault::ParseFault;
+use typed_tree::fault::TypeFault;
+
+/// Why a source was not compiled: want of memory, or the fault of the crate that refused it.
+#[derive(Clone, Copy, Debug, Error)]
+pub enum Fault {
+    #[error("no memory")]
+    Memory,
+    #[error("{0}")]
+    Lex(LexFault),
+    #[error("{0}")]
+    Parse(ParseFault),
+    #[error("{0}")]
+    Typing(TypeFault),
+    #[error("certificate:{0}")]
+    Certificate(ReadFault),
+    #[error("{0}")]
+    Check(CheckFault),
+    #[error("{0}")]
+    Generate(GenFault),
+}
+
+impl From<AllocError> for Fault {
+    ghost from_gives = { λ _ e. e ≡ Memory };
+
+    fn from(_error: AllocError) -> Fault {
+        Fault::Memory
+    }
+}
+
+impl From<LexFault> for Fault {
+    ghost from_gives = { λ fault e. e ≡ lexer_fault fault };
+
+    fn from(fault: LexFault) -> Fault {
+        match fault {
+            LexFault::Memory => Fault::Memory,
+            _ => Fault::Lex(fault),
+        }
+    }
+}
+
+impl From<ParseFault> for Fault {
+    ghost from_gives = { λ fault e. e ≡ parser_fault fault };
+
+    fn from(fault: ParseFault) -> Fault {
+        match fault {
+            ParseFault::Memory => Fault::Memory,
+            _ => Fault::Parse(fault),
+        }
+    }
+}
+
+impl From<TypeFault> for Fault {
+    ghost from_gives = { λ fault e. e ≡ typing_fault fault };
+
+    fn from(fault: TypeFault) -> Fault {
+        match fault {
+            TypeFault::Memory => Fault::Memory,
+            _ => Fault::Typing(fault),
+        }
+    }
+}
+
+impl From<ReadFault> for Fault {
+    ghost from_gives = { λ fault e. e ≡ certificate_fault fault };
+
+    fn from(fault: ReadFault) -> Fault {
+        match fault {
+            ReadFault::Memory => Fault::Memory,
+            _ => Fault::Certificate(fault),
+        }
+    }
+}
+
+impl From<CheckFault> for Fault {
+    ghost from_gives = { λ fault e. e ≡ checker_fault fault };
+
+    fn from(fault: CheckFault) -> Fault {
+        match fault {
+            CheckFault::Memory => Fault::Memory,
+            CheckFault::Foreign | CheckFault::Broken { .. } => Fault::Check(fault),
+        }
+    }
+}
+
+impl From<GenFault> for Fault {
+    ghost from_gives = { λ fault e. e ≡ generator_fault fault };
+
+    fn from(fault: GenFault) -> Fault {
+        match fault {
+            GenFault::Memory => Fault::Memory,
+            GenFault::TooLarge => Fault::Generate(fault),
+        }
+    }
+}

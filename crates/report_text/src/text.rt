@@ -1,0 +1,364 @@
+ghost use Rattle.std.specs.Prelude.{◌≡◌, ℕ, ◌+◌, ◌*◌, ◌<◌, ◌≤◌, ◌^◌, [], ◌∷◌, ◌++◌, length, decimal, codes, IfOk};
+ghost use Rattle.std.specs.List.{flat_map};
+ghost use Rattle.report_text.specs.declared.text.TheConstants.{LINE_SIZE};
+ghost use Rattle.report_text.specs.Text.{name_size, number_size, place_text, open_line, refusal_of, refusal_line};
+ghost use Rattle.report_text.specs.Text.{refusal_status, stop_line, stop_status, error_name, input_name, machine_text};
+ghost use Rattle.report_text.specs.Text.{code_text};
+ghost use Rattle.report_text.specs.Text.{lexer_refusal, parser_refusal, typing_refusal, certificate_refusal};
+ghost use Rattle.report_text.specs.Text.{checker_refusal, rule_number, generator_refusal};
+
+use crate::fault::Fault;
+use certificate::fault::ReadFault;
+use code_generator::fault::GenFault;
+use expression_checker::fault::{CheckFault, Rule};
+use itoa::Buffer;
+use lexer::fault::LexFault;
+use place::Place;
+use smallvec::SmallVec;
+use stack_machine::stop::{InputFault, MachineFault, Stop};
+use std::alloc::{AllocError, Global};
+use token_cursor::fault::ParseFault;
+use typed_tree::fault::TypeFault;
+use typed_tree::site::{Site, SiteKind};
+
+/// How many bytes a line takes at most.
+pub const LINE_SIZE: usize = 96;
+
+/// A line with its line end, kept in place: none that a program prints is longer.
+pub type Line = SmallVec<u8, LINE_SIZE>;
+
+/// The lines of open sites, one for each, in order: `LINE:COLUMN: possible error: NAME`.
+pub fn open_lines(alloc: Global, open_sites: &[Site]) -> Result<Vec<u8>, AllocError>
+    ensures { IfOk result (λ text. text.items ≡ flat_map open_line open_sites.now) }
+{
+    let mut text = Vec::new(alloc);
+    for site in open_sites {
+        text.extend_from_slice(open_site(alloc, *site).as_slice())?;
+    }
+    Ok(text)
+}
+
+/// The line of a fault, and the status that a program ends with.
+pub fn fault_text(alloc: Global, fault: &Fault) -> (Line, u8)
+    ensures line { result.0.items ≡ refusal_line (refusal_of fault.now) }
+    ensures status { result.1 ≡ refusal_status (refusal_of fault.now) }
+{
+    match refusal_told(fault) {
+        Refusal::Memory => (sentence(Line::new(alloc), "no memory", ""), 3),
+        Refusal::Whole(code) => (
+            refused(sentence_start(Line::new(alloc), "refused "), code),
+            2,
+        ),
+        Refusal::Claims(code) => {
+            let start = sentence_start(Line::new(alloc), "certificate refused ");
+            (refused(start, code), 2)
+        }
+        Refusal::At { place, code } => {
+            let start = placed(alloc, place.line, place.column);
+            (refused(sentence_start(start, ": refused "), code), 2)
+        }
+        Refusal::Certificate { line, code } => {
+            let start = sentence_start(Line::new(alloc), "certificate:");
+            (
+                refused(sentence_start(numbered(start, line), ": refused "), code),
+                2,
+            )
+        }
+        Refusal::Claim { place, code } => {
+            let start = placed(alloc, place.line, place.column);
+            (
+                refused(sentence_start(start, ": certificate refused "), code),
+                2,
+            )
+        }
+    }
+}
+
+/// The line of a stop, and the status that a program ends with; no line for a run that finished.
+pub fn stop_text(alloc: Global, stop: &Stop) -> (Line, u8)
+    ensures line { result.0.items ≡ stop_line stop.now }
+    ensures status { result.1 ≡ stop_status stop.now }
+{
+    let empty = Line::new(alloc);
+    match stop {
+        Stop::Finished => (empty, 0),
+        Stop::Error(site) => {
+            let start = placed(alloc, site.line, site.column);
+            (sentence(start, ": error: ", error_text(site.kind)), 4)
+        }
+        Stop::Input { point, fault } => {
+            let start = placed(alloc, point.line, point.column);
+            (sentence(start, ": input: ", input_text(*fault)), 5)
+        }
+        Stop::More => (sentence(empty, "budget used up", ""), 3),
+        Stop::StoreFull => (sentence(empty, "store full", ""), 6),
+        Stop::Fault(fault) => (sentence(empty, "machine fault ", fault_name(*fault)), 7),
+        Stop::ReadFailed => (sentence(empty, "read failed", ""), 3),
+        Stop::WriteFailed => (sentence(empty, "write failed", ""), 3),
+    }
+}
+
+/// The letter and the number of a rule that a source breaks.
+#[derive(Clone, Copy)]
+pub struct RuleCode {
+    pub letter: u8,
+    pub number: u8,
+}
+
+/// What a fault says: where, and which rule.
+#[derive(Clone, Copy)]
+pub enum Refusal {
+    Memory,
+    /// At a place of the source.
+    At { place: Place, code: RuleCode },
+    /// At a line of the certificate.
+    Certificate { line: u64, code: RuleCode },
+    /// Of what the certificate claims, at a place of the source.
+    Claim { place: Place, code: RuleCode },
+    /// Of what the certificate claims, as a whole.
+    Claims(RuleCode),
+    /// Of the program as a whole.
+    Whole(RuleCode),
+}
+
+/// What a fault says.
+pub fn refusal_told(fault: &Fault) -> Refusal
+    ensures { result ≡ refusal_of fault.now }
+{
+    match fault {
+        Fault::Memory => Refusal::Memory,
+        Fault::Lex(fault) => lexer_refusal(*fault),
+        Fault::Parse(fault) => parser_refusal(*fault),
+        Fault::Typing(fault) => typing_refusal(*fault),
+        Fault::Certificate(fault) => certificate_refusal(*fault),
+        Fault::Check(fault) => checker_refusal(*fault),
+        Fault::Generate(fault) => generator_refusal(*fault),
+    }
+}
+
+fn at(place: Place, letter: u8, number: u8) -> Refusal
+    ensures { result ≡ Refusal.At place (record { letter = letter; number = number }) }
+{
+    Refusal::At {
+        place,
+        code: RuleCode { letter, number },
+    }
+}
+
+fn lexer_refusal(fault: LexFault) -> Refusal
+    ensures { result ≡ lexer_refusal fault }
+{
+    match fault {
+        LexFault::Memory => Refusal::Memory,
+        LexFault::UnknownByte(place) => at(place, b'L', 1),
+        LexFault::OpenComment(place) => at(place, b'L', 2),
+        LexFault::OpenString(place) => at(place, b'L', 3),
+        LexFault::EmptyString(place) => at(place, b'L', 4),
+        LexFault::LargeNumber(place) => at(place, b'L', 5),
+        LexFault::TouchingLetter(place) => at(place, b'L', 6),
+        LexFault::LongText(place) => at(place, b'L', 7),
+        LexFault::StringByte(place) => at(place, b'L', 8),
+    }
+}
+
+fn parser_refusal(fault: ParseFault) -> Refusal
+    ensures { result ≡ parser_refusal fault }
+{
+    match fault {
+        ParseFault::Memory => Refusal::Memory,
+        ParseFault::NoProgram(place) => at(place, b'P', 1),
+        ParseFault::TooDeep(place) => at(place, b'P', 2),
+        ParseFault::LeftOut(place) => at(place, b'P', 3),
+    }
+}
+
+fn typing_refusal(fault: TypeFault) -> Refusal
+    ensures { result ≡ typing_refusal fault }
+{
+    match fault {
+        TypeFault::Memory => Refusal::Memory,
+        TypeFault::DeclaredTwice(place) => at(place, b'S', 1),
+        TypeFault::UsedBeforeDeclared(place) => at(place, b'S', 2),
+        TypeFault::NotDeclared(place) => at(place, b'S', 3),
+        TypeFault::NestedTooDeep(place) => at(place, b'S', 4),
+        TypeFault::Mismatch(place) => at(place, b'K', 1),
+        TypeFault::NotVariable(place) => at(place, b'K', 2),
+        TypeFault::WrongParameters(place) => at(place, b'K', 3),
+        TypeFault::PackedComponent(place) => at(place, b'K', 4),
+        TypeFault::Threatened(place) => at(place, b'K', 5),
+        TypeFault::CaseConstant(place) => at(place, b'K', 6),
+        TypeFault::NeverAssigned(place) => at(place, b'K', 7),
+        TypeFault::NotProgramParameter(place) => at(place, b'K', 8),
+        TypeFault::NotCompleted(place) => at(place, b'K', 9),
+        TypeFault::TooMany(place) => at(place, b'K', 10),
+        TypeFault::FirstAboveLast(place) => at(place, b'Y', 1),
+        TypeFault::TooManyCells(place) => at(place, b'Y', 2),
+    }
+}
+
+fn certificate_refusal(fault: ReadFault) -> Refusal
+    ensures { result ≡ certificate_refusal fault }
+{
+    let (line, number) = match fault {
+        ReadFault::Memory => return Refusal::Memory,
+        ReadFault::FirstLine { line } => (line, 1),
+        ReadFault::NotInGrammar { line } => (line, 2),
+        ReadFault::OutOfOrder { line } => (line, 3),
+        ReadFault::OutOfRange { line } => (line, 4),
+        ReadFault::Unended { line } => (line, 5),
+    };
+    Refusal::Certificate {
+        line,
+        code: RuleCode {
+            letter: b'F',
+            number,
+        },
+    }
+}
+
+fn checker_refusal(fault: CheckFault) -> Refusal
+    ensures { result ≡ checker_refusal fault }
+{
+    match fault {
+        CheckFault::Memory => Refusal::Memory,
+        CheckFault::Foreign => Refusal::Claims(RuleCode {
+            letter: b'C',
+            number: 1,
+        }),
+        CheckFault::Broken { rule, place } => Refusal::Claim {
+            place,
+            code: RuleCode {
+                letter: b'C',
+                number: rule_number(rule),
+            },
+        },
+    }
+}
+
+fn rule_number(rule: Rule) -> u8
+    ensures { result ≡ rule_number rule }
+{
+    match rule {
+        Rule::LoopEntry => 2,
+        Rule::LoopTurn => 3,
+        Rule::Exit => 4,
+        Rule::CallEntry => 5,
+        Rule::Aliases => 6,
+        Rule::Changes => 7,
+    }
+}
+
+fn generator_refusal(fault: GenFault) -> Refusal
+    ensures { result ≡ generator_refusal fault }
+{
+    match fault {
+        GenFault::Memory => Refusal::Memory,
+        GenFault::TooLarge => Refusal::Whole(RuleCode {
+            letter: b'G',
+            number: 1,
+        }),
+    }
+}
+
+fn error_text(kind: u8) -> &'static str
+    ensures name { result.now ≡ error_name kind }
+    ensures short { length result.now ≤ name_size }
+{
+    match SiteKind::with_number(kind) {
+        Some(kind) => kind.name(),
+        None => "unknown",
+    }
+}
+
+fn input_text(fault: InputFault) -> &'static str
+    ensures name { result.now ≡ input_name fault }
+    ensures short { length result.now ≤ name_size }
+{
+    match fault {
+        InputFault::EndOfInput => "end of input",
+        InputFault::NotANumber => "not a number",
+        InputFault::NumberTooLarge => "number too large",
+        InputFault::OutsideType => "value outside the type",
+        InputFault::NotACharacter => "not a character",
+    }
+}
+
+fn fault_name(fault: MachineFault) -> &'static str
+    ensures name { result.now ≡ machine_text fault }
+    ensures short { length result.now ≤ name_size }
+{
+    match fault {
+        MachineFault::Underflow => "M1",
+        MachineFault::OutOfBounds => "M2",
+        MachineFault::WrongKind => "M3",
+        MachineFault::WrongDivisor => "M4",
+    }
+}
+
+fn open_site(alloc: Global, site: Site) -> Line
+    ensures { result.items ≡ open_line site }
+{
+    let start = placed(alloc, site.place.line, site.place.column);
+    sentence(start, ": possible error: ", site.kind.name())
+}
+
+// `LINE:COLUMN`
+fn placed(alloc: Global, line: u32, column: u32) -> Line
+    ensures text { result.items ≡ place_text line column }
+    ensures capacity { result.capacity ≡ LINE_SIZE }
+    ensures short { length result.items ≤ 2 * number_size + 1 }
+{
+    let start = numbered(Line::new(alloc), u64::from(line));
+    numbered(append(start, ":"), u64::from(column))
+}
+
+fn numbered(line: Line, number: u64) -> Line
+    requires capacity { line.capacity ≡ LINE_SIZE }
+    requires short { length line.items + number_size ≤ LINE_SIZE }
+    ensures text { result.items ≡ line.items ++ decimal number }
+    ensures capacity { result.capacity ≡ LINE_SIZE }
+    ensures short { length result.items ≤ length line.items + number_size }
+{
+    let mut buffer = Buffer::new();
+    append(line, buffer.format(number))
+}
+
+fn sentence_start(line: Line, words: &str) -> Line
+    requires capacity { line.capacity ≡ LINE_SIZE }
+    requires short { length line.items + length words.now ≤ LINE_SIZE }
+    ensures text { result.items ≡ line.items ++ words.now }
+    ensures capacity { result.capacity ≡ LINE_SIZE }
+    ensures short { length result.items ≡ length line.items + length words.now }
+{
+    append(line, words)
+}
+
+// The words, a name and the line end.
+fn sentence(line: Line, words: &str, name: &str) -> Line
+    requires capacity { line.capacity ≡ LINE_SIZE }
+    requires short { length line.items + length words.now + length name.now < LINE_SIZE }
+    ensures { result.items ≡ line.items ++ words.now ++ name.now ++ 10 ∷ [] }
+{
+    append(append(append(line, words), name), "\n")
+}
+
+// The code and the line end.
+fn refused(line: Line, code: RuleCode) -> Line
+    requires capacity { line.capacity ≡ LINE_SIZE }
+    requires short { length line.items + number_size + 2 ≤ LINE_SIZE }
+    ensures { result.items ≡ line.items ++ code_text code ++ 10 ∷ [] }
+{
+    let mut line = line;
+    line.push_reserved(code.letter);
+    append(numbered(line, u64::from(code.number)), "\n")
+}
+
+fn append(mut line: Line, text: &str) -> Line
+    requires capacity { line.capacity ≡ LINE_SIZE }
+    requires short { length line.items + length text.now ≤ LINE_SIZE }
+    ensures text { result.items ≡ line.items ++ text.now }
+    ensures capacity { result.capacity ≡ LINE_SIZE }
+{
+    let _fits = line.extend_from_slice(text.as_bytes());
+    line
+}
