@@ -426,7 +426,7 @@ class Look(Repository):
         for words, wanted in (
             (["--go", "a b.pas"], ["--go", "{}/a b.pas"]),
             (["--cert", "x/../c.cert", "--go", "a b.pas"], ["--cert", "{}/c.cert", "--go", "{}/a b.pas"]),
-            (["--cert=c.cert", "/tmp/a.pas"], ["--cert={}/c.cert", "/tmp/a.pas"]),
+            (["--cert=c.cert", "/else/a.pas"], ["--cert={}/c.cert", "/else/a.pas"]),
             (["--cert", "--go", "a"], ["--cert", "{}/--go", "{}/a"]),
             (["--go", "--", "--cert"], ["--go", "--", "{}/--cert"]),
             (["--version"], ["--version"]),
