@@ -1,10 +1,13 @@
 -- What the words `pcom [--cert FILE] [--go] SOURCE` say: the matches that a command of these three arguments has on
 -- them, by clap's own definitions.
-use Rattle.std.specs.Prelude.{◌≡◌, ⊤, Bool, true, false, codes, List, [], Option, Some, None, option_map}
-use Rattle.clap.specs.Words.{App, IsAmong, Rule, Text, first_of, kind_of, matches_of, new_app, new_rule, one_of}
+use Rattle.std.specs.Prelude.{◌≡◌, ⊤, Bool, true, false, codes, List, [], Option, Some, None, is_some, option_map}
+use Rattle.clap.specs.Words.{App, IsAmong, Rule, Text, first_of, first_value, found_of, kind_of, matches_of, new_app}
+use Rattle.clap.specs.Words.{new_rule, one_of}
 use Rattle.clap.specs.Words.{rule_of, with_rule}
-use Rattle.clap.specs.Built.{IsPlainArg}
+use Rattle.clap.specs.Built.{IsParsedFrom, IsPlainArg}
 use Rattle.clap.specs.declared.builder.arg.Arg.{Arg}
+use Rattle.clap.specs.declared.builder.command.Command.{Command}
+use Rattle.clap.specs.declared.parser.matches.ArgMatches.{ArgMatches}
 use Rattle.clap.specs.Simple.{on_top}
 use Rattle.clap.specs.Faults.{fault_of}
 use Rattle.clap.specs.declared.error.Error.{Error}
@@ -44,6 +47,12 @@ pcom =
     with_rule (with_rule (with_rule (on_top (λ s. record s { has_version = true }) (new_app (codes "pcom"))) cert) go)
     source
 
+-- what a command of clap's parses has a source
+abbrev pub WantsSource : Command → Type 0
+WantsSource command =
+    (matches : ArgMatches) → IsParsedFrom command matches
+    → is_some (first_value (found_of matches) (codes "source")) ≡ true
+
 -- the path of the source that the words give
 abbrev pub source_in : List Text → Option Text
 source_in words = first_of (codes "source") (matches_of pcom words)
@@ -66,7 +75,7 @@ pub record IsFlag (text : Option Text) (flag : Bool) : Type 0 where
 pub record AreSaid (words : List Text) (said : PcomWords) : Type 0 where
   pub faultless : fault_of pcom words ≡ []
   pub source : source_in words ≡ Some said.source.now
-  pub certificate : certificate_in words ≡ option_map (λ path. path.now) said.certificate
+  pub cert : certificate_in words ≡ option_map (λ path. path.now) said.cert
   pub go : IsFlag (go_in words) said.go
 
 -- words that are not: there is no memory, or they have a fault, of a kind that is told

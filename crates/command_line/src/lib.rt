@@ -1,11 +1,12 @@
 //! The words of the command `pcom`.
 #![tactic(auto)]
 
-ghost use Rattle.std.specs.Prelude.{◌≡◌, ◌≢◌, ◌↔◌, IsTrue, MatchResult, map};
-ghost use Rattle.clap.specs.Words.{kind_of};
+ghost use Rattle.std.specs.Prelude.{◌≡◌, ◌≢◌, ◌↔◌, IfOk, IsTrue, MatchResult, map};
+ghost use Rattle.clap.specs.Words.{app_of, kind_of};
 ghost use Rattle.clap.specs.Built.{TakesValue};
 ghost use Rattle.clap.specs.declared.error.kind.ErrorKind.TheVariants as ErrorKind;
-ghost use Rattle.command_line.specs.Words.{AreSaid, IsArgument, IsWordsFault, cert, go, source, words_fault};
+ghost use Rattle.command_line.specs.Words.{AreSaid, IsArgument, IsWordsFault, WantsSource, cert, go, pcom, source};
+ghost use Rattle.command_line.specs.Words.{words_fault};
 ghost use Rattle.command_line.specs.declared.WordsFault.TheVariants.{Memory};
 
 use clap::{Arg, ArgAction, Command};
@@ -17,7 +18,7 @@ pub struct PcomWords<'a> {
     /// The path of the source.
     pub source: &'a str,
     /// The path of the certificate, if one is given.
-    pub certificate: Option<&'a str>,
+    pub cert: Option<&'a str>,
     /// Whether the code is to be run.
     pub go: bool,
 }
@@ -81,19 +82,22 @@ pub fn pcom_words<'a>(alloc: Global, words: &'a [&'a str]) -> Result<PcomWords<'
     ensures { MatchResult result
         (AreSaid (map (λ w. w.now) words.entry.now)) (IsWordsFault (map (λ w. w.now) words.entry.now)) }
 {
-    let command = Command::new(alloc, "pcom")
-        .version("0.1.0")
-        .about(ABOUT)
-        .after_help(AFTER_HELP)
-        .arg(cert_argument(alloc))?
-        .arg(go_argument(alloc))?
-        .arg(source_argument(alloc))?;
-    let matches = command.try_get_matches_from(words)?;
+    let matches = command(alloc)?.try_get_matches_from(words)?;
     Ok(PcomWords {
         source: matches.get_str("source").unwrap_or(""),
-        certificate: matches.get_str("cert"),
+        cert: matches.get_str("cert"),
         go: matches.get_flag("go"),
     })
+}
+
+/// The fault of words of which one isn't UTF-8, and so no path and no option, as clap tells it.
+pub fn not_utf8(alloc: Global) -> Result<clap::Error, AllocError>
+    ensures { IfOk result (λ told. kind_of told ≡ ErrorKind.Io) }
+{
+    command(alloc)?.error(
+        clap::error::ErrorKind::Io,
+        "invalid UTF-8 was detected in one or more arguments",
+    )
 }
 
 /// Prints what clap tells, the help and the version to standard output, a fault of the words to standard error.
@@ -103,6 +107,20 @@ pub fn tell<R: Print + Eprint>(rt: &R, told: clap::Error) -> bool
 {
     let _ = told.print(rt);
     told.use_stderr()
+}
+
+// The command.
+fn command<'a>(alloc: Global) -> Result<Command<'a>, AllocError>
+    ensures app { IfOk result (λ command. app_of command ≡ pcom) }
+    ensures source { IfOk result WantsSource }
+{
+    Command::new(alloc, "pcom")
+        .version("0.1.0")
+        .about(ABOUT)
+        .after_help(AFTER_HELP)
+        .arg(cert_argument(alloc))?
+        .arg(go_argument(alloc))?
+        .arg(source_argument(alloc))
 }
 
 // The option `--cert FILE`.

@@ -2,11 +2,11 @@
 #![tactic(auto)]
 
 use report::fault::Fault;
-use report::prepared::refuse;
+use report::prepared::{cannot_read, refuse};
 use report::program::run_program;
-use report::{PcomWords, WordsFault, pcom_words, tell};
+use report::{PcomWords, WordsFault, not_utf8, pcom_words, tell};
 use stack_machine::bytes::Counted;
-use std::io::Write;
+use std::io::ErrorKind;
 use std::process::ExitCode;
 use std::{env, fs};
 
@@ -14,22 +14,8 @@ use std::{env, fs};
 const TROUBLE: u8 = 3;
 
 fn main(rt: HostRuntime) -> ExitCode {
-    let alloc = rt.alloc();
-    let Ok(given) = env::args(&rt) else {
-        return no_memory(&rt);
-    };
-    let Ok(texts) = given.collect::<Vec<String>>(alloc) else {
-        return no_memory(&rt);
-    };
-    let Ok(words) = texts
-        .iter()
-        .map(|word| word.as_str())
-        .collect::<Vec<&str>>(alloc)
-    else {
-        return no_memory(&rt);
-    };
-    match pcom_words(alloc, &words) {
-        Ok(words) => compiled(&rt, words),
+    match by_words(&rt) {
+        Ok(status) => ExitCode::from(status),
         Err(WordsFault::Memory) => no_memory(&rt),
         Err(WordsFault::Words(told)) => status_of(tell(&rt, told)),
     }
@@ -44,18 +30,40 @@ fn status_of(is_fault: bool) -> ExitCode {
     }
 }
 
-fn compiled(rt: &HostRuntime, words: PcomWords<'_>) -> ExitCode {
+// Does what the words say, and answers the status.
+fn by_words(rt: &HostRuntime) -> Result<u8, WordsFault> {
+    let texts = given_words(rt)?;
+    let words = texts
+        .iter()
+        .map(|word| word.as_str())
+        .collect::<Vec<&str>>(rt.alloc())?;
+    Ok(compiled(rt, pcom_words(rt.alloc(), &words)?))
+}
+
+// The words of the command line, which have to be UTF-8.
+fn given_words(rt: &HostRuntime) -> Result<Vec<String>, WordsFault> {
+    match env::args(rt) {
+        Ok(given) => Ok(given.collect::<Vec<String>>(rt.alloc())?),
+        Err(error) => match error.kind() {
+            ErrorKind::OutOfMemory => Err(WordsFault::Memory),
+            _ => Err(WordsFault::Words(not_utf8(rt.alloc())?)),
+        },
+    }
+}
+
+// Reads the files, the source first, compiles, and runs where the words say so.
+fn compiled(rt: &HostRuntime, words: PcomWords<'_>) -> u8 {
     let Ok(source) = fs::read(rt, words.source) else {
         return unreadable(rt, words.source);
     };
-    let certificate = match words.certificate {
+    let certificate = match words.cert {
         None => None,
         Some(path) => match fs::read(rt, path) {
             Ok(text) => Some(text),
             Err(_) => return unreadable(rt, path),
         },
     };
-    ExitCode::from(run_program(
+    run_program(
         rt.alloc(),
         &source,
         certificate.as_deref(),
@@ -63,14 +71,11 @@ fn compiled(rt: &HostRuntime, words: PcomWords<'_>) -> ExitCode {
         &mut Counted::new(rt.stdin()),
         &mut Counted::new(rt.stdout()),
         &mut Counted::new(rt.stderr()),
-    ))
+    )
 }
 
-fn unreadable(rt: &HostRuntime, path: &str) -> ExitCode {
-    for part in ["cannot read ", path, "\n"] {
-        let _ = rt.stderr().write_all(part.as_bytes());
-    }
-    ExitCode::from(TROUBLE)
+fn unreadable(rt: &HostRuntime, path: &str) -> u8 {
+    cannot_read(path, &mut Counted::new(rt.stderr()))
 }
 
 fn no_memory(rt: &HostRuntime) -> ExitCode {

@@ -1,9 +1,10 @@
 -- What the program of the compiler does with a source: how it ends, what standard error gets, the status, and what is
 -- run. It does not say what a writer that fails does not take.
 use Rattle.std.specs.Prelude.{◌≡◌, ℕ, ◌+◌, ◌-◌, ◌^◌, ◌==◌, if◌then◌else◌, Bool, true, false, List, [], ◌∷◌, ◌++◌}
-use Rattle.std.specs.Prelude.{Option, Some, None}
+use Rattle.std.specs.Prelude.{Option, Some, None, codes}
 use Rattle.std.specs.List.{flat_map}
 use Rattle.typed_tree.specs.declared.site.Site.{Site}
+use Rattle.cert_checker.specs.declared.Verdict.{Verdict}
 use Rattle.stack_machine.specs.declared.machine.Machine.{Machine}
 use Rattle.stack_machine.specs.declared.stop.Stop.{Stop}
 use Rattle.stack_machine.specs.Does.{cell_count}
@@ -17,12 +18,29 @@ use Rattle.report.specs.Refusals.{IsRefusal}
 use Rattle.report_text.specs.Text.{open_line, refusal_of, refusal_line, refusal_status, stop_line, stop_status}
 use Rattle.report.specs.Whole.{IsCompiled, RunsStripped}
 
+-- the line of a file that can't be read, by its path, and the status
+abbrev pub unreadable_line : List ℕ → List ℕ
+unreadable_line path = codes "cannot read " ++ (path ++ codes "\n")
+
+abbrev pub unreadable_status : ℕ
+unreadable_status = 3
+
 -- how many cells a run has, and how many instructions it may take
 abbrev pub cells : ℕ
 cells = 1000000
 
 abbrev pub budget : ℕ
 budget = 2 ^ 64 - 1
+
+-- A source was compiled with this verdict, and the code without the checks of the sites that aren't open was run, on so
+-- many cells and for at most so many instructions: this is its stop, and the writer has what the run wrote.
+pub record IsRunOf (source text : List ℕ) (cells budget : ℕ) (verdict : Verdict) (stop : Stop) (before after : Page)
+    : Type 0 where
+  pub compiled : Compiled
+  pub is_compiled : IsCompiled source text compiled
+  pub verdict_is : compiled.verdict ≡ verdict
+  pub ran : RunsStripped compiled stop cells budget before.known after.known
+  pub failed : after.failures ≡ before.failures + write_failures_of stop
 
 -- how the program ends: the source is refused, or its open sites are listed, or its code is run too
 pub data End : Type 0 where

@@ -4,7 +4,9 @@
 pub mod compile;
 pub mod prepared;
 pub mod program;
+mod running;
 pub mod text;
 
-pub use command_line::{PcomWords, WordsFault, pcom_words, tell};
+pub use command_line::{PcomWords, WordsFault, not_utf8, pcom_words, tell};
 pub use report_text::{fault, messages};
+pub use running::go;

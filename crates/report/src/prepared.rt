@@ -1,6 +1,7 @@
 ghost use Rattle.std.specs.Prelude.{◌≡◌, ◌<◌, ◌+◌, ◌-◌, ◌^◌, ◌==◌, ℕ, if◌then◌else◌, true, IfOk, IfErr, MatchBool};
 ghost use Rattle.report_text.specs.Messages.{Gets, page};
-ghost use Rattle.report.specs.Program.{End, Finishes, IsPrepared, last_line, status_of, report_status};
+ghost use Rattle.report.specs.Program.{End, Finishes, IsPrepared, last_line, report_status, status_of, unreadable_line};
+ghost use Rattle.report.specs.Program.{unreadable_status};
 ghost use Rattle.report.specs.Refusals.{IsRefusal, text_of};
 ghost use Rattle.report_text.specs.Text.{refusal_line, refusal_of, refusal_status, stop_line, stop_status};
 
@@ -16,6 +17,9 @@ use typed_tree::site::Site;
 
 /// How many cells a run has.
 const CELLS: u32 = 1_000_000;
+
+/// The status where a file can't be read.
+const UNREADABLE: u8 = 3;
 
 /// A source that is compiled, its report not yet told.
 #[derive(Drop)]
@@ -60,6 +64,19 @@ pub fn prepare(
         report,
         machine,
     })
+}
+
+/// Tells that the file of a path can't be read, and answers the status.
+pub fn cannot_read<E: Sink>(path: &str, errors: &mut E) -> u8
+    requires { E.failures errors.old < 2 ^ 64 - 1 }
+    ensures told { Gets (page (E.contents errors.old) (E.failures errors.old))
+        (page (E.contents errors.new) (E.failures errors.new)) (unreadable_line path.now) }
+    ensures status { result ≡ unreadable_status }
+{
+    if put("cannot read ".as_bytes(), errors) && put(path.as_bytes(), errors) {
+        put("\n".as_bytes(), errors);
+    }
+    UNREADABLE
 }
 
 /// Tells why a source is refused, and answers the status.
@@ -121,7 +138,7 @@ impl Reported {
         match machine {
             None => report_status,
             Some(mut machine) => {
-                let stop = machine.run(&compiled.stripped, reader, writer, u64::MAX);
+                let stop = compiled.run(&mut machine, reader, writer, u64::MAX);
                 run_status(report_status, tell_stop(alloc, &stop, told, errors))
             }
         }
