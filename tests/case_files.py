@@ -21,12 +21,14 @@ r"""Reads the cases of tests/cases, for `tests/run` and `tests/refuse_memory`. A
     input          what standard input holds
     writes         what is written to standard output
     tells          what is written to standard error
+    writes nowhere, tells nowhere    the stream takes no byte: each call that writes to it fails
     status N       the status, 0 where none is given
 
 Behind `source`, `certificate`, `input`, `writes` and `tells` stand the lines of the text. `|TEXT` is a line with its
 end, and without its end where the last character is `\`. `N|TEXT` is TEXT N times, without a line end, and `\#` in it
 is the number of the copy: `3|x\#+` is `x1+x2+x3+`. `\xHH` is a byte, `\\` is a backslash, and a blank at the end of a
-line is `\x20`. An empty line or a comment ends a text. Comments begin with `#` and may stand between all lines."""
+line is `\x20`. An empty line or a comment ends a text. Comments begin with `#` and may stand between all lines. In a word
+too `\xHH` is a byte and `\\` is a backslash."""
 
 import os
 import re
@@ -37,6 +39,9 @@ SOURCE = "source.pas"
 CERTIFICATE = "source.cert"
 ENDING = ".cases"
 TEXTS = ("source", "certificate", "input", "writes", "tells")
+STREAMS = ("writes", "tells")
+# What a stream holds that takes no byte.
+NOWHERE = None
 NAME = re.compile(r"[A-Za-z0-9_]+")
 TEXT_LINE = re.compile(r"(|[1-9][0-9]*)\|(.*)")
 ESCAPE = re.compile(r"\\(x[0-9A-Fa-f]{2}|.|$)")
@@ -151,7 +156,9 @@ def read_part(place, line, parts):
         parts[part] = b""
         return part
     if part == "words":
-        parts[part] = tuple(rest)
+        parts[part] = tuple(encoded(unescaped(place, word)) for word in rest)
+    elif part in STREAMS and rest == ["nowhere"]:
+        parts[part] = NOWHERE
     elif part == "status" and len(rest) == 1 and re.fullmatch("[0-9]{1,3}", rest[0]):
         parts[part] = int(rest[0])
     else:

@@ -8,6 +8,7 @@ use meaning::outcome::{Ending, Outcome};
 use pcode_assembler::code::Code;
 use report::compile::compile;
 use report::fault::Fault;
+use report::go;
 use report::text::{fault_text, lines, stop_text};
 use stack_machine::bytes::Counted;
 use stack_machine::machine::Machine;
@@ -49,15 +50,27 @@ pub(crate) fn run(alloc: Global, code: &Code, cells: u32, budget: u64) -> Result
     })
 }
 
-// Compiles and runs a source without input.
+// Compiles and runs a source without input. The writer is a vector here too.
 pub(crate) fn show(alloc: Global, source: &[u8], cells: u32, budget: u64) -> Result<Shown, Fault>
     requires { (1 ≤ cells) × (cells ≤ 16777216) }
 {
-    let compiled = compile(alloc, source, None)?;
-    let Ran { output, stop } = run(alloc, &compiled.stripped, cells, budget)?;
+    let mut reader = Counted::new(b"".as_slice());
+    let mut writer = Counted::new(Vec::new(alloc));
+    let (verdict, stop) = go(
+        alloc,
+        source,
+        None,
+        &mut reader,
+        &mut writer,
+        cells,
+        budget,
+    )?;
+    if matches!(stop, Stop::WriteFailed) {
+        return Err(Fault::Memory);
+    }
     Ok(Shown {
-        verdict: compiled.verdict,
-        output,
+        verdict,
+        output: writer.into_inner(),
         stop,
     })
 }
