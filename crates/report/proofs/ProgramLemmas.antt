@@ -1,5 +1,5 @@
 -- What was prepared and reported comes to the end at which it finishes.
-use Rattle.std.proofs.Common.{◌≡◌, ℕ, ◌+◌, List, ◌++◌, Bool, true, false, Option, Some, None, refl, ap, subst, ◌∙◌, append-nil}
+use Rattle.std.proofs.Common.{◌≡◌, ℕ, ◌+◌, List, ◌++◌, Bool, true, false, Option, Some, None, refl, ap, subst, sym, ◌∙◌, append-nil}
 use Rattle.std.specs.Prelude.{MatchBool, ◌==◌, if◌then◌else◌}
 use Rattle.typed_tree.specs.declared.site.Site.{Site}
 use Rattle.stack_machine.specs.declared.machine.Machine.{Machine}
@@ -12,6 +12,20 @@ use Rattle.report.specs.Program.{report_status, status_of}
 use Rattle.report_text.specs.Text.{stop_status}
 use Rattle.report.specs.Whole.{RunsStripped}
 use Rattle.report_text.proofs.MessagesLemmas.{Gets-then}
+
+-- a line in three parts, of which the first was written
+pub in_three_parts : (a b c d : Page) (first second third : List ℕ) (told more : Bool) → Gets a b first
+    → b.failures ≡ a.failures + (if told then 0 else 1) → told ≡ true → Gets b c second
+    → c.failures ≡ b.failures + (if more then 0 else 1) → MatchBool more (Gets c d third) (d ≡ c) → Gets a d (first ++ (second ++ third))
+in_three_parts a b c d first second third told more h count is k counted rest =
+    Gets-then a b d first (second ++ third) told h count
+    (subst (λ t. MatchBool t (Gets b d (second ++ third)) (d ≡ b)) (sym is) (Gets-then b c d second third more k counted rest))
+
+-- a part that wasn't written, with nothing behind it
+pub part_alone : (a b : Page) (first rest : List ℕ) (told : Bool) → Gets a b first → b.failures ≡ a.failures + (if told then 0 else 1)
+    → told ≡ false → Gets a b (first ++ rest)
+part_alone a b first rest told h count is =
+    Gets-then a b b first rest told h count (subst (λ t. MatchBool t (Gets b b rest) (b ≡ b)) (sym is) refl)
 
 -- no machine is made where the code isn't to be run
 pub go_without : (go : Bool) (held : Option Machine) → HasMachine go held → held ≡ None → go ≡ false

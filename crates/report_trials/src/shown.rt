@@ -56,15 +56,7 @@ pub(crate) fn show(alloc: Global, source: &[u8], cells: u32, budget: u64) -> Res
 {
     let mut reader = Counted::new(b"".as_slice());
     let mut writer = Counted::new(Vec::new(alloc));
-    let (verdict, stop) = go(
-        alloc,
-        source,
-        None,
-        &mut reader,
-        &mut writer,
-        cells,
-        budget,
-    )?;
+    let (verdict, stop) = go(alloc, source, None, &mut reader, &mut writer, cells, budget)?;
     if matches!(stop, Stop::WriteFailed) {
         return Err(Fault::Memory);
     }
