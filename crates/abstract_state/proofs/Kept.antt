@@ -408,33 +408,37 @@ forgotten-set rows orders root row is =
 
 -- ---- orders of a bound in the place of a variable
 
-none-replaced : (root : ℕ) (bound : Option Bound) (from : ℕ) → in_place root bound (Defined (entire from)) ≡ None
-none-replaced root None from = refl
-none-replaced root (Some (Number n)) from = refl
-none-replaced root (Some (Plus by k)) from = refl
+none-replaced : (root : ℕ) (bound : Bound) (from : ℕ) → in_place root bound (Defined (entire from)) ≡ None
+none-replaced root (Number n) from = refl
+none-replaced root (Plus by k) from = refl
 
 replaced-bit : (change : Fact → Option Fact) (b : Bool) (from : ℕ) (facts : List Fact) → change (Defined (entire from)) ≡ None → filter_map change facts ≡ []
     → filter_map change (cond b (Defined (entire from) ∷ facts) facts) ≡ []
 replaced-bit change true from facts none is = ap (λ (found : Option Fact). cons_option found (filter_map change facts)) none ∙ is
 replaced-bit change false from facts none is = is
 
-no-row-replaced : (root : ℕ) (bound : Option Bound) (rows : List Row) (from : ℕ) → filter_map (in_place root bound) (defined_from from rows) ≡ []
+no-row-replaced : (root : ℕ) (bound : Bound) (rows : List Row) (from : ℕ) → filter_map (in_place root bound) (defined_from from rows) ≡ []
 no-row-replaced root bound [] from = refl
 no-row-replaced root bound (row ∷ rows) from =
     replaced-bit (in_place root bound) row.is_defined from (defined_from (suc from) rows) (none-replaced root bound from)
     (no-row-replaced root bound rows (suc from))
 
-pub replaced-kept : (rows : List Row) (orders more after : List KeptOrder) (root : ℕ) (bound : Option Bound)
-    → said_orders more ≡ filter_map (in_place root bound) (said_orders orders) → said_orders after ≡ with_facts (said_orders more) (said_orders orders)
-    → kept_state rows after ≡ replaced root bound (kept_state rows orders)
-replaced-kept rows orders more after root bound more_are after_are =
+pub replaced-kept : (rows : List Row) (orders more left after : List KeptOrder) (root : ℕ) (bound : Bound)
+    → said_orders more ≡ filter_map (in_place root bound) (said_orders orders)
+    → said_orders left ≡ filter_map (changed root None) (said_orders orders) → said_orders after ≡ with_facts (said_orders more) (said_orders left)
+    → kept_state rows after ≡ replaced root (Some bound) (kept_state rows orders)
+replaced-kept rows orders more left after root bound more_are left_are after_are =
     let change = in_place root bound in
+    let leave = changed root None in
     let all : filter_map change (kept_facts rows orders).facts ≡ said_orders more =
     filter_map-append change (defined_from 0 rows) (said_orders orders)
     ∙ ap (λ (d : List Fact). d ++ filter_map change (said_orders orders)) (no-row-replaced root bound rows 0) ∙ sym more_are in
+    let rest : filter_map leave (kept_facts rows orders).facts ≡ defined_from 0 rows ++ said_orders left =
+    filter_map-append leave (defined_from 0 rows) (said_orders orders)
+    ∙ ap₂ (λ (d o : List Fact). d ++ o) (all-stay leave (defined-stays root None) rows 0) (sym left_are) in
     ap (state_of (ranges_of rows))
     (ap (λ (o : List Fact). defined_from 0 rows ++ o) after_are
-    ∙ sym (ap (λ (some : List Fact). with_facts some (kept_facts rows orders).facts) all ∙ with-orders_kept more rows (said_orders orders)))
+    ∙ sym (ap₂ with_facts all rest ∙ with-orders_kept more rows (said_orders left)))
 
 -- orders that some become, one after another
 pub replaced-more : (change : Fact → Option Fact) (orders : List KeptOrder) (i : ℕ) (order : KeptOrder) (found : Option KeptOrder) (now new : List KeptOrder)

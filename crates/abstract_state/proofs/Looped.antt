@@ -40,10 +40,7 @@ taken : (test : Bool) (found : Option Fact) (other : Fact) → cond test found N
 taken true found other is = is
 taken false found other is = absurd (cc)
 
-none-in_place : (root : ℕ) (one other : Fact) → in_place root None one ≡ Some other → ⊥
-none-in_place root one other is = cc
-
-number-in_place : (root : ℕ) (n : ℤ) (one other : Fact) → in_place root (Some (fact.Number n)) one ≡ Some other → ⊥
+number-in_place : (root : ℕ) (n : ℤ) (one other : Fact) → in_place root (fact.Number n) one ≡ Some other → ⊥
 number-in_place root n one other is = cc
 
 not-so : (b : Bool) → not b ≡ true → b ≡ false
@@ -337,7 +334,7 @@ module _ (env : Environment) (store : Store) (root by : ℕ) (k x old : ℤ) (ow
       (p, old, at_a, by_is, omega (arith, ints))
   order-in_place a b number false false left right (p, q, at_a, at_b, less) = (p, q, at_a, at_b, less)
 
-  fact-in_place : (one other : Fact) → in_place root (Some (Plus by k)) one ≡ Some other → Holds one (moment env store) → Holds other (moment env store)
+  fact-in_place : (one other : Fact) → in_place root (Plus by k) one ≡ Some other → Holds one (moment env store) → Holds other (moment env store)
   fact-in_place (Order a b number) other is holds =
       let left = nat_eq root a in
       let right = nat_eq root b in
@@ -350,30 +347,36 @@ module _ (env : Environment) (store : Store) (root by : ℕ) (k x old : ℤ) (ow
   fact-in_place (Defined path) other is holds = absurd (cc)
   fact-in_place (Stretch path first last) other is holds = absurd (cc)
 
-bound-in_place : (env : Environment) (store : Store) (root : ℕ) (bound : Option Bound) (x : ℤ) → HasNumber (moment env store) root x
-    → ((b : Bound) → bound ≡ Some b → IsBound (moment env store) b x) → (one other : Fact) → in_place root bound one ≡ Some other
-    → Holds one (moment env store) → Holds other (moment env store)
-bound-in_place env store root None x own_is bound_is one other is holds = absurd (none-in_place root one other is)
-bound-in_place env store root (Some (fact.Number n)) x own_is bound_is one other is holds = absurd (number-in_place root n one other is)
-bound-in_place env store root (Some (Plus by k)) x own_is bound_is one other is holds =
-    let at = bound_is (Plus by k) refl in
-    fact-in_place env store root by k x at.0 own_is at.1 at.2 one other is holds
+bound-in_place : (env : Environment) (store : Store) (root : ℕ) (bound : Bound) (x : ℤ) → HasNumber (moment env store) root x
+    → IsBound (moment env store) bound x → (one other : Fact) → in_place root bound one ≡ Some other → Holds one (moment env store)
+    → Holds other (moment env store)
+bound-in_place env store root (fact.Number n) x own_is bound_is one other is holds = absurd (number-in_place root n one other is)
+bound-in_place env store root (Plus by k) x own_is (old, at, sum) one other is holds =
+    fact-in_place env store root by k x old own_is at sum one other is holds
 
--- where a variable is its bound, what is known of it is known of the bound
+-- a fact that doesn't rest on a variable is itself
+unless-resting : (root : ℕ) (one other : Fact) → changed root None one ≡ Some other → one ≡ other
+unless-resting root one other is = (unless-if (rests_on root one) one other is).1
+
+-- where a variable is its bound, what is known with that in its place holds
 pub replaced-known : (variables : ℕ) (env : Environment) (state : State) (store : Store) (root : ℕ) (bound : Option Bound) (x : ℤ)
     → HasNumber (moment env store) root x → ((b : Bound) → bound ≡ Some b → IsBound (moment env store) b x) → Knows variables env state store
     → Knows variables env (replaced root bound state) store
-replaced-known variables env Dead store root bound x own_is bound_is known = known
-replaced-known variables env (Live facts) store root bound x own_is bound_is known = record {
+replaced-known variables env state store root None x own_is bound_is known = known
+replaced-known variables env Dead store root (Some bound) x own_is bound_is known = known
+replaced-known variables env (Live facts) store root (Some bound) x own_is bound_is known = record {
   rows_are = known.rows_are;
   hold = record {
     ranges = known.hold.ranges;
     facts = λ one listed.
         let P = λ (one : Fact). Holds one (moment env store) in
         let all = each-of P facts.facts known.hold.facts in
-        All-contains P (with_facts (filter_map (in_place root bound) facts.facts) facts.facts) one
-        (with-all_facts P (filter_map (in_place root bound) facts.facts) facts.facts
-        (changed-all P P (in_place root bound) (λ one other is holds. bound-in_place env store root bound x own_is bound_is one other is holds)
-        facts.facts all) all) listed;
+        let more = filter_map (in_place root bound) facts.facts in
+        let kept = filter_map (changed root None) facts.facts in
+        All-contains P (with_facts more kept) one
+        (with-all_facts P more kept
+        (changed-all P P (in_place root bound)
+        (λ one other is holds. bound-in_place env store root bound x own_is (bound_is bound refl) one other is holds) facts.facts all)
+        (changed-all P P (changed root None) (λ one other is holds. subst P (unless-resting root one other is) holds) facts.facts all)) listed;
   };
 }

@@ -1,4 +1,5 @@
 pub mod State
+pub mod Terms
 pub mod Forms
 pub mod Changes
 pub mod Conditions

@@ -7,7 +7,7 @@ use Rattle.domain.specs.Interval.{Interval, common, vacant}
 use Rattle.domain.specs.Facts.{Bound, Plus, Fact, Range, Defined, Stretch, Order}
 use Rattle.abstract_state.specs.State.{State, Dead, Live, gives_fact, is_entire, range_of, with_defined, with_facts}
 use Rattle.abstract_state.specs.State.{with_range}
-use Rattle.abstract_state.specs.Changes.{ordered, raised_number, with_change, with_some}
+use Rattle.abstract_state.specs.Changes.{changed, ordered, raised_number, with_change, with_some}
 
 -- ---- what a loop leaves
 
@@ -69,20 +69,23 @@ gives_all state claims = list_all (gives_fact state) claims
 
 -- ---- behind a loop
 
--- an order fact of a variable, where it is a bound of another variable
-abbrev pub in_place : ℕ → Option Bound → Fact → Option Fact
-in_place root (Some (Plus by k)) (Order a b number) =
+-- an order fact of a variable with a bound in its place; one with a number in a variable's place is none
+abbrev pub in_place : ℕ → Bound → Fact → Option Fact
+in_place root (Plus by k) (Order a b number) =
     if nat_eq root a || nat_eq root b
     then ordered (if nat_eq root a then by else a) (if nat_eq root b then by else b)
     (raised_number (nat_eq root a) (nat_eq root b) (neg_ℤ k) number)
     else None
 in_place root bound fact = None
 
--- the order facts of a variable are known of its bound too, if it has one
+-- what is known with a bound in the place of a variable, if there is one: the facts that rest on the variable go, and
+-- come with its bound
 abbrev pub replaced : ℕ → Option Bound → State → State
-replaced root bound Dead = Dead
-replaced root bound (Live known) =
-    Live (record known { facts = with_facts (filter_map (in_place root bound) known.facts) known.facts })
+replaced root None state = state
+replaced root (Some bound) Dead = Dead
+replaced root (Some bound) (Live known) = Live (record known {
+  facts = with_facts (filter_map (in_place root bound) known.facts) (filter_map (changed root None) known.facts);
+})
 
 -- a variable is undefined from here on
 abbrev pub with_undefined : ℕ → State → State

@@ -79,6 +79,11 @@ abbrev pub bound_range : State → Bound → Interval
 bound_range state (Number n) = record { first = n; last = n }
 bound_range state (Plus root n) = moved n (range_of state root)
 
+-- a bound plus a number, as it stands in a test: no number is too great there
+abbrev pub raised_bound : ℤ → Bound → Bound
+raised_bound n (Number m) = Number (m +ℤ n)
+raised_bound n (Plus root m) = Plus root (m +ℤ n)
+
 -- of two bounds of the same variable, or of none, the first is at most the second
 abbrev pub is_at_most : Bound → Bound → Bool
 is_at_most (Number m) (Number n) = int_le m n

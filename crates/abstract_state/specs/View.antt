@@ -80,8 +80,8 @@ IsFar z = (neg_ℤ (pos 9223372032559808511) ≤ℤ z) × (z ≤ℤ pos 92233720
 pub record AreEnds (ends : Ends) (range : Interval) : Type 0 where
   pub first_is : ends.first ≡ range.first
   pub last_is : ends.last ≡ range.last
-  pub first_near : (neg_ℤ (pos 4611686020574871551) ≤ℤ ends.first) × (ends.first ≤ℤ pos 4611686020574871551)
-  pub last_near : (neg_ℤ (pos 4611686020574871551) ≤ℤ ends.last) × (ends.last ≤ℤ pos 4611686020574871551)
+  pub first_near : (neg_ℤ (pos 4611686027017322495) ≤ℤ ends.first) × (ends.first ≤ℤ pos 4611686027017322495)
+  pub last_near : (neg_ℤ (pos 4611686027017322495) ≤ℤ ends.last) × (ends.last ≤ℤ pos 4611686027017322495)
 
 -- where a fact comes among others: at a place, or nowhere, since they have it
 abbrev pub IsPlace : Fact → List Fact → Option ℕ → Type 0

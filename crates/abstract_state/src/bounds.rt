@@ -1,9 +1,8 @@
 ghost use Rattle.std.specs.Prelude.{◌≡◌, ◌+ℤ◌, ◌-ℤ◌, ◌&&◌, ◌||◌, not, int_le, int_lt};
-ghost use Rattle.domain.specs.Facts.{said_bound};
-ghost use Rattle.abstract_state.specs.State.{is_at_most, moved};
+ghost use Rattle.abstract_state.specs.State.{moved};
+ghost use Rattle.abstract_state.specs.Terms.{IsShort};
 ghost use Rattle.abstract_state.specs.View.{AreEnds, IsFar};
 
-use domain::facts::Bound;
 use domain::interval::Interval;
 
 /// The ends of a range of numbers; it is empty where the first is above the last.
@@ -15,10 +14,10 @@ pub struct Ends {
 
 impl Ends {
     /// Those of a single number.
-    pub fn of(number: i32) -> Ends
+    pub fn of(number: i64) -> Ends
+        requires { IsShort number }
         ensures { AreEnds result (record { first = number; last = number }) }
     {
-        let number = i64::from(number);
         Ends {
             first: number,
             last: number,
@@ -26,10 +25,10 @@ impl Ends {
     }
 
     /// Those of a range whose numbers are greater by a number.
-    pub fn moved(range: Interval, number: i32) -> Ends
+    pub fn moved(range: Interval, number: i64) -> Ends
+        requires { IsShort number }
         ensures { AreEnds result (moved number range) }
     {
-        let number = i64::from(number);
         Ends {
             first: range.first() + number,
             last: range.last() + number,
@@ -59,21 +58,4 @@ pub(crate) fn difference(left: i64, right: i32) -> i64
     ensures { result ≡ left -ℤ right }
 {
     left - i64::from(right)
-}
-
-/// Whether both are numbers, or the same variable plus numbers, of which the first is at most the second.
-pub(crate) fn is_at_most(left: Bound, right: Bound) -> bool
-    ensures { result ≡ is_at_most (said_bound left) (said_bound right) }
-{
-    match (left, right) {
-        (Bound::Number(m), Bound::Number(n)) => m <= n,
-        (
-            Bound::Plus { root, number: m },
-            Bound::Plus {
-                root: other,
-                number: n,
-            },
-        ) => { root == other && m <= n }
-        _ => false,
-    }
 }

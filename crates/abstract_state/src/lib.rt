@@ -9,8 +9,10 @@ pub mod laws;
 mod loops;
 mod orders;
 mod state;
+mod terms;
 
 pub use bounds::Ends;
 pub use forms::{bound_form, entire};
 pub use known::Known;
 pub use state::{State, limits};
+pub use terms::Term;

@@ -121,7 +121,7 @@ impl State {
         }
     }
 
-    /// What is known of a variable is known of its bound too, if it has one.
+    /// What is known of a variable is known of its bound in its place, if it has one.
     pub fn replace(
         &mut self,
         alloc: Global,
@@ -131,9 +131,9 @@ impl State {
         ensures { IfOk result (λ _. (limits : List Interval) → viewed limits self.new
             ≡ replaced root (said_form bound) (viewed limits self.old)) }
     {
-        match self {
-            State::Dead => Ok(()),
-            State::Live(known) => known.replace(alloc, root, bound),
+        match (self, bound) {
+            (State::Live(known), Some(bound)) => known.replace(alloc, root, bound),
+            _ => Ok(()),
         }
     }
 

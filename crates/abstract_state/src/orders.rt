@@ -1,12 +1,13 @@
-ghost use Rattle.std.specs.Prelude.{◌≡◌, neg_ℤ, ◌<◌, ◌++◌, [], IfOk, length, map};
+ghost use Rattle.std.specs.Prelude.{◌≡◌, ◌+ℤ◌, neg_ℤ, ◌<◌, ◌++◌, [], IfOk, length, map};
 ghost use Rattle.std.specs.List.{cons_option, filter_map};
 ghost use Rattle.domain.specs.Facts.{Plus, fact_order, said_bound, with_fact};
 ghost use Rattle.abstract_state.specs.Changes.{changed, ordered, raised, raised_number, unless_resting};
 ghost use Rattle.abstract_state.specs.Loops.{in_place};
 ghost use Rattle.abstract_state.specs.State.{says_at_most, with_facts};
+ghost use Rattle.abstract_state.specs.Terms.{bound_of_parts};
 ghost use Rattle.abstract_state.specs.View.{IsKept, IsPlace, said_form, said_order, said_some};
 
-use crate::bounds::sum;
+use crate::terms::Term;
 use domain::facts::Bound;
 use std::alloc::{AllocError, Global};
 use std::cmp::Ordering;
@@ -35,22 +36,24 @@ impl Order {
     }
 
     /// Whether the order says that a bound is at most another.
-    pub(crate) fn says_at_most(&self, left: Bound, right: Bound) -> bool
-        ensures { result ≡ says_at_most (said_bound left) (said_bound right) (said_order self.now) }
+    pub(crate) fn says_at_most(&self, left: Term, right: Term) -> bool
+        ensures { result ≡ says_at_most (bound_of_parts left.root left.number)
+            (bound_of_parts right.root right.number) (said_order self.now) }
     {
-        match (left, right) {
-            (
-                Bound::Plus { root, number: m },
-                Bound::Plus {
-                    root: other,
-                    number: n,
-                },
-            ) => {
-                let sum = sum(i64::from(self.number), m);
-                root == self.root && other == self.other && sum <= i64::from(n)
+        match (left.root, right.root) {
+            (Some(root), Some(other)) => {
+                let sum = self.number_with(left);
+                root == self.root && other == self.other && sum <= right.number
             }
             _ => false,
         }
+    }
+
+    /// Its number and that of a bound together.
+    fn number_with(&self, term: Term) -> i64
+        ensures { result ≡ self.now.number +ℤ term.number }
+    {
+        i64::from(self.number) + term.number
     }
 
     /// What is left of the order after a variable got a value, perhaps of a bound form.
@@ -64,24 +67,21 @@ impl Order {
     }
 
     /// The order with a bound in the place of a variable, if both are in it.
-    fn in_place(self, root: u32, bound: Option<Bound>) -> Option<Order>
-        ensures { said_some result ≡ in_place root (said_form bound) (said_order self) }
+    fn in_place(self, root: u32, bound: Bound) -> Option<Order>
+        ensures { said_some result ≡ in_place root (said_bound bound) (said_order self) }
     {
         match bound {
-            Some(
-                Bound::Plus {
-                    root: by,
-                    number: own,
-                },
-            ) => self.with_bound(root, by, own),
-            Some(Bound::Number(_)) => None,
-            None => None,
+            Bound::Plus {
+                root: by,
+                number: own,
+            } => self.with_bound(root, by, own),
+            Bound::Number(_) => None,
         }
     }
 
     /// The order with a variable plus a number in the place of a variable that is in it.
     fn with_bound(self, root: u32, by: u32, own: i32) -> Option<Order>
-        ensures { said_some result ≡ in_place root (Some (Plus by own)) (said_order self) }
+        ensures { said_some result ≡ in_place root (Plus by own) (said_order self) }
     {
         let left = root == self.root;
         let right = root == self.other;
@@ -181,10 +181,10 @@ pub(crate) fn in_place(
     alloc: Global,
     orders: &[Order],
     root: u32,
-    bound: Option<Bound>,
+    bound: Bound,
 ) -> Result<Vec<Order>, AllocError>
     ensures { IfOk result (λ more. map said_order more.items
-        ≡ filter_map (in_place root (said_form bound)) (map said_order orders.now)) }
+        ≡ filter_map (in_place root (said_bound bound)) (map said_order orders.now)) }
 {
     let mut more = Vec::new(alloc);
     for i in 0..orders.len() {

@@ -7,12 +7,14 @@ ghost use Rattle.abstract_state.specs.State.{joined_states, le, limits_of, of_ty
 ghost use Rattle.abstract_state.specs.State.{unless_empty, with_defined, with_range};
 ghost use Rattle.abstract_state.specs.Changes.{assigned, with_change, with_equal, with_some};
 ghost use Rattle.abstract_state.specs.Loops.{replaced, with_forgotten};
+ghost use Rattle.abstract_state.specs.Terms.{bound_of_parts};
 ghost use Rattle.abstract_state.specs.View.{AreEnds, AreJoined, joined_row, no_row, rows_on, said_form, said_order};
 ghost use Rattle.abstract_state.specs.View.{said_some, type_row, viewed, viewed_facts};
 
-use crate::bounds::{Ends, is_at_most};
+use crate::bounds::Ends;
 use crate::orders;
 use crate::orders::Order;
+use crate::terms::Term;
 use domain::Domain;
 use domain::facts::{Bound, Fact};
 use domain::interval::Interval;
@@ -110,6 +112,14 @@ impl State {
     pub fn knows_at_most(&self, limits: &[Interval], left: Bound, right: Bound) -> bool
         ensures { result ≡ at_most (viewed limits.now self.now) (said_bound left) (said_bound right) }
     {
+        self.knows_order(limits, Term::of(left), Term::of(right))
+    }
+
+    /// The same of bounds as they stand in tests.
+    pub fn knows_order(&self, limits: &[Interval], left: Term, right: Term) -> bool
+        ensures { result ≡ at_most (viewed limits.now self.now) (bound_of_parts left.root left.number)
+            (bound_of_parts right.root right.number) }
+    {
         match self {
             State::Dead => true,
             State::Live(facts) => facts.le(limits, left, right),
@@ -204,8 +214,10 @@ impl State {
         ensures { AreEnds result (bound_range (viewed limits.now self.now) (said_bound bound)) }
     {
         match bound {
-            Bound::Number(number) => Ends::of(number),
-            Bound::Plus { root, number } => Ends::moved(self.range(limits, root), number),
+            Bound::Number(number) => Ends::of(i64::from(number)),
+            Bound::Plus { root, number } => {
+                Ends::moved(self.range(limits, root), i64::from(number))
+            }
         }
     }
 
@@ -342,17 +354,18 @@ impl Facts {
         self.rows.set(root, row)
     }
 
-    /// The orders of a variable hold of its bound too, if it has one.
+    /// The orders of a variable are known with a bound in its place.
     pub(crate) fn replace(
         &mut self,
         alloc: Global,
         root: u32,
-        bound: Option<Bound>,
+        bound: Bound,
     ) -> Result<(), AllocError>
         ensures { IfOk result (λ _. (limits : List Interval) → Live (viewed_facts limits self.new)
-            ≡ replaced root (said_form bound) (Live (viewed_facts limits self.old))) }
+            ≡ replaced root (Some (said_bound bound)) (Live (viewed_facts limits self.old))) }
     {
         let more = orders::in_place(alloc, &self.orders, root, bound)?;
+        orders::change(&mut self.orders, root, None);
         orders::insert_all(&mut self.orders, &more)
     }
 
@@ -386,29 +399,25 @@ impl Facts {
             && self.is_defined(limits, order.other)
             && self.le(
                 limits,
-                Bound::Plus {
-                    root: order.root,
-                    number: 0,
-                },
-                Bound::Plus {
-                    root: order.other,
-                    number: order.number,
-                },
+                Term::plus(order.root, 0),
+                Term::plus(order.other, order.number),
             )
     }
 
     /// Whether a bound is known to be at most another.
-    fn le(&self, limits: &[Interval], left: Bound, right: Bound) -> bool
-        ensures { result ≡ le (viewed_facts limits.now self.now) (said_bound left) (said_bound right) }
+    fn le(&self, limits: &[Interval], left: Term, right: Term) -> bool
+        ensures { result ≡ le (viewed_facts limits.now self.now) (bound_of_parts left.root left.number)
+            (bound_of_parts right.root right.number) }
     {
-        is_at_most(left, right)
+        left.is_at_most(right)
             || self.ends(limits, left).is_below(self.ends(limits, right))
             || self.says_at_most(left, right)
     }
 
-    fn says_at_most(&self, left: Bound, right: Bound) -> bool
+    fn says_at_most(&self, left: Term, right: Term) -> bool
         ensures { (limits : List Interval) → result
-            ≡ list_any (says_at_most (said_bound left) (said_bound right)) (viewed_facts limits self.now).facts }
+            ≡ list_any (says_at_most (bound_of_parts left.root left.number)
+            (bound_of_parts right.root right.number)) (viewed_facts limits self.now).facts }
     {
         for i in 0..self.orders.len() {
             if self.orders[i].says_at_most(left, right) {
@@ -418,12 +427,13 @@ impl Facts {
         false
     }
 
-    fn ends(&self, limits: &[Interval], bound: Bound) -> Ends
-        ensures { AreEnds result (bound_range (Live (viewed_facts limits.now self.now)) (said_bound bound)) }
+    fn ends(&self, limits: &[Interval], term: Term) -> Ends
+        ensures { AreEnds result
+            (bound_range (Live (viewed_facts limits.now self.now)) (bound_of_parts term.root term.number)) }
     {
-        match bound {
-            Bound::Number(number) => Ends::of(number),
-            Bound::Plus { root, number } => Ends::moved(self.range(limits, root), number),
+        match term.root {
+            None => Ends::of(term.number),
+            Some(root) => Ends::moved(self.range(limits, root), term.number),
         }
     }
 

@@ -33,17 +33,17 @@ use Rattle.abstract_state.specs.Holds.{HasNumber, HasValue, IsBound, IsIn, Momen
 use Rattle.abstract_state.specs.Knows as known
 use Rattle.abstract_state.specs.Knows.{IsOfForm, moment}
 use Rattle.abstract_state.specs.State as variables
-use Rattle.abstract_state.specs.State.{at_most, bound_range, is_below, is_defined, is_entire, moved}
+use Rattle.abstract_state.specs.State.{at_most, bound_range, is_below, is_defined, is_entire, moved, raised_bound}
 use Rattle.abstract_state.proofs.Given.{bound-in, defined-number, entire-steps, named-entire}
 use Rattle.abstract_state.proofs.Ranged.{included-in}
 use Rattle.leaf_rows.specs.Limits.{all_limits}
 use Rattle.leaf_rows.specs.Rows.{all_parts, first_index, index_at, no_parts, rows_accessed, rows_of, rows_under}
 use Rattle.leaf_rows.proofs.Accessed.{IsOf}
 use Rattle.component_states.specs.Components as components
-use Rattle.component_states.specs.Components.{At, ComponentFact, Entire, Inside, Reach, has_value, moved_bound, row_at}
+use Rattle.component_states.specs.Components.{At, ComponentFact, Entire, Inside, Reach, has_value, row_at}
 use Rattle.component_states.specs.Holds.{HasComponent, Holds, Knows}
 use Rattle.component_states.specs.States.{State, all_of_row, gives_reached, is_dead}
-use Rattle.component_states.proofs.Bounds.{at_most-holds, moved-is, value-is}
+use Rattle.component_states.proofs.Bounds.{at_most-holds, raised-is, value-is}
 use Rattle.component_states.proofs.Listed.{any-of, each-of}
 use Rattle.structured_states.specs.Loops.{component_claims, component_facts, names_entire, plain, plain_facts, rows_named}
 use Rattle.call_states.specs.Actuals.{Actual, Bearer, Binding, Components, OfRows, OfValue, OfVariable, Passed, Variable, actual_of, are_of_types}
@@ -126,9 +126,10 @@ module _ (total : ℕ) (env : Environment) (store : Store) (state : variables.St
   }
 
   moved-form : (k n : ℤ) (form : Option Bound) → ((b : Bound) → form ≡ Some b → IsBound here b n) → (b : Bound)
-      → option_and_then (moved_bound k) form ≡ Some b → IsBound here b (n +ℤ k)
+      → option_and_then (λ (own : Bound). Some (raised_bound k own)) form ≡ Some b → IsBound here b (n +ℤ k)
   moved-form k n None of_form b is = absurd (none-some b is)
-  moved-form k n (Some own) of_form b is = moved-is here k own b n is (of_form own refl)
+  moved-form k n (Some own) of_form b is =
+      subst (λ (c : Bound). IsBound here c (n +ℤ k)) (same_Some (raised_bound k own) b is) (raised-is here k own n (of_form own refl))
 
   pub moved-limit : (k n : ℤ) (limit : Limit) → IsLimit here limit n → IsLimit here (limit_moved k limit) (n +ℤ k)
   moved-limit k n limit is = record {

@@ -7,10 +7,10 @@ use Rattle.typed_tree.specs.declared.tree.Tree.{Tree}
 use Rattle.domain.specs.Interval.{Interval, is_included}
 use Rattle.domain.specs.Facts.{Bound, Number, Plus, Fact, Range, Defined, Stretch, Order}
 use Rattle.abstract_state.specs.State as variables
-use Rattle.abstract_state.specs.State.{at_most, bound_range, is_below, is_defined, moved}
+use Rattle.abstract_state.specs.State.{at_most, bound_range, is_below, is_defined, moved, raised_bound}
 use Rattle.leaf_rows.specs.Rows.{index_at, rows_of}
 use Rattle.component_states.specs.Components as components
-use Rattle.component_states.specs.Components.{Entire, At, Inside, Reach, moved_bound, row_at}
+use Rattle.component_states.specs.Components.{Entire, At, Inside, Reach, row_at}
 use Rattle.component_states.specs.States.{State, gives_reached, is_dead}
 use Rattle.call_states.specs.Actuals.{Actual, OfValue, OfRows, OfVariable, Bearer, Passed, Variable, Components}
 use Rattle.call_states.specs.Actuals.{Binding}
@@ -51,7 +51,7 @@ limit_of state bound = record {
 -- greater by a number
 abbrev pub limit_moved : ℤ → Limit → Limit
 limit_moved n limit = record {
-  form = option_and_then (moved_bound n) limit.form;
+  form = option_and_then (λ bound. Some (raised_bound n bound)) limit.form;
   range = moved n limit.range;
   has_value = limit.has_value;
 }

@@ -17,7 +17,10 @@ use Rattle.call_states.specs.Starts.{is_own, is_passed_value}
 use Rattle.structured_states.specs.Loops.{is_ordinal_variable}
 use Rattle.certificate.specs.declared.Section.{Section as KeptSection}
 use Rattle.certificate.specs.Contents.{said_fact}
+use Rattle.abstract_state.specs.Terms.{IsWithin, bound_of_parts}
 use Rattle.abstract_state.specs.View.{said_form}
+use Rattle.abstract_state.specs.declared.terms.Term.{Term}
+use Rattle.domain.specs.Facts.{Bound}
 use Rattle.component_states.specs.View.{said_reach}
 use Rattle.call_states.specs.declared.actuals.Actual.{Actual as KeptActual}
 use Rattle.call_states.specs.declared.actuals.Actual.TheVariants as kept
@@ -146,9 +149,14 @@ said_stored stored = record { values = stored.values; range = stored.range }
 
 -- ---- bounds
 
+-- a form as tests have it
+abbrev pub said_terms : Option Term → Option Bound
+said_terms None = None
+said_terms (Some term) = Some (bound_of_parts term.root term.number)
+
 abbrev pub said_limit : KeptLimit → Limit
 said_limit limit = record {
-  form = said_form limit.form;
+  form = said_terms limit.form;
   range = record { first = limit.ends.first; last = limit.ends.last };
   has_value = limit.has_value;
 }
@@ -157,19 +165,25 @@ abbrev pub said_some_limit : Option KeptLimit → Option Limit
 said_some_limit None = None
 said_some_limit (Some limit) = Some (said_limit limit)
 
--- a limit's ends lie between a number and its negative
-pub record AreWithin (number : ℤ) (limit : KeptLimit) : Type 0 where
+-- the number of a form lies between another and its negative
+abbrev pub FormWithin : ℤ → Option Term → Type 0
+FormWithin number None = Unit {0}
+FormWithin number (Some term) = IsWithin number term.number
+
+-- a limit's ends lie between a number and its negative, and so does the number of its form
+pub record AreWithin (number own : ℤ) (limit : KeptLimit) : Type 0 where
   pub first_least : neg_ℤ number ≤ℤ limit.ends.first
   pub first_most : limit.ends.first ≤ℤ number
   pub last_least : neg_ℤ number ≤ℤ limit.ends.last
   pub last_most : limit.ends.last ≤ℤ number
+  pub form_within : FormWithin own limit.form
 
--- ends that a bound has, and those that are moved by a number of 32 bits
+-- those that a bound has, and those that are moved by a number of 32 bits
 abbrev pub AreNear : KeptLimit → Type 0
-AreNear limit = AreWithin (pos 4611686020574871551) limit
+AreNear limit = AreWithin (pos 4611686027017322495) (pos 2147483648) limit
 
 abbrev pub AreBounded : KeptLimit → Type 0
-AreBounded limit = AreWithin (pos 4611686022722355199) limit
+AreBounded limit = AreWithin (pos 4611686029164806143) (pos 4294967296) limit
 
 -- a limit is what the definition says, if there is one
 abbrev pub IsLimit : (KeptLimit → Type 0) → Option KeptLimit → Option Limit → Type 0

@@ -1,17 +1,18 @@
 ghost use Rattle.std.specs.Prelude.{◌≡◌, ◌+ℤ◌, ℕ, Some, pos, true};
 ghost use Rattle.std.specs.Option.{option_and_then};
+ghost use Rattle.abstract_state.specs.State.{raised_bound};
 ghost use Rattle.abstract_state.specs.View.{IsFar, said_form};
 ghost use Rattle.component_states.specs.View.{viewed_variables};
-ghost use Rattle.component_states.specs.Components.{moved_bound};
 ghost use Rattle.domain.specs.Facts.{Plus, said_bound};
 ghost use Rattle.call_states.specs.Actuals.{actual_of};
 ghost use Rattle.call_states.specs.Entry.{forms_at_most, is_at_most, limit_moved, limit_of, limit_of_actual};
 ghost use Rattle.call_states.specs.Entry.{limit_of_bound};
-ghost use Rattle.call_states.specs.View.{AreBounded, AreNear, IsLimit, said_actual, said_bindings, said_limit};
+ghost use Rattle.call_states.specs.View.{AreBounded, AreNear, FormWithin, IsLimit, said_actual, said_bindings};
+ghost use Rattle.call_states.specs.View.{said_limit, said_terms};
 
 use crate::actuals::{Actual, Bindings, is_entire};
-use abstract_state::{Ends, State};
-use component_states::{has_value, moved};
+use abstract_state::{Ends, State, Term};
+use component_states::has_value;
 use domain::facts::Bound;
 use domain::interval::Interval;
 use leaf_rows::Rows;
@@ -20,7 +21,7 @@ use leaf_rows::Rows;
 #[derive(Clone, Copy)]
 pub(crate) struct Limit {
     /// A bound form, if there is one.
-    pub(crate) form: Option<Bound>,
+    pub(crate) form: Option<Term>,
     /// The ends of the range in which it lies.
     pub(crate) ends: Ends,
     /// Whether it is known to have a value.
@@ -34,7 +35,7 @@ impl Limit {
         ensures near { AreNear result }
     {
         Limit {
-            form: Some(bound),
+            form: Some(Term::of(bound)),
             ends: state.ends(rows.limits(), bound),
             has_value: has_value(rows, state, bound),
         }
@@ -46,7 +47,7 @@ impl Limit {
         ensures near { AreNear result }
     {
         Limit {
-            form,
+            form: term_of(form),
             ends: Ends::moved(range, 0),
             has_value: true,
         }
@@ -59,7 +60,7 @@ impl Limit {
         ensures bounded { AreNear self → AreBounded result }
     {
         Limit {
-            form: moved_form(self.form, i64::from(by)),
+            form: moved_form(self.form, by),
             ends: Ends {
                 first: moved_end(self.ends.first, by),
                 last: moved_end(self.ends.last, by),
@@ -85,23 +86,35 @@ fn moved_end(end: i64, by: i32) -> i64
     end + i64::from(by)
 }
 
-/// A form plus a number, if it is one that bounds have.
-fn moved_form(form: Option<Bound>, by: i64) -> Option<Bound>
-    requires { IsFar by }
-    ensures { said_form result ≡ option_and_then (moved_bound by) (said_form form) }
+/// A form as tests have it.
+fn term_of(form: Option<Bound>) -> Option<Term>
+    ensures is { said_terms result ≡ said_form form }
+    ensures size { FormWithin (pos 2147483648) result }
 {
     match form {
         None => None,
-        Some(bound) => moved(bound, by),
+        Some(bound) => Some(Term::of(bound)),
+    }
+}
+
+/// A form plus a number.
+fn moved_form(form: Option<Term>, by: i32) -> Option<Term>
+    requires { FormWithin (pos 4294967296) form }
+    ensures is { said_terms result ≡ option_and_then (λ bound. Some (raised_bound by bound)) (said_terms form) }
+    ensures size { FormWithin (pos 2147483648) form → FormWithin (pos 4294967296) result }
+{
+    match form {
+        None => None,
+        Some(term) => Some(term.moved(by)),
     }
 }
 
 /// Whether both forms are there, and the first is known to be at most the second.
-fn are_at_most(rows: &Rows, state: &State, one: Option<Bound>, other: Option<Bound>) -> bool
-    ensures { result ≡ forms_at_most (viewed_variables rows.now state.now) (said_form one) (said_form other) }
+fn are_at_most(rows: &Rows, state: &State, one: Option<Term>, other: Option<Term>) -> bool
+    ensures { result ≡ forms_at_most (viewed_variables rows.now state.now) (said_terms one) (said_terms other) }
 {
     match (one, other) {
-        (Some(one), Some(other)) => state.knows_at_most(rows.limits(), one, other),
+        (Some(one), Some(other)) => state.knows_order(rows.limits(), one, other),
         _ => false,
     }
 }

@@ -195,12 +195,12 @@ module _ (tree : Tree) (blocks : List BlockClaims) (declares : DeclareTheirs tre
       (λ v. effect.◌>>=◌ (effect.require (is_in fits.range v) fits.site) (λ _. effect.store place v))))
   keeps-assignment becomes target indexes fits value context stands yields =
       let assigned = λ (reach : Reach) (passed : Known).
-      assign_to becomes target.root target.selectors.items (walk.reach_before (holds_call value) reach) (limits_of fits.range) (bound_form value) passed in
+      assign_to becomes target.root target.selectors.items (walk.reach_stored target.selectors.items (holds_call value) reach) (limits_of fits.range) (bound_form value) passed in
       let one = yields-then context (flow.access_walk target (flow.index_pieces indexes))
       (λ reach. flow.◌>>=◌ (value_walk value) (λ known. flow.◌>>=◌ (flow.fitting fits known) (assigned reach))) tt yields in
       let two = yields-then context (value_walk value) (λ known. flow.◌>>=◌ (flow.fitting fits known) (assigned one.0)) tt one.2 in
       let three = yields-then context (flow.fitting fits two.0) (assigned one.0) tt two.2 in
-      let may = may-assign context becomes target.root target.selectors.items (walk.reach_before (holds_call value) one.0) (limits_of fits.range)
+      let may = may-assign context becomes target.root target.selectors.items (walk.reach_stored target.selectors.items (holds_call value) one.0) (limits_of fits.range)
       (bound_form value) three.0 three.2 in
       keeps-when at _ _ (access-kept tree blocks declares block at grounds calls leave target indexes context one.0 stands one.1)
       (λ place given. keeps-then at _ _ (keeps-value value context two.0 stands two.1)
@@ -213,11 +213,11 @@ module _ (tree : Tree) (blocks : List BlockClaims) (declares : DeclareTheirs tre
       (λ numbers. effect.store_all place (components_of at.visible.types type_id) numbers)))
   keeps-copying becomes target indexes type_id value value_indexes context stands yields =
       let copied = λ (reach : Reach) (ranges : List Interval).
-      walk.copy_to becomes target.root target.selectors.items (walk.reach_before (whole_holds_call value value_indexes) reach) type_id value ranges in
+      walk.copy_to becomes target.root target.selectors.items (walk.reach_stored target.selectors.items (whole_holds_call value value_indexes) reach) type_id value ranges in
       let one = yields-then context (flow.access_walk target (flow.index_pieces indexes))
       (λ reach. flow.◌>>=◌ (flow.whole_walk value (flow.index_pieces value_indexes)) (copied reach)) tt yields in
       let two = yields-then context (flow.whole_walk value (flow.index_pieces value_indexes)) (copied one.0) tt one.2 in
-      let may = may-copy context becomes target.root target.selectors.items (walk.reach_before (whole_holds_call value value_indexes) one.0)
+      let may = may-copy context becomes target.root target.selectors.items (walk.reach_stored target.selectors.items (whole_holds_call value value_indexes) one.0)
       type_id value two.0 two.2 in
       keeps-when at _ _ (access-kept tree blocks declares block at grounds calls leave target indexes context one.0 stands one.1)
       (λ place given. keeps-then at _ _ (whole-kept tree blocks declares block at grounds calls leave value value_indexes context two.0 stands two.1)
@@ -315,10 +315,10 @@ module _ (tree : Tree) (blocks : List BlockClaims) (declares : DeclareTheirs tre
       let one = yields-then context ways (λ _. flow.changed_by (over_change way.control None (with_undefined way.control))) tt yields in
       let turns = (yields-parted context (over_variables (where_counts true way)) (over_variables (where_counts false way))
       (walk.for_turns number place walking way) (flow.give tt) one.1).0 in
-      let assigned = λ (tested : Way). assign tested.control tested.first.form (Ordinal tested.first.values) in
+      let begun = walk.begin_way in
       let two = yields-then context (walk.tested_way place way)
-      (λ tested. flow.◌>>=◌ (assigned tested) (λ _. walk.rounds_of number place walking tested)) tt turns in
-      let three = yields-then context (assigned two.0) (λ _. walk.rounds_of number place walking two.0) tt two.2 in
+      (λ tested. flow.◌>>=◌ (begun tested) (λ _. walk.rounds_of number place walking tested)) tt turns in
+      let three = yields-then context (begun two.0) (λ _. walk.rounds_of number place walking two.0) tt two.2 in
       let steady = walk.steady_in context number two.0 in
       let round = yields-round tree blocks block context stands number place (Some two.0.control) (walk.for_round steady walking)
       (record { state = three.2.state; unbroken = three.2.unbroken; value_is = three.2.value_is }) in

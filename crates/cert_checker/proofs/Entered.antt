@@ -38,14 +38,14 @@ use Rattle.expression_checker.specs.Walk.{Context, Walking, ◌>>=◌, access_wa
 use Rattle.cert_checker.specs.Walk.{first_context, assign, assign_to, arms_walk, case_walk, for_round, for_turns, for_walk, index_test, loop_walk}
 use Rattle.cert_checker.specs.Walk.{steady_in}
 use Rattle.cert_checker.specs.Walk.{tested_way, while_round, repeat_round, statement_step, statement_walk, where_so, all_of, block_walk, blocks_walk}
-use Rattle.cert_checker.specs.Walk.{program_walk, reach_before, result_use}
+use Rattle.cert_checker.specs.Walk.{begin_way, program_walk, reach_stored, result_use}
 use Rattle.expression_checker.proofs.Entered.{Enters, access-entered, and_no_more, and_then, call-entered, parameter-entered, value-entered}
 use Rattle.expression_checker.proofs.Entered.{whole-entered}
 
 abbrev stores : Place → Access → RangeTest → Expr → Reach → Known → Walking (Unit {0})
 stores becomes target fits value reach known =
     fitting fits known
-    >>= assign_to becomes target.root target.selectors.items (reach_before (holds_call value) reach) (limits_of fits.range) (bound_form value)
+    >>= assign_to becomes target.root target.selectors.items (reach_stored target.selectors.items (holds_call value) reach) (limits_of fits.range) (bound_form value)
 
 assigned-silent : (becomes : Place) (root : ℕ) (selectors : List Selector) (reach : Reach) (values : Interval) (form : Option Bound) (known : Known)
     → Enters (assign_to becomes root selectors reach values form known) []
@@ -56,7 +56,7 @@ stores-silent : (becomes : Place) (target : Access) (fits : RangeTest) (value : 
     → Enters (stores becomes target fits value reach known) []
 stores-silent becomes target fits value reach (Ordinal range) context state =
     let passed = fitting fits (Ordinal range) context state in
-    assigned-silent becomes target.root target.selectors.items (reach_before (holds_call value) reach) (limits_of fits.range) (bound_form value) passed.value
+    assigned-silent becomes target.root target.selectors.items (reach_stored target.selectors.items (holds_call value) reach) (limits_of fits.range) (bound_form value) passed.value
     context passed.after
 
 -- walks one after another enter what each enters
@@ -100,7 +100,7 @@ module _ (number : ℕ) (place : Place) (body : Walking (Unit {0})) (numbers : L
   turns_of-entered : (way : Way) → Enters (for_turns number place body way) numbers
   turns_of-entered way context state =
       let tested = tested_way place way context state in
-      let begun = assign tested.value.control tested.value.first.form (Ordinal tested.value.first.values) context tested.after in
+      let begun = begin_way tested.value context tested.after in
       loop-entered number place (Some tested.value.control) (for_round (steady_in context number tested.value) body) numbers
       (for_round-entered (steady_in context number tested.value)) context begun.after
 

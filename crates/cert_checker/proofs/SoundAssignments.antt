@@ -1,5 +1,5 @@
 -- Assignments are sound: the target is accessed, the value is evaluated and tested, and then it is stored.
-use Rattle.std.proofs.Common.{arith, ◌≡◌, ◌∙◌, sym, ap, refl, subst, ℕ, zero, suc, ◌<◌, ℤ, Bool, true, false, ◌&&◌, nat_lt, length, List, [], ◌∷◌}
+use Rattle.std.proofs.Common.{arith, ◌≡◌, ◌∙◌, sym, ap, refl, subst, ℕ, zero, suc, ◌<◌, ℤ, Bool, true, false, cond, ◌&&◌, nat_lt, length, List, [], ◌∷◌}
 use Rattle.std.proofs.Common.{Option, Some, None}
 use Rattle.std.specs.List.{Contains, list_all}
 use Rattle.std.specs.Option.{option_and_then}
@@ -40,7 +40,7 @@ use Rattle.abstract_state.proofs.Ranged.{IsKnown, included-in, is_in-limits}
 use Rattle.abstract_state.proofs.Refined.{expression-kept, form-known}
 use Rattle.leaf_rows.specs.Limits.{all_limits, limits_at}
 use Rattle.leaf_rows.specs.Rows.{rows_accessed, rows_of}
-use Rattle.component_states.specs.Components.{Reach}
+use Rattle.component_states.specs.Components.{At, Entire, Inside, Reach}
 use Rattle.structured_states.specs.Loops.{all_list}
 use Rattle.call_states.specs.Aliases.{variable_values}
 use Rattle.call_states.proofs.Passed.{indexes-integer, reached-later}
@@ -55,7 +55,7 @@ use Rattle.expression_checker.proofs.SoundExpressions.{SoundAction, access-sound
 use Rattle.expression_checker.proofs.SoundOperations.{IsKnownOf, fitting-sound}
 use Rattle.expression_checker.proofs.SoundRows.{IsReachedBy, Leads, rows-are}
 use Rattle.cert_checker.specs.Walk as walk
-use Rattle.cert_checker.specs.Walk.{Stores, alike, reach_before}
+use Rattle.cert_checker.specs.Walk.{Stores, alike, ends_at_index, reach_before, reach_of_store, reach_stored}
 use Rattle.cert_checker.proofs.Targets.{alike-at, alike-targets}
 use Rattle.cert_checker.proofs.Written.{Fit, Foretold, kept-rule, listed-good, stores-good}
 
@@ -79,20 +79,40 @@ ordinal-values tree root typed = by (slice_get tree.variables.items root) typed
     by None is = absurd (cc)
     by (Some variable) is = is
 
+-- what is stored to is reached
+stored-reached : (env : Environment) (store : Store) (selectors : List Selector) (way : List Step) (reach : Reach)
+    → IsReachedBy env store selectors way reach → IsReachedBy env store selectors way (reach_of_store selectors reach)
+stored-reached env store selectors way Entire reached = reached
+stored-reached env store selectors way (At index) reached = by (ends_at_index selectors)
+  where
+    by : (last : Bool) → IsReachedBy env store selectors way (cond last (At index) (Inside index))
+    by true = reached
+    by false = reached.1
+stored-reached env store selectors way (Inside index) on = on
+
 -- what is reached when a value was evaluated behind the access
 pub reached-then : (outline : Outline) (block : ℕ) (tree : Tree) (env : Environment) (before after : Store) (root : ℕ) (selectors : List Selector)
     (reach : Reach) (place : Option StorePlace) (hold : Bool)
     → list_all (is_well_formed_selector outline block) selectors ≡ true → (hold ≡ false → after ≡ before)
-    → Leads env root selectors before reach place → Leads env root selectors after (reach_before hold reach) place
-reached-then outline block tree env before after root selectors reach place false tests stays leads =
-    subst (λ (store : Store). Leads env root selectors store reach place) (sym (stays refl)) leads
-reached-then outline block tree env before after root selectors reach place true tests stays leads = record {
-  way = leads.way;
-  place_is = leads.place_is;
-  matches = leads.matches;
-  reached = reached-later tree env before after selectors leads.way reach
-      (λ n first. indexes-integer outline block selectors leads.way n tests leads.matches first) leads.reached;
-}
+    → Leads env root selectors before reach place → Leads env root selectors after (reach_stored selectors hold reach) place
+reached-then outline block tree env before after root selectors reach place hold tests stays leads =
+    let held = by hold stays in
+    record {
+      way = held.way;
+      place_is = held.place_is;
+      matches = held.matches;
+      reached = stored-reached env after selectors held.way (reach_before hold reach) held.reached;
+    }
+  where
+    by : (hold : Bool) → (hold ≡ false → after ≡ before) → Leads env root selectors after (reach_before hold reach) place
+    by false stays = subst (λ (store : Store). Leads env root selectors store reach place) (sym (stays refl)) leads
+    by true stays = record {
+      way = leads.way;
+      place_is = leads.place_is;
+      matches = leads.matches;
+      reached = reached-later tree env before after selectors leads.way reach
+          (λ n first. indexes-integer outline block selectors leads.way n tests leads.matches first) leads.reached;
+    }
 
 module _ (world : World) (limits_are : world.limits ≡ all_limits world.tree) (block : ℕ) (env : Surroundings) (laws : CallLaws world)
     (calls : SoundCalls world env.calls) where
@@ -187,7 +207,7 @@ module _ (world : World) (limits_are : world.limits ≡ all_limits world.tree) (
   walked-store becomes target fits value reach known =
       flow.◌>>=◌ (flow.fitting fits known)
       (λ passed.
-      walk.assign_to becomes target.root target.selectors.items (reach_before (holds_call value) reach) (limits_of fits.range) (bound_form value) passed)
+      walk.assign_to becomes target.root target.selectors.items (reach_stored target.selectors.items (holds_call value) reach) (limits_of fits.range) (bound_form value) passed)
 
   -- the target is accessed, and then comes the value
   abbrev pub assigned : Access → List Expr → RangeTest → Expr → effect.Action (Unit {0})
@@ -199,7 +219,7 @@ module _ (world : World) (limits_are : world.limits ≡ all_limits world.tree) (
       (tests : list_all (is_well_formed_selector outline block) target.selectors.items ≡ true)
       (seen : is_seen world block target.root ≡ true) (below : fits.site < sites_in world) (reach : Reach) (place : Option StorePlace) where
     abbrev held : Reach
-    held = reach_before (holds_call value) reach
+    held = reach_stored target.selectors.items (holds_call value) reach
 
     test-sound : (store : Store) → Leads visible target.root target.selectors.items store held place → (known : Known) (v : Value) → IsKnown known v
         → IsOfForm (moment visible store) (bound_form value) v

@@ -36,7 +36,7 @@ use Rattle.expression_checker.proofs.SoundCalls.{CallLaws}
 use Rattle.expression_checker.proofs.SoundExpressions.{SoundAction, access-sound, whole_value-sound}
 use Rattle.expression_checker.proofs.SoundRows.{IsReachedBy, IsWhole, Leads, rows-are}
 use Rattle.cert_checker.specs.Walk as walk
-use Rattle.cert_checker.specs.Walk.{paired, reach_before}
+use Rattle.cert_checker.specs.Walk.{paired, reach_stored}
 use Rattle.cert_checker.proofs.SoundAssignments.{reached-then}
 use Rattle.cert_checker.proofs.Targets.{paired-at, paired-targets}
 use Rattle.cert_checker.proofs.Written.{Fit, Foretold, stores-good}
@@ -149,7 +149,7 @@ module _ (world : World) (limits_are : world.limits ≡ all_limits world.tree) (
       let walking = flow.access_walk target (flow.index_pieces indexes) in
       let whole_walking = flow.whole_walk value (flow.index_pieces value_indexes) in
       let hold = whole_holds_call value value_indexes in
-      let copy = λ (reach : Reach). walk.copy_to becomes root selectors (reach_before hold reach) type_id value in
+      let copy = λ (reach : Reach). walk.copy_to becomes root selectors (reach_stored selectors hold reach) type_id value in
       let walk_next = λ (reach : Reach). flow.◌>>=◌ whole_walking (copy reach) in
       sound-anywhere {A = Unit {0}} {B = Unit {0}} world block visible Any_value (effect.◌>>=◌ action next) (flow.◌>>=◌ walking walk_next)
       (λ store.
@@ -163,6 +163,6 @@ module _ (world : World) (limits_are : world.limits ≡ all_limits world.tree) (
       (whole_value-sound world block env laws calls value value_indexes three.0))
       (λ ranges numbers s2 u gives same told.
       copy-stored root selectors type_id leads_is becomes seen value (length value_indexes) (well-whole value value_indexes three.0) three.1
-      (reach_before hold reach) place ranges numbers told u.store
+      (reach_stored selectors hold reach) place ranges numbers told u.store
       (reached-then outline block world.tree visible t.store u.store root selectors reach place hold tests
       (λ quiet. whole-kept value value_indexes quiet env s2 u numbers gives ∙ same) leads))))

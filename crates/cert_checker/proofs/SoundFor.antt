@@ -35,8 +35,8 @@ use Rattle.leaf_rows.specs.Limits.{all_limits, limits_at}
 use Rattle.structured_states.specs.Loops.{Round, all_control, controls_inside, round_of, touched, with_own, without_own}
 use Rattle.structured_states.specs.Pairs.{aliases_of, Listed, aliases_in}
 use Rattle.structured_states.specs.Ways as ways
-use Rattle.structured_states.specs.Ways.{Way, met, step, turn_begun, turn_ended, way_out, where_counts, with_values}
-use Rattle.structured_states.proofs.OnWay.{Between, MayBe, begun-known, counts-known, counts-ordered, kept-may, met-in, next-between}
+use Rattle.structured_states.specs.Ways.{Way, entered, met, step, turn_begun, turn_ended, way_out, where_counts, with_values}
+use Rattle.structured_states.proofs.OnWay.{Between, MayBe, begun-known, counts-known, counts-ordered, entered-known, kept-may, met-in, next-between}
 use Rattle.structured_states.proofs.OnWay.{ordered-itself, untouched-form}
 use Rattle.structured_states.proofs.Touched.{inside-uncontrolled, inside-untouched, own-controls, own-untouched}
 use Rattle.call_states.specs.Aliases.{variable_values}
@@ -361,8 +361,9 @@ module _ (world : World) (ranges : world.limits ≡ all_limits world.tree) (bloc
       let asked = walk.control_change place way.control way.first.fits.range way.last.fits.range context last.after in
       let from_asked = followed asked (flow.give (with_values first.value last.value way) context last.after) in
       let tests = walk.tested_way place way context state in
-      let begun = walk.assign way.control way.first.form (Ordinal first.value) context last.after in
-      let turns = walk.rounds_of number place body (with_values first.value last.value way) context begun.after in
+      let tested = with_values first.value last.value way in
+      let begun = walk.begin_way tested context last.after in
+      let turns = walk.rounds_of number place body tested context begun.after in
       let tests_unbroken = unbroken-left tests.broken (begun.broken ++ turns.broken) unbroken in
       kept-rule (walk.may_control context way.control way.first.fits.range way.last.fits.range) Changes place
       (unbroken-left asked.broken [] (unbroken-right last.broken from_asked.broken
@@ -430,7 +431,7 @@ module _ (world : World) (ranges : world.limits ≡ all_limits world.tree) (bloc
     asked = walk.control_change place way.control way.first.fits.range way.last.fits.range context last.after
 
     abbrev begun : Walked (Unit {0})
-    begun = walk.assign way.control way.first.form (Ordinal first.value) context last.after
+    begun = walk.begin_way tested context last.after
 
     abbrev turns : Walked (Unit {0})
     turns = walk.rounds_of number place body tested context begun.after
@@ -494,15 +495,17 @@ module _ (world : World) (ranges : world.limits ≡ all_limits world.tree) (bloc
           let typed = whole-typed tree pairs block few visible here.proper way.control place at_place x ordinal x_typed in
           by-world world context
           (λ (other : Context).
-          Knows (parts_in world) (variables_in world) visible (walk.assign way.control way.first.form (Ordinal first.value) other last.after).after start)
+          Knows (parts_in world) (variables_in world) visible (walk.begin_way tested other last.after).after start)
           here.stands.goes
           (subst
           (λ (b : ℕ).
           Knows (parts_in world) (variables_in world) visible
-          (walk.assign way.control way.first.form (Ordinal first.value) (record (in_world world context) { block = b }) last.after).after start)
+          (walk.begin_way tested (record (in_world world context) { block = b }) last.after).after start)
           (sym here.block_is)
-          (assigned-knows tree pairs block few visible here.proper way.control place at_place x v.store start are typed first.value way.first.form last.after
-          in_first (may-of_form v.store way.first.form x forms.0) here.stands.known))
+          (assigned-knows tree pairs block few visible here.proper way.control place at_place x v.store start are typed first.value way.first.form
+          (over_variables (entered tested) last.after) in_first (may-of_form v.store way.first.form x forms.0)
+          (over-known (parts_in world) (variables_in world) visible last.after (entered tested) v.store here.stands.known
+          (entered-known (variables_in world) visible v.store tested last.after.variables x y in_first in_last counts here.stands.known.variables))))
 
       rounds-good : Good world (Foretold world visible context turns v.store) v (rounds_action v)
       rounds-good =

@@ -22,11 +22,11 @@ use Rattle.std.specs.Result.{IsErr, IsErrAnd}
 use Rattle.domain.specs.Interval.{Interval}
 use Rattle.abstract_state.specs.declared.known.Known.TheVariants.{Ordinal}
 use Rattle.structured_states.specs.declared.ways.Way.{Way as KeptWay}
-use Rattle.structured_states.specs.Ways.{End, Way, end_of, form_before, met, next, turn_begun, turn_ended, way_of, way_out, where_counts, with_values}
+use Rattle.structured_states.specs.Ways.{End, Way, end_of, entered, form_before, met, next, turn_begun, turn_ended, way_of, way_out, where_counts, with_values}
 use Rattle.expression_checker.specs.Walk.{changed_by}
-use Rattle.cert_checker.specs.Walk.{assign, control_change, for_round, for_turns, for_walk, loop_walk, parted, rounds_of, statement_walk, steady_in}
+use Rattle.cert_checker.specs.Walk.{assign, begin_way, control_change, for_round, for_turns, for_walk, loop_walk, parted, rounds_of, statement_walk, steady_in}
 use Rattle.cert_checker.specs.Walk.{tested_end, tested_way}
-use Rattle.cert_checker.specs.View.{AreLoops, Goes, IsMoved, Moves, Parts, context_of, said_tested, viewed_in}
+use Rattle.cert_checker.specs.View.{AreLoops, Goes, IsMoved, Moves, Parts, Went, context_of, said_tested, viewed_in}
 use Rattle.cert_checker.proofs.Steps.{Does, Stops, branches-stopped, goes-as, goes-here, goes-stopped, goes-then, moved-loops, moved-same, viewed-same}
 use Rattle.cert_checker.proofs.Steps.{walks-give}
 use Rattle.expression_checker.specs.View.{state_of}
@@ -254,10 +254,40 @@ module _ (place : SourcePlace) (way : Way) (old : Walk) where
           (subst (λ t. Does (give (with_values first last way)) new visits new visits t) (sym is)
           (λ ready. walks-give (with_values first last way) new visits)))
 
+-- the control variable is the first bound, from where a first turn may begin
+module _ (way : Way) (old moved new : Walk) (visits : Visits) (is : IsMoved (over_variables (entered way) (state_of old.flow)) old moved) where
+  abbrev way_start : State
+  way_start = over_variables (entered way) (state_of old.flow)
+
+  abbrev first_value : Walking (Unit {0})
+  first_value = assign way.control way.first.form (Ordinal way.first.values)
+
+  abbrev from_start : Walked (Unit {0})
+  from_start = first_value (context_of old) way_start
+
+  start-same : first_value (context_of moved) (state_of moved.flow) ≡ from_start
+  start-same = moved-same first_value way_start old moved is
+
+  way-went : (result : Result (Unit {0}) CheckFault) → Went first_value moved visits result new visits → Went (begin_way way) old visits result new visits
+  way-went (Ok done) went = record {
+    context_is = went.context_is ∙ ap context_of is.only_state;
+    aliases_are = went.aliases_are ∙ ap (λ (w : Walk). w.aliases.now) is.only_state;
+    value_is = refl;
+    state_is = went.state_is ∙ ap (λ w. w.after) start-same;
+    open_is = went.open_is ∙ ap (λ w. moved.flow.open_ids.items ++ w.open_ids) start-same
+        ∙ ap (λ (w : Walk). w.flow.open_ids.items ++ from_start.open_ids) is.only_state;
+    visits_are = went.visits_are ∙ ap (λ w. all_counted (numbers_of w.linked) visits) start-same;
+    unbroken = ap (λ w. w.broken) (sym start-same) ∙ went.unbroken;
+  }
+  way-went (Err fault) breach = subst (λ (w : Walked (Unit {0})). IsBreachOf w fault) start-same breach
+
+  pub way-begun : (result : Result (Unit {0}) CheckFault) → Goes first_value moved visits result new visits → Goes (begin_way way) old visits result new visits
+  way-begun result goes = λ ready. way-went result (goes (moved-loops way_start old moved is ready))
+
 -- from the tests on
 module _ (number : ℕ) (place : SourcePlace) (body : Walking (Unit {0})) (way : Way) (old : Walk) where
   abbrev from_tests : Way → Walking (Unit {0})
-  from_tests tested = assign tested.control tested.first.form (Ordinal tested.first.values) >>= λ _. rounds_of number place body tested
+  from_tests tested = begin_way tested >>= λ _. rounds_of number place body tested
 
   pub turns-not_tested : (new : Walk) (before after : Visits) (fault : CheckFault)
       → Stops (tested_way place way) old fault
@@ -266,19 +296,19 @@ module _ (number : ℕ) (place : SourcePlace) (body : Walking (Unit {0})) (way :
 
   module _ (one : Walk) (before : Visits) (tested : Way) (done : Does (tested_way place way) old before one before tested) where
     pub turns-not_begun : (new : Walk) (after : Visits) (fault : CheckFault)
-        → Stops (assign tested.control tested.first.form (Ordinal tested.first.values)) one fault
+        → Stops (begin_way tested) one fault
         → Goes (for_turns number place body way) old before (Err fault) new after
     turns-not_begun new after fault stopped =
         goes-then (tested_way place way) from_tests old one new before before after tested (Err fault) done
-        (goes-stopped (assign tested.control tested.first.form (Ordinal tested.first.values)) (λ _. rounds_of number place body tested) one new before after
+        (goes-stopped (begin_way tested) (λ _. rounds_of number place body tested) one new before after
         fault stopped)
 
     pub turns-done : (two new : Walk) (after : Visits) (result : Result (Unit {0}) CheckFault)
-        → Does (assign tested.control tested.first.form (Ordinal tested.first.values)) one before two before tt
+        → Does (begin_way tested) one before two before tt
         → Goes (rounds_of number place body tested) two before result new after → Goes (for_turns number place body way) old before result new after
     turns-done two new after result begun rounds =
         goes-then (tested_way place way) from_tests old one new before before after tested result done
-        (goes-then (assign tested.control tested.first.form (Ordinal tested.first.values)) (λ _. rounds_of number place body tested) one two new before before
+        (goes-then (begin_way tested) (λ _. rounds_of number place body tested) one two new before before
         after tt result begun rounds)
 
 -- the rounds of a for are its loop

@@ -30,7 +30,7 @@ use Rattle.typed_tree.specs.Calls.{holds_call, whole_holds_call}
 use Rattle.expression_checker.specs.Walk.{◌>>=◌, access_walk, fits_whole, fitting, index_pieces, value_walk, whole_walk}
 use Rattle.cert_checker.specs.declared.walk.Walk.{Walk}
 use Rattle.cert_checker.specs.View.{Goes, context_of}
-use Rattle.cert_checker.specs.Walk.{Stores, alike, assign, assign_component, assign_to, assignment, change, copy_to, copying, paired, reach_before, store_to}
+use Rattle.cert_checker.specs.Walk.{Stores, alike, assign, assign_component, assign_to, assignment, change, copy_to, copying, paired, reach_stored, store_to}
 use Rattle.cert_checker.proofs.Steps.{Does, goes-here, goes-then}
 use Rattle.expression_checker.specs.View.{state_of}
 
@@ -38,7 +38,7 @@ use Rattle.expression_checker.specs.View.{state_of}
 pub assignment-done : (becomes : SourcePlace) (target : Access) (indexes : List Expr) (fits : RangeTest) (value : Expr) (values : Interval)
     (reach before_value : Reach) (old reached valued : Walk) (before entries after : Visits) (known : Known) (result : Result (Unit {0}) CheckFault)
     (new : Walk)
-    → values ≡ limits_of fits.range → before_value ≡ reach_before (holds_call value) reach
+    → values ≡ limits_of fits.range → before_value ≡ reach_stored target.selectors.items (holds_call value) reach
     → Does (access_walk target (index_pieces indexes)) old before reached entries reach → Does (value_walk value) reached entries valued after known
     → Goes (fitting fits known >>= assign_to becomes target.root target.selectors.items before_value values (bound_form value)) valued after result new after
     → Goes (assignment becomes target (index_pieces indexes) fits value) old before result new after
@@ -46,18 +46,18 @@ assignment-done becomes target indexes fits value values reach before_value old 
     three =
     let stored = λ (values : Interval) (reach : Reach) (known : Known).
     fitting fits known >>= assign_to becomes target.root target.selectors.items reach values (bound_form value) in
-    let rest = λ (reach : Reach). value_walk value >>= stored (limits_of fits.range) (reach_before (holds_call value) reach) in
+    let rest = λ (reach : Reach). value_walk value >>= stored (limits_of fits.range) (reach_stored target.selectors.items (holds_call value) reach) in
     goes-then (access_walk target (index_pieces indexes)) rest old reached new before entries after reach result one
-    (goes-then (value_walk value) (stored (limits_of fits.range) (reach_before (holds_call value) reach)) reached valued new entries after after known result
+    (goes-then (value_walk value) (stored (limits_of fits.range) (reach_stored target.selectors.items (holds_call value) reach)) reached valued new entries after after known result
     two
-    (subst (λ (v : Interval). Goes (stored v (reach_before (holds_call value) reach) known) valued after result new after) is
+    (subst (λ (v : Interval). Goes (stored v (reach_stored target.selectors.items (holds_call value) reach) known) valued after result new after) is
     (subst (λ (r : Reach). Goes (stored values r known) valued after result new after) before_is three)))
 
 -- an assignment of a whole value from the access of its target on
 pub copying-done : (becomes : SourcePlace) (target : Access) (indexes : List Expr) (type_id : TypeId) (value : Whole) (value_indexes : List Expr)
     (reach before_value : Reach) (old reached valued : Walk) (before entries after : Visits) (ranges : List Interval)
     (result : Result (Unit {0}) CheckFault) (new : Walk)
-    → before_value ≡ reach_before (whole_holds_call value value_indexes) reach
+    → before_value ≡ reach_stored target.selectors.items (whole_holds_call value value_indexes) reach
     → Does (access_walk target (index_pieces indexes)) old before reached entries reach
     → Does (whole_walk value (index_pieces value_indexes)) reached entries valued after ranges
     → Goes (copy_to becomes target.root target.selectors.items before_value type_id value ranges) valued after result new after
@@ -65,9 +65,9 @@ pub copying-done : (becomes : SourcePlace) (target : Access) (indexes : List Exp
 copying-done becomes target indexes type_id value value_indexes reach before_value old reached valued before entries after ranges result new before_is one two
     three =
     let stored = λ (reach : Reach) (ranges : List Interval). copy_to becomes target.root target.selectors.items reach type_id value ranges in
-    let rest = λ (reach : Reach). whole_walk value (index_pieces value_indexes) >>= stored (reach_before (whole_holds_call value value_indexes) reach) in
+    let rest = λ (reach : Reach). whole_walk value (index_pieces value_indexes) >>= stored (reach_stored target.selectors.items (whole_holds_call value value_indexes) reach) in
     goes-then (access_walk target (index_pieces indexes)) rest old reached new before entries after reach result one
-    (goes-then (whole_walk value (index_pieces value_indexes)) (stored (reach_before (whole_holds_call value value_indexes) reach)) reached valued new entries
+    (goes-then (whole_walk value (index_pieces value_indexes)) (stored (reach_stored target.selectors.items (whole_holds_call value value_indexes) reach)) reached valued new entries
     after after ranges result two
     (subst (λ (r : Reach). Goes (stored r ranges) valued after result new after) before_is three))
 

@@ -2,7 +2,7 @@
 -- rules that are broken, and the state at each entry into a statement or expression (ISO 7185:1990, 6.7, 6.8).
 -- It does not say that a program does what the walk says of it.
 use Rattle.std.specs.Prelude.{ℕ, suc, ℤ, drop, slice_get, Bool, true, false, ◌&&◌, List, [], ◌∷◌, ◌++◌, Option, Some}
-use Rattle.std.specs.Prelude.{None, if◌then◌else◌, map, length, nat_eq}
+use Rattle.std.specs.Prelude.{None, if◌then◌else◌, map, length, nat_eq, ◌-◌}
 use Rattle.std.specs.List.{list_all}
 use Rattle.std.specs.declared.alloc.Global.{Global}
 use Rattle.std.specs.declared.boxed.Box.{Box}
@@ -16,6 +16,7 @@ use Rattle.typed_tree.specs.declared.tree.Block.{Block}
 use Rattle.typed_tree.specs.declared.tree.Access.{Access}
 use Rattle.typed_tree.specs.declared.tree.RangeTest.{RangeTest}
 use Rattle.typed_tree.specs.declared.tree.Selector.{Selector}
+use Rattle.typed_tree.specs.declared.tree.Selector.TheVariants.{Element}
 use Rattle.typed_tree.specs.declared.tree.Whole.{Whole}
 use Rattle.typed_tree.specs.declared.tree.FunctionResult.{FunctionResult}
 use Rattle.typed_tree.specs.declared.tree.Expr.{Expr}
@@ -37,12 +38,12 @@ use Rattle.abstract_state.specs.Forms.{root_of}
 use Rattle.abstract_state.specs.Loops.{with_touched, with_undefined}
 use Rattle.leaf_rows.specs.Limits.{all_limits, limits_at}
 use Rattle.leaf_rows.specs.Rows.{rows_accessed, rows_of, values_at}
-use Rattle.component_states.specs.Components.{Reach, all_stored}
+use Rattle.component_states.specs.Components.{At, Inside, Reach, all_stored}
 use Rattle.component_states.specs.States.{State, dead, joined_states, over_bound, over_change, over_variables}
 use Rattle.structured_states.specs.Cases.{arm_start, constants_before}
 use Rattle.structured_states.specs.Loops.{Round, all_claims, all_control, claims_at, gives_claims}
 use Rattle.structured_states.specs.Loops.{head_of, round_of, touched, with_own, without_own}
-use Rattle.structured_states.specs.Ways.{End, Way, met, next, steady, turn_begun, turn_ended, way_of, way_out}
+use Rattle.structured_states.specs.Ways.{End, Way, entered, met, next, steady, turn_begun, turn_ended, way_of, way_out}
 use Rattle.structured_states.specs.Ways.{where_counts, with_values}
 use Rattle.structured_states.specs.Pairs.{aliases_in}
 use Rattle.call_states.specs.Sections.{BlockClaims, all_block_claims, all_pairs, block_claims_at}
@@ -179,22 +180,39 @@ all_of (statement ∷ statements) = do
 abbrev pub reach_before : Bool → Reach → Reach
 reach_before holds_call reach = if holds_call then unknown_reach reach else reach
 
+-- a selector is an index; the last one is
+abbrev pub is_index : Option Selector → Bool
+is_index (Some (Element fits cells)) = true
+is_index selector = false
+
+abbrev pub ends_at_index : List Selector → Bool
+ends_at_index selectors = is_index (slice_get selectors (length selectors - 1))
+
+-- what is reached where these selectors are stored to: a component of an element isn't all that there is of an index
+abbrev pub reach_of_store : List Selector → Reach → Reach
+reach_of_store selectors (At index) = if ends_at_index selectors then At index else Inside index
+reach_of_store selectors reach = reach
+
+-- the same, where the value may hold a call
+abbrev pub reach_stored : List Selector → Bool → Reach → Reach
+reach_stored selectors holds_call reach = reach_of_store selectors (reach_before holds_call reach)
+
 -- an assignment: the target is accessed, and then comes the value
 abbrev pub assignment : Place → Access → List Piece → RangeTest → Expr → Walking (Unit {0})
 assignment becomes target indexes fits value = do
   reach ← access_walk target indexes
   known ← value_walk value
   passed ← fitting fits known
-  assign_to becomes target.root target.selectors.items (reach_before (holds_call value) reach) (limits_of fits.range)
-      (bound_form value) passed
+  assign_to becomes target.root target.selectors.items
+      (reach_stored target.selectors.items (holds_call value) reach) (limits_of fits.range) (bound_form value) passed
 
 -- an assignment of a whole value: the target is accessed, and then come the components, one after another
 abbrev pub copying : Place → Access → List Piece → TypeId → Whole → List Expr → Walking (Unit {0})
 copying becomes target indexes type_id value value_indexes = do
   reach ← access_walk target indexes
   ranges ← whole_walk value (index_pieces value_indexes)
-  copy_to becomes target.root target.selectors.items (reach_before (whole_holds_call value value_indexes) reach)
-      type_id value ranges
+  copy_to becomes target.root target.selectors.items
+      (reach_stored target.selectors.items (whole_holds_call value value_indexes) reach) type_id value ranges
 
 -- two pieces of which a run takes one, each walked from its own state; behind them the states are joined
 abbrev pub either_of : Walked (Unit {0}) → Walked (Unit {0}) → Walked (Unit {0})
@@ -320,11 +338,16 @@ abbrev pub rounds_of : ℕ → Place → Walking (Unit {0}) → Way → Walking 
 rounds_of number place body way context =
     loop_walk number place (Some way.control) (for_round (steady_in context number way) body) context
 
+-- the control variable is the first bound, where a first turn may begin
+abbrev pub begin_way : Way → Walking (Unit {0})
+begin_way way context state =
+    assign way.control way.first.form (Ordinal way.first.values) context (over_variables (entered way) state)
+
 -- a for where there are values: the bounds are tested, and the control variable is the first
 abbrev pub for_turns : ℕ → Place → Walking (Unit {0}) → Way → Walking (Unit {0})
 for_turns number place body way = do
   tested ← tested_way place way
-  _ ← assign tested.control tested.first.form (Ordinal tested.first.values)
+  _ ← begin_way tested
   rounds_of number place body tested
 
 -- a for, from the values of its bounds: behind it the control variable is undefined

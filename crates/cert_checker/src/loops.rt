@@ -1,6 +1,5 @@
 ghost use Rattle.std.specs.Prelude.{◌≡◌, ◌&&◌, IfOk, None, length, nat_eq, true, false};
 ghost use Rattle.domain.specs.Interval.{is_included};
-ghost use Rattle.abstract_state.specs.declared.known.Known.TheVariants.{Ordinal};
 ghost use Rattle.abstract_state.specs.Loops.{with_undefined};
 ghost use Rattle.abstract_state.specs.State.{limits_of};
 ghost use Rattle.abstract_state.specs.View.{said_form};
@@ -9,12 +8,14 @@ ghost use Rattle.leaf_rows.specs.Limits.{limits_at};
 ghost use Rattle.structured_states.specs.Loops.{all_control};
 ghost use Rattle.component_states.specs.View.{viewed};
 ghost use Rattle.structured_states.specs.View.{said_way};
-ghost use Rattle.structured_states.specs.Ways.{next, turn_begun, turn_ended, way_out, where_counts};
+ghost use Rattle.structured_states.specs.Ways.{entered, next, turn_begun, turn_ended, way_out, where_counts};
 ghost use Rattle.expression_checker.specs.Visits.{Visits};
 ghost use Rattle.expression_checker.specs.Walk.{within};
-ghost use Rattle.cert_checker.specs.View.{AreLoops, EntersLoop, Goes, IsLoop, LeavesLoop, Moves, Parts};
+ghost use Rattle.cert_checker.specs.View.{AreLoops, EntersLoop, Goes, IsLoop, IsMoved, LeavesLoop, Moves, Parts};
 ghost use Rattle.cert_checker.specs.View.{context_of, said_tested, viewed_in};
-ghost use Rattle.cert_checker.specs.Walk.{aliases_here, assign, control_change, may_control, steady_in, tested_way};
+ghost use Rattle.expression_checker.specs.View.{state_of};
+ghost use Rattle.cert_checker.specs.Walk.{aliases_here, begin_way, control_change, may_control, steady_in};
+ghost use Rattle.cert_checker.specs.Walk.{tested_way};
 
 use crate::walk::Walk;
 use abstract_state::limits;
@@ -174,13 +175,18 @@ impl<'a> Walk<'a> {
         limits(way.first.fits.range).leq(&own) && limits(way.last.fits.range).leq(&own)
     }
 
-    /// The control variable is the first bound.
+    /// The control variable is the first bound, where a first turn may begin.
     pub(crate) fn begin_way(&mut self, way: &Way) -> Result<(), CheckFault>
-        ensures { (visits : Visits)
-            → Goes (assign way.now.control (said_form way.now.first.form) (Ordinal way.now.first.values))
-            self.old visits result self.new visits }
+        ensures { (visits : Visits) → Goes (begin_way (said_way way.now)) self.old visits result self.new visits }
     {
+        self.enter_way(way);
         self.assigned(way.control, way.first.values, way.first.form)
+    }
+
+    fn enter_way(&mut self, way: &Way)
+        ensures { IsMoved (over_variables (entered (said_way way.now)) (state_of self.old.flow)) self.old self.new }
+    {
+        way.enter(&mut self.flow.state.variables);
     }
 
     /// The way with the forms of its bounds that the turns of its loop leave as they are.

@@ -17,8 +17,8 @@ ghost use Rattle.expression_checker.specs.Visits.{Visits};
 ghost use Rattle.expression_checker.specs.Walk.{fits_whole, index_pieces, may_change};
 ghost use Rattle.cert_checker.specs.View.{Goes, context_of, row_stored};
 ghost use Rattle.cert_checker.specs.Walk.{alike, are_typed, assign, assign_component, assign_to, assignment, change};
-ghost use Rattle.cert_checker.specs.Walk.{component_change, copy_to, copying, paired, reach_before, store_to};
-ghost use Rattle.cert_checker.specs.Walk.{stores_made};
+ghost use Rattle.cert_checker.specs.Walk.{component_change, copy_to, copying, ends_at_index, paired, reach_before};
+ghost use Rattle.cert_checker.specs.Walk.{reach_of_store, reach_stored, store_to, stores_made};
 
 use crate::walk::Walk;
 use abstract_state::{Known, bound_form, limits};
@@ -37,7 +37,7 @@ use leaf_rows::{Rows, Span, limits_at};
 use place::Place;
 use std::alloc::{AllocError, Global};
 use typed_tree::calls::{holds_call, whole_holds_call};
-use typed_tree::tree::{Access, Expr, RangeTest, Whole};
+use typed_tree::tree::{Access, Expr, RangeTest, Selector, Whole};
 use types::TypeId;
 
 // What statements store to variables and to components.
@@ -58,7 +58,7 @@ impl<'a> Walk<'a> {
         let reach = self.access(target, indexes, visits)?;
         let known = self.expression(value, visits)?;
         let passed = self.flow.fitting(fits, known)?;
-        let reach = reach_before(holds_call(value), reach);
+        let reach = reach_stored(&target.selectors, holds_call(value), reach);
         self.assign_to(becomes, target, reach, limits(fits.range), value, passed)
     }
 
@@ -119,7 +119,8 @@ impl<'a> Walk<'a> {
     {
         let reach = self.access(target, indexes, visits)?;
         let ranges = self.whole_value(value, value_indexes, visits)?;
-        let reach = reach_before(whole_holds_call(value, value_indexes), reach);
+        let holds_call = whole_holds_call(value, value_indexes);
+        let reach = reach_stored(&target.selectors, holds_call, reach);
         self.copy_to(becomes, target, reach, type_id, value, &ranges)
     }
 
@@ -258,6 +259,33 @@ impl<'a> Walk<'a> {
     {
         let grounds = &self.flow.grounds;
         grounds.may_change(root) && fits && are_typed(grounds.rows, stores)
+    }
+}
+
+/// What is reached where these selectors are stored to, by a value that may hold a call.
+fn reach_stored(selectors: &[Selector], holds_call: bool, reach: Reach) -> Reach
+    ensures { said_reach result ≡ reach_stored selectors.now holds_call (said_reach reach) }
+{
+    reach_of_store(selectors, reach_before(holds_call, reach))
+}
+
+/// What is reached where these selectors are stored to: a component of an element isn't all that there is of an index.
+fn reach_of_store(selectors: &[Selector], reach: Reach) -> Reach
+    ensures { said_reach result ≡ reach_of_store selectors.now (said_reach reach) }
+{
+    match reach {
+        Reach::At(index) if !ends_at_index(selectors) => Reach::Inside(index),
+        _ => reach,
+    }
+}
+
+/// Whether an index comes last.
+fn ends_at_index(selectors: &[Selector]) -> bool
+    ensures { result ≡ ends_at_index selectors.now }
+{
+    match selectors.last() {
+        Some(Selector::Element { .. }) => true,
+        _ => false,
     }
 }
 

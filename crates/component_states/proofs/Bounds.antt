@@ -1,17 +1,17 @@
 -- The numbers of bounds: of those that are moved, that are known to be at most others, and that lie just behind them.
-use Rattle.std.proofs.Common.{arith, ◌≡◌, ap, refl, subst, ℕ, ℤ, pos, ◌+ℤ◌, ◌≤ℤ◌, Bool, true, false, cond, Option, Some, None}
+use Rattle.std.proofs.Common.{arith, ◌≡◌, ap, refl, subst, ℕ, ℤ, pos, ◌+ℤ◌, ◌≤ℤ◌, Bool, true, false, cond, Some, None}
 use Rattle.std.proofs.lemmas.Int.{ints}
 use Rattle.std.proofs.lemmas.Bool.{and_parts}
 use Rattle.domain.specs.Facts.{Bound, Number, Plus}
 use Rattle.meaning.specs.Integers.{is_integer_number}
 use Rattle.meaning.specs.Store.{Environment, Store}
 use Rattle.abstract_state.specs.State as variables
-use Rattle.abstract_state.specs.State.{Dead, Live, at_most}
+use Rattle.abstract_state.specs.State.{Dead, Live, at_most, raised_bound}
 use Rattle.abstract_state.specs.Holds.{Moment, IsBound}
 use Rattle.abstract_state.specs.Knows as entire
 use Rattle.abstract_state.specs.Knows.{moment}
 use Rattle.abstract_state.proofs.Given.{defined-number, le-holds}
-use Rattle.component_states.specs.Components.{has_value, is_next, moved_bound, some_at_least, some_at_most}
+use Rattle.component_states.specs.Components.{has_value, is_next, lies_below, moved_bound}
 
 pub some-if : (test : Bool) (one other : Bound) → cond test (Some one) None ≡ Some other → one ≡ other
 some-if true one other is = cc
@@ -31,6 +31,11 @@ moved-is moment n (Plus root m) moved x is (p, p_is, x_is) =
     let same = some-if (is_integer_number (m +ℤ n)) (Plus root (m +ℤ n)) moved is in
     subst (λ (b : Bound). IsBound moment b (x +ℤ n)) same (p, p_is, omega (arith, ints, x_is))
 
+-- a bound plus a number, in a test
+pub raised-is : (moment : Moment) (n : ℤ) (bound : Bound) (x : ℤ) → IsBound moment bound x → IsBound moment (raised_bound n bound) (x +ℤ n)
+raised-is moment n (Number m) x at = ap (λ (k : ℤ). k +ℤ n) at
+raised-is moment n (Plus root m) x (p, p_is, x_is) = (p, p_is, omega (arith, ints, x_is))
+
 -- where a state is known
 module _ (roots : ℕ) (env : Environment) (store : Store) where
   abbrev IsHere : Bound → ℤ → Type 0
@@ -41,31 +46,20 @@ module _ (roots : ℕ) (env : Environment) (store : Store) where
   at_most-holds Dead knows a b m n left right is = absurd knows
   at_most-holds (Live facts) knows a b m n left right is = le-holds facts (moment env store) knows.hold a b m n left right is
 
-  below-moved : (state : variables.State) → entire.Knows roots env state store → (a b : Bound) (m n : ℤ) → IsHere a m → IsHere b n
-      → (moved : Option Bound) → moved_bound (pos 1) a ≡ moved → some_at_most state moved b ≡ true → (m +ℤ pos 1) ≤ℤ n
-  below-moved state knows a b m n left right None moved_is is = absurd (cc)
-  below-moved state knows a b m n left right (Some c) moved_is is =
-      at_most-holds state knows c b (m +ℤ pos 1) n (moved-is (moment env store) (pos 1) a c m moved_is left) right is
-
-  above-moved : (state : variables.State) → entire.Knows roots env state store → (a b : Bound) (m n : ℤ) → IsHere a m → IsHere b n
-      → (moved : Option Bound) → moved_bound (pos 1) a ≡ moved → some_at_least state moved b ≡ true → n ≤ℤ (m +ℤ pos 1)
-  above-moved state knows a b m n left right None moved_is is = absurd (cc)
-  above-moved state knows a b m n left right (Some c) moved_is is =
-      at_most-holds state knows b c n (m +ℤ pos 1) right (moved-is (moment env store) (pos 1) a c m moved_is left) is
-
   -- a bound plus one is at most another
   pub below-holds : (state : variables.State) → entire.Knows roots env state store → (a b : Bound) (m n : ℤ) → IsHere a m → IsHere b n
-      → some_at_most state (moved_bound (pos 1) a) b ≡ true → (m +ℤ pos 1) ≤ℤ n
-  below-holds state knows a b m n left right is = below-moved state knows a b m n left right (moved_bound (pos 1) a) refl is
+      → lies_below state a b ≡ true → (m +ℤ pos 1) ≤ℤ n
+  below-holds state knows a b m n left right is =
+      at_most-holds state knows (raised_bound (pos 1) a) b (m +ℤ pos 1) n (raised-is (moment env store) (pos 1) a m left) right is
 
   -- a bound is the one behind another
   pub next-is : (state : variables.State) → entire.Knows roots env state store → (a b : Bound) (m n : ℤ) → IsHere a m → IsHere b n
       → is_next state a b ≡ true → n ≡ (m +ℤ pos 1)
   next-is state knows a b m n left right is =
-      let moved = moved_bound (pos 1) a in
-      let parts = and_parts (some_at_most state moved b) (some_at_least state moved b) is in
-      let low = below-moved state knows a b m n left right moved refl parts.0 in
-      let high = above-moved state knows a b m n left right moved refl parts.1 in
+      let behind = raised_bound (pos 1) a in
+      let parts = and_parts (lies_below state a b) (at_most state b behind) is in
+      let low = below-holds state knows a b m n left right parts.0 in
+      let high : n ≤ℤ (m +ℤ pos 1) = at_most-holds state knows b behind n (m +ℤ pos 1) right (raised-is (moment env store) (pos 1) a m left) parts.1 in
       omega (arith, ints, low, high)
 
   -- a bound that is known to have a value is a number

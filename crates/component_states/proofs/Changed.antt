@@ -4,7 +4,7 @@ use Rattle.std.proofs.Common.{get_or, Option, Some, None}
 use Rattle.std.specs.List.{filter_map}
 use Rattle.std.proofs.lemmas.Int.{ints}
 use Rattle.std.proofs.lemmas.Bool.{both_ways, cases_Bool, eq-eqb, eqb-true}
-use Rattle.std.proofs.lemmas.List.Elements.{All-contains}
+use Rattle.std.proofs.lemmas.List.Elements.{All-contains, All-nil}
 use Rattle.types.specs.declared.form.Step.{Step}
 use Rattle.domain.specs.Facts.{Bound, Number, Plus}
 use Rattle.meaning.specs.Store.{Environment, Store}
@@ -152,12 +152,12 @@ pub bounds-hold : BoundsHold
 bounds-hold rows env root own x known store has at holds =
     let M = moment env store in
     let P = λ (one : Stretch). StretchHolds rows one M in
-    let kept = each-of P known.stretches holds.stretches in
     let change = with_bounds (bound_in_place root own) in
     let placed = changed-all P P change
     (λ one other is so.
     with_bounds-holds rows M M (λ row steps of_row has. has) Any_bound (bound_in_place root own)
-    (λ bound moved n any became holds. placed-bound M root own x has at bound moved n became holds) one other tt tt is so) known.stretches kept in
+    (λ bound moved n any became holds. placed-bound M root own x has at bound moved n became holds) one other tt tt is so) known.stretches
+    (each-of P known.stretches holds.stretches) in
     record {
       count = holds.count;
       ranges = holds.ranges;
@@ -165,5 +165,5 @@ bounds-hold rows env root own x known store has at holds =
       indexes = holds.indexes;
       stretches = λ one inside.
           All-contains P (replaced root own known).stretches one
-          (with_stretches-all P (filter_map change known.stretches) known.stretches placed kept) inside;
+          (with_stretches-all P (filter_map change known.stretches) [] placed (All-nil P)) inside;
     }

@@ -10,7 +10,7 @@ use Rattle.domain.specs.Interval.{Interval, common, is_included, joined, vacant}
 use Rattle.domain.specs.Facts.{Bound, Number, Plus}
 use Rattle.meaning.specs.Integers.{is_integer_number}
 use Rattle.abstract_state.specs.State as variables
-use Rattle.abstract_state.specs.State.{at_most, is_defined}
+use Rattle.abstract_state.specs.State.{at_most, is_defined, raised_bound}
 use Rattle.typed_tree.specs.declared.tree.Tree.{Tree}
 use Rattle.leaf_rows.specs.Limits.{limits_or_integer}
 use Rattle.leaf_rows.specs.Rows.{Row, rows_of}
@@ -77,17 +77,13 @@ abbrev pub moved_bound : ℤ → Bound → Option Bound
 moved_bound n (Number m) = bound_with Number (m +ℤ n)
 moved_bound n (Plus root m) = bound_with (Plus root) (m +ℤ n)
 
-abbrev pub some_at_most : variables.State → Option Bound → Bound → Bool
-some_at_most state None b = false
-some_at_most state (Some a) b = at_most state a b
-
-abbrev pub some_at_least : variables.State → Option Bound → Bound → Bool
-some_at_least state None b = false
-some_at_least state (Some a) b = at_most state b a
+-- a bound is known to lie below another
+abbrev pub lies_below : variables.State → Bound → Bound → Bool
+lies_below state a b = at_most state (raised_bound (pos 1) a) b
 
 -- a bound is known to be the one behind another
 abbrev pub is_next : variables.State → Bound → Bound → Bool
-is_next state a b = some_at_most state (moved_bound (pos 1) a) b && some_at_least state (moved_bound (pos 1) a) b
+is_next state a b = lies_below state a b && at_most state b (raised_bound (pos 1) a)
 
 -- the variable of a bound, if it has one, is known to be defined
 abbrev pub has_value : variables.State → Bound → Bool
@@ -106,7 +102,7 @@ same_stretch a b = nat_eq a.row b.row && (same_bound a.first b.first && same_bou
 
 -- a stretch has no index, since its last bound lies below its first
 abbrev pub is_empty : variables.State → Stretch → Bool
-is_empty state stretch = some_at_most state (moved_bound (pos 1) stretch.last) stretch.first
+is_empty state stretch = lies_below state stretch.last stretch.first
 
 -- a stretch has all that another has
 abbrev pub covers : variables.State → Stretch → Stretch → Bool
@@ -194,10 +190,10 @@ bound_in_place root own (Number n) = Some (Number n)
 bound_in_place root None (Plus a n) = Some (Plus a n)
 bound_in_place root (Some own) (Plus a n) = if nat_eq root a then moved_bound n own else Some (Plus a n)
 
--- the stretches of a variable are known of its bound too, if it has one
+-- the stretches with a variable's bound in its place, if it has one, each once
 abbrev pub replaced : ℕ → Option Bound → Components → Components
 replaced root own known = record known {
-  stretches = with_stretches (filter_map (with_bounds (bound_in_place root own)) known.stretches) known.stretches;
+  stretches = with_stretches (filter_map (with_bounds (bound_in_place root own)) known.stretches) [];
 }
 
 -- ---- the head of a loop

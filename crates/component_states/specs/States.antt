@@ -45,7 +45,7 @@ abbrev pub over_change : ℕ → Option Bound → (variables.State → variables
 over_change root form change state =
     record { variables = change state.variables; components = components.changed root form state.components }
 
--- what is known of a variable is known of its bound too, if it has one
+-- what is known with a variable's bound in its place, if it has one
 abbrev pub over_bound : ℕ → Option Bound → (variables.State → variables.State) → State → State
 over_bound root own change state =
     record { variables = change state.variables; components = components.replaced root own state.components }

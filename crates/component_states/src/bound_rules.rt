@@ -1,11 +1,11 @@
-ghost use Rattle.std.specs.Prelude.{◌≡◌, None, Some, pos};
+ghost use Rattle.std.specs.Prelude.{◌≡◌, None, Some};
 ghost use Rattle.domain.specs.Facts.{Number, Plus, said_bound};
 ghost use Rattle.abstract_state.specs.View.{IsFar, said_form};
 ghost use Rattle.component_states.specs.Components.{bound_in_place, bound_with, changed_bound, has_value, is_next};
-ghost use Rattle.component_states.specs.Components.{moved_bound, same_bound, some_at_least, some_at_most};
+ghost use Rattle.component_states.specs.Components.{lies_below, moved_bound, same_bound};
 ghost use Rattle.component_states.specs.View.{viewed_variables};
 
-use abstract_state::State;
+use abstract_state::{State, Term};
 use domain::facts::Bound;
 use leaf_rows::Rows;
 
@@ -120,33 +120,14 @@ pub fn has_value(rows: &Rows, state: &State, bound: Bound) -> bool
 pub(crate) fn is_next(rows: &Rows, state: &State, bound: Bound, next: Bound) -> bool
     ensures { result ≡ is_next (viewed_variables rows.now state.now) (said_bound bound) (said_bound next) }
 {
-    let behind = moved(bound, 1);
-    is_some_at_most(rows, state, behind, next) && is_some_at_least(rows, state, behind, next)
+    let behind = Term::of(bound).moved(1);
+    let next = Term::of(next);
+    state.knows_order(rows.limits(), behind, next) && state.knows_order(rows.limits(), next, behind)
 }
 
 /// Whether a bound is known to lie below another.
 pub(crate) fn is_below(rows: &Rows, state: &State, bound: Bound, other: Bound) -> bool
-    ensures { result
-        ≡ some_at_most
-        (viewed_variables rows.now state.now) (moved_bound (pos 1) (said_bound bound)) (said_bound other) }
+    ensures { result ≡ lies_below (viewed_variables rows.now state.now) (said_bound bound) (said_bound other) }
 {
-    is_some_at_most(rows, state, moved(bound, 1), other)
-}
-
-fn is_some_at_most(rows: &Rows, state: &State, bound: Option<Bound>, other: Bound) -> bool
-    ensures { result ≡ some_at_most (viewed_variables rows.now state.now) (said_form bound) (said_bound other) }
-{
-    match bound {
-        None => false,
-        Some(bound) => state.knows_at_most(rows.limits(), bound, other),
-    }
-}
-
-fn is_some_at_least(rows: &Rows, state: &State, bound: Option<Bound>, other: Bound) -> bool
-    ensures { result ≡ some_at_least (viewed_variables rows.now state.now) (said_form bound) (said_bound other) }
-{
-    match bound {
-        None => false,
-        Some(bound) => state.knows_at_most(rows.limits(), other, bound),
-    }
+    state.knows_order(rows.limits(), Term::of(bound).moved(1), Term::of(other))
 }

@@ -104,7 +104,7 @@ impl Components {
         }
     }
 
-    /// What is known of a variable is known of its bound too, if it has one.
+    /// What is known with a variable's bound in its place, if it has one.
     pub(crate) fn replace(
         &mut self,
         alloc: Global,
@@ -115,8 +115,11 @@ impl Components {
             (λ _. (tree : Tree) → viewed_components tree self.new
             ≡ replaced root (said_form own) (viewed_components tree self.old)) }
     {
-        let more = stretches::in_place(alloc, &self.stretches, root, own)?;
-        stretches::insert_all(&mut self.stretches, &more)
+        let placed = stretches::in_place(alloc, &self.stretches, root, own)?;
+        let mut held = Vec::new(alloc);
+        stretches::insert_all(&mut held, &placed)?;
+        self.stretches = held;
+        Ok(())
     }
 
     /// A claim is known from here on; a range beside that which is known.

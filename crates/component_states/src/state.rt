@@ -95,7 +95,7 @@ impl State {
         self.variables.undefine(rows.limits(), root)
     }
 
-    /// What is known of a variable is known of its bound too, if it has one.
+    /// What is known with a variable's bound in its place, if it has one.
     pub fn replace(
         &mut self,
         alloc: Global,

@@ -19,8 +19,8 @@ use Rattle.abstract_state.specs.Knows.{IsKept, IsOfForm, Knows, moment}
 use Rattle.abstract_state.proofs.Bounded.{bound-here, narrowed-known, order-known, related-known, root-here}
 use Rattle.abstract_state.proofs.Changed.{assigned-known, none-loose}
 use Rattle.abstract_state.proofs.Knows.{defined-known, nonempty-known}
-use Rattle.structured_states.specs.Ways.{Way, in_order, met, moved_on, next, on_way, own, present, relation_of, single, step, turn_begun, turn_ended}
-use Rattle.structured_states.specs.Ways.{unless_touched, values_behind, where_counts}
+use Rattle.structured_states.specs.Ways.{Way, entered, in_order, met, moved_on, next, on_way, own, present, relation_of, single, step, turn_begun}
+use Rattle.structured_states.specs.Ways.{turn_ended, unless_touched, values_behind, where_counts}
 
 -- a number comes before another on a way
 abbrev pub Ordered : Direction → ℤ → ℤ → Type 0
@@ -123,6 +123,15 @@ module _ (variables : ℕ) (env : Environment) (store : Store) where
       let low = other.0 in
       let high = one.1 in
       at_least-has last.first (at_most first.last range) n (at_most-has first.last range n inside (omega (arith, ints))) (omega (arith, ints))
+
+  -- where the first turn begins
+  pub entered-known : (way : Way) (state : State) (x y : ℤ) → HasMember way.first.values x → HasMember way.last.values y
+      → has_values way.direction x y ≡ true → Known state → Known (entered way state)
+  entered-known way state x y one other counts known =
+      let values = way.first.values in
+      nonempty-known variables env (on_way way.direction values way.last.values values) state store (value.Number x)
+      (on-way_in way.direction values way.last.values values x y x one other
+      (ordered-itself way.direction x, counts-ordered way.direction x y counts) one) known
 
   -- where a turn begins
   pub begun-known : (way : Way) (state : State) (x y n : ℤ) → HasNumber (moment env store) way.control n → HasMember way.first.values x

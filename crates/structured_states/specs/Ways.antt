@@ -98,6 +98,12 @@ abbrev pub on_way : Direction → (first last : Interval) → Interval → Inter
 on_way To first last range = at_least first.first (at_most last.last range)
 on_way DownTo first last range = at_least last.first (at_most first.last range)
 
+-- where the first turn begins: no run comes there if no value of the first bound lies on the way, since then the least
+-- of them lies behind the greatest of the last one
+abbrev pub entered : Way → State → State
+entered way state =
+    unless_empty (on_way way.direction way.first.values way.last.values way.first.values) state
+
 -- the control variable as a bound
 abbrev pub own : Way → Option Bound
 own way = Some (Plus way.control (pos 0))

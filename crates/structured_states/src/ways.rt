@@ -6,9 +6,9 @@ ghost use Rattle.abstract_state.specs.View.{said_form, viewed};
 ghost use Rattle.component_states.specs.View.{viewed_variables};
 ghost use Rattle.structured_states.specs.Loops.{touched};
 ghost use Rattle.structured_states.specs.View.{head_round, said_end, said_way};
-ghost use Rattle.structured_states.specs.Ways.{end_of, form_before, in_order, met, next, on_way, own, relation_of};
-ghost use Rattle.structured_states.specs.Ways.{steady, turn_begun, turn_ended, unless_touched, values_behind};
-ghost use Rattle.structured_states.specs.Ways.{where_counts, with_values};
+ghost use Rattle.structured_states.specs.Ways.{end_of, entered, form_before, in_order, met, next, on_way, own};
+ghost use Rattle.structured_states.specs.Ways.{relation_of, steady, turn_begun, turn_ended, unless_touched};
+ghost use Rattle.structured_states.specs.Ways.{values_behind, where_counts, with_values};
 
 use crate::rounds::Round;
 use abstract_state::{Known, State, bound_form};
@@ -160,6 +160,14 @@ impl Way {
             }
             _ => Ok(()),
         }
+    }
+
+    /// Where the first turn begins.
+    pub fn enter(&self, state: &mut State)
+        ensures { (limits : List Interval) → viewed limits state.new
+            ≡ entered (said_way self.now) (viewed limits state.old) }
+    {
+        state.unless_empty(self.values(self.first.values));
     }
 
     /// Where a turn begins.

@@ -1,12 +1,13 @@
-use Rattle.std.proofs.Common.{refl, ap, ◌∙◌, Err, Ok}
+use Rattle.std.proofs.Common.{refl, ap₂, ◌∙◌, Err, List, Ok}
 use Rattle.typed_tree.specs.Calls.{holds_call}
+use Rattle.typed_tree.specs.declared.tree.Selector.{Selector}
 use Rattle.abstract_state.specs.State.{limits_of}
 use Rattle.abstract_state.specs.Conditions.{bound_form}
 use Rattle.component_states.specs.View.{said_reach}
 use Rattle.abstract_state.specs.declared.known.Known.{Known}
 use Rattle.component_states.specs.Components.{Reach}
 use Rattle.expression_checker.specs.Walk.{◌>>=◌, access_walk, fitting, index_pieces, value_walk}
-use Rattle.cert_checker.specs.Walk.{assign_to, assignment, reach_before}
+use Rattle.cert_checker.specs.Walk.{assign_to, assignment, reach_stored}
 use Rattle.cert_checker.specs.View.{context_of}
 use Rattle.cert_checker.proofs.Steps.{given-up, goes-then, goes-stopped, lifted}
 use Rattle.cert_checker.proofs.StepsStores.{assignment-done}
@@ -19,7 +20,7 @@ returns-in_err-known c =
     let fits = c.args.fits in
     let value = c.args.value.now in
     let stored = λ (reach : Reach) (known : Known).
-    fitting fits known >>= assign_to c.args.becomes target.root target.selectors.items (reach_before (holds_call value) reach) (limits_of fits.range)
+    fitting fits known >>= assign_to c.args.becomes target.root target.selectors.items (reach_stored target.selectors.items (holds_call value) reach) (limits_of fits.range)
     (bound_form value) in
     let reach = said_reach c.in_ok-reach.reach in
     let fault = c.in_err-known.field-0.0 in
@@ -38,7 +39,7 @@ returns-in_err-passed c =
     let fits = c.args.fits in
     let value = c.args.value.now in
     let reach = said_reach c.in_ok-reach.reach in
-    let before = reach_before (holds_call value) reach in
+    let before = reach_stored target.selectors.items (holds_call value) reach in
     let stored = assign_to c.args.becomes target.root target.selectors.items before (limits_of fits.range) (bound_form value) in
     let valued = c.expression.new.self in
     let new = record valued { flow = c.fitting.new.self } in
@@ -59,7 +60,7 @@ returns c =
     let value = c.args.value.now in
     let reach = said_reach c.in_ok-reach.reach in
     let values = c.limits.result in
-    let before = said_reach c.reach_before-reach.result in
+    let before = said_reach c.reach_stored-reach.result in
     let stored = assign_to c.args.becomes target.root target.selectors.items before values (bound_form value) in
     let valued = c.expression.new.self in
     let tested = record valued { flow = c.fitting.new.self } in
@@ -69,6 +70,6 @@ returns c =
     let passed = c.in_ok-passed.passed in
     assignment-done c.args.becomes target indexes fits value values reach before c.args.self.now c.access.new.self valued c.args.visits.now
     c.access.new.visits after known c.assign_to.result new c.limits.ensures
-    (c.reach_before-reach.ensures ∙ ap (λ holds. reach_before holds reach) c.holds_call.ensures) c.in_ok-reach.ensures c.in_ok-known.ensures
+    (c.reach_stored-reach.ensures ∙ ap₂ (λ (own : List Selector) holds. reach_stored own holds reach) c.deref.ensures.value c.holds_call.ensures) c.in_ok-reach.ensures c.in_ok-known.ensures
     (goes-then (fitting fits known) stored valued tested new after after after passed c.assign_to.result
     (lifted (fitting fits known) valued c.fitting.new.self after after (Ok passed) (c.in_ok-passed.ensures after)) (c.assign_to.ensures after))
