@@ -6,6 +6,7 @@ pub mod Constants
 mod Covers
 mod Owned
 mod Kept
+mod Spared
 pub mod Grown
 pub mod Steps
 pub mod Strings
