@@ -155,7 +155,7 @@ module _ (tree : Tree) (blocks : List BlockClaims) (declares : DeclareTheirs tre
       → MayWriteTo at found
   write-accessed target indexes context stands may found given =
       under-write at target.root found (may-here tree blocks block at grounds context stands target.root may)
-      (under-accessed tree blocks declares block at grounds calls leave target (values_of indexes) found given)
+      (under-accessed at.visible calls target (values_of indexes) found given)
 
   -- one of two actions
   keeps-chosen : (b : Bool) (one other : Action (Unit {0})) → Keeps at one → Keeps at other → Keeps at (if b then one else other)
