@@ -32,7 +32,7 @@ use Rattle.component_states.specs.States.{State, over_bound, over_change, over_v
 use Rattle.component_states.specs.Holds.{Knows}
 use Rattle.component_states.specs.Laws.{AreEntire}
 use Rattle.leaf_rows.specs.Limits.{all_limits, limits_at}
-use Rattle.structured_states.specs.Loops.{Round, all_control, controls_inside, round_of, touched, with_own, without_own}
+use Rattle.structured_states.specs.Loops.{Round, all_control, controls_inside, round_of, touched, with_own}
 use Rattle.structured_states.specs.Pairs.{aliases_of, Listed, aliases_in}
 use Rattle.structured_states.specs.Ways as ways
 use Rattle.structured_states.specs.Ways.{Way, met, step, turn_begun, turn_ended, way_out, where_counts, with_values}
@@ -358,7 +358,7 @@ module _ (world : World) (ranges : world.limits ≡ all_limits world.tree) (bloc
   may-changed place context state way unbroken =
       let first = walk.tested_end state way.first context state in
       let last = walk.tested_end state way.last context first.after in
-      let asked = walk.control_change place way.control way.first.fits.range way.last.fits.range context last.after in
+      let asked = walk.bounds_fit place way.control way.first.fits.range way.last.fits.range context last.after in
       let from_asked = followed asked (flow.give (with_values first.value last.value way) context last.after) in
       let tests = walk.tested_way place way context state in
       let begun = walk.assign way.control way.first.form (Ordinal first.value) context last.after in
@@ -427,7 +427,7 @@ module _ (world : World) (ranges : world.limits ≡ all_limits world.tree) (bloc
     tested = with_values first.value last.value way
 
     abbrev asked : Walked (Unit {0})
-    asked = walk.control_change place way.control way.first.fits.range way.last.fits.range context last.after
+    asked = walk.bounds_fit place way.control way.first.fits.range way.last.fits.range context last.after
 
     abbrev begun : Walked (Unit {0})
     begun = walk.assign way.control way.first.form (Ordinal first.value) context last.after

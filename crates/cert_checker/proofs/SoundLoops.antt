@@ -27,7 +27,7 @@ use Rattle.component_states.specs.Holds.{Knows}
 use Rattle.component_states.specs.Laws.{AreEntire}
 use Rattle.component_states.proofs.Joins.{join-holds}
 use Rattle.leaf_rows.specs.Limits.{all_limits}
-use Rattle.structured_states.specs.Loops.{Round, claims_at, controls_inside, gives_claims, head_of, round_of, touched, with_own, without_own}
+use Rattle.structured_states.specs.Loops.{Round, claims_at, controls_inside, gives_claims, head_of, round_of, touched, with_own}
 use Rattle.call_states.specs.Environments.{Fine, Proper}
 use Rattle.call_states.proofs.AliasedTypes.{in-types, shows}
 use Rattle.call_states.proofs.Claimed.{AllHold, given-claims}

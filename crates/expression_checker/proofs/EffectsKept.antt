@@ -121,6 +121,16 @@ listing number settled changes visible = record {
   visible = visible;
 }
 
+-- where a piece stands that may change all but what lies at a place
+abbrev pub watching : Place → Environment → Standing
+watching home visible = record {
+  number = suc home.activation;
+  settled = 0;
+  may = λ place. LiesUnder place home → ⊥;
+  part_may = λ between place may lies over. may (lies-through between place home lies over);
+  visible = visible;
+}
+
 -- what lies under a variable that may be changed may be written
 pub under-write : (at : Standing) (root : ℕ) (found : Option Place) → MayChange at root → IsUnder at.visible root found → MayWriteTo at found
 under-write at root found may under place is earlier =

@@ -290,7 +290,7 @@ unfolding is_assigned
 is_assigned_does {here} place root = record {
   does = λ s a is fine h.
       let x = split_if (list_any (nat_eq root) s.assigned) (fault.NeverAssigned place) (after tt [] s) a is in
-      subst (Leaves here Nothing s Anything) x.1 (grown_silent here s s refl refl refl refl refl refl refl refl refl (λ root is. is) refl fine, tt);
+      subst (Leaves here Nothing s Anything) x.1 (grown_silent here s s refl refl refl refl refl refl refl refl refl (λ root is. is) refl refl fine, tt);
 }
 
 -- the site of a result stands at the end

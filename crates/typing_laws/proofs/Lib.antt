@@ -7,6 +7,8 @@ mod Covers
 mod Owned
 mod Kept
 mod Spared
+pub mod Sparing
+pub mod Unthreatened
 pub mod Grown
 pub mod Steps
 pub mod Strings

@@ -39,13 +39,15 @@ one_mark one roots plain spares = ap (option_and_then (λ (more : List ℕ). spa
 pub spared_append : (roots : List ℕ) (look more : Look)
     → spared_behind roots (look ++ more) ≡ option_and_then (λ (behind : List ℕ). spared_behind behind more) (spared_behind roots look)
 spared_append roots [] more = refl
-spared_append roots (mark ∷ look) more = by (mark_behind mark roots)
+spared_append roots (mark ∷ look) more = by (mark_behind mark roots) (λ behind. spared_append behind look more)
   where
     by : (found : Option (List ℕ))
+        → ((behind : List ℕ)
+        → spared_behind behind (look ++ more) ≡ option_and_then (λ (behind : List ℕ). spared_behind behind more) (spared_behind behind look))
         → option_and_then (λ (behind : List ℕ). spared_behind behind (look ++ more)) found
         ≡ option_and_then (λ (behind : List ℕ). spared_behind behind more) (option_and_then (λ (behind : List ℕ). spared_behind behind look) found)
-    by None = refl
-    by (Some behind) = spared_append behind look more
+    by None each = refl
+    by (Some behind) each = each behind
 
 -- one form, and then another
 pub spared_then : (roots : List ℕ) (look more : Look) → spared_behind roots look ≡ Some roots → spared_behind roots more ≡ Some roots

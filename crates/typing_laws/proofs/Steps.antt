@@ -306,12 +306,12 @@ wants_output_does {here} place = record {
 -- ---- marks
 
 -- what may be changed is no control variable of a for statement round the place
-all_apart : {here : Here} (s : Passed) (roots changes : List ℕ) → AreHeld roots s.controls → Each (MayChange here (reached s)) (changes ++ [])
+all_apart : (here : Here) (s : Passed) (roots changes : List ℕ) → AreHeld roots s.controls → Each (MayChange here (reached s)) (changes ++ [])
     → list_all (is_none_of roots) changes ≡ true
-all_apart s roots [] held may = refl
-all_apart s roots (root ∷ changes) held may =
+all_apart here s roots [] held may = refl
+all_apart here s roots (root ∷ changes) held may =
     both_true (is_none_of roots root) (list_all (is_none_of roots) changes) (apart_held roots s.controls root held may.0.apart)
-    (all_apart s roots changes held may.1)
+    (all_apart here s roots changes held may.1)
 
 -- no entry, but well formed
 marked_does : {here : Here} {least : Reached} (one : Mark) → mark_entries one ≡ [] → mark_loops one ≡ [] → mark_blocks one ≡ []
@@ -348,7 +348,7 @@ marked_does {here} {least} one none no_loop no_block plain changes no_control fo
         controls = subst (λ (l : List ℕ). Each (IsFree here s s) (l ++ [])) (sym no_control) tt;
         formed = λ o more. both_true _ true (formed o (further_still h more)) refl;
         controls_kept = refl;
-        spared = λ roots held. one_mark one roots plain (all_apart s roots (mark_changes one) held (changes (reached s) h));
+        spared = λ roots held. one_mark one roots plain (all_apart here s roots (mark_changes one) held (changes (reached s) h));
       } in
       subst (Leaves here Nothing s Anything) same (g, tt);
 }
@@ -476,7 +476,7 @@ enter_loop_at {here} marked one loop no_block plain s a changes controls formed 
           formed = λ o more. both_true _ true (formed s.entries s.loops o more) refl;
           controls_kept = refl;
           spared = λ roots held.
-              one_mark made roots (plain s.entries s.loops) (all_apart s roots (mark_changes made) held (changes s.entries s.loops));
+              one_mark made roots (plain s.entries s.loops) (all_apart here s roots (mark_changes made) held (changes s.entries s.loops));
         } in
         subst (Leaves here Nothing s Anything) same (g, tt)
 
@@ -670,7 +670,7 @@ ended_flat : {A : Type 0} (f : Mark → List A) (look : Look) → f ForEnds ≡ 
 ended_flat f look none =
     flat_map-append f look (ForEnds ∷ []) ∙ ap (λ l. flat_map f look ++ (l ++ [])) none ∙ append-nil (flat_map f look)
 
-module _ {here : Here} {Has : List Stands → Type 0} (root : ℕ) (look : Look) (s new : Passed) where
+module _ (root : ℕ) (look : Look) (s new : Passed) where
   abbrev inside : Passed
   inside = record s { controls = s.controls ++ root ∷ [] }
 
@@ -682,12 +682,12 @@ module _ {here : Here} {Has : List Stands → Type 0} (root : ℕ) (look : Look)
 
   still_apart : new.controls ≡ inside.controls → (other : ℕ) → (reached new).apart other ≡ true → (reached behind_it).apart other ≡ true
   still_apart kept other apart =
-      let at_end = ap (λ (all : List ℕ). not (list_any (λ control. nat_eq control other) all)) in
-      at_end (ap (λ (all : List ℕ). take (length all - 1) all) kept ∙ ended_control s.controls root)
-      ∙ apart_front s.controls root other (sym (at_end kept) ∙ apart)
+      ap (λ (all : List ℕ). not (list_any (λ control. nat_eq control other) all))
+      (ap (λ (all : List ℕ). take (length all - 1) all) kept ∙ ended_control s.controls root)
+      ∙ apart_front s.controls root other (sym (ap (λ (all : List ℕ). not (list_any (λ control. nat_eq control other) all)) kept) ∙ apart)
 
-  grown_bracketed : Grown here Has look inside new → Grown here Has bracketed s behind_it
-  grown_bracketed g =
+  grown_bracketed : {here : Here} {Has : List Stands → Type 0} → Grown here Has look inside new → Grown here Has bracketed s behind_it
+  grown_bracketed {here} {Has} g =
       let entries = ended_flat mark_entries look refl in
       let loops = ended_flat mark_loops look refl in
       record {
@@ -784,21 +784,23 @@ pub for_body_does : {here : Here} {least : Reached} {Has : List Stands → Type 
 unfolding for_body begin_control end_control
 for_body_does {here} {least} {Has} root body law = record {
   does = λ s a is fine h.
-      let x = ended_by s a (body (record s { controls = s.controls ++ root ∷ [] })) refl is in
       let start : Passed = record s { controls = s.controls ++ root ∷ [] } in
-      let one = (law (reached start)).does start x.0 x.1 (fine_inside s (s.controls ++ root ∷ []) fine) as_far in
-      subst (Leaves here Has s Anything) x.2 (grown_bracketed root x.0.look s x.0.passed one.0, tt);
+      let to_end = λ (t : Passed). behind_marks [] (mark ForEnds (record t { controls = take (length t.controls - 1) t.controls })) in
+      let from_body = and_then (body start) (λ b. behind_marks b.look (to_end b.passed)) in
+      let x = split_behind [] (behind_marks (Controls root ∷ []) from_body) a is in
+      let y = split_behind (Controls root ∷ []) from_body x.0 x.1 in
+      let z = split (body start) (λ b. behind_marks b.look (to_end b.passed)) y.0 y.1 in
+      let b = z.0 in
+      let behind : Passed = record (b.passed) { controls = take (length b.passed.controls - 1) b.passed.controls } in
+      let ended : after tt (b.look ++ (ForEnds ∷ [])) behind ≡ y.0 = ok_same z.2 in
+      let whole : after tt (Controls root ∷ (b.look ++ (ForEnds ∷ []))) behind ≡ a =
+      ap (λ (e : After (Unit {0})). after e.answer (Controls root ∷ e.look) e.passed) ended ∙ y.2 ∙ x.2 in
+      let one = (law (reached start)).does start b z.1 (fine_inside s (s.controls ++ root ∷ []) fine) as_far in
+      subst (Leaves here Has s Anything) whole (grown_bracketed root b.look s b.passed one.0, tt);
 }
   where
-    ended_by : (s : Passed) (a : After (Unit {0})) (outcome : Checked (After (Unit {0})))
-        → body (record s { controls = s.controls ++ root ∷ [] }) ≡ outcome
-        → behind_marks (Controls root ∷ [])
-        (and_then outcome (λ b. behind_marks b.look
-        (behind_marks [] (mark ForEnds (record (b.passed) { controls = take (length b.passed.controls - 1) b.passed.controls }))))) ≡ Ok a
-        → (b : After (Unit {0})) × (body (record s { controls = s.controls ++ root ∷ [] }) ≡ Ok b)
-        × (after tt (Controls root ∷ (b.look ++ (ForEnds ∷ []))) (record (b.passed) { controls = take (length b.passed.controls - 1) b.passed.controls }) ≡ a)
-    ended_by s a (Err fault) goes is = absurd cc
-    ended_by s a (Ok b) goes is = (b, goes, cc)
+    ok_same : {b c : After (Unit {0})} → ◌≡◌ {A = Checked (After (Unit {0}))} (Ok b) (Ok c) → b ≡ c
+    ok_same h = cc
 
 pub host_type_does : {here : Here} {least : Reached} (id : TypeId) → Does here least Nothing (host_type id) Anything
 unfolding host_type
