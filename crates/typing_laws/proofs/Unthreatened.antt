@@ -85,11 +85,11 @@ bare = map-Stmt Told Stmt (λ s. s.0)
 
 controls_layer : (y : Stmt-F Told)
     → HasControls (statement_look (map-Stmt Stmt Look look_stmt (bare y))) (statement_inside (map-Stmt Stmt Inside inside_of (bare y))).controls
-controls_layer (Empty number) = none_told _
-controls_layer (Assign number becomes target indexes fits value) = none_told _
-controls_layer (Copy number becomes target indexes type_id value value_indexes) = none_told _
-controls_layer (Write number name parameters ends_line) = none_told _
-controls_layer (Calling call actuals) = none_told _
+controls_layer (Empty number) = λ root is. absurd cc
+controls_layer (Assign number becomes target indexes fits value) = λ root is. absurd cc
+controls_layer (Copy number becomes target indexes type_id value value_indexes) = λ root is. absurd cc
+controls_layer (Write number name parameters ends_line) = λ root is. absurd cc
+controls_layer (Calling call actuals) = λ root is. absurd cc
 controls_layer (Compound number statements) = all_told statements.items (Ends ∷ [])
 controls_layer (If number condition consequence None) =
     let own = (inside_of consequence.value.0).controls in
@@ -206,6 +206,9 @@ each_at Holds f (first ∷ roots) rest all root is =
     ⊎_elim (λ same. subst (λ (n : ℕ). Holds (f n)) (eqb-true first root same) all.0) (λ later. each_at Holds f roots rest all.1 root later)
     (or_cases (nat_eq first root) (has roots root) is)
 
+none_some : {A : Type 0} {x : A} → ◌≡◌ {A = Option A} None (Some x) → ⊥
+none_some is = absurd cc
+
 each_rest : {A : Type 0} (Holds : A → Type 0) (xs rest : List A) → Each Holds (xs ++ rest) → Each Holds rest
 each_rest Holds [] rest all = all
 each_rest Holds (x ∷ xs) rest all = each_rest Holds xs rest all.1
@@ -221,6 +224,7 @@ module _ (tree : Tree) where
   part_of roots Holds none [] all number block is among root told = absurd cc
   part_of roots Holds none (first ∷ bodies) all number block is among root told =
       by (slice_get tree.blocks.items first) refl all
+      (λ rest differs. part_of roots Holds none bodies rest number block is (sym (ap (λ (b : Bool). b || has bodies number) differs) ∙ among) root told)
     where
       rest_is : (other : Block) → in_blocks roots (look_block first other ++ flat_map look_at bodies)
           ≡ map (λ (one : ℕ). (first, one)) (flat_map roots (look_stmt other.body)) ++ in_blocks roots (flat_map look_at bodies)
@@ -231,18 +235,15 @@ module _ (tree : Tree) where
           (placed_inner roots first other.heading.around.items other.heading.parameters.items other.heading.result other.end (look_stmt other.body)
           (inner_stmt other.body) (none first other))
 
-      later : Each Holds (in_blocks roots (flat_map look_at bodies)) → nat_eq first number ≡ false → Holds (number, root)
-      later rest other =
-          part_of roots Holds none bodies rest number block is (sym (ap (λ (b : Bool). b || has bodies number) other) ∙ among) root told
+      gone : slice_get tree.blocks.items first ≡ None → first ≡ number → ⊥
+      gone there same = none_some (sym there ∙ ap (slice_get tree.blocks.items) same ∙ is)
 
       by : (found : Option Block) → slice_get tree.blocks.items first ≡ found
-          → Each Holds (in_blocks roots (of_block look_block first found ++ flat_map look_at bodies)) → Holds (number, root)
-      by None there all =
-          ⊎_elim (λ same. absurd (gone (eqb-true first number same))) (λ other. later all other) (cases_Bool (nat_eq first number))
-        where
-          gone : first ≡ number → ⊥
-          gone same = let no : ◌≡◌ {A = Option Block} None (Some block) = sym there ∙ ap (slice_get tree.blocks.items) same ∙ is in absurd cc
-      by (Some other) there all =
+          → Each Holds (in_blocks roots (of_block look_block first found ++ flat_map look_at bodies))
+          → (Each Holds (in_blocks roots (flat_map look_at bodies)) → nat_eq first number ≡ false → Holds (number, root)) → Holds (number, root)
+      by None there all later =
+          ⊎_elim (λ same. absurd (gone there (eqb-true first number same))) (λ differs. later all differs) (cases_Bool (nat_eq first number))
+      by (Some other) there all later =
           let parts = subst (Each Holds) (rest_is other) all in
           ⊎_elim
           (λ same.
@@ -261,10 +262,8 @@ module _ (tree : Tree) where
   own_spared (first ∷ bodies) behind all number block is among =
       let parts = cut [] behind (look_at first) (flat_map look_at bodies) all in
       by (slice_get tree.blocks.items first) refl parts.0 parts.1 parts.2
+      (λ rest differs. own_spared bodies behind rest number block is (sym (ap (λ (b : Bool). b || has bodies number) differs) ∙ among))
     where
-      later : spared_behind [] (flat_map look_at bodies) ≡ Some behind → nat_eq first number ≡ false → spared_behind [] (look_stmt block.body) ≡ Some []
-      later rest other = own_spared bodies behind rest number block is (sym (ap (λ (b : Bool). b || has bodies number) other) ∙ among)
-
       ended : (other : Block) (mid : List ℕ) → spared_behind [] (look_block first other) ≡ Some mid
           → (spared_behind [] (look_stmt other.body) ≡ Some []) × (mid ≡ [])
       ended other mid one =
@@ -273,16 +272,18 @@ module _ (tree : Tree) where
           let last : Some parts.0 ≡ Some mid = parts.2 in
           (parts.1 ∙ ap Some told.1, sym (some_same parts.0 mid last) ∙ told.1)
 
+      gone : slice_get tree.blocks.items first ≡ None → first ≡ number → ⊥
+      gone there same = none_some (sym there ∙ ap (slice_get tree.blocks.items) same ∙ is)
+
       by : (found : Option Block) → slice_get tree.blocks.items first ≡ found → (mid : List ℕ) → spared_behind [] (of_block look_block first found) ≡ Some mid
-          → spared_behind mid (flat_map look_at bodies) ≡ Some behind → spared_behind [] (look_stmt block.body) ≡ Some []
-      by None there mid one rest =
-          ⊎_elim (λ same. absurd (gone (eqb-true first number same)))
-          (λ other. later (subst (λ (all : List ℕ). spared_behind all (flat_map look_at bodies) ≡ Some behind) (sym (some_same [] mid one)) rest) other)
+          → spared_behind mid (flat_map look_at bodies) ≡ Some behind
+          → (spared_behind [] (flat_map look_at bodies) ≡ Some behind → nat_eq first number ≡ false → spared_behind [] (look_stmt block.body) ≡ Some [])
+          → spared_behind [] (look_stmt block.body) ≡ Some []
+      by None there mid one rest later =
+          ⊎_elim (λ same. absurd (gone there (eqb-true first number same)))
+          (λ differs. later (subst (λ (all : List ℕ). spared_behind all (flat_map look_at bodies) ≡ Some behind) (sym (some_same [] mid one)) rest) differs)
           (cases_Bool (nat_eq first number))
-        where
-          gone : first ≡ number → ⊥
-          gone same = let no : ◌≡◌ {A = Option Block} None (Some block) = sym there ∙ ap (slice_get tree.blocks.items) same ∙ is in absurd cc
-      by (Some other) there mid one rest =
+      by (Some other) there mid one rest later =
           let k = ended other mid one in
           ⊎_elim
           (λ same.
@@ -300,7 +301,7 @@ module _ (tree : Tree) where
       (λ later.
       let k = elsewhere but (suc start) blocks root later in
       let next : suc start + k.0 ≡ start + suc k.0 = omega arith in
-      (suc k.0, k.1, k.2.0, subst (λ (n : ℕ). nat_eq n but ≡ false) next k.2.1, k.2.2))
+      (suc k.0, k.1, k.2, subst (λ (n : ℕ). nat_eq n but ≡ false) next k.3, k.4))
       (or_cases (has (if nat_eq start but then [] else controls_of block.body) root) (has (controls_but but (suc start) blocks) root)
       (sym (list_any-append (λ one. nat_eq one root) (if nat_eq start but then [] else controls_of block.body) (controls_but but (suc start) blocks)) ∙ is))
     where
@@ -339,11 +340,11 @@ module _ (tree : Tree) where
     apart number block is root changes controls =
         let k = elsewhere number 0 tree.blocks.items root controls in
         let plain : 0 + k.0 ≡ k.0 = omega arith in
-        let kept = part_of mark_controls (IsKeptBy (tree_look tree)) (λ n b. refl) tree.bodies.items unthreatened k.0 k.1 k.2.0 (among k.0 k.1 k.2.0) root
-        (controls_told k.1.body root k.2.2) in
+        let kept = part_of mark_controls (IsKeptBy (tree_look tree)) (λ n b. refl) tree.bodies.items unthreatened k.0 k.1 k.2 (among k.0 k.1 k.2) root
+        (controls_told k.1.body root k.4) in
         let same = part_of mark_changes (λ (change : ℕ × ℕ). change.1 ≡ root → change.0 ≡ k.0) (λ n b. refl) tree.bodies.items kept number block is
         (among number block is) root changes refl in
-        let differs : nat_eq k.0 number ≡ false = subst (λ (n : ℕ). nat_eq n number ≡ false) plain k.2.1 in
+        let differs : nat_eq k.0 number ≡ false = subst (λ (n : ℕ). nat_eq n number ≡ false) plain k.3 in
         let alike : nat_eq k.0 number ≡ true = eq-eqb k.0 number (sym same) in
         no (sym differs ∙ alike)
       where
