@@ -27,4 +27,5 @@ pub mod EffectsParameters
 pub mod EffectsRoutines
 pub mod SparedText
 pub mod SparedCalls
+pub mod HiddenControls
 pub mod ClaimsKnown

@@ -519,8 +519,8 @@ module _ (world : World) (ranges : world.limits ≡ all_limits world.tree) (bloc
       rounds-good =
           let few = v.activations in
           let controls = text.controls in
-          let place = home world block visible few way.control is_own in
-          let left = text.left place (alone-apart visible way.control place (apart world block visible few way.control is_own)) in
+          let lies_at = home world block visible few way.control is_own in
+          let left = text.left lies_at (alone-apart visible way.control lies_at (apart world block visible few way.control is_own)) in
           let within = inner-controlled world context number among here.stands.goes.tree_is inside_are held in
           let own = touched (with_own (Some way.control) (round_of context.tree context.pairs context.claims number)) in
           let begun_kept = at-kept context tested x y few is_own here.block_is in_first in_last x_typed y_typed controls within left x v.store in
