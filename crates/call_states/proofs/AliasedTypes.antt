@@ -34,7 +34,8 @@ use Rattle.leaf_rows.specs.Limits.{all_limits, limits_at, limits_or_integer, row
 use Rattle.leaf_rows.specs.Rows.{Parts, Row, all_parts, no_parts, rows_of, values_at}
 use Rattle.leaf_rows.proofs.Accessed.{row-is}
 use Rattle.component_states.specs.Holds.{IsOfRow, component_at}
-use Rattle.structured_states.specs.Loops.{Round, all_control, all_list, touched}
+use Rattle.structured_states.proofs.Touched.{all_control}
+use Rattle.structured_states.specs.Loops.{Round, all_list, touched}
 use Rattle.structured_states.specs.Pairs.{aliases_of}
 use Rattle.call_states.specs.Aliases.{Stored, same_values, variable_values}
 use Rattle.call_states.specs.Environments.{Begun, LiesIn, Proper, Typed, place_type, type_led}

@@ -29,8 +29,11 @@ use Rattle.abstract_state.specs.Loops.{is_among}
 use Rattle.abstract_state.proofs.Given.{entire-steps}
 use Rattle.leaf_rows.specs.Rows.{Named, part_named, variable_named}
 use Rattle.structured_states.specs.Loops.{has_ordinals, is_ordinal_variable}
-use Rattle.call_states.specs.Sections.{BlockClaims, all_block_claims, block_claims_at, block_claims_in, no_block_claims}
-use Rattle.call_states.proofs.Lists.{of-map}
+use Rattle.certificate.specs.declared.AliasPair.{AliasPair}
+use Rattle.certificate.specs.Contents.{Section}
+use Rattle.cert_checker.proofs.HiddenControls.{IsKnownPair}
+use Rattle.call_states.specs.Sections.{BlockClaims, all_block_claims, all_pairs, block_claims_at, block_claims_in, no_block_claims, pair_of}
+use Rattle.call_states.proofs.Lists.{of-flat, of-map}
 use Rattle.exit_states.proofs.BehindExits.{FitsOrdinals, IsOwnResult, IsResultOf, MayEnd}
 use Rattle.call_states.proofs.Given.{AreOutward}
 use Rattle.call_states.proofs.Given as given
@@ -38,7 +41,7 @@ use Rattle.call_states.proofs.Headings.{one-there}
 use Rattle.call_states.proofs.LedComponents.{path-ordinal}
 use Rattle.call_states.proofs.Parameters.{IsOutward}
 use Rattle.certificate_names.specs.Names.{block_is_known, bound_roots, exit_is_known, fact_is_known, fact_is_on, fact_roots, has_elements, is_array}
-use Rattle.certificate_names.specs.Names.{is_changed_value}
+use Rattle.certificate_names.specs.Names.{has_parameter, is_changed_value, pair_is_known}
 use Rattle.certificate_names.specs.Names.{is_known, is_lasting, is_named, is_of_loops, is_outward, is_own_result, names, section_is_known}
 use Rattle.expression_checker.proofs.Sound.{World}
 use Rattle.expression_checker.proofs.CallLaws.{AreClaims}
@@ -228,6 +231,7 @@ record IsKnownSection (tree : Tree) (section : KeptSection) : Type 0 where
   changes : (root : ℕ) → Contains section.changes.items root → is_outward tree section.block root ≡ true
   entry : (one : KeptFact) → Contains section.entry.items one → fact_is_on tree (is_outward tree section.block) one ≡ true
   exit : (one : KeptFact) → Contains section.exit.items one → exit_is_known tree section one ≡ true
+  aliases : (pair : AliasPair) → Contains section.aliases.items pair → pair_is_known tree section.block pair ≡ true
 
 known-section : (tree : Tree) (section : KeptSection) → section_is_known tree section ≡ true → IsKnownSection tree section
 known-section tree section is =
@@ -244,9 +248,10 @@ known-section tree section is =
           changes = λ root inside. absurd (nothing-in section.changes.items root b.0 inside);
           entry = λ fact inside. absurd (nothing-in section.entry.items fact c.0 inside);
           exit = λ fact inside. absurd (nothing-in section.exit.items fact c.1 inside);
+          aliases = λ pair inside. absurd (nothing-in section.aliases.items pair a.0 inside);
         }
     by false all =
-        let a = and_parts _ (list_all (is_outward tree section.block) section.changes.items
+        let a = and_parts (list_all (pair_is_known tree section.block) section.aliases.items) (list_all (is_outward tree section.block) section.changes.items
         && (list_all (fact_is_on tree (is_outward tree section.block)) section.entry.items && list_all (exit_is_known tree section) section.exit.items)) all in
         let b = and_parts (list_all (is_outward tree section.block) section.changes.items) _ a.1 in
         let c = and_parts (list_all (fact_is_on tree (is_outward tree section.block)) section.entry.items)
@@ -255,6 +260,7 @@ known-section tree section is =
           changes = λ root inside. each-passes (is_outward tree section.block) section.changes.items root b.0 inside;
           entry = λ fact inside. each-passes (fact_is_on tree (is_outward tree section.block)) section.entry.items fact c.0 inside;
           exit = λ fact inside. each-passes (exit_is_known tree section) section.exit.items fact c.1 inside;
+          aliases = λ pair inside. each-passes (pair_is_known tree section.block) section.aliases.items pair a.0 inside;
         }
 
 module _ (world : World) (certificate : Certificate) (blocks_are : world.blocks ≡ all_block_claims world.tree certificate)
@@ -302,6 +308,21 @@ module _ (world : World) (certificate : Certificate) (blocks_are : world.blocks 
       subst (λ (changes : List ℕ). MayEnd tree number changes one) (sym (ap (λ (c : BlockClaims). c.changes) is))
       (subst (λ (n : ℕ). MayEnd tree n section.changes.items one) own
       (subst (MayEnd tree section.block section.changes.items) found.2 (exit-may tree section found.0 ((known-here section there).exit found.0 found.1))))
+
+  -- each pair is one of a block
+  pub pairs-known : (first second : ℕ) → Contains (all_pairs certificate) (first, second) → IsKnownPair tree first second
+  pairs-known first second inside =
+      let section = of-flat (λ (s : Section). map pair_of s.aliases) (contents certificate) (first, second) inside in
+      let own = of-map section_of certificate.sections.items section.0 section.1 in
+      let pair = of-map pair_of own.0.aliases.items (first, second)
+      (subst (λ (s : Section). Contains (map pair_of s.aliases) (first, second)) (sym own.2) section.2) in
+      let known = (known-here own.0 own.1).aliases pair.0 pair.1 in
+      let first_is : pair.0.first ≡ first = ap (λ (one : ℕ × ℕ). one.0) pair.2 in
+      let second_is : pair.0.second ≡ second = ap (λ (one : ℕ × ℕ). one.1) pair.2 in
+      subst (λ (a : ℕ). IsKnownPair tree a second) first_is
+      (subst (λ (b : ℕ). IsKnownPair tree pair.0.first b) second_is
+      (own.0.block, ⊎_elim (λ one. inl one) (λ other. inr other)
+      (or_cases (has_parameter tree own.0.block pair.0.first pair.0.second) (has_parameter tree own.0.block pair.0.second pair.0.first) known)))
 
   -- the claims of a certificate that names what the program has are such
   pub are-claims : AreClaims world

@@ -72,6 +72,14 @@ control-ordinal tree block control is =
     ordinal-of tree.types (slice_get tree.variables.items control)
     (leads-type (outline_of tree) block (is_ordinal tree.types) control [] 0 leads)
 
+-- it is one of the block's own
+pub control-declared : (tree : Tree) (block control : ℕ) → is_control (outline_of tree) block control ≡ true
+    → (variable : Variable) × (slice_get tree.variables.items control ≡ Some variable) × (variable.block ≡ block)
+control-declared tree block control is =
+    let local = (and_parts (is_declared (outline_of tree) block is_local_kind control) (leads_to_ordinal (outline_of tree) block control [] 0) is).0 in
+    let own = one-there (λ (v : Variable). nat_eq v.block block && is_local_kind v.kind) (slice_get tree.variables.items control) local in
+    (own.0, own.1, eqb-true own.0.block block (and_parts (nat_eq own.0.block block) (is_local_kind own.0.kind) own.2).0)
+
 -- and it is visible in the block
 pub control-seen : (tree : Tree) (block control : ℕ) → is_control (outline_of tree) block control ≡ true → is_visible (outline_of tree) block control ≡ true
 control-seen tree block control is =

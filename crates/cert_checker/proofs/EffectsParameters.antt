@@ -11,6 +11,7 @@ use Rattle.types.specs.Components.{components_of}
 use Rattle.types.specs.Forms.{Form}
 use Rattle.typed_tree.specs.declared.tree.Tree.{Tree}
 use Rattle.typed_tree.specs.declared.tree.Block.{Block}
+use Rattle.typed_tree.specs.declared.tree.Heading.{Heading}
 use Rattle.typed_tree.specs.declared.tree.Variable.{Variable}
 use Rattle.typed_tree.specs.declared.tree.VariableKind.{VariableKind}
 use Rattle.typed_tree.specs.declared.tree.VariableKind.TheVariants as kind
@@ -21,13 +22,13 @@ use Rattle.meaning.specs.Store.{Environment, Place}
 use Rattle.meaning.specs.Effect.{Action, give, store}
 use Rattle.meaning.specs.Effect as effect
 use Rattle.meaning.specs.Meaning.{Activation, Argument, OfPlace, OfRow, OfValue, assign, assign_all, home_of, own_place, place_for}
-use Rattle.meaning.specs.Meaning.{place_passed, seen_from}
+use Rattle.meaning.specs.Meaning.{environment_of, place_passed, seen_from}
 use Rattle.abstract_state.specs.Loops.{is_among}
 use Rattle.call_states.specs.Sections.{BlockClaims, block_claims_at}
 use Rattle.call_states.specs.Starts.{is_own}
 use Rattle.call_states.proofs.Callee.{in-roots}
 use Rattle.expression_checker.proofs.EffectsKept.{IsOwn, Keeps, MayWriteTo, Standing, keeps-give, keeps-store, keeps-store_all, keeps-then, lies-itself}
-use Rattle.expression_checker.proofs.EffectsKept.{own-write}
+use Rattle.expression_checker.proofs.EffectsKept.{listing, own-write}
 use Rattle.expression_checker.proofs.EffectsCalls.{DeclareTheirs, Grounds, activation_from, not-among, standing_from}
 
 -- ---- blocks of a well formed tree
@@ -223,6 +224,29 @@ seen-own activation root variable own =
     else (if is_one_of activation.heading.around.items variable.block then activation.caller.variables root else None))
     (eq-eqb variable.block activation.block own)
 
+-- what a block declares is placed so in an activation of it, whose own places may be written
+pub home-placed : (at : Standing) (activation : Activation) → ((root : ℕ) → IsOwn at (Some (own_place activation.number root))) → (root : ℕ) (one : VariableKind)
+    → IsPlaced at (home_of activation root one) (place_for root activation.heading.parameters.items activation.arguments)
+home-placed at activation own root kind.VariableParameter = inr refl
+home-placed at activation own root kind.Local = inl (own root)
+home-placed at activation own root kind.ValueParameter = inl (own root)
+home-placed at activation own root kind.Result = inl (own root)
+
+-- what is passed to a block is written where it may be
+pub keeps-received : (at : Standing) (tree : Tree) → IsWellFormed tree → (activation : Activation) (block : Block)
+    → slice_get tree.blocks.items activation.block ≡ Some block → activation.heading ≡ block.heading → at.visible ≡ environment_of tree activation
+    → ((root : ℕ) → IsOwn at (Some (own_place activation.number root)))
+    → Keeps at (assign_all tree at.visible block.heading.parameters.items activation.arguments)
+keeps-received at tree well activation block is headed visible_is own =
+    keeps-assign_all at tree at.visible block.heading.parameters.items activation.arguments (parameters-apart tree well activation.block block is)
+    (λ root among.
+    let (variable, found, of_block) = declare-theirs tree well activation.block block root is among in
+    let home : at.visible.variables root ≡ home_of activation root variable.kind =
+    ap (λ (visible : Environment). visible.variables root) visible_is ∙ ap (seen_from activation root) found ∙ seen-own activation root variable of_block in
+    subst (λ (place : Option Place). IsPlaced at place (place_for root block.heading.parameters.items activation.arguments)) (sym home)
+    (subst (λ (heading : Heading). IsPlaced at (home_of activation root variable.kind) (place_for root heading.parameters.items activation.arguments)) headed
+    (home-placed at activation own root variable.kind)))
+
 own-at : (at : Standing) (root : ℕ) → at.settled ≤ at.number → IsOwn at (Some (own_place at.number root))
 own-at at root few place is =
     let same : own_place at.number root ≡ place = cc in
@@ -236,25 +260,13 @@ module _ (tree : Tree) (blocks : List BlockClaims) (number : ℕ) (block : Block
   abbrev at : Standing
   at = standing_from tree blocks number block arguments caller s
 
-  home-placed : (root : ℕ) (one : VariableKind)
-      → IsPlaced at (home_of activation root one) (place_for root block.heading.parameters.items arguments)
-  home-placed root kind.VariableParameter = inr refl
-  home-placed root kind.Local = inl (own-at at root (omega arith))
-  home-placed root kind.ValueParameter = inl (own-at at root (omega arith))
-  home-placed root kind.Result = inl (own-at at root (omega arith))
-
   visible-home : (root : ℕ) (variable : Variable) → slice_get tree.variables.items root ≡ Some variable → variable.block ≡ number
       → at.visible.variables root ≡ home_of activation root variable.kind
   visible-home root variable found own = ap (seen_from activation root) found ∙ seen-own activation root variable own
 
   pub keeps-passing : IsWellFormed tree → slice_get tree.blocks.items number ≡ Some block
       → Keeps at (assign_all tree at.visible block.heading.parameters.items arguments)
-  keeps-passing well is =
-      keeps-assign_all at tree at.visible block.heading.parameters.items arguments (parameters-apart tree well number block is)
-      (λ root among.
-      let (variable, found, own) = declare-theirs tree well number block root is among in
-      subst (λ (place : Option Place). IsPlaced at place (place_for root block.heading.parameters.items arguments))
-      (sym (visible-home root variable found own)) (home-placed root variable.kind))
+  keeps-passing well is = keeps-received at tree well activation block is refl refl (λ root. own-at at root (omega arith))
 
   own-home : (root : ℕ) (home : Place) (one : VariableKind) → (is_local_kind one || is_result_kind one) ≡ true
       → home_of activation root one ≡ Some home → home.activation ≡ s.activations
@@ -269,7 +281,7 @@ module _ (tree : Tree) (blocks : List BlockClaims) (number : ℕ) (block : Block
   pub activation-grounds : Grounds tree blocks number at
   activation-grounds = record {
     few = omega arith;
-    lists = λ root inside. inside;
+    lists = λ root home inside seen. (root, home, inside, seen, lies-itself home);
     own = λ root variable home found owns seen.
         let parts = and_parts (nat_eq variable.block number) (is_local_kind variable.kind || is_result_kind variable.kind) owns in
         let at_home = own-home root home variable.kind parts.1 (sym (visible-home root variable found (eqb-true variable.block number parts.0)) ∙ seen) in
@@ -278,17 +290,19 @@ module _ (tree : Tree) (blocks : List BlockClaims) (number : ℕ) (block : Block
 
   -- so does what it does behind the assignments of its value parameters: its own variables are listed too
   abbrev pub behind : Standing
-  behind = record {
-    number = suc s.activations;
-    settled = s.activations;
-    changes = (block_claims_at blocks number).changes ++ roots_where (is_own number) 0 tree.variables.items;
-    visible = at.visible;
-  }
+  behind =
+      listing (suc s.activations) s.activations ((block_claims_at blocks number).changes ++ roots_where (is_own number) 0 tree.variables.items) at.visible
 
   pub behind-grounds : Grounds tree blocks number behind
   behind-grounds = record {
     few = omega arith;
-    lists = λ root inside. Contains-append_left (block_claims_at blocks number).changes (roots_where (is_own number) 0 tree.variables.items) root inside;
+    lists = λ root home inside seen. (
+      root,
+      home,
+      Contains-append_left (block_claims_at blocks number).changes (roots_where (is_own number) 0 tree.variables.items) root inside,
+      seen,
+      lies-itself home,
+    );
     own = λ root variable home found owns seen.
         let parts = and_parts (nat_eq variable.block number) (is_local_kind variable.kind || is_result_kind variable.kind) owns in
         let at_home = own-home root home variable.kind parts.1 (sym (visible-home root variable found (eqb-true variable.block number parts.0)) ∙ seen) in

@@ -68,15 +68,15 @@ bodies-yield context start (first ∷ blocks) yields (suc number) block is =
 
 -- ---- activations
 
-keeps-result : (at : Standing) (result : Option FunctionResult) (visible : Environment) → Keeps at (result_of result visible)
+pub keeps-result : (at : Standing) (result : Option FunctionResult) (visible : Environment) → Keeps at (result_of result visible)
 keeps-result at None visible = keeps-give at (Number _)
 keeps-result at (Some result) visible = keeps-fetch at (visible.variables result.root) result.defined
 
-keeps-end : (at : Standing) (living : List ℕ) → Keeps at (end_with living)
+pub keeps-end : (at : Standing) (living : List ℕ) → Keeps at (end_with living)
 keeps-end at living = record { left = λ s begun. leaves-same at s _ refl refl }
 
 -- an activation more has begun
-leaves-begun : (at : Standing) (s t : State) → t.store ≡ s.store → t.activations ≡ suc s.activations → Leaving at s t
+pub leaves-begun : (at : Standing) (s t : State) → t.store ≡ s.store → t.activations ≡ suc s.activations → Leaving at s t
 leaves-begun at s t store_is activations_are =
     let same = leaves-same at s (record t { activations = s.activations }) store_is refl in
     record { grows = omega (arith, activations_are); leaves = same.leaves }

@@ -47,7 +47,7 @@ use Rattle.component_states.specs.Components.{Reach}
 use Rattle.component_states.specs.States.{State, over_bound, over_change, over_variables}
 use Rattle.structured_states.specs.Cases.{arm_start, constants_before}
 use Rattle.leaf_rows.specs.Limits.{limits_at}
-use Rattle.structured_states.specs.Loops.{claims_at, round_of, with_own, without_own}
+use Rattle.structured_states.specs.Loops.{claims_at, round_of, with_own}
 use Rattle.structured_states.specs.Ways.{Way, next, turn_begun, turn_ended, way_of, way_out, where_counts}
 use Rattle.call_states.specs.Sections.{BlockClaims}
 use Rattle.call_states.specs.Starts.{is_own}
@@ -118,7 +118,7 @@ yields-round : (tree : Tree) (blocks : List BlockClaims) (block : ℕ) (context 
 yields-round tree blocks block context stands number place control walking yields =
     let loop = round_of context.tree context.pairs context.claims number in
     let facts = (claims_at context.claims number).facts in
-    let round = without_own control loop in
+    let round = loop in
     let end = λ (behind : State). flow.◌>>=◌ (walk.facts_given LoopTurn place facts) (λ _. flow.with_state behind) in
     let one = yields-then context (walk.facts_given LoopEntry place facts)
     (λ _. flow.◌>>=◌ (walk.enter_head (with_own control loop) facts) (λ _. flow.◌>>=◌ (walk.inside round walking) end)) tt
@@ -155,7 +155,7 @@ module _ (tree : Tree) (blocks : List BlockClaims) (declares : DeclareTheirs tre
       → MayWriteTo at found
   write-accessed target indexes context stands may found given =
       under-write at target.root found (may-here tree blocks block at grounds context stands target.root may)
-      (under-accessed tree blocks declares block at grounds calls leave target (values_of indexes) found given)
+      (under-accessed at.visible calls target (values_of indexes) found given)
 
   -- one of two actions
   keeps-chosen : (b : Bool) (one other : Action (Unit {0})) → Keeps at one → Keeps at other → Keeps at (if b then one else other)

@@ -26,7 +26,7 @@ use Rattle.component_states.specs.Components.{Reach}
 use Rattle.component_states.specs.States.{State, dead, joined_states, over_variables}
 use Rattle.call_states.specs.Sections.{block_claims_at}
 use Rattle.call_states.specs.Starts.{block_start}
-use Rattle.structured_states.specs.Loops.{claims_at, head_of, round_of, with_own, without_own}
+use Rattle.structured_states.specs.Loops.{claims_at, head_of, round_of, with_own}
 use Rattle.structured_states.specs.Ways.{Way, turn_begun, way_of, where_counts}
 use Rattle.std.specs.declared.alloc.Global.{Global}
 use Rattle.std.specs.declared.vec.Vec.{Vec}
@@ -86,7 +86,7 @@ loop-entered number place control round numbers each context state =
     let claims = claims_at context.claims number in
     let loop = round_of context.tree context.pairs context.claims number in
     let own = with_own control loop in
-    let within : Context = record context { rounds = context.rounds ++ without_own control loop ∷ [] } in
+    let within : Context = record context { rounds = context.rounds ++ loop ∷ [] } in
     let start = head_of context.tree context.limits own claims.facts state in
     and_no_more (round within start).linked [] numbers (each within start) refl
 

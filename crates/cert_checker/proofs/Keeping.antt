@@ -15,7 +15,8 @@ use Rattle.abstract_state.specs.Knows.{IsKept, moment}
 use Rattle.abstract_state.specs.Loops.{is_among}
 use Rattle.abstract_state.proofs.Apart.{entire-stored, entry-kept, part, parts-same, place-itself}
 use Rattle.component_states.specs.Laws.{OneChanges}
-use Rattle.structured_states.specs.Loops.{Round, all_control, touched}
+use Rattle.structured_states.proofs.Touched.{all_control}
+use Rattle.structured_states.specs.Loops.{Round, touched}
 use Rattle.expression_checker.proofs.Keeping.{Keeps}
 use Rattle.call_states.specs.Environments.{Begun, Proper, Typed}
 use Rattle.call_states.proofs.AliasedStores.{IsApart, all-pass}

@@ -25,4 +25,7 @@ pub mod Written
 pub mod EffectsStatements
 pub mod EffectsParameters
 pub mod EffectsRoutines
+pub mod SparedText
+pub mod SparedCalls
+pub mod HiddenControls
 pub mod ClaimsKnown

@@ -10,9 +10,9 @@ use Rattle.typed_tree.specs.declared.tree.Tree.{Tree}
 use Rattle.meaning.specs.Store.{Environment, Store}
 use Rattle.abstract_state.specs.Knows.{IsKept}
 use Rattle.abstract_state.specs.Loops.{is_among}
-use Rattle.structured_states.specs.Loops.{Round, aliases_there, all_but, round_of, without_own}
+use Rattle.structured_states.specs.Loops.{Round, aliases_there, round_of}
 use Rattle.structured_states.specs.Pairs.{Listed, aliases_in, aliases_of, all_aliases_in, blocks_seen, declared_aliases, declares}
-use Rattle.structured_states.proofs.Touched.{among-but, inside-parts, touched_parts}
+use Rattle.structured_states.proofs.Touched.{touched_parts}
 use Rattle.call_states.proofs.Lists.{among-contains, contains-among, filtered, of-flat}
 use Rattle.call_states.proofs.Places.{listed-pair, pair-back, pair-listed}
 use Rattle.call_states.proofs.SeenAliases.{all-alias-seen}
@@ -82,44 +82,12 @@ module _ (world : World) (block : ℕ) (context : Context) (number : ℕ) (tree_
   among-aliases root alias among is shown =
       ap (is_among alias) aliases-are ∙ all-alias-seen world.tree world.pairs block roots root alias among is shown
 
-  -- round its body, where it is no for statement
+  -- round its body
   pub loop-closed : IsClosed world block loop
   loop-closed root alias shown other among is =
       touched_parts None loop alias
       ∙ or_right (is_among alias loop.controls) (is_among alias loop.changes || is_among alias loop.aliases)
       (or_right (is_among alias loop.changes) (is_among alias loop.aliases) (among-aliases root alias among is other))
-
-  -- and where it is one, whose control variable has no aliases that are visible
-  pub inside-closed : (control : ℕ) → is_seen world block control ≡ true
-      → ((alias : ℕ) → is_among alias (aliases_of world.pairs control) ≡ true → is_seen world block alias ≡ false)
-      → IsClosed world block (without_own (Some control) loop)
-  inside-closed control own_seen hidden root alias shown other among is =
-      let parts = list_any-append (λ (x : ℕ). nat_eq x root) (all_but control loop.controls) (all_but control loop.changes) in
-      let inner : is_among root (loop.controls ++ loop.changes) ≡ true =
-      list_any-append (λ (x : ℕ). nat_eq x root) loop.controls loop.changes
-      ∙ ⊎_elim
-      (λ (one : is_among root (all_but control loop.controls) ≡ true).
-      or_left (is_among root loop.controls) (is_among root loop.changes)
-      (and_parts (not (nat_eq control root)) (is_among root loop.controls) (sym (among-but root control loop.controls) ∙ one)).1)
-      (λ (two : is_among root (all_but control loop.changes) ≡ true).
-      or_right (is_among root loop.controls) (is_among root loop.changes)
-      (and_parts (not (nat_eq control root)) (is_among root loop.changes) (sym (among-but root control loop.changes) ∙ two)).1)
-      (or_cases (is_among root (all_but control loop.controls)) (is_among root (all_but control loop.changes)) (sym parts ∙ among)) in
-      let listed = among-aliases root alias inner is other in
-      let apart : nat_eq control alias ≡ false = none (nat_eq control alias)
-      (λ same.
-      not-both (is_seen world block root) shown
-      (hidden root (aliases-back world.pairs root control
-      (subst (λ (a : ℕ). is_among a (aliases_of world.pairs root) ≡ true) (sym (eqb-true control alias same)) is)))) in
-      inside-parts control loop alias
-      ∙ or_right (not (nat_eq control alias) && is_among alias loop.controls)
-      ((not (nat_eq control alias) && is_among alias loop.changes) || (not (nat_eq control alias) && is_among alias loop.aliases))
-      (or_right (not (nat_eq control alias) && is_among alias loop.changes) (not (nat_eq control alias) && is_among alias loop.aliases)
-      (ap (λ (b : Bool). not b && is_among alias loop.aliases) apart ∙ listed))
-    where
-      none : (b : Bool) → (b ≡ true → ⊥) → b ≡ false
-      none true isnt = absurd (isnt refl)
-      none false isnt = refl
 
 -- with a loop more round a piece
 pub goes-inside : (world : World) (context : Context) (round : Round) → IsClosed world context.block round → Goes world context

@@ -58,6 +58,9 @@ use Rattle.cert_checker.proofs.EffectsParameters.{well-body}
 use Rattle.cert_checker.proofs.EffectsRoutines.{calls-leave}
 use Rattle.cert_checker.proofs.PassedLeft.{passed-left}
 use Rattle.expression_checker.proofs.EffectsCalls.{CallsLeave}
+use Rattle.typed_tree.specs.Threats.{controls_but}
+use Rattle.cert_checker.proofs.HiddenControls.{IsKnownPair, hidden-controls}
+use Rattle.cert_checker.proofs.SparedCalls.{SpareControls, spared-calls}
 use Rattle.cert_checker.proofs.SoundForms.{statement-sound}
 use Rattle.cert_checker.proofs.Written.{Foretold, kept-rule}
 
@@ -177,7 +180,8 @@ program_world tree certificate = record {
 }
 
 module _ (tree : Tree) (certificate : Certificate) (unbroken : (program_walk tree certificate).broken ≡ []) (well : IsWellFormed tree)
-    (laws : CallLaws (program_world tree certificate)) where
+    (laws : CallLaws (program_world tree certificate))
+    (pairs_known : (first second : ℕ) → Contains (all_pairs certificate) (first, second) → IsKnownPair tree first second) where
   abbrev world : World
   world = program_world tree certificate
 
@@ -250,12 +254,18 @@ module _ (tree : Tree) (certificate : Certificate) (unbroken : (program_walk tre
         (unbroken-right used.broken given.broken (unbroken-right body.broken (used.broken ++ given.broken) (walked number block block_is).unbroken))
 
     -- the statement of a block, from where an activation of it begins
-    pub body-good : (ready : effect.State) → Fine tree ready → Proper tree world.pairs number ready.activations visible
+    pub body-good : SpareControls tree calls → (ready : effect.State) → Fine tree ready → Proper tree world.pairs number ready.activations visible
         → Knows (parts_in world) (variables_in world) visible begun ready.store
         → Good world (Foretold world visible (within number) body ready.store) ready (effect_of block.body (record { visible = visible; calls = calls }) ready)
-    body-good ready fine proper known =
-        statement-sound world refl number (record { visible = visible; calls = calls }) laws sound block.body (well-body tree well number block block_is)
-        (block-loops number block block_is) (within number) begun ready body-unbroken body-part
+    body-good spared ready fine proper known =
+        statement-sound world refl number block block_is (record { visible = visible; calls = calls }) laws sound spared
+        (hidden-controls tree well world.pairs pairs_known number) block.body (well-body tree well number block block_is)
+        (record {
+          roots = controls_but number 0 tree.blocks.items;
+          spared = well.unthreatened number block block_is;
+          loops = block-loops number block block_is;
+          controls = λ root among. among;
+        }) (within number) begun ready (λ root among. refl) body-unbroken body-part
         (record {
           block_is = refl;
           fine = fine;
@@ -364,7 +374,7 @@ module _ (tree : Tree) (certificate : Certificate) (unbroken : (program_walk tre
 
   module _ (calls : Calls) (sound : SoundCalls world calls) (number : ℕ) (block : Block) (arguments : List Argument) (caller : Environment)
       (s : effect.State) (called : Called world number block arguments caller s) (fine : Fine tree s)
-      (leave : CallsLeave tree world.blocks calls) where
+      (leave : CallsLeave tree world.blocks calls) (spared : SpareControls tree calls) where
     abbrev callee : Environment
     callee = environment_of tree (activation_of number block arguments caller s)
 
@@ -416,7 +426,7 @@ module _ (tree : Tree) (certificate : Certificate) (unbroken : (program_walk tre
         let walked_body = body calls sound number block called.block_is callee in
         good-then world (Foretold world callee (within number) walked_body ready.store) AtEnd ready
         (effect_of block.body (record { visible = callee; calls = calls }) ready) (λ done. result_of block.heading.result callee)
-        (body-good calls sound number block called.block_is callee ready (ready-fine left) proper-here (known-here left))
+        (body-good calls sound number block called.block_is callee spared ready (ready-fine left) proper-here (known-here left))
         (λ done t is told.
         let passed = passed-left tree well certificate unbroken world.pairs calls leave number block arguments caller s called.from is_called ready t done
         refl is in
@@ -478,9 +488,10 @@ module _ (tree : Tree) (certificate : Certificate) (unbroken : (program_walk tre
       let calls = calls_of tree depth in
       let sound = sound-calls depth in
       let leave = calls-leave tree well certificate unbroken depth in
+      let spared = spared-calls tree well depth in
       let visible = environment_of tree (activation_of number block arguments caller s) in
       let received = all_assigned tree visible block.heading.parameters.items arguments s.store in
-      let P = AtEnd calls sound number block arguments caller s called fine leave in
+      let P = AtEnd calls sound number block arguments caller s called fine leave spared in
       let left = (calls-leave tree well certificate unbroken (suc depth)).known number block arguments caller s called.block_is in
       good-weaker world P (Returned world number block arguments caller s) s (calls_of tree (suc depth) number arguments caller s)
       (λ v t is behind. record {
@@ -496,4 +507,4 @@ module _ (tree : Tree) (certificate : Certificate) (unbroken : (program_walk tre
         exit = behind.so.0.1;
       })
       (subst (λ (found : Option Block). Good world P s (activated tree calls number found arguments caller s)) (sym called.block_is)
-      (activated-good calls sound number block arguments caller s called fine leave))
+      (activated-good calls sound number block arguments caller s called fine leave spared))

@@ -1,10 +1,10 @@
 -- For statements are sound: in each turn the control variable lies on its way, and the body leaves it as it is.
-use Rattle.std.proofs.Common.{arith, ◌≡◌, ⊎_elim, ◌∙◌, sym, ap, ap₂, refl, length, subst, ℕ, ◌<◌, ℤ, Bool, true, false, cond, ◌&&◌, ◌||◌, List, [], ◌∷◌, ◌++◌}
+use Rattle.std.proofs.Common.{arith, ◌≡◌, ◌≢◌, ⊎_elim, ◌∙◌, sym, ap, ap₂, refl, length, subst, ℕ, ◌<◌, ℤ, Bool, true, false, cond, ◌&&◌, ◌||◌, List, [], ◌∷◌, ◌++◌}
 use Rattle.std.proofs.Common.{Option, Some, None, nat_eq}
 use Rattle.std.specs.Ordering.{int_eq}
 use Rattle.std.specs.Prelude.{◌≤◌, is_some}
 use Rattle.std.proofs.lemmas.Int.{ints}
-use Rattle.std.proofs.lemmas.Bool.{and_parts, and_from, both_ways, eqb-true, false_from_ne_true}
+use Rattle.std.proofs.lemmas.Bool.{and_parts, and_from, both_ways, cases_eq, eq-eqb, eqb-true, false_from_ne_true}
 use Rattle.std.proofs.lemmas.List.Folds.{list_all-append, list_any-append}
 use Rattle.std.proofs.lemmas.List.Elements.{Contains-push_cases}
 use Rattle.std.proofs.lemmas.Option.{slice_get_within}
@@ -20,7 +20,8 @@ use Rattle.meaning.specs.Effect as effect
 use Rattle.meaning.specs.Effect.{Action, is_in}
 use Rattle.meaning.specs.Meaning as meaning
 use Rattle.meaning.specs.Meaning.{Surroundings}
-use Rattle.meaning.specs.Store.{Environment, Place as StorePlace, Store, undefined, written}
+use Rattle.meaning.specs.Laws.{state_after}
+use Rattle.meaning.specs.Store.{Environment, Place as StorePlace, Store, is_beginning, overlap, stored as stored_at, undefined, written}
 use Rattle.abstract_state.specs.declared.known.Known.TheVariants.{Ordinal}
 use Rattle.abstract_state.specs.State.{limits_of}
 use Rattle.abstract_state.specs.Loops.{is_among, with_undefined}
@@ -32,15 +33,16 @@ use Rattle.component_states.specs.States.{State, over_bound, over_change, over_v
 use Rattle.component_states.specs.Holds.{Knows}
 use Rattle.component_states.specs.Laws.{AreEntire}
 use Rattle.leaf_rows.specs.Limits.{all_limits, limits_at}
-use Rattle.structured_states.specs.Loops.{Round, all_control, controls_inside, round_of, touched, with_own, without_own}
+use Rattle.structured_states.specs.Loops.{Round, controls_inside, round_of, touched, with_own}
+use Rattle.structured_states.proofs.Touched.{all_control}
 use Rattle.structured_states.specs.Pairs.{aliases_of, Listed, aliases_in}
 use Rattle.structured_states.specs.Ways as ways
 use Rattle.structured_states.specs.Ways.{Way, entered, met, step, turn_begun, turn_ended, way_out, where_counts, with_values}
 use Rattle.structured_states.proofs.OnWay.{Between, MayBe, begun-known, counts-known, counts-ordered, entered-known, kept-may, met-in, next-between}
 use Rattle.structured_states.proofs.OnWay.{ordered-itself, untouched-form}
-use Rattle.structured_states.proofs.Touched.{inside-uncontrolled, inside-untouched, own-controls, own-untouched}
+use Rattle.structured_states.proofs.Touched.{inside-uncontrolled, inside-untouched, own-controls}
 use Rattle.call_states.specs.Aliases.{variable_values}
-use Rattle.call_states.specs.Environments.{Fine, Proper}
+use Rattle.call_states.specs.Environments.{Fine, LiesUnder, Proper}
 use Rattle.call_states.proofs.AliasedStores.{AreWritten, IsApart, all-pass, hidden-apart, one-kept}
 use Rattle.call_states.proofs.AliasedTypes.{declared, shows, written-begun, written-typed}
 use Rattle.call_states.proofs.SeenAliases.{apart-seen, listed_pairs, none-seen}
@@ -57,8 +59,12 @@ use Rattle.cert_checker.specs.Walk as walk
 use Rattle.cert_checker.specs.Walk.{steady_in}
 use Rattle.cert_checker.proofs.Changes.{assigned-knows, bound-knows, ended-knows, gone-knows, whole, whole-has, whole-typed, whole-written}
 use Rattle.cert_checker.proofs.Keeping.{gone-alone, gone-begun, gone-changes, gone-keeps, gone-none, gone-typed}
-use Rattle.cert_checker.proofs.Rounds.{StandsIn, goes-inside, inside-closed}
-use Rattle.cert_checker.proofs.SoundLoops.{AreFine, RoundEnds, here-as, inner, loop-good, loop_begun, rounds-outer, rounds-own}
+use Rattle.cert_checker.proofs.Rounds.{StandsIn, goes-inside, loop-closed}
+use Rattle.cert_checker.proofs.SparedCalls.{IsAlone}
+use Rattle.expression_checker.proofs.EffectsKept.{Keeps as KeepsAt, lies-itself, watching}
+use Rattle.abstract_state.proofs.Knows.{entire-value}
+use Rattle.cert_checker.proofs.SoundLoops.{AreControlled, AreFine, RoundEnds, SoundAmong, all-controls, here-as, inner, inner-controlled, loop-good}
+use Rattle.cert_checker.proofs.SoundLoops.{loop_begun, rounds-outer, rounds-own}
 use Rattle.cert_checker.proofs.SoundLoops.{turn-then, ways-good, with_head}
 use Rattle.cert_checker.proofs.Written.{Foretold, kept-rule}
 
@@ -78,7 +84,7 @@ int_eq-same m n is = grind (arith, ints)
 
 -- inside a loop no more is changed than at its head
 inside-kept : (env : Environment) (control : ℕ) (loop : Round) (before after : Store)
-    → IsKept env (touched (without_own (Some control) loop)) (without_own (Some control) loop).controls before after
+    → IsKept env (touched loop) loop.controls before after
     → IsKept env (touched (with_own (Some control) loop)) (with_own (Some control) loop).controls before after
 inside-kept env control loop before after kept = record {
   values = λ root apart steps. kept.values root (inside-untouched control loop root apart) steps;
@@ -116,20 +122,9 @@ control-keeps env root rounds before after kept controls round inside = record {
 abbrev typed_values : World → ℕ → Interval
 typed_values world root = limits_at (all_limits world.tree) root
 
-all-controls : (root : ℕ) (rounds : List Round) (one : Round) → all_control root rounds ≡ true → is_among root one.controls ≡ true
-    → all_control root (rounds ++ one ∷ []) ≡ true
-all-controls root rounds one outer own =
-    list_all-append (λ (round : Round). is_among root round.controls) rounds (one ∷ [])
-    ∙ and_from (all_control root rounds) (is_among root one.controls && true) outer (and_from (is_among root one.controls) true own refl)
-
 -- the control variable of a loop and those inside it
 abbrev all_in : World → ℕ → ℕ → List ℕ
 all_in world number control = control ∷ controls_inside world.tree number
-
--- a list without items
-none-there : (items : List ℕ) → nat_eq (length items) 0 ≡ true → items ≡ []
-none-there [] none = refl
-none-there (item ∷ items) none = let same = eqb-true (length (item ∷ items)) 0 none in absurd (omega (arith, same))
 
 -- a control variable that is visible in a block, where none of its aliases is
 pub record IsOwn (world : World) (block : ℕ) (env : Environment) (few : ℕ) (control : ℕ) : Type 0 where
@@ -137,6 +132,31 @@ pub record IsOwn (world : World) (block : ℕ) (env : Environment) (few : ℕ) (
   pub seen : is_seen world block control ≡ true
   pub ordinal : is_some (variable_values world.tree control) ≡ true
   pub hidden : (alias : ℕ) → is_among alias (aliases_of world.pairs control) ≡ true → is_seen world block alias ≡ false
+
+-- what the text tells of the control variable of a for statement: it is visible, and its aliases aren't, in each loop round the statement it controls
+-- one, and what is executed leaves it where it alone lies
+pub record IsControl (world : World) (block : ℕ) (env : Surroundings) (execution : meaning.Execution) (context : Context) (control : ℕ) : Type 0 where
+  pub seen : is_seen world block control ≡ true
+  pub ordinal : is_some (variable_values world.tree control) ≡ true
+  pub hidden : (alias : ℕ) → is_among alias (aliases_of world.pairs control) ≡ true → is_seen world block alias ≡ false
+  pub controls : all_control control context.rounds ≡ true
+  pub left : (place : StorePlace) → IsAlone place control env.visible → KeepsAt (watching place env.visible) (execution env)
+
+-- where no other variable shares a place, none lies over it
+alone-apart : (env : Environment) (control : ℕ) (home : StorePlace) → IsApart env control home [] → IsAlone home control env
+alone-apart env control home apart other place seen lies =
+    ⊎_elim (λ (same : control ≡ other). sym same)
+    (λ (differs : control ≢ other). absurd (apart other place differs refl seen (lies-overlap home place lies))) (cases_eq control other)
+  where
+    either : (a b : Bool) → b ≡ true → cond a true b ≡ true
+    either true b is = refl
+    either false b is = is
+
+    lies-overlap : (home place : StorePlace) → LiesUnder place home → overlap home place ≡ true
+    lies-overlap home place lies =
+        and_from (nat_eq home.activation place.activation) _ (eq-eqb home.activation place.activation (sym lies.0))
+        (and_from (nat_eq home.variable place.variable) _ (eq-eqb home.variable place.variable (sym lies.1))
+        (either (is_beginning home.steps place.steps) (is_beginning place.steps home.steps) lies.2))
 
 module _ (world : World) (block : ℕ) (env : Environment) (few : ℕ) (control : ℕ) (own : IsOwn world block env few control) where
   abbrev home : StorePlace
@@ -195,7 +215,8 @@ module _ (world : World) (block : ℕ) (env : Environment) (few : ℕ) (control 
 
 module _ (world : World) (ranges : world.limits ≡ all_limits world.tree) (block : ℕ) (env : Surroundings)
     (number : ℕ) (in_table : StandsIn world block number) (execution : meaning.Execution) (body : Walking (Unit {0}))
-    (one : Sound {A = Unit {0}} {B = Unit {0}} world block env.visible Any_value (execution env) body) where
+    (among : List ℕ) (inside_are : controls_inside world.tree number ≡ among)
+    (one : SoundAmong {A = Unit {0}} {B = Unit {0}} among world block env.visible Any_value (execution env) body) where
   abbrev visible : Environment
   visible = env.visible
 
@@ -204,7 +225,12 @@ module _ (world : World) (ranges : world.limits ≡ all_limits world.tree) (bloc
   module _ (context : Context) (way : Way) (x y : ℤ) (few : ℕ) (is_own : IsOwn world block visible few way.control) (block_is : context.block ≡ block)
       (in_first : HasMember way.first.values x)
       (in_last : HasMember way.last.values y) (first_typed : HasMember (typed_values world way.control) x)
-      (last_typed : HasMember (typed_values world way.control) y) (controls : all_control way.control context.rounds ≡ true) where
+      (last_typed : HasMember (typed_values world way.control) y) (controls : all_control way.control context.rounds ≡ true)
+      (held : AreControlled among (inner context number))
+      (left : KeepsAt (watching (home world block visible few way.control is_own) visible) (execution env)) where
+    abbrev own_home : StorePlace
+    own_home = home world block visible few way.control is_own
+
     abbrev loop : Round
     loop = round_of context.tree context.pairs context.claims number
 
@@ -212,7 +238,7 @@ module _ (world : World) (ranges : world.limits ≡ all_limits world.tree) (bloc
     own = with_own (Some way.control) loop
 
     abbrev within : Context
-    within = inner context number (Some way.control)
+    within = inner context number
 
     abbrev rounds : List Round
     rounds = with_head context number (Some way.control)
@@ -253,17 +279,18 @@ module _ (world : World) (ranges : world.limits ≡ all_limits world.tree) (bloc
         )
 
     module _ (n : ℤ) (start later : Store) (ended : State) (fits : Fits n start) (stands : Stands world visible within ended later)
-        (kept : Keeps visible within.rounds start later) (number_is : HasNumber (moment visible start) way.control n) where
+        (kept : Keeps visible within.rounds start later) (number_is : HasNumber (moment visible start) way.control n)
+        (same_there : stored_at later own_home ≡ stored_at start own_home) where
       -- the body leaves the control variable as it is
       still : HasNumber (moment visible later) way.control n
       still =
-          (rounds-own visible context.rounds (without_own (Some way.control) loop) start later kept).values way.control (own-untouched way.control loop) []
-          ∙ number_is
+          let at_own = at_home world block visible few way.control is_own in
+          entire-value visible later way.control own_home at_own ∙ same_there ∙ sym (entire-value visible start way.control own_home at_own) ∙ number_is
 
       body-kept : Keeps visible rounds start later
       body-kept =
-          last-kept visible context.rounds own start later (rounds-outer visible context.rounds (without_own (Some way.control) loop) start later kept)
-          (inside-kept visible way.control loop start later (rounds-own visible context.rounds (without_own (Some way.control) loop) start later kept))
+          last-kept visible context.rounds own start later (rounds-outer visible context.rounds loop start later kept)
+          (inside-kept visible way.control loop start later (rounds-own visible context.rounds loop start later kept))
 
       abbrev again_state : State
       again_state = over_change way.control (ways.next steady) (turn_ended steady) ended
@@ -305,6 +332,15 @@ module _ (world : World) (ranges : world.limits ≡ all_limits world.tree) (bloc
       round-ends true is = round-out (int_eq-same n y is)
       round-ends false is = round-again is
 
+    -- the body leaves what lies where the control variable does
+    left-there : (v w : effect.State) (done : Unit {0}) → execution env v ≡ effect.Gives done w → few ≤ v.activations
+        → stored_at w.store own_home ≡ stored_at v.store own_home
+    left-there v w done is grown =
+        let young = is_own.proper.begun way.control own_home (at_home world block visible few way.control is_own) in
+        let leaving = left.left v (omega (arith, young, grown)) in
+        sym (ap (λ (reply : effect.Reply (Unit {0})). stored_at (state_after reply).store own_home) is)
+        ∙ ⊎_elim (λ over. absurd (over (lies-itself own_home))) (λ same. same) (leaving.leaves.values own_home (omega arith))
+
     -- a round of a for
     round-good : (state : State) (n : ℤ) (s : effect.State) → few ≤ s.activations → Fine world.tree s
         → (walk.for_round steady body within state).broken ≡ []
@@ -340,11 +376,13 @@ module _ (world : World) (ranges : world.limits ≡ all_limits world.tree) (bloc
           stands = subst (Stands world visible within begun) (sym store_is) begun_stands;
         } in
         good-then world (Foretold world visible within first v.store) P v (execution env v) (λ done. effect.give more)
-        (one within begun v (unbroken-left first.broken [] unbroken) (part-left world first rest part) here)
+        (one within begun v held (unbroken-left first.broken [] unbroken) (part-left world first rest part) here)
         (λ done w is told.
         good-give world P more w told.fine
         (round-ends n start w.store ended fits told.so.stands (subst (λ (store : Store). Keeps visible within.rounds store w.store) store_is told.so.kept)
-        (at-number n s.store) (int_eq n y) refl))))
+        (at-number n s.store)
+        (left-there v w done is (let behind = stored.grown in omega (arith, grown, behind, later)) ∙ ap (λ (store : Store). stored_at store own_home) store_is)
+        (int_eq n y) refl))))
 
   -- ---- from the tests of the bounds on
 
@@ -352,69 +390,36 @@ module _ (world : World) (ranges : world.limits ≡ all_limits world.tree) (bloc
   may-of_form store None n may = tt
   may-of_form store (Some bound) n may = (n, refl, may bound refl)
 
-  -- where no rule is broken, the variable may control the statement
+  -- where no rule is broken, the bounds fit the variable
   may-changed : (place : SourcePlace) (context : Context) (state : State) (way : Way) → (walk.for_turns number place body way context state).broken ≡ []
-      → walk.may_control context way.control way.first.fits.range way.last.fits.range ≡ true
+      → walk.fit_control context way.control way.first.fits.range way.last.fits.range ≡ true
   may-changed place context state way unbroken =
       let first = walk.tested_end state way.first context state in
       let last = walk.tested_end state way.last context first.after in
-      let asked = walk.control_change place way.control way.first.fits.range way.last.fits.range context last.after in
+      let asked = walk.bounds_fit place way.control way.first.fits.range way.last.fits.range context last.after in
       let from_asked = followed asked (flow.give (with_values first.value last.value way) context last.after) in
       let tests = walk.tested_way place way context state in
       let tested = with_values first.value last.value way in
       let begun = walk.begin_way tested context last.after in
       let turns = walk.rounds_of number place body tested context begun.after in
       let tests_unbroken = unbroken-left tests.broken (begun.broken ++ turns.broken) unbroken in
-      kept-rule (walk.may_control context way.control way.first.fits.range way.last.fits.range) Changes place
+      kept-rule (walk.fit_control context way.control way.first.fits.range way.last.fits.range) Changes place
       (unbroken-left asked.broken [] (unbroken-right last.broken from_asked.broken
       (unbroken-right first.broken (last.broken ++ from_asked.broken) tests_unbroken)))
 
-  -- what it has to be for that
-  module _ (context : Context) (way : Way)
-      (may : walk.may_control context way.control way.first.fits.range way.last.fits.range ≡ true) where
-    abbrev limits : Interval
-    limits = limits_at context.limits way.control
+  own-of : (context : Context) (state : State) (s : effect.State) (control : ℕ) → IsControl world block env execution context control
+      → Here world block visible context state s → IsOwn world block visible s.activations control
+  own-of context state s control text here =
+      record { proper = here.proper; seen = text.seen; ordinal = text.ordinal; hidden = text.hidden }
 
-    abbrev both_included : Bool
-    both_included = is_included (limits_of way.first.fits.range) limits && is_included (limits_of way.last.fits.range) limits
+  goes-in : (context : Context) (state : State) (s : effect.State) → Here world block visible context state s → Goes world (inner context number)
+  goes-in context state s here =
+      goes-inside world context (round_of context.tree context.pairs context.claims number)
+      (loop-closed world context.block context number here.stands.goes.tree_is here.stands.goes.pairs_are
+      (in_table.0, in_table.1, in_table.2 ∙ sym here.block_is)) here.stands.goes
 
-    abbrev none_seen : Bool
-    none_seen = nat_eq (length (walk.aliases_here context way.control)) 0
-
-    may-control : all_control way.control context.rounds ≡ true
-    may-control = (and_parts (all_control way.control context.rounds) (none_seen && both_included) may).0
-
-    may-hide : none_seen ≡ true
-    may-hide = (and_parts none_seen both_included (and_parts (all_control way.control context.rounds) (none_seen && both_included) may).1).0
-
-    may-fit : (is_included (limits_of way.first.fits.range) limits ≡ true) × (is_included (limits_of way.last.fits.range) limits ≡ true)
-    may-fit =
-        and_parts (is_included (limits_of way.first.fits.range) limits) (is_included (limits_of way.last.fits.range) limits)
-        (and_parts none_seen both_included (and_parts (all_control way.control context.rounds) (none_seen && both_included) may).1).1
-
-    own-of : (state : State) (s : effect.State) → Here world block visible context state s → is_seen world block way.control ≡ true
-        → is_some (variable_values world.tree way.control) ≡ true → IsOwn world block visible s.activations way.control
-    own-of state s here seen ordinal = record {
-      proper = here.proper;
-      seen = seen;
-      ordinal = ordinal;
-      hidden = λ alias among.
-          none-seen world.tree world.pairs block way.control alias
-          (sym (ap₂ (λ (listed : Listed) (b : ℕ). aliases_in listed b way.control) here.stands.goes.pairs_are here.block_is)
-          ∙ none-there (walk.aliases_here context way.control) may-hide) among;
-    }
-
-    goes-in : (state : State) (s : effect.State) → Here world block visible context state s → IsOwn world block visible s.activations way.control
-        → Goes world (inner context number (Some way.control))
-    goes-in state s here is_own =
-        goes-inside world context (without_own (Some way.control) (round_of context.tree context.pairs context.claims number))
-        (inside-closed world context.block context number here.stands.goes.tree_is here.stands.goes.pairs_are
-        (in_table.0, in_table.1, in_table.2 ∙ sym here.block_is) way.control
-        (subst (λ (b : ℕ). is_seen world b way.control ≡ true) (sym here.block_is) is_own.seen)
-        (λ alias among. subst (λ (b : ℕ). is_seen world b alias ≡ false) (sym here.block_is) (is_own.hidden alias among))) here.stands.goes
-
-  module _ (place : SourcePlace) (context : Context) (state : State) (way : Way) (x y : ℤ) (seen : is_seen world block way.control ≡ true)
-      (ordinal : is_some (variable_values world.tree way.control) ≡ true)
+  module _ (place : SourcePlace) (context : Context) (state : State) (way : Way) (x y : ℤ)
+      (text : IsControl world block env execution context way.control) (held : AreControlled among context)
       (controls_are : AreEntire (parts_in world) (all_in world number way.control))
       (first_site : way.first.fits.site < sites_in world) (last_site : way.last.fits.site < sites_in world)
       (counts : has_values way.direction x y ≡ true) where
@@ -428,7 +433,7 @@ module _ (world : World) (ranges : world.limits ≡ all_limits world.tree) (bloc
     tested = with_values first.value last.value way
 
     abbrev asked : Walked (Unit {0})
-    asked = walk.control_change place way.control way.first.fits.range way.last.fits.range context last.after
+    asked = walk.bounds_fit place way.control way.first.fits.range way.last.fits.range context last.after
 
     abbrev begun : Walked (Unit {0})
     begun = walk.begin_way tested context last.after
@@ -459,10 +464,16 @@ module _ (world : World) (ranges : world.limits ≡ all_limits world.tree) (bloc
 
     -- the control variable gets its first value, and the rounds follow
     module _ (unbroken : turns.broken ≡ []) (part : IsPartOf world turns)
-        (may : walk.may_control context way.control way.first.fits.range way.last.fits.range ≡ true) (v : effect.State)
+        (may : walk.fit_control context way.control way.first.fits.range way.last.fits.range ≡ true) (v : effect.State)
         (here : Here world block visible context last.after v) (forms : Forms v.store) (in_first : IsIn first.value (Number x))
         (in_last : IsIn last.value (Number y)) (x_fits : is_in way.first.fits.range (Number x) ≡ true)
         (y_fits : is_in way.last.fits.range (Number y) ≡ true) where
+      abbrev first_fits : Bool
+      first_fits = is_included (limits_of way.first.fits.range) (limits_at context.limits way.control)
+
+      abbrev last_fits : Bool
+      last_fits = is_included (limits_of way.last.fits.range) (limits_at context.limits way.control)
+
       in-type : (own : Interval) (n : ℤ) → is_included own (limits_at context.limits way.control) ≡ true → IsIn own (Number n)
           → HasMember (typed_values world way.control) n
       in-type own n is inside =
@@ -470,13 +481,13 @@ module _ (world : World) (ranges : world.limits ≡ all_limits world.tree) (bloc
           (included-in own (limits_at context.limits way.control) (Number n) is inside)
 
       x_typed : HasMember (typed_values world way.control) x
-      x_typed = in-type (limits_of way.first.fits.range) x (may-fit context way may).0 (is_in-limits way.first.fits.range (Number x) x_fits)
+      x_typed = in-type (limits_of way.first.fits.range) x (and_parts first_fits last_fits may).0 (is_in-limits way.first.fits.range (Number x) x_fits)
 
       y_typed : HasMember (typed_values world way.control) y
-      y_typed = in-type (limits_of way.last.fits.range) y (may-fit context way may).1 (is_in-limits way.last.fits.range (Number y) y_fits)
+      y_typed = in-type (limits_of way.last.fits.range) y (and_parts first_fits last_fits may).1 (is_in-limits way.last.fits.range (Number y) y_fits)
 
       is_own : IsOwn world block visible v.activations way.control
-      is_own = own-of context way may last.after v here seen ordinal
+      is_own = own-of context last.after v way.control text here
 
       abbrev start : Store
       start = numbered world block visible v.activations way.control is_own x v.store
@@ -492,7 +503,7 @@ module _ (world : World) (ranges : world.limits ≡ all_limits world.tree) (bloc
           let at_place = at_home world block visible few way.control is_own in
           let are = whole-written visible aliases way.control place at_place
           (apart-seen tree pairs block few visible here.proper way.control place at_place) v.store x in
-          let typed = whole-typed tree pairs block few visible here.proper way.control place at_place x ordinal x_typed in
+          let typed = whole-typed tree pairs block few visible here.proper way.control place at_place x text.ordinal x_typed in
           by-world world context
           (λ (other : Context).
           Knows (parts_in world) (variables_in world) visible (walk.begin_way tested other last.after).after start)
@@ -510,10 +521,13 @@ module _ (world : World) (ranges : world.limits ≡ all_limits world.tree) (bloc
       rounds-good : Good world (Foretold world visible context turns v.store) v (rounds_action v)
       rounds-good =
           let few = v.activations in
-          let controls = may-control context way may in
+          let controls = text.controls in
+          let lies_at = home world block visible few way.control is_own in
+          let left = text.left lies_at (alone-apart visible way.control lies_at (apart world block visible few way.control is_own)) in
+          let within = inner-controlled world context number among here.stands.goes.tree_is inside_are held in
           let own = touched (with_own (Some way.control) (round_of context.tree context.pairs context.claims number)) in
-          let begun_kept = at-kept context tested x y few is_own here.block_is in_first in_last x_typed y_typed controls x v.store in
-          let later = later-forms context tested x y few is_own here.block_is in_first in_last x_typed y_typed controls v.store start begun_kept
+          let begun_kept = at-kept context tested x y few is_own here.block_is in_first in_last x_typed y_typed controls within left x v.store in
+          let later = later-forms context tested x y few is_own here.block_is in_first in_last x_typed y_typed controls within left v.store start begun_kept
           (untouched-form visible v.store own way.first.form x forms.0, untouched-form visible v.store own way.last.form y forms.1) in
           let start_stands : Stands world visible context begun.after start = record { goes = here.stands.goes; known = start-known } in
           good-weaker world (Foretold world visible context turns start) (Foretold world visible context turns v.store) v (rounds_action v)
@@ -527,13 +541,13 @@ module _ (world : World) (ranges : world.limits ≡ all_limits world.tree) (bloc
           })
           (loop-good world ranges block visible number place (Some way.control) (meaning.for_round way.control way.direction y execution env)
           (walk.for_round (steady_in context number tested) body)
-          (at context tested x y few is_own here.block_is in_first in_last x_typed y_typed controls)
-          (Fits context tested x y few is_own here.block_is in_first in_last x_typed y_typed controls) context begun.after x v
-          (at-fine context tested x y few is_own here.block_is in_first in_last x_typed y_typed controls)
-          (goes-in context way may last.after v here is_own)
+          (at context tested x y few is_own here.block_is in_first in_last x_typed y_typed controls within left)
+          (Fits context tested x y few is_own here.block_is in_first in_last x_typed y_typed controls within left) context begun.after x v
+          (at-fine context tested x y few is_own here.block_is in_first in_last x_typed y_typed controls within left)
+          (goes-in context last.after v here)
           (subst (λ (tree : Tree). AreEntire (parts_in world) (way.control ∷ controls_inside tree number)) (sym here.stands.goes.tree_is) controls_are)
           (λ n t grown fine unbroken part stands fits.
-          round-good context tested x y few is_own here.block_is in_first in_last x_typed y_typed controls
+          round-good context tested x y few is_own here.block_is in_first in_last x_typed y_typed controls within left
           (loop_begun context number (Some way.control) begun.after) n t grown fine unbroken part stands fits)
           unbroken part here.fine here.proper start_stands ((ordered-itself way.direction x, counts-ordered way.direction x y counts), later.0, later.1))
 
@@ -552,7 +566,7 @@ module _ (world : World) (ranges : world.limits ≡ all_limits world.tree) (bloc
       tests_unbroken : tests.broken ≡ []
       tests_unbroken = unbroken-left tests.broken from_begun.broken unbroken
 
-      may_here : walk.may_control context way.control way.first.fits.range way.last.fits.range ≡ true
+      may_here : walk.fit_control context way.control way.first.fits.range way.last.fits.range ≡ true
       may_here = may-changed place context state way unbroken
 
       tests_part : IsPartOf world tests
@@ -615,8 +629,8 @@ module _ (world : World) (ranges : world.limits ≡ all_limits world.tree) (bloc
 
   -- ---- the whole statement, from the values of its bounds
 
-  module _ (place : SourcePlace) (context : Context) (state : State) (way : Way) (x y : ℤ) (seen : is_seen world block way.control ≡ true)
-      (ordinal : is_some (variable_values world.tree way.control) ≡ true)
+  module _ (place : SourcePlace) (context : Context) (state : State) (way : Way) (x y : ℤ)
+      (text : IsControl world block env execution context way.control) (held : AreControlled among context)
       (controls_are : AreEntire (parts_in world) (all_in world number way.control))
       (first_site : way.first.fits.site < sites_in world) (last_site : way.last.fits.site < sites_in world) where
     abbrev where_so : Bool → State
@@ -638,12 +652,12 @@ module _ (world : World) (ranges : world.limits ≡ all_limits world.tree) (bloc
     statement = walk.for_walk number place body way context state
 
     -- the control variable becomes undefined
-    undefined-good : (start : Store) (u : effect.State) → walk.may_control context way.control way.first.fits.range way.last.fits.range ≡ true
+    undefined-good : (start : Store) (u : effect.State)
         → Keeps visible context.rounds start u.store → Here world block visible context both.after u
         → Good world (Foretold world visible context statement start) u (effect.undefine (visible.variables way.control) u)
-    undefined-good start u may kept here =
+    undefined-good start u kept here =
         let few = u.activations in
-        let is_own = own-of context way may both.after u here seen ordinal in
+        let is_own = own-of context both.after u way.control text here in
         let own_home = home world block visible few way.control is_own in
         let own_at = at_home world block visible few way.control is_own in
         let own_apart = apart world block visible few way.control is_own in
@@ -663,7 +677,7 @@ module _ (world : World) (ranges : world.limits ≡ all_limits world.tree) (bloc
                     (gone-none visible u.store way.control own_home own_at own_apart) here.stands.known;
               };
               kept = keeps-then visible context.rounds start u.store gone kept
-                  (gone-keeps visible u.store way.control own_home own_at own_apart context.rounds (may-control context way may));
+                  (gone-keeps visible u.store way.control own_home own_at own_apart context.rounds text.controls);
             };
             fine = record {
               typed = gone-typed world.tree u.store own_home here.fine.typed;
@@ -686,19 +700,18 @@ module _ (world : World) (ranges : world.limits ≡ all_limits world.tree) (bloc
         λ b is. here-as world block visible context state (where_so b) t here
         (over-known (parts_in world) (variables_in world) visible state (where_counts b way) t.store here.stands.known
         (counts-known (variables_in world) visible t.store way b state.variables x y is one other here.stands.known.variables)) in
-        let may = may-changed place context (where_so true) way (unbroken-left taken.broken never.broken both_unbroken) in
         good-then world (Foretold world visible context both t.store) (Foretold world visible context statement t.store) t
         (cond counts turns (effect.give tt) t) (λ done. effect.undefine (visible.variables way.control))
         (ways-good world visible turns (effect.give tt) taken never counts context t
         (λ is unbroken part.
-        turns-good place context (where_so true) way x y seen ordinal controls_are first_site last_site is unbroken part t (here_so true is)
+        turns-good place context (where_so true) way x y text held controls_are first_site last_site is unbroken part t (here_so true is)
         (one, other) in_first in_last)
         (λ is unbroken part.
         good-give world (Foretold world visible context never t.store) tt t here.fine
         (record { tie = tt; stands = (here_so false is).stands; kept = keeps-itself visible context.rounds t.store }))
         both_unbroken (part-left world both behind part))
         (λ done u is told.
-        undefined-good t.store u may told.so.kept
+        undefined-good t.store u told.so.kept
         (record {
           block_is = here.block_is;
           fine = told.fine;

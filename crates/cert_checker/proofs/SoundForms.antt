@@ -1,11 +1,12 @@
 -- The walk over statements is sound, form by form.
-use Rattle.std.proofs.Common.{◌≡◌, ◌∙◌, refl, sym, subst, ℕ, ◌<◌, Bool, true, false, cond, ◌&&◌, ◌||◌, ℤ, length, nat_lt, List, [], ◌∷◌, map}
+use Rattle.std.proofs.Common.{◌≡◌, ◌∙◌, ap, refl, sym, subst, ℕ, ◌<◌, Bool, true, false, cond, not, ◌&&◌, ◌||◌, ℤ, length, nat_eq, nat_lt, List, [], ◌∷◌, ◌++◌, map}
 use Rattle.std.proofs.Common.{Option, Some, None}
 use Rattle.std.specs.declared.alloc.Global.{Global}
 use Rattle.std.specs.declared.vec.Vec.{Vec}
-use Rattle.std.specs.List.{list_all}
-use Rattle.std.specs.Prelude.{is_some}
-use Rattle.std.proofs.lemmas.Bool.{and_parts, ltb-true}
+use Rattle.std.specs.List.{list_all, list_any}
+use Rattle.std.specs.Prelude.{is_some, slice_get}
+use Rattle.std.proofs.lemmas.Bool.{and_parts, eq-eqb, ltb-true, or_left, or_right}
+use Rattle.std.proofs.lemmas.List.Folds.{list_any-append}
 use Rattle.std.proofs.lemmas.List.{length-map}
 use Rattle.std.proofs.lemmas.List.Elements.{Contains-append_left}
 use Rattle.types.specs.Types.{is_ordinal}
@@ -20,7 +21,10 @@ use Rattle.typed_tree.specs.declared.tree.Stmt.TheOpen.Stmt-F.{Empty, Assign, Co
 use Rattle.typed_tree.specs.declared.tree.Stmt.TheViews.{roll-Stmt}
 use Rattle.typed_tree.specs.declared.tree.Stmt.TheFolds.{map-Stmt, fold-roll-Stmt, ind-Stmt}
 use Rattle.typed_tree.specs.Calls.{holds_call}
-use Rattle.typed_tree.specs.Loops.{AreLoops, Inside, IsLoop, all_inside, inside_of, statement_inside}
+use Rattle.typed_tree.specs.declared.tree.Block.{Block}
+use Rattle.typed_tree.specs.Loops.{AreLoops, Inside, IsLoop, all_inside, both_inside, inside_of, no_loop, statement_inside}
+use Rattle.typed_tree.specs.Loops.{controls_of as block_controls}
+use Rattle.typed_tree.specs.Threats.{Spares, all_spare, is_none_of, spares, spares_in_expr, statement_spares}
 use Rattle.typed_tree.specs.WellFormed.{Outline, all_hold, are_whole, is_control, is_declared, is_local_kind, is_well_formed_expr, is_well_formed_parameter}
 use Rattle.typed_tree.specs.WellFormed.{is_well_formed_stmt, is_well_formed_test, leads_to_ordinal, outline_of, stmt_is_well_formed}
 use Rattle.domain.specs.Interval.{common}
@@ -28,7 +32,7 @@ use Rattle.domain.specs.Numbers.{hull, is_covered}
 use Rattle.domain.proofs.Numbers.{among-hull, covered-among}
 use Rattle.meaning.specs.declared.store.Value.{Value}
 use Rattle.meaning.specs.declared.store.Value.TheVariants.{Number}
-use Rattle.meaning.specs.Store.{Environment, Store}
+use Rattle.meaning.specs.Store.{Environment, Place as StorePlace, Store}
 use Rattle.meaning.specs.Effect as effect
 use Rattle.meaning.specs.Meaning as meaning
 use Rattle.meaning.specs.Meaning.{Execution, Surroundings, effect_of, is_so, parameter_of, value_of}
@@ -48,7 +52,9 @@ use Rattle.component_states.proofs.Joins.{join-holds}
 use Rattle.structured_states.specs.Cases.{at_constants, constants_before}
 use Rattle.call_states.specs.Aliases.{variable_values}
 use Rattle.leaf_rows.specs.Limits.{all_limits}
-use Rattle.structured_states.specs.Loops.{controls_inside}
+use Rattle.structured_states.specs.Loops.{controls_inside, controls_of}
+use Rattle.structured_states.specs.Pairs.{aliases_of}
+use Rattle.abstract_state.specs.Loops.{is_among}
 use Rattle.structured_states.specs.Ways.{form_before, way_of}
 use Rattle.structured_states.proofs.OnWay.{of-form_may}
 use Rattle.expression_checker.specs.Walk as flow
@@ -64,13 +70,17 @@ use Rattle.expression_checker.proofs.SoundExpressions.{SoundAction, entered-soun
 use Rattle.cert_checker.specs.Walk as walk
 use Rattle.cert_checker.specs.Walk.{statement_walk}
 use Rattle.cert_checker.proofs.Controls.{AreOrdinal, all-ordinal, control-ordinal, control-seen, controls-ordinal, inside-ordinal, loops-parts, one-ordinal}
-use Rattle.cert_checker.proofs.Controls.{ordinal-entire}
+use Rattle.cert_checker.proofs.Controls.{control-declared, ordinal-entire}
 use Rattle.cert_checker.proofs.SoundAssignments.{assigned, assignment-sound, ordinal-values, site-within}
 use Rattle.cert_checker.proofs.SoundCase.{arm-missing, arms-behind, at-constants_known, entire-number, first-constants}
 use Rattle.cert_checker.proofs.SoundCopies.{copied, copying-sound}
-use Rattle.cert_checker.proofs.SoundFor.{for-good}
+use Rattle.cert_checker.proofs.SoundFor.{IsControl, for-good}
+use Rattle.cert_checker.proofs.SparedCalls.{Controls, IsAlone, SpareControls}
+use Rattle.cert_checker.proofs.SparedText.{MayChangeOthers, text-kept}
+use Rattle.expression_checker.proofs.EffectsKept.{watching}
+use Rattle.structured_states.proofs.Touched.{all_control}
 use Rattle.cert_checker.proofs.Rounds.{StandsIn}
-use Rattle.cert_checker.proofs.SoundLoops.{here-as, sound-choice, sound-loop, sound-repeat, sound-while}
+use Rattle.cert_checker.proofs.SoundLoops.{AreControlled, SoundAmong, here-as, sound-choice, sound-loop, sound-repeat, sound-while}
 use Rattle.cert_checker.proofs.Written.{Foretold}
 
 -- one of two actions, by a truth value
@@ -93,8 +103,56 @@ either-way false one other = other refl
 true-isnt_false : (b : Bool) → b ≡ true → b ≡ false → ⊥
 true-isnt_false b is isnt = cc
 
-module _ (world : World) (limits_are : world.limits ≡ all_limits world.tree) (block : ℕ) (env : Surroundings) (laws : CallLaws world)
-    (calls : SoundCalls world env.calls) where
+among-left : (root : ℕ) (first second : List ℕ) → is_among root first ≡ true → is_among root (first ++ second) ≡ true
+among-left root first second is =
+    list_any-append (λ (other : ℕ). nat_eq other root) first second ∙ or_left (is_among root first) (is_among root second) is
+
+among-right : (root : ℕ) (first second : List ℕ) → is_among root second ≡ true → is_among root (first ++ second) ≡ true
+among-right root first second is =
+    list_any-append (λ (other : ℕ). nat_eq other root) first second ∙ or_right (is_among root first) (is_among root second) is
+
+-- ---- pieces with control variables
+
+-- a piece that needs none
+plainly : (controls : List ℕ) (world : World) (block : ℕ) (env : Environment) (action : effect.Action (Unit {0})) (walking : Walking (Unit {0}))
+    → SoundAction world block env action walking
+    → SoundAmong {A = Unit {0}} {B = Unit {0}} controls world block env Any_value action walking
+plainly controls world block env action walking one context state s held unbroken part here = one context state s unbroken part here
+
+-- one that needs fewer
+among-more : (controls more : List ℕ) (world : World) (block : ℕ) (env : Environment) (action : effect.Action (Unit {0})) (walking : Walking (Unit {0}))
+    → ((root : ℕ) → is_among root controls ≡ true → is_among root more ≡ true)
+    → SoundAmong {A = Unit {0}} {B = Unit {0}} controls world block env Any_value action walking
+    → SoundAmong {A = Unit {0}} {B = Unit {0}} more world block env Any_value action walking
+among-more controls more world block env action walking inside one context state s held unbroken part here =
+    one context state s (λ root among. held root (inside root among)) unbroken part here
+
+among-then : (controls : List ℕ) (world : World) (block : ℕ) (env : Environment) (action next : effect.Action (Unit {0}))
+    (walking walk_next : Walking (Unit {0})) → SoundAmong {A = Unit {0}} {B = Unit {0}} controls world block env Any_value action walking
+    → SoundAmong {A = Unit {0}} {B = Unit {0}} controls world block env Any_value next walk_next
+    → SoundAmong {A = Unit {0}} {B = Unit {0}} controls world block env Any_value (effect.◌>>=◌ action (λ done. next))
+    (flow.◌>>=◌ walking (λ done. walk_next))
+among-then controls world block env action next walking walk_next one two context state s held unbroken part here =
+    let first = walking context state in
+    let second = walk_next context first.after in
+    let Q = Foretold world env context (followed first second) s.store in
+    good-then world (Foretold world env context first s.store) Q s (action s) (λ done. next)
+    (one context state s held (unbroken-left first.broken second.broken unbroken) (part-left world first second part) here)
+    (λ done t is told.
+    good-weaker world (Foretold world env context second t.store) Q t (next t)
+    (λ c u gives then. record {
+      tie = tt;
+      stands = then.so.stands;
+      kept = keeps-then env context.rounds s.store t.store u.store told.so.kept then.so.kept;
+    })
+    (two context first.after t held (unbroken-right first.broken second.broken unbroken) (part-right world first second part)
+    (here-behind {B = Unit {0}} world block env Any_value context state first s t done here told)))
+
+module _ (world : World) (limits_are : world.limits ≡ all_limits world.tree) (block : ℕ) (own_block : Block)
+    (own_is : slice_get world.tree.blocks.items block ≡ Some own_block) (env : Surroundings) (laws : CallLaws world)
+    (calls : SoundCalls world env.calls) (spared_by : SpareControls world.tree env.calls)
+    (hidden : (control alias : ℕ) → is_control (outline_of world.tree) block control ≡ true → is_among alias (aliases_of world.pairs control) ≡ true
+    → is_seen world block alias ≡ false) where
   abbrev visible : Environment
   visible = env.visible
 
@@ -128,28 +186,77 @@ module _ (world : World) (limits_are : world.limits ≡ all_limits world.tree) (
   abbrev well_stmt : Stmt → Bool
   well_stmt = is_well_formed_stmt outline block
 
-  -- those that are well formed, with their loops in the table
-  abbrev SoundStatement : Bool → Inside → Execution → Walking (Unit {0}) → Type 0
-  SoundStatement well inside execution walking =
-      well ≡ true → AreLoops world.tree.loops.items block inside.loops → SoundAction world block visible (execution env) walking
+  -- all but the control variable may be changed where it alone lies
+  others-alone : (place : StorePlace) (control : ℕ) (roots : List ℕ) (env : Environment) → IsAlone place control env
+      → MayChangeOthers (watching place env) (control ∷ roots)
+  others-alone place control roots env alone root free home seen earlier lies =
+      let same = alone root home seen lies in
+      differs (nat_eq control root) (list_any (λ one. nat_eq one root) roots) (eq-eqb control root (sym same)) free
+    where
+      differs : (own other : Bool) → own ≡ true → not (own || other) ≡ true → ⊥
+      differs true other is free = absurd (cc)
+      differs false other is free = absurd (cc)
+
+  -- by the text of the block: variables are spared, loops stand in the table, and the control variables are the block's
+  pub record Text (inside : Inside) (so : Spares) : Type 0 where
+    pub roots : List ℕ
+    pub spared : so roots ≡ true
+    pub loops : AreLoops world.tree.loops.items block inside.loops
+    pub controls : (root : ℕ) → is_among root inside.controls ≡ true → is_among root (block_controls own_block.body) ≡ true
+
+  text-parts : (a b : Inside) (so also : Spares) → Text (both_inside a b) (λ roots. so roots && also roots) → Text a so × Text b also
+  text-parts a b so also text =
+      let parts = and_parts (so text.roots) (also text.roots) text.spared in
+      let own = loops-parts world.tree.loops.items block a.loops b.loops text.loops in (
+        record {
+          roots = text.roots;
+          spared = parts.0;
+          loops = own.0;
+          controls = λ root among. text.controls root (among-left root a.controls b.controls among);
+        },
+        record {
+          roots = text.roots;
+          spared = parts.1;
+          loops = own.1;
+          controls = λ root among. text.controls root (among-right root a.controls b.controls among);
+        },
+      )
+
+  text-with : (inside : Inside) (so also : Spares) → ((roots : List ℕ) → so roots ≡ true → also roots ≡ true) → Text inside so → Text inside also
+  text-with inside so also more text =
+      record { roots = text.roots; spared = more text.roots text.spared; loops = text.loops; controls = text.controls }
+
+  -- those that are well formed
+  abbrev SoundStatement : Bool → Inside → Spares → Execution → Walking (Unit {0}) → Type 0
+  SoundStatement well inside so execution walking =
+      well ≡ true → Text inside so
+      → SoundAmong {A = Unit {0}} {B = Unit {0}} inside.controls world block visible Any_value (execution env) walking
 
   abbrev StatementIsSound : Stmt → Type 0
-  StatementIsSound s = SoundStatement (well_stmt s) (inside_of s) (effect_of s) (statement_walk s)
+  StatementIsSound s = SoundStatement (well_stmt s) (inside_of s) (spares s) (effect_of s) (statement_walk s)
 
   abbrev ProvedStmt : Type 0
   ProvedStmt = (s : Stmt) × StatementIsSound s
 
   all-sound : (statements : List ProvedStmt)
       → SoundStatement (all_hold (map well_stmt (map (λ s. s.0) statements))) (all_inside (map inside_of (map (λ s. s.0) statements)))
+      (all_spare (map spares (map (λ s. s.0) statements)))
       (meaning.all_of (map effect_of (map (λ s. s.0) statements))) (walk.all_of (map statement_walk (map (λ s. s.0) statements)))
-  all-sound [] well loops = sound-give {A = Unit {0}} {B = Unit {0}} world block visible Any_value tt tt (λ store. tt)
-  all-sound (statement ∷ statements) well loops =
+  all-sound [] well text =
+      plainly [] world block visible (effect.give tt) (flow.give tt)
+      (sound-give {A = Unit {0}} {B = Unit {0}} world block visible Any_value tt tt (λ store. tt))
+  all-sound (statement ∷ statements) well text =
       let later = map (λ (s : ProvedStmt). s.0) statements in
-      let own = loops-parts world.tree.loops.items block (inside_of statement.0).loops (all_inside (map inside_of later)).loops loops in
+      let first = inside_of statement.0 in
+      let others = all_inside (map inside_of later) in
+      let own = text-parts first others (spares statement.0) (all_spare (map spares later)) text in
       let parts = and_parts (well_stmt statement.0) (all_hold (map well_stmt later)) well in
-      sound-then world block visible Any_value Any_value (effect_of statement.0 env) (λ done. meaning.all_of (map effect_of later) env)
-      (statement_walk statement.0) (λ done. walk.all_of (map statement_walk later))
-      (statement.1 parts.0 own.0) (λ b a store tie. all-sound statements parts.1 own.1)
+      among-then (first.controls ++ others.controls) world block visible (effect_of statement.0 env) (meaning.all_of (map effect_of later) env)
+      (statement_walk statement.0) (walk.all_of (map statement_walk later))
+      (among-more first.controls (first.controls ++ others.controls) world block visible (effect_of statement.0 env) (statement_walk statement.0)
+      (λ root. among-left root first.controls others.controls) (statement.1 parts.0 own.0))
+      (among-more others.controls (first.controls ++ others.controls) world block visible (meaning.all_of (map effect_of later) env)
+      (walk.all_of (map statement_walk later)) (λ root. among-right root first.controls others.controls) (all-sound statements parts.1 own.1))
 
   -- the control variables inside a loop have no rows
   inside-entire : (number : ℕ) (controls : List ℕ) → AreOrdinal world.tree controls → IsLoop world.tree.loops.items block (number, controls)
@@ -157,25 +264,37 @@ module _ (world : World) (limits_are : world.limits ≡ all_limits world.tree) (
   inside-entire number controls ordinal is =
       ordinal-entire world.tree (controls_inside world.tree number) (inside-ordinal world.tree block number controls ordinal is)
 
+  -- a statement from its entry on
+  entered-among : (controls : List ℕ) (number : ℕ) (action : effect.Action (Unit {0})) (walking : Walking (Unit {0}))
+      → SoundAmong {A = Unit {0}} {B = Unit {0}} controls world block visible Any_value action walking
+      → SoundAmong {A = Unit {0}} {B = Unit {0}} controls world block visible Any_value
+      (effect.◌>>=◌ (effect.enter number visible) (λ done. action)) (flow.◌>>=◌ (flow.enter number) (λ done. walking))
+  entered-among controls number action walking one =
+      among-then controls world block visible (effect.enter number visible) action (flow.enter number) walking
+      (plainly controls world block visible (effect.enter number visible) (flow.enter number) (sound-enter world block visible number)) one
+
   -- a conditional statement: the condition, and then one of its branches
-  choice-sound : (number : ℕ) (condition : Expr) (consequence alternative : effect.Action (Unit {0})) (true_walk false_walk : Walking (Unit {0}))
-      → well_expr condition ≡ true
-      → SoundAction world block visible consequence true_walk → SoundAction world block visible alternative false_walk
-      → SoundAction world block visible
+  choice-sound : (controls : List ℕ) (number : ℕ) (condition : Expr) (consequence alternative : effect.Action (Unit {0}))
+      (true_walk false_walk : Walking (Unit {0})) → well_expr condition ≡ true
+      → SoundAmong {A = Unit {0}} {B = Unit {0}} controls world block visible Any_value consequence true_walk
+      → SoundAmong {A = Unit {0}} {B = Unit {0}} controls world block visible Any_value alternative false_walk
+      → SoundAmong {A = Unit {0}} {B = Unit {0}} controls world block visible Any_value
       (effect.◌>>=◌ (effect.enter number visible) (λ done. effect.◌>>=◌ (value_of condition env) (λ v. cond (is_so v) consequence alternative)))
       (flow.◌>>=◌ (flow.enter number) (λ done. flow.◌>>=◌ (value_walk condition) (walk.branches condition true_walk false_walk)))
-  choice-sound number condition consequence alternative true_walk false_walk well one other =
-      entered-sound {A = Unit {0}} {B = Unit {0}} world block visible Any_value number
+  choice-sound controls number condition consequence alternative true_walk false_walk well one other =
+      entered-among controls number
       (effect.◌>>=◌ (value_of condition env) (λ v. cond (is_so v) consequence alternative))
       (flow.◌>>=◌ (value_walk condition) (walk.branches condition true_walk false_walk))
-      (sound-choice world block env condition consequence alternative true_walk false_walk (value-sound world block env laws calls condition well) one other)
+      (sound-choice controls world block env condition consequence alternative true_walk false_walk
+      (value-sound world block env laws calls condition well) one other)
 
   -- a for, from the values of its bounds
   bounds-good : (number : ℕ) (place : Place) (control : ℕ) (first : Expr) (first_fits : RangeTest) (direction : Direction) (last : Expr) (last_fits : RangeTest)
-      (execution : Execution) (walking : Walking (Unit {0})) → SoundAction world block visible (execution env) walking → is_seen world block control ≡ true
-      → is_some (variable_values world.tree control) ≡ true
+      (execution : Execution) (walking : Walking (Unit {0})) (among : List ℕ) → controls_inside world.tree number ≡ among
+      → SoundAmong {A = Unit {0}} {B = Unit {0}} among world block visible Any_value (execution env) walking
       → AreEntire (parts_in world) (control ∷ controls_inside world.tree number) → StandsIn world block number → first_fits.site < sites_in world
       → last_fits.site < sites_in world → (from to : Known) (a b : Value) (context : Context) (state : State) (t : effect.State)
+      → IsControl world block env execution context control → AreControlled among context
       → (walk.for_walk number place walking (way_of control direction first first_fits last last_fits from to) context state).broken ≡ []
       → IsPartOf world (walk.for_walk number place walking (way_of control direction first first_fits last last_fits from to) context state)
       → Here world block visible context state t → IsOfForm (moment visible t.store) (form_before first last) a
@@ -184,12 +303,12 @@ module _ (world : World) (limits_are : world.limits ≡ all_limits world.tree) (
       → Good world (Foretold world visible context
       (walk.for_walk number place walking (way_of control direction first first_fits last last_fits from to) context state) t.store) t
       (effect.◌>>=◌ (meaning.for_between control first_fits direction last_fits execution env a b) (λ done. effect.undefine (visible.variables control)) t)
-  bounds-good number place control first first_fits direction last last_fits execution walking one seen ordinal controls_are stands first_site last_site
+  bounds-good number place control first first_fits direction last last_fits execution walking among inside_are one controls_are stands first_site last_site
       (Ordinal from) (Ordinal to)
-      (Number x) (Number y) context state t unbroken part here first_form last_form in_first in_last =
-      for-good world limits_are block env number stands execution walking one place context state
+      (Number x) (Number y) context state t text held unbroken part here first_form last_form in_first in_last =
+      for-good world limits_are block env number stands execution walking among inside_are one place context state
       (way_of control direction first first_fits last last_fits (Ordinal from) (Ordinal to))
-      x y seen ordinal controls_are first_site last_site t unbroken part here (of-form_may visible t.store (form_before first last) x first_form)
+      x y text held controls_are first_site last_site t unbroken part here (of-form_may visible t.store (form_before first last) x first_form)
       (of-form_may visible t.store (bound_form last) y last_form) in_first in_last
 
   -- the form of the first bound behind the last
@@ -202,18 +321,21 @@ module _ (world : World) (limits_are : world.limits ≡ all_limits world.tree) (
       by false is = subst (λ (store : Store). IsOfForm (moment visible store) (bound_form first) a) (sym (stays is)) of_form
 
   for-sound : (number : ℕ) (place : Place) (control : ℕ) (first : Expr) (first_fits : RangeTest) (direction : Direction) (last : Expr) (last_fits : RangeTest)
-      (execution : Execution) (walking : Walking (Unit {0})) → SoundAction world block visible (execution env) walking → is_seen world block control ≡ true
-      → is_some (variable_values world.tree control) ≡ true
+      (execution : Execution) (walking : Walking (Unit {0})) (among : List ℕ) → controls_inside world.tree number ≡ among
+      → SoundAmong {A = Unit {0}} {B = Unit {0}} among world block visible Any_value (execution env) walking
+      → ((context : Context) → all_control control context.rounds ≡ true → IsControl world block env execution context control)
       → AreEntire (parts_in world) (control ∷ controls_inside world.tree number) → StandsIn world block number → well_expr first ≡ true
       → first_fits.site < sites_in world
       → well_expr last ≡ true → last_fits.site < sites_in world
-      → SoundAction world block visible
+      → SoundAmong {A = Unit {0}} {B = Unit {0}} (control ∷ among) world block visible Any_value
       (effect.◌>>=◌ (value_of first env) (λ a. effect.◌>>=◌ (value_of last env) (λ b.
       effect.◌>>=◌ (meaning.for_between control first_fits direction last_fits execution env a b) (λ done. effect.undefine (visible.variables control)))))
       (flow.◌>>=◌ (value_walk first) (λ from. flow.◌>>=◌ (value_walk last) (λ to.
       walk.for_walk number place walking (way_of control direction first first_fits last last_fits from to))))
-  for-sound number place control first first_fits direction last last_fits execution walking one seen ordinal controls_are stands first_well first_site
-      last_well last_site context state s unbroken part here =
+  for-sound number place control first first_fits direction last last_fits execution walking among inside_are one text controls_are stands first_well
+      first_site last_well last_site context state s held unbroken part here =
+      let own_held = held control (or_left (nat_eq control control) (is_among control among) (eq-eqb control control refl)) in
+      let inside_held : AreControlled among context = λ root is. held root (or_right (nat_eq control root) (is_among root among) is) in
       let from = value_walk first context state in
       let to = value_walk last context from.after in
       let rest = walk.for_walk number place walking (way_of control direction first first_fits last last_fits from.value to.value) context to.after in
@@ -241,9 +363,9 @@ module _ (world : World) (limits_are : world.limits ≡ all_limits world.tree) (
         kept = keeps-then visible context.rounds s.store t.store w.store first_told.so.kept
             (keeps-then visible context.rounds t.store u.store w.store last_told.so.kept then.so.kept);
       })
-      (bounds-good number place control first first_fits direction last last_fits execution walking one seen ordinal controls_are stands first_site last_site
+      (bounds-good number place control first first_fits direction last last_fits execution walking among inside_are one controls_are stands first_site last_site
       from.value to.value a b
-      context to.after u (unbroken-right to.broken rest.broken more_unbroken) (part-right world to rest more_part) here_last form
+      context to.after u (text context own_held) inside_held (unbroken-right to.broken rest.broken more_unbroken) (part-right world to rest more_part) here_last form
       (form-known last env t u b last_is) first_told.so.tie last_told.so.tie)))
 
   -- ---- case statements
@@ -257,14 +379,14 @@ module _ (world : World) (limits_are : world.limits ≡ all_limits world.tree) (
   -- the arm whose constants have the value of the index
   arms-good : (site : ℕ) (base : State) (index : Option ℕ) (n : ℤ) (context : Context) (t : effect.State) → Here world block visible context base t
       → ((root : ℕ) → index ≡ Some root → HasNumber (moment visible t.store) root n) → (rows : List (Vec ℤ Global)) (arms : List ProvedStmt) (behind : State)
-      → all_hold (map well_stmt (bodies arms)) ≡ true → AreLoops world.tree.loops.items block (all_inside (map inside_of (bodies arms))).loops
-      → (arms_walked base index rows arms context behind).broken ≡ []
+      → all_hold (map well_stmt (bodies arms)) ≡ true → Text (all_inside (map inside_of (bodies arms))) (all_spare (map spares (bodies arms)))
+      → AreControlled (all_inside (map inside_of (bodies arms))).controls context → (arms_walked base index rows arms context behind).broken ≡ []
       → IsPartOf world (arms_walked base index rows arms context behind) → meaning.is_among (constants_before (length (bodies arms)) rows) n ≡ true
       → Good world (Foretold world visible context (arms_walked base index rows arms context behind) t.store) t
       (meaning.arm_of site rows (map effect_of (bodies arms)) n env t)
-  arms-good site base index n context t here has rows [] behind well loops unbroken part among = absurd (cc)
-  arms-good site base index n context t here has [] (arm ∷ arms) behind well loops unbroken part among = absurd (cc)
-  arms-good site base index n context t here has (row ∷ rows) (arm ∷ arms) behind well loops unbroken part among =
+  arms-good site base index n context t here has rows [] behind well text held unbroken part among = absurd (cc)
+  arms-good site base index n context t here has [] (arm ∷ arms) behind well text held unbroken part among = absurd (cc)
+  arms-good site base index n context t here has (row ∷ rows) (arm ∷ arms) behind well text held unbroken part among =
       let start = over_variables (at_constants index row.items) base in
       let first = statement_walk arm.0 context start in
       let met = walk.arm_walk start (statement_walk arm.0) context behind in
@@ -273,7 +395,9 @@ module _ (world : World) (limits_are : world.limits ≡ all_limits world.tree) (
       let own_part = part-left world met rest part in
       let first_part : IsPartOf world first = record { ids = own_part.ids; linked = own_part.linked } in
       let parts = and_parts (well_stmt arm.0) (all_hold (map well_stmt (bodies arms))) well in
-      let loops_parts = loops-parts world.tree.loops.items block (inside_of arm.0).loops (all_inside (map inside_of (bodies arms))).loops loops in
+      let first_inside = inside_of arm.0 in
+      let others_inside = all_inside (map inside_of (bodies arms)) in
+      let text_parts = text-parts first_inside others_inside (spares arm.0) (all_spare (map spares (bodies arms))) text in
       let action = effect_of arm.0 env in
       let others = meaning.arm_of site rows (map effect_of (bodies arms)) n env in
       by-arm world visible context whole t action others (meaning.is_among row.items n)
@@ -287,14 +411,15 @@ module _ (world : World) (limits_are : world.limits ≡ all_limits world.tree) (
             (join-holds.from_other (parts_in world) (variables_in world) visible behind first.after u.store told.so.stands.known));
         kept = told.so.kept;
       })
-      (arm.1 parts.0 loops_parts.0 context start t (unbroken-left first.broken rest.broken unbroken) first_part
+      (arm.1 parts.0 text_parts.0 context start t (λ root is. held root (among-left root first_inside.controls others_inside.controls is)) (unbroken-left first.broken rest.broken unbroken) first_part
       (here-as world block visible context base start t here
       (over-known (parts_in world) (variables_in world) visible base (at_constants index row.items) t.store here.stands.known
       (at-constants_known (variables_in world) visible t.store index row.items base.variables n has is here.stands.known.variables)))))
       (λ isnt.
       good-weaker world (Foretold world visible context rest t.store) (Foretold world visible context whole t.store) t (others t)
       (λ done u gives told. record { tie = tt; stands = told.so.stands; kept = told.so.kept })
-      (arms-good site base index n context t here has rows arms (joined_states behind first.after) parts.1 loops_parts.1
+      (arms-good site base index n context t here has rows arms (joined_states behind first.after) parts.1 text_parts.1
+      (λ root is. held root (among-right root first_inside.controls others_inside.controls is))
       (unbroken-right first.broken rest.broken unbroken)
       (part-right world met rest part)
       (only-other (meaning.is_among row.items n) (meaning.is_among (constants_before (length (bodies arms)) rows) n) isnt
@@ -303,13 +428,13 @@ module _ (world : World) (limits_are : world.limits ≡ all_limits world.tree) (
   -- from the value of the index on
   case-good : (site : ℕ) (index : Expr) (rows : List (Vec ℤ Global)) (arms : List ProvedStmt) (known : Known) (v : Value) (context : Context) (state : State)
       (t : effect.State) → site < sites_in world → all_hold (map well_stmt (bodies arms)) ≡ true
-      → AreLoops world.tree.loops.items block (all_inside (map inside_of (bodies arms))).loops
-      → (walk.case_walk site index rows (map statement_walk (bodies arms)) known context state).broken ≡ []
+      → Text (all_inside (map inside_of (bodies arms))) (all_spare (map spares (bodies arms)))
+      → AreControlled (all_inside (map inside_of (bodies arms))).controls context → (walk.case_walk site index rows (map statement_walk (bodies arms)) known context state).broken ≡ []
       → IsPartOf world (walk.case_walk site index rows (map statement_walk (bodies arms)) known context state) → Here world block visible context state t
       → IsOfForm (moment visible t.store) (bound_form index) v → IsKnown known v
       → Good world (Foretold world visible context (walk.case_walk site index rows (map statement_walk (bodies arms)) known context state) t.store) t
       (meaning.arm_of site rows (map effect_of (bodies arms)) (effect.number_of v) env t)
-  case-good site index rows arms (Ordinal range) (Number n) context state t below well loops unbroken part here form inside =
+  case-good site index rows arms (Ordinal range) (Number n) context state t below well text held unbroken part here form inside =
       let walks = map statement_walk (bodies arms) in
       let constants = constants_before (length walks) rows in
       let closed = is_covered range constants in
@@ -330,7 +455,7 @@ module _ (world : World) (limits_are : world.limits ≡ all_limits world.tree) (
       (meaning.arm_of site rows (map effect_of (bodies arms)) n env t)
       (λ done u gives told. record { tie = tt; stands = told.so.stands; kept = told.so.kept })
       (arms-good site test.after root n context t base_here (λ r is. entire-number (condition_of index).form (moment visible t.store) n r form is) rows arms
-      (dead context.tree) well loops (unbroken-right tested.broken rest.broken unbroken) (part-right world tested rest part)
+      (dead context.tree) well text held (unbroken-right tested.broken rest.broken unbroken) (part-right world tested rest part)
       (subst (λ k. meaning.is_among (constants_before k rows) n ≡ true) same_length among)))
       (λ missing.
       let unclosed : (is_dead state || closed) ≡ true → ⊥ = λ is.
@@ -348,11 +473,11 @@ module _ (world : World) (limits_are : world.limits ≡ all_limits world.tree) (
       }))
 
   case-sound : (site : ℕ) (index : Expr) (rows : List (Vec ℤ Global)) (arms : List ProvedStmt) → site < sites_in world → well_expr index ≡ true
-      → all_hold (map well_stmt (bodies arms)) ≡ true → AreLoops world.tree.loops.items block (all_inside (map inside_of (bodies arms))).loops
-      → SoundAction world block visible
+      → all_hold (map well_stmt (bodies arms)) ≡ true → Text (all_inside (map inside_of (bodies arms))) (all_spare (map spares (bodies arms)))
+      → SoundAmong {A = Unit {0}} {B = Unit {0}} (all_inside (map inside_of (bodies arms))).controls world block visible Any_value
       (effect.◌>>=◌ (value_of index env) (λ v. meaning.arm_of site rows (map effect_of (bodies arms)) (effect.number_of v) env))
       (flow.◌>>=◌ (value_walk index) (walk.case_walk site index rows (map statement_walk (bodies arms))))
-  case-sound site index rows arms below index_well well loops context state s unbroken part here =
+  case-sound site index rows arms below index_well well text context state s held unbroken part here =
       let first = value_walk index context state in
       let rest = walk.case_walk site index rows (map statement_walk (bodies arms)) first.value context first.after in
       let finish = λ (v : Value). meaning.arm_of site rows (map effect_of (bodies arms)) (effect.number_of v) env in
@@ -367,75 +492,114 @@ module _ (world : World) (limits_are : world.limits ≡ all_limits world.tree) (
         stands = then.so.stands;
         kept = keeps-then visible context.rounds s.store t.store u.store told.so.kept then.so.kept;
       })
-      (case-good site index rows arms first.value v context first.after t below well loops (unbroken-right first.broken rest.broken unbroken)
+      (case-good site index rows arms first.value v context first.after t below well text held (unbroken-right first.broken rest.broken unbroken)
       (part-right world first rest part) (here-behind world block visible IsValue context state first s t v here told) (form-known index env s t v is)
       told.so.tie))
 
   abbrev StmtLayer : Stmt-F Stmt → Type 0
   StmtLayer x =
       SoundStatement (stmt_is_well_formed outline block (map-Stmt Stmt Bool well_stmt x))
-      (statement_inside (map-Stmt Stmt Inside inside_of x)) (meaning.effect_step (map-Stmt Stmt Execution effect_of x))
+      (statement_inside (map-Stmt Stmt Inside inside_of x)) (statement_spares (map-Stmt Stmt Spares spares x)) (meaning.effect_step (map-Stmt Stmt Execution effect_of x))
       (walk.statement_step (map-Stmt Stmt (Walking (Unit {0})) statement_walk x))
 
   statement-layer : (y : Stmt-F ProvedStmt) → StmtLayer (map-Stmt ProvedStmt Stmt (λ s. s.0) y)
-  statement-layer (Empty number) well loops = sound-enter world block visible number
-  statement-layer (Assign number becomes target indexes fits value) well loops =
-      entered-sound {A = Unit {0}} {B = Unit {0}} world block visible Any_value number
-      (assigned world limits_are block env laws calls target indexes.items fits value)
-      (walk.assignment becomes target (flow.index_pieces indexes.items) fits value)
-      (assignment-sound world limits_are block env laws calls becomes target indexes.items fits value well)
-  statement-layer (Copy number becomes target indexes type_id value value_indexes) well loops =
-      entered-sound {A = Unit {0}} {B = Unit {0}} world block visible Any_value number
-      (copied world limits_are block env laws calls target indexes.items type_id value value_indexes.items)
-      (walk.copying becomes target (flow.index_pieces indexes.items) type_id value value_indexes.items)
-      (copying-sound world limits_are block env laws calls becomes target indexes.items type_id value value_indexes.items well)
-  statement-layer (Write number name parameters ends_line) well loops =
+  statement-layer (Empty number) well text =
+      plainly [] world block visible (effect.enter number visible) (flow.enter number) (sound-enter world block visible number)
+  statement-layer (Assign number becomes target indexes fits value) well text =
+      let does = assigned world limits_are block env laws calls target indexes.items fits value in
+      let walked = walk.assignment becomes target (flow.index_pieces indexes.items) fits value in
+      entered-among [] number does walked
+      (plainly [] world block visible does walked (assignment-sound world limits_are block env laws calls becomes target indexes.items fits value well))
+  statement-layer (Copy number becomes target indexes type_id value value_indexes) well text =
+      let does = copied world limits_are block env laws calls target indexes.items type_id value value_indexes.items in
+      let walked = walk.copying becomes target (flow.index_pieces indexes.items) type_id value value_indexes.items in
+      entered-among [] number does walked
+      (plainly [] world block visible does walked
+      (copying-sound world limits_are block env laws calls becomes target indexes.items type_id value value_indexes.items well))
+  statement-layer (Write number name parameters ends_line) well text =
       let written = meaning.all_of (map parameter_of parameters.items) env in
       let walked = walk.all_of (map parameter_walk parameters.items) in
-      entered-sound {A = Unit {0}} {B = Unit {0}} world block visible Any_value number (effect.◌>>=◌ written (λ done. meaning.line_ended ends_line)) walked
-      (ended-sound ends_line written walked (parameters-sound parameters.items well))
-  statement-layer (Calling call actuals) well loops = procedure-sound world block env laws calls call actuals.items well
-  statement-layer (Compound number statements) well loops =
+      let does = effect.◌>>=◌ written (λ done. meaning.line_ended ends_line) in
+      entered-among [] number does walked
+      (plainly [] world block visible does walked (ended-sound ends_line written walked (parameters-sound parameters.items well)))
+  statement-layer (Calling call actuals) well text =
+      plainly [] world block visible (meaning.effect_step (map-Stmt Stmt Execution effect_of (Calling call actuals)) env)
+      (walk.statement_step (map-Stmt Stmt (Walking (Unit {0})) statement_walk (Calling call actuals)))
+      (procedure-sound world block env laws calls call actuals.items well)
+  statement-layer (Compound number statements) well text =
       let inner = map (λ (s : ProvedStmt). s.0) statements.items in
-      entered-sound {A = Unit {0}} {B = Unit {0}} world block visible Any_value number (meaning.all_of (map effect_of inner) env)
-      (walk.all_of (map statement_walk inner))
-      (all-sound statements.items well loops)
-  statement-layer (If number condition consequence None) well loops =
+      entered-among (all_inside (map inside_of inner)).controls number (meaning.all_of (map effect_of inner) env) (walk.all_of (map statement_walk inner))
+      (all-sound statements.items well text)
+  statement-layer (If number condition consequence None) well text =
       let parts = and_parts (well_expr condition) (well_stmt consequence.value.0 && true) well in
       let each = and_parts (well_stmt consequence.value.0) true parts.1 in
-      let own = loops-parts world.tree.loops.items block (inside_of consequence.value.0).loops [] loops in
-      choice-sound number condition (effect_of consequence.value.0 env) (effect.give tt) (statement_walk consequence.value.0) (flow.give tt) parts.0
-      (consequence.value.1 each.0 own.0) (sound-give {A = Unit {0}} {B = Unit {0}} world block visible Any_value tt tt (λ store. tt))
-  statement-layer (If number condition consequence (Some alternative)) well loops =
+      let first = inside_of consequence.value.0 in
+      let own = text-parts first no_loop (spares consequence.value.0) (λ roots. true)
+      (text-with (both_inside first no_loop) (λ roots. spares_in_expr roots condition && (spares consequence.value.0 roots && true))
+      (λ roots. spares consequence.value.0 roots && true)
+      (λ roots so. (and_parts (spares_in_expr roots condition) (spares consequence.value.0 roots && true) so).1) text) in
+      choice-sound (first.controls ++ []) number condition (effect_of consequence.value.0 env) (effect.give tt) (statement_walk consequence.value.0)
+      (flow.give tt) parts.0
+      (among-more first.controls (first.controls ++ []) world block visible (effect_of consequence.value.0 env) (statement_walk consequence.value.0)
+      (λ root. among-left root first.controls []) (consequence.value.1 each.0 own.0))
+      (plainly (first.controls ++ []) world block visible (effect.give tt) (flow.give tt)
+      (sound-give {A = Unit {0}} {B = Unit {0}} world block visible Any_value tt tt (λ store. tt)))
+  statement-layer (If number condition consequence (Some alternative)) well text =
       let parts = and_parts (well_expr condition) (well_stmt consequence.value.0 && well_stmt alternative.value.0) well in
       let each = and_parts (well_stmt consequence.value.0) (well_stmt alternative.value.0) parts.1 in
-      let own = loops-parts world.tree.loops.items block (inside_of consequence.value.0).loops (inside_of alternative.value.0).loops loops in
-      choice-sound number condition (effect_of consequence.value.0 env) (effect_of alternative.value.0 env) (statement_walk consequence.value.0)
-      (statement_walk alternative.value.0) parts.0 (consequence.value.1 each.0 own.0) (alternative.value.1 each.1 own.1)
-  statement-layer (While number loop_number place condition body) well loops =
+      let first = inside_of consequence.value.0 in
+      let second = inside_of alternative.value.0 in
+      let both = λ (roots : List ℕ). spares consequence.value.0 roots && spares alternative.value.0 roots in
+      let own = text-parts first second (spares consequence.value.0) (spares alternative.value.0)
+      (text-with (both_inside first second) (λ roots. spares_in_expr roots condition && both roots) both
+      (λ roots so. (and_parts (spares_in_expr roots condition) (both roots) so).1) text) in
+      let controls = first.controls ++ second.controls in
+      choice-sound controls number condition (effect_of consequence.value.0 env) (effect_of alternative.value.0 env) (statement_walk consequence.value.0)
+      (statement_walk alternative.value.0) parts.0
+      (among-more first.controls controls world block visible (effect_of consequence.value.0 env) (statement_walk consequence.value.0)
+      (λ root. among-left root first.controls second.controls) (consequence.value.1 each.0 own.0))
+      (among-more second.controls controls world block visible (effect_of alternative.value.0 env) (statement_walk alternative.value.0)
+      (λ root. among-right root first.controls second.controls) (alternative.value.1 each.1 own.1))
+  statement-layer (While number loop_number place condition body) well text =
       let parts = and_parts (well_expr condition) (well_stmt body.value.0) well in
       let round = meaning.while_round (value_of condition) (effect_of body.value.0) env in
       let walked = walk.while_round condition (statement_walk body.value.0) in
-      entered-sound {A = Unit {0}} {B = Unit {0}} world block visible Any_value number (effect.looped round tt) (walk.loop_walk loop_number place None walked)
-      (sound-loop world limits_are block visible loop_number place round tt walked
-      (inside-entire loop_number (inside_of body.value.0).controls (controls-ordinal world.tree block body.value.0 parts.1) loops.0)
-      (loops.0.0, loops.0.1, loops.0.2)
-      (λ a. sound-while world block env condition (effect_of body.value.0) (statement_walk body.value.0)
-      (value-sound world block env laws calls condition parts.0) (body.value.1 parts.1 loops.1)))
-  statement-layer (Repeat number loop_number place statements condition) well loops =
+      let inside = inside_of body.value.0 in
+      let loop = text.loops.0 in
+      let own : Text inside (spares body.value.0) = record {
+        roots = text.roots;
+        spared = (and_parts (spares_in_expr text.roots condition) (spares body.value.0 text.roots) text.spared).1;
+        loops = text.loops.1;
+        controls = text.controls;
+      } in
+      entered-among inside.controls number (effect.looped round tt) (walk.loop_walk loop_number place None walked)
+      (sound-loop inside.controls world limits_are block visible loop_number place round tt walked
+      (inside-entire loop_number inside.controls (controls-ordinal world.tree block body.value.0 parts.1) loop)
+      (loop.0, loop.1, loop.2) (ap controls_of loop.1 ∙ loop.3)
+      (λ a. sound-while inside.controls world block env condition (effect_of body.value.0) (statement_walk body.value.0)
+      (value-sound world block env laws calls condition parts.0) (body.value.1 parts.1 own)))
+  statement-layer (Repeat number loop_number place statements condition) well text =
       let inner = map (λ (s : ProvedStmt). s.0) statements.items in
       let parts = and_parts (all_hold (map well_stmt inner)) (well_expr condition) well in
       let body = meaning.all_of (map effect_of inner) in
       let bodies = walk.all_of (map statement_walk inner) in
       let round = meaning.repeat_round body (value_of condition) env in
       let walked = walk.repeat_round bodies condition in
-      entered-sound {A = Unit {0}} {B = Unit {0}} world block visible Any_value number (effect.looped round tt) (walk.loop_walk loop_number place None walked)
-      (sound-loop world limits_are block visible loop_number place round tt walked
-      (inside-entire loop_number (all_inside (map inside_of inner)).controls (all-ordinal world.tree block inner parts.0) loops.0)
-      (loops.0.0, loops.0.1, loops.0.2)
-      (λ a. sound-repeat world block env condition body bodies (all-sound statements.items parts.0 loops.1)
+      let inside = all_inside (map inside_of inner) in
+      let loop = text.loops.0 in
+      let own : Text inside (all_spare (map spares inner)) = record {
+        roots = text.roots;
+        spared = (and_parts (all_spare (map spares inner) text.roots) (spares_in_expr text.roots condition) text.spared).0;
+        loops = text.loops.1;
+        controls = text.controls;
+      } in
+      entered-among inside.controls number (effect.looped round tt) (walk.loop_walk loop_number place None walked)
+      (sound-loop inside.controls world limits_are block visible loop_number place round tt walked
+      (inside-entire loop_number inside.controls (all-ordinal world.tree block inner parts.0) loop)
+      (loop.0, loop.1, loop.2) (ap controls_of loop.1 ∙ loop.3)
+      (λ a. sound-repeat inside.controls world block env condition body bodies (all-sound statements.items parts.0 own)
       (value-sound world block env laws calls condition parts.1)))
-  statement-layer (For number loop_number place control first first_fits direction last last_fits body) well loops =
+  statement-layer (For number loop_number place control first first_fits direction last last_fits body) well text =
       let is_test = is_well_formed_test outline block in
       let controls = is_control outline block control in
       let leads = leads_to_ordinal outline block control [] 0 in
@@ -447,42 +611,78 @@ module _ (world : World) (limits_are : world.limits ≡ all_limits world.tree) (
       let five = and_parts (is_test last_fits) (well_stmt body.value.0) four.1 in
       let leads_there = (and_parts (is_declared outline block is_local_kind control) leads one.0).1 in
       let execution = effect_of body.value.0 in
+      let inside = inside_of body.value.0 in
+      let loop = text.loops.0 in
+      let so = λ (roots : List ℕ). spares body.value.0 (control ∷ roots) in
+      let so_one = and_parts (is_none_of text.roots control)
+      (spares_in_expr text.roots first && (spares_in_expr text.roots last && so text.roots)) text.spared in
+      let so_two = and_parts (spares_in_expr text.roots first) (spares_in_expr text.roots last && so text.roots) so_one.1 in
+      let so_three = and_parts (spares_in_expr text.roots last) (so text.roots) so_two.1 in
+      let own : Text inside (spares body.value.0) = record {
+        roots = control ∷ text.roots;
+        spared = so_three.1;
+        loops = text.loops.1;
+        controls = λ root among. text.controls root (or_right (nat_eq control root) (is_among root inside.controls) among);
+      } in
+      let variable = control-declared world.tree block control one.0 in
+      let controls : Controls world.tree block control = record {
+        body = own_block;
+        block_is = own_is;
+        among = text.controls control (or_left (nat_eq control control) (is_among control inside.controls) (eq-eqb control control refl));
+        variable = variable.0;
+        variable_is = variable.1;
+        own = variable.2;
+      } in
+      let of_text = λ (context : Context) (all : all_control control context.rounds ≡ true). record {
+        seen = control-seen world.tree block control one.0;
+        ordinal = ordinal-values world.tree control (leads-type outline block (is_ordinal (types_in world)) control [] 0 leads_there);
+        hidden = λ alias among. hidden control alias one.0 among;
+        controls = all;
+        left = λ place alone.
+            text-kept (watching place visible) env.calls (spared_by block control controls place visible alone) refl body.value.0 (control ∷ text.roots)
+            (others-alone place control text.roots visible alone) so_three.1;
+      } in
       let finish = λ (a b : Value). effect.◌>>=◌ (meaning.for_between control first_fits direction last_fits execution env a b)
       (λ done. effect.undefine (visible.variables control)) in
-      entered-sound {A = Unit {0}} {B = Unit {0}} world block visible Any_value number
+      entered-among (control ∷ inside.controls) number
       (effect.◌>>=◌ (value_of first env) (λ a. effect.◌>>=◌ (value_of last env) (finish a)))
       (flow.◌>>=◌ (value_walk first) (λ from. flow.◌>>=◌ (value_walk last) (λ to.
       walk.for_walk loop_number place (statement_walk body.value.0) (way_of control direction first first_fits last last_fits from to))))
-      (for-sound loop_number place control first first_fits direction last last_fits execution (statement_walk body.value.0) (body.value.1 five.1 loops.1)
-      (control-seen world.tree block control one.0)
-      (ordinal-values world.tree control (leads-type outline block (is_ordinal (types_in world)) control [] 0 leads_there))
+      (for-sound loop_number place control first first_fits direction last last_fits execution (statement_walk body.value.0) inside.controls
+      (ap controls_of loop.1 ∙ loop.3) (body.value.1 five.1 own) of_text
       (ordinal-entire world.tree (control ∷ controls_inside world.tree loop_number)
       (one-ordinal world.tree control (controls_inside world.tree loop_number) (control-ordinal world.tree block control one.0)
-      (inside-ordinal world.tree block loop_number (inside_of body.value.0).controls (controls-ordinal world.tree block body.value.0 five.1) loops.0)))
-      (loops.0.0, loops.0.1, loops.0.2) two.0
+      (inside-ordinal world.tree block loop_number inside.controls (controls-ordinal world.tree block body.value.0 five.1) loop)))
+      (loop.0, loop.1, loop.2) two.0
       (site-within world limits_are block env laws calls first_fits three.0) four.0 (site-within world limits_are block env laws calls last_fits five.0))
-  statement-layer (Case number site index constants arms) well loops =
+  statement-layer (Case number site index constants arms) well text =
       let inner = bodies arms.items in
       let one = and_parts (nat_lt site (sites_in world)) (well_expr index && (list_all are_whole constants.items && all_hold (map well_stmt inner))) well in
       let two = and_parts (well_expr index) (list_all are_whole constants.items && all_hold (map well_stmt inner)) one.1 in
       let three = and_parts (list_all are_whole constants.items) (all_hold (map well_stmt inner)) two.1 in
-      entered-sound {A = Unit {0}} {B = Unit {0}} world block visible Any_value number
+      let so = all_spare (map spares inner) in
+      let own = text-with (all_inside (map inside_of inner)) (λ roots. spares_in_expr roots index && so roots) so
+      (λ roots is. (and_parts (spares_in_expr roots index) (so roots) is).1) text in
+      entered-among (all_inside (map inside_of inner)).controls number
       (effect.◌>>=◌ (value_of index env) (λ v. meaning.arm_of site constants.items (map effect_of inner) (effect.number_of v) env))
       (flow.◌>>=◌ (value_walk index) (walk.case_walk site index constants.items (map statement_walk inner)))
-      (case-sound site index constants.items arms.items (ltb-true site (sites_in world) one.0) two.0 three.1 loops)
+      (case-sound site index constants.items arms.items (ltb-true site (sites_in world) one.0) two.0 three.1 own)
 
-  along-statement : {a b : Bool} {inside other : Inside} {execution executed : Execution} {walking walked : Walking (Unit {0})} → a ≡ b → inside ≡ other
-      → execution ≡ executed → walking ≡ walked → SoundStatement b other executed walked → SoundStatement a inside execution walking
-  along-statement {a} {b} {inside} {other} {execution} {executed} {walking} {walked} zero one two three sound =
-      subst (λ (w : Bool). SoundStatement w inside execution walking) (sym zero)
-      (subst (λ (i : Inside). SoundStatement b i execution walking) (sym one)
-      (subst (λ (e : Execution). SoundStatement b other e walking) (sym two)
-      (subst (λ (w : Walking (Unit {0})). SoundStatement b other executed w) (sym three) sound)))
+  along-statement : {a b : Bool} {inside other : Inside} {so also : Spares} {execution executed : Execution} {walking walked : Walking (Unit {0})} → a ≡ b
+      → inside ≡ other → so ≡ also → execution ≡ executed → walking ≡ walked → SoundStatement b other also executed walked
+      → SoundStatement a inside so execution walking
+  along-statement {a} {b} {inside} {other} {so} {also} {execution} {executed} {walking} {walked} zero one two three four sound =
+      subst (λ (w : Bool). SoundStatement w inside so execution walking) (sym zero)
+      (subst (λ (i : Inside). SoundStatement b i so execution walking) (sym one)
+      (subst (λ (z : Spares). SoundStatement b other z execution walking) (sym two)
+      (subst (λ (e : Execution). SoundStatement b other also e walking) (sym three)
+      (subst (λ (w : Walking (Unit {0})). SoundStatement b other also executed w) (sym four) sound))))
 
   rolled-stmt : (x : Stmt-F Stmt) → StmtLayer x → StatementIsSound (roll-Stmt x)
   rolled-stmt x =
       along-statement (fold-roll-Stmt Bool (stmt_is_well_formed outline block) x)
-      (fold-roll-Stmt Inside statement_inside x) (fold-roll-Stmt Execution meaning.effect_step x) (fold-roll-Stmt (Walking (Unit {0})) walk.statement_step x)
+      (fold-roll-Stmt Inside statement_inside x) (fold-roll-Stmt Spares statement_spares x) (fold-roll-Stmt Execution meaning.effect_step x)
+      (fold-roll-Stmt (Walking (Unit {0})) walk.statement_step x)
 
   pub statement-sound : (s : Stmt) → StatementIsSound s
   statement-sound =

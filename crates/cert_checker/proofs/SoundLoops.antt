@@ -1,8 +1,10 @@
 -- The branches of a conditional statement and the loops are sound. A loop is a head, a round and a way out: what holds at
 -- its head holds there again whenever a round ends that another follows.
-use Rattle.std.proofs.Common.{arith, ◌≡◌, ◌∙◌, sym, refl, subst, ℕ, zero, suc, Bool, true, false, cond, List, [], ◌∷◌, ◌++◌, Option, Some, None}
+use Rattle.std.proofs.Common.{arith, ◌≡◌, ◌∙◌, ◌&&◌, ap, sym, refl, subst, ℕ, zero, suc, Bool, true, false, cond, List, [], ◌∷◌, ◌++◌, Option, Some, None}
 use Rattle.std.specs.Prelude.{◌≤◌}
 use Rattle.std.proofs.lemmas.List.Elements.{Contains-append_left, Contains-append_right}
+use Rattle.std.proofs.lemmas.List.Folds.{list_all-append}
+use Rattle.std.proofs.lemmas.Bool.{and_from}
 use Rattle.domain.specs.Interval.{Interval}
 use Rattle.expression_checker.specs.declared.fault.Rule.TheVariants.{LoopEntry, LoopTurn}
 use Rattle.typed_tree.specs.declared.tree.Expr.{Expr}
@@ -20,6 +22,7 @@ use Rattle.abstract_state.specs.Conditions.{branched}
 use Rattle.abstract_state.specs.declared.known.Known.{Known}
 use Rattle.abstract_state.specs.declared.known.Known.TheVariants.{Ordinal}
 use Rattle.abstract_state.specs.Knows.{IsKept}
+use Rattle.abstract_state.specs.Loops.{is_among}
 use Rattle.abstract_state.proofs.Ranged.{IsKnown}
 use Rattle.abstract_state.proofs.Refined.{branched-known}
 use Rattle.component_states.specs.States.{State, joined_states}
@@ -27,7 +30,8 @@ use Rattle.component_states.specs.Holds.{Knows}
 use Rattle.component_states.specs.Laws.{AreEntire}
 use Rattle.component_states.proofs.Joins.{join-holds}
 use Rattle.leaf_rows.specs.Limits.{all_limits}
-use Rattle.structured_states.specs.Loops.{Round, claims_at, controls_inside, gives_claims, head_of, round_of, touched, with_own, without_own}
+use Rattle.structured_states.specs.Loops.{Round, claims_at, controls_inside, gives_claims, head_of, round_of, touched, with_own}
+use Rattle.structured_states.proofs.Touched.{all_control}
 use Rattle.call_states.specs.Environments.{Fine, Proper}
 use Rattle.call_states.proofs.AliasedTypes.{in-types, shows}
 use Rattle.call_states.proofs.Claimed.{AllHold, given-claims}
@@ -42,6 +46,25 @@ use Rattle.expression_checker.proofs.Sound.{unbroken-right, variables_in}
 use Rattle.cert_checker.proofs.Heads.{head-of_known}
 use Rattle.cert_checker.proofs.Rounds.{StandsIn, goes-inside, loop-closed}
 use Rattle.cert_checker.proofs.Written.{Foretold, kept-rule}
+
+-- ---- control variables
+
+-- in each loop round a piece are for statements that these variables control
+abbrev pub AreControlled : List ℕ → Context → Type 0
+AreControlled controls context = (root : ℕ) → is_among root controls ≡ true → all_control root context.rounds ≡ true
+
+-- a piece is sound where such are the loops round it
+abbrev pub SoundAmong : {A B : Type 0} → List ℕ → World → ℕ → Environment → (B → A → Store → Type 0) → Action A → Walking B → Type 0
+SoundAmong controls world block env R action walking =
+    (context : Context) (state : State) (s : effect.State) → AreControlled controls context → (walking context state).broken ≡ []
+    → IsPartOf world (walking context state) → Here world block env context state s
+    → Good world (IsForetold world env R context (walking context state) s.store) s (action s)
+
+pub all-controls : (root : ℕ) (rounds : List Round) (one : Round) → all_control root rounds ≡ true → is_among root one.controls ≡ true
+    → all_control root (rounds ++ one ∷ []) ≡ true
+all-controls root rounds one outer own =
+    list_all-append (λ (round : Round). is_among root round.controls) rounds (one ∷ [])
+    ∙ and_from (all_control root rounds) (is_among root one.controls && true) outer (and_from (is_among root one.controls) true own refl)
 
 -- ---- where a walk stands
 
@@ -112,33 +135,33 @@ ways-good world env one_action other_action one other false context t taken skip
     (skipped refl (unbroken-right one.broken other.broken unbroken) (part-right world one other (record { ids = part.ids; linked = part.linked })))
 
 -- the choice of a branch by a truth value
-chosen-good : (world : World) (block : ℕ) (env : Environment) (one_action other_action : Action (Unit {0})) (condition : Expr)
+chosen-good : (controls : List ℕ) (world : World) (block : ℕ) (env : Environment) (one_action other_action : Action (Unit {0})) (condition : Expr)
     (consequence alternative : Walking (Unit {0}))
     (known : Known) (b : Bool) (context : Context) (state : State) (t : effect.State)
-    → Sound {A = Unit {0}} {B = Unit {0}} world block env Any_value one_action consequence
-    → Sound {A = Unit {0}} {B = Unit {0}} world block env Any_value other_action alternative
-    → (walk.branches condition consequence alternative known context state).broken ≡ []
+    → SoundAmong {A = Unit {0}} {B = Unit {0}} controls world block env Any_value one_action consequence
+    → SoundAmong {A = Unit {0}} {B = Unit {0}} controls world block env Any_value other_action alternative
+    → AreControlled controls context → (walk.branches condition consequence alternative known context state).broken ≡ []
     → IsPartOf world (walk.branches condition consequence alternative known context state)
     → Here world block env context (where_so b condition known state) t
     → Good world (Foretold world env context (walk.branches condition consequence alternative known context state) t.store) t
     (cond b one_action other_action t)
-chosen-good world block env one_action other_action condition consequence alternative known b context state t one other unbroken part here =
+chosen-good controls world block env one_action other_action condition consequence alternative known b context state t one other held unbroken part here =
     let at = λ (c : Bool). where_so c condition known state in
     ways-good world env one_action other_action (consequence context (at true)) (alternative context (at false)) b context t
-    (λ is unbroken part. one context (at true) t unbroken part (subst (λ (c : Bool). Here world block env context (at c) t) is here))
-    (λ is unbroken part. other context (at false) t unbroken part (subst (λ (c : Bool). Here world block env context (at c) t) is here))
+    (λ is unbroken part. one context (at true) t held unbroken part (subst (λ (c : Bool). Here world block env context (at c) t) is here))
+    (λ is unbroken part. other context (at false) t held unbroken part (subst (λ (c : Bool). Here world block env context (at c) t) is here))
     unbroken part
 
 -- a condition, and then one of two branches
-pub sound-choice : (world : World) (block : ℕ) (env : Surroundings) (condition : Expr) (one_action other_action : Action (Unit {0}))
+pub sound-choice : (controls : List ℕ) (world : World) (block : ℕ) (env : Surroundings) (condition : Expr) (one_action other_action : Action (Unit {0}))
     (consequence alternative : Walking (Unit {0}))
     → Sound world block env.visible IsValue (value_of condition env) (value_walk condition)
-    → Sound {A = Unit {0}} {B = Unit {0}} world block env.visible Any_value one_action consequence
-    → Sound {A = Unit {0}} {B = Unit {0}} world block env.visible Any_value other_action alternative
-    → Sound {A = Unit {0}} {B = Unit {0}} world block env.visible Any_value
+    → SoundAmong {A = Unit {0}} {B = Unit {0}} controls world block env.visible Any_value one_action consequence
+    → SoundAmong {A = Unit {0}} {B = Unit {0}} controls world block env.visible Any_value other_action alternative
+    → SoundAmong {A = Unit {0}} {B = Unit {0}} controls world block env.visible Any_value
     (effect.◌>>=◌ (value_of condition env) (λ v. cond (is_so v) one_action other_action))
     (flow.◌>>=◌ (value_walk condition) (walk.branches condition consequence alternative))
-sound-choice world block env condition one_action other_action consequence alternative valued one other context state s unbroken part here =
+sound-choice controls world block env condition one_action other_action consequence alternative valued one other context state s held unbroken part here =
     let visible = env.visible in
     let first = value_walk condition context state in
     let second = walk.branches condition consequence alternative first.value context first.after in
@@ -153,7 +176,7 @@ sound-choice world block env condition one_action other_action consequence alter
       stands = then.so.stands;
       kept = keeps-then visible context.rounds s.store t.store u.store told.so.kept then.so.kept;
     })
-    (chosen-good world block visible one_action other_action condition consequence alternative first.value (is_so v) context first.after t one other
+    (chosen-good world block visible one_action other_action condition consequence alternative first.value (is_so v) context first.after t one other held
     (unbroken-right first.broken second.broken unbroken) (part-right world first second part)
     (chosen-here world block env condition first.value v s t context first.after is told.so.tie
     (here-behind world block visible IsValue context state first s t v here told))))
@@ -201,9 +224,9 @@ EndsHold world env context again out start =
     Turns (λ a store. Stands world env context again store × Keeps env context.rounds start store)
     (λ store. Stands world env context out store × Keeps env context.rounds start store)
 
-abbrev pub SoundRound : {A : Type 0} → World → ℕ → Environment → Action (Option A) → Walking State → Type 0
-SoundRound {A} world block env round walking =
-    (context : Context) (state : State) (s : effect.State) → (walking context state).broken ≡ [] → IsPartOf world (walking context state)
+abbrev pub SoundRound : {A : Type 0} → List ℕ → World → ℕ → Environment → Action (Option A) → Walking State → Type 0
+SoundRound {A} controls world block env round walking =
+    (context : Context) (state : State) (s : effect.State) → AreControlled controls context → (walking context state).broken ≡ [] → IsPartOf world (walking context state)
     → Here world block env context state s
     → Good world (EndsHold world env context (walking context state).after (walking context state).value s.store {A = A}) s (round s)
 
@@ -230,9 +253,15 @@ rounds-outer env rounds own before after kept round inside = kept round (Contain
 abbrev pub at_head : Context → ℕ → Option ℕ → Round
 at_head context number control = with_own control (round_of context.tree context.pairs context.claims number)
 
-abbrev pub inner : Context → ℕ → Option ℕ → Context
-inner context number control =
-    record context { rounds = context.rounds ++ without_own control (round_of context.tree context.pairs context.claims number) ∷ [] }
+abbrev pub inner : Context → ℕ → Context
+inner context number = record context { rounds = context.rounds ++ round_of context.tree context.pairs context.claims number ∷ [] }
+
+-- so is the loop of which they are the control variables inside
+pub inner-controlled : (world : World) (context : Context) (number : ℕ) (controls : List ℕ) → context.tree ≡ world.tree
+    → controls_inside world.tree number ≡ controls → AreControlled controls context → AreControlled controls (inner context number)
+inner-controlled world context number controls tree_is inside held root among =
+    all-controls root context.rounds (round_of context.tree context.pairs context.claims number) (held root among)
+    (ap (λ (tree : Tree). is_among root (controls_inside tree number)) tree_is ∙ ap (is_among root) inside ∙ among)
 
 abbrev pub with_head : Context → ℕ → Option ℕ → List Round
 with_head context number control = context.rounds ++ at_head context number control ∷ []
@@ -250,7 +279,7 @@ AreFine {A} world few at Fits =
 module _ {A : Type 0} (world : World) (ranges : world.limits ≡ all_limits world.tree) (block : ℕ) (env : Environment) (few : ℕ)
     (proper : Proper world.tree world.pairs block few env) (context : Context) (number : ℕ) (control : Option ℕ) (state : State)
     (start : Store) (at : A → Store → Store) (Fits : A → Store → Type 0) (at_fine : AreFine world few at Fits) (again out : State)
-    (stands : Stands world env context state start) (goes : Goes world (inner context number control))
+    (stands : Stands world env context state start) (goes : Goes world (inner context number))
     (controls_are : AreEntire (parts_in world) (at_head context number control).controls) where
   abbrev facts : List Fact
   facts = (claims_at context.claims number).facts
@@ -259,7 +288,7 @@ module _ {A : Type 0} (world : World) (ranges : world.limits ≡ all_limits worl
   own = at_head context number control
 
   abbrev within : Context
-  within = inner context number control
+  within = inner context number
 
   abbrev rounds : List Round
   rounds = with_head context number control
@@ -309,15 +338,15 @@ module _ {A : Type 0} (world : World) (ranges : world.limits ≡ all_limits worl
 -- a loop whose rounds are sound
 pub loop-good : {A : Type 0} (world : World) → world.limits ≡ all_limits world.tree → (block : ℕ) (env : Environment) (number : ℕ) (place : SourcePlace)
     (control : Option ℕ) (round : effect.Round A) (walking : Walking State) (at : A → Store → Store) (Fits : A → Store → Type 0) (context : Context)
-    (state : State) (a : A) (s : effect.State) → AreFine world s.activations at Fits → Goes world (inner context number control)
+    (state : State) (a : A) (s : effect.State) → AreFine world s.activations at Fits → Goes world (inner context number)
     → AreEntire (parts_in world) (at_head context number control).controls
     → ((b : A) (t : effect.State) → s.activations ≤ t.activations → Fine world.tree t
-    → (walking (inner context number control) (loop_begun context number control state)).broken ≡ []
-    → IsPartOf world (walking (inner context number control) (loop_begun context number control state))
-    → Stands world env (inner context number control) (loop_begun context number control state) (at b t.store) → Fits b (at b t.store)
-    → Good world (RoundEnds world env (inner context number control) (with_head context number control) at Fits
-    (walking (inner context number control) (loop_begun context number control state)).after
-    (walking (inner context number control) (loop_begun context number control state)).value (at b t.store)) t (round b t))
+    → (walking (inner context number) (loop_begun context number control state)).broken ≡ []
+    → IsPartOf world (walking (inner context number) (loop_begun context number control state))
+    → Stands world env (inner context number) (loop_begun context number control state) (at b t.store) → Fits b (at b t.store)
+    → Good world (RoundEnds world env (inner context number) (with_head context number control) at Fits
+    (walking (inner context number) (loop_begun context number control state)).after
+    (walking (inner context number) (loop_begun context number control state)).value (at b t.store)) t (round b t))
     → (walk.loop_walk number place control walking context state).broken ≡ [] → IsPartOf world (walk.loop_walk number place control walking context state)
     → Fine world.tree s → Proper world.tree world.pairs block s.activations env
     → Stands world env context state (at a s.store) → Fits a (at a s.store)
@@ -327,7 +356,7 @@ loop-good {A} world ranges block env number place control round walking at Fits 
     let facts = (claims_at context.claims number).facts in
     let own = at_head context number control in
     let begun = loop_begun context number control state in
-    let within = inner context number control in
+    let within = inner context number in
     let rounds = with_head context number control in
     let start = at a s.store in
     let turn = walking within begun in
@@ -376,13 +405,13 @@ plain-ends world env context again out start None store told = told
 plain-ends world env context again out start (Some a) store (stood, kept) = (stood, kept, tt)
 
 -- a loop that is no for statement
-pub sound-loop : {A : Type 0} (world : World) → world.limits ≡ all_limits world.tree → (block : ℕ) (env : Environment)
+pub sound-loop : {A : Type 0} (controls : List ℕ) (world : World) → world.limits ≡ all_limits world.tree → (block : ℕ) (env : Environment)
     (number : ℕ) (place : SourcePlace) (round : effect.Round A) (a : A)
     (walking : Walking State) → AreEntire (parts_in world) (controls_inside world.tree number)
-    → StandsIn world block number → ((b : A) → SoundRound world block env (round b) walking)
-    → Sound {A = Unit {0}} {B = Unit {0}} world block env Any_value (effect.looped round a) (walk.loop_walk number place None walking)
-sound-loop {A} world ranges block env number place round a walking controls_are stands each context state s unbroken part here =
-    let within = inner context number None in
+    → StandsIn world block number → controls_inside world.tree number ≡ controls → ((b : A) → SoundRound controls world block env (round b) walking)
+    → SoundAmong {A = Unit {0}} {B = Unit {0}} controls world block env Any_value (effect.looped round a) (walk.loop_walk number place None walking)
+sound-loop {A} controls world ranges block env number place round a walking controls_are stands inside_are each context state s held unbroken part here =
+    let within = inner context number in
     let begun = loop_begun context number None state in
     let turn = walking within begun in
     let goes = here.stands.goes in
@@ -395,7 +424,7 @@ sound-loop {A} world ranges block env number place round a walking controls_are 
     good-weaker world (EndsHold world env within turn.after turn.value t.store {A = A})
     (RoundEnds world env within within.rounds (λ b store. store) (λ b store. Unit {0}) turn.after turn.value t.store) t (round b t)
     (λ more u is told. plain-ends world env within turn.after turn.value t.store more u.store told.so)
-    (each b within begun t unbroken part
+    (each b within begun t (inner-controlled world context number controls goes.tree_is inside_are held) unbroken part
     (record {
       block_is = here.block_is;
       fine = fine;
@@ -425,9 +454,10 @@ turn-then world Q next t fine then =
     (λ done u is behind. then done u behind.so behind.fine behind.grown)
 
 -- a round of a while
-module _ (world : World) (block : ℕ) (env : Surroundings) (condition : Expr) (execution : meaning.Execution) (body : Walking (Unit {0}))
+module _ (controls : List ℕ) (world : World) (block : ℕ) (env : Surroundings) (condition : Expr) (execution : meaning.Execution) (body : Walking (Unit {0}))
     (valued : Sound world block env.visible IsValue (value_of condition env) (value_walk condition))
-    (one : Sound {A = Unit {0}} {B = Unit {0}} world block env.visible Any_value (execution env) body) (context : Context) (start : Store) (known : Known)
+    (one : SoundAmong {A = Unit {0}} {B = Unit {0}} controls world block env.visible Any_value (execution env) body) (context : Context)
+    (held : AreControlled controls context) (start : Store) (known : Known)
     (tested : State) where
   abbrev visible : Environment
   visible = env.visible
@@ -450,7 +480,7 @@ module _ (world : World) (block : ℕ) (env : Surroundings) (condition : Expr) (
       turn-then world Ends (λ done. effect.◌>>=◌ (execution env) (λ done. effect.give (Some tt))) t here.fine
       (λ done u same fine grown.
       good-then world (Foretold world visible context bodied u.store) Ends u (execution env u) (λ done. effect.give (Some tt))
-      (one context inside_state u unbroken part (here-later world block visible context inside_state t u same fine grown here))
+      (one context inside_state u held unbroken part (here-later world block visible context inside_state t u same fine grown here))
       (λ done w is told.
       good-give world Ends (Some tt) w told.fine (
         told.so.stands,
@@ -458,11 +488,11 @@ module _ (world : World) (block : ℕ) (env : Surroundings) (condition : Expr) (
             (subst (λ (x : Store). Keeps visible context.rounds x w.store) same told.so.kept),
       )))
 
-pub sound-while : (world : World) (block : ℕ) (env : Surroundings) (condition : Expr) (execution : meaning.Execution) (body : Walking (Unit {0}))
+pub sound-while : (controls : List ℕ) (world : World) (block : ℕ) (env : Surroundings) (condition : Expr) (execution : meaning.Execution) (body : Walking (Unit {0}))
     → Sound world block env.visible IsValue (value_of condition env) (value_walk condition)
-    → Sound {A = Unit {0}} {B = Unit {0}} world block env.visible Any_value (execution env) body
-    → SoundRound world block env.visible (meaning.while_round (value_of condition) execution env tt) (walk.while_round condition body)
-sound-while world block env condition execution body valued one context state s unbroken part here =
+    → SoundAmong {A = Unit {0}} {B = Unit {0}} controls world block env.visible Any_value (execution env) body
+    → SoundRound controls world block env.visible (meaning.while_round (value_of condition) execution env tt) (walk.while_round condition body)
+sound-while controls world block env condition execution body valued one context state s held unbroken part here =
     let visible = env.visible in
     let first = value_walk condition context state in
     let inner = body context (where_so true condition first.value first.after) in
@@ -472,7 +502,7 @@ sound-while world block env condition execution body valued one context state s 
     (value_of condition env s) (λ v. meaning.turn_if (is_so v) (execution env))
     (valued context state s (unbroken-left first.broken rest.broken unbroken) (part-left world first rest part) here)
     (λ v t is told.
-    while-turned world block env condition execution body valued one context s.store first.value first.after (is_so v) t told.so.kept
+    while-turned controls world block env condition execution body valued one context held s.store first.value first.after (is_so v) t told.so.kept
     (chosen-here world block env condition first.value v s t context first.after is told.so.tie
     (here-behind world block visible IsValue context state first s t v here told))
     (unbroken-left inner.broken [] (unbroken-right first.broken (inner.broken ++ []) unbroken))
@@ -487,11 +517,11 @@ repeat-ends : (world : World) (env : Environment) (condition : Expr) (known : Kn
 repeat-ends world env condition known context start tested true t kept stands = (stands, kept)
 repeat-ends world env condition known context start tested false t kept stands = (stands, kept)
 
-pub sound-repeat : (world : World) (block : ℕ) (env : Surroundings) (condition : Expr) (execution : meaning.Execution) (body : Walking (Unit {0}))
-    → Sound {A = Unit {0}} {B = Unit {0}} world block env.visible Any_value (execution env) body
+pub sound-repeat : (controls : List ℕ) (world : World) (block : ℕ) (env : Surroundings) (condition : Expr) (execution : meaning.Execution) (body : Walking (Unit {0}))
+    → SoundAmong {A = Unit {0}} {B = Unit {0}} controls world block env.visible Any_value (execution env) body
     → Sound world block env.visible IsValue (value_of condition env) (value_walk condition)
-    → SoundRound world block env.visible (meaning.repeat_round execution (value_of condition) env tt) (walk.repeat_round body condition)
-sound-repeat world block env condition execution body one valued context state s unbroken part here =
+    → SoundRound controls world block env.visible (meaning.repeat_round execution (value_of condition) env tt) (walk.repeat_round body condition)
+sound-repeat controls world block env condition execution body one valued context state s held unbroken part here =
     let visible = env.visible in
     let first = body context state in
     let second = value_walk condition context first.after in
@@ -505,7 +535,7 @@ sound-repeat world block env condition execution body one valued context state s
     let here_again = here-later world block visible context state s u same fine grown here in
     good-then world (Foretold world visible context first u.store) P u (execution env u)
     (λ done. effect.◌>>=◌ (value_of condition env) (λ v. effect.give (answer v)))
-    (one context state u (unbroken-left first.broken rest.broken unbroken) (part-left world first rest part) here_again)
+    (one context state u held (unbroken-left first.broken rest.broken unbroken) (part-left world first rest part) here_again)
     (λ done w is told.
     let here_then = here-behind {B = Unit {0}} world block visible Any_value context state first u w done here_again told in
     good-then world (IsForetold world visible IsValue context second w.store) P w (value_of condition env w) (λ v. effect.give (answer v))

@@ -98,6 +98,9 @@ module _ (tree : Tree) (certificate : Certificate) (unbroken : (program_walk tre
   laws : CallLaws world
   laws = call-laws world well refl (are-claims world certificate refl known)
 
+  known_pairs : (first second : ℕ) → Contains (all_pairs certificate) (first, second) → IsKnownPair tree first second
+  known_pairs = pairs-known world certificate refl known
+
   block-foretold : (block : Block) → slice_get tree.blocks.items 0 ≡ Some block
       → Foretold world (run_of tree (suc turns) (Some block) (first_state input turns))
   block-foretold block is =
@@ -106,8 +109,8 @@ module _ (tree : Tree) (certificate : Certificate) (unbroken : (program_walk tre
       let none : entry ≡ [] = ap (λ (claims : BlockClaims). claims.entry) (claims-are tree well certificate unbroken 0 block is)
       ∙ none-entered tree certificate.sections.items known in
       let hold : AllHold tree entry visible [] = subst (λ (facts : List Fact). AllHold tree facts visible []) (sym none) (no-claims tree visible []) in
-      let good = body-good tree certificate unbroken well laws (calls_of tree (suc turns)) (sound-calls tree certificate unbroken well laws (suc turns)) 0 block
-      is visible (first_state input turns) (first-fine tree input turns) (program-proper tree world.pairs well block is)
+      let good = body-good tree certificate unbroken well laws known_pairs (calls_of tree (suc turns))
+      (sound-calls tree certificate unbroken well laws known_pairs (suc turns)) 0 block is visible (spared-calls tree well (suc turns)) (first_state input turns) (first-fine tree input turns) (program-proper tree world.pairs well block is)
       (program-start tree world.pairs well block is entry hold) in
       record { errs = good.errs; new = good.new }
 

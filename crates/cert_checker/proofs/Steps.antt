@@ -28,7 +28,7 @@ use Rattle.cert_checker.specs.Walk.{program_walk, here, inside, loop_walk, parte
 use Rattle.cert_checker.specs.View.{at_state, claims_in, context_of, else_walk, AtHead, EntersLoop, IsBehind, IsMoved, LeavesLoop, loop_in, Meets}
 use Rattle.cert_checker.specs.View.{Parts, Walks, viewed_in}
 use Rattle.cert_checker.specs.View.{AreLoops, Goes, IsLoop}
-use Rattle.structured_states.specs.Loops.{Claims, Round, claims_at, gives_claims, head_of, round_of, with_own, without_own}
+use Rattle.structured_states.specs.Loops.{Claims, Round, claims_at, gives_claims, head_of, round_of, with_own}
 use Rattle.typed_tree.specs.declared.tree.Tree.{Tree}
 use denote.Ref.{Bor}
 use Rattle.certificate.specs.declared.LoopClaims.{LoopClaims}
@@ -395,7 +395,7 @@ pub loop-not_entered : (number : ℕ) (place : SourcePlace) (control : Option �
 loop-not_entered number place control walking old new before after fault is = λ ready.
     let facts = (claims_in number old).facts in
     let loop = loop_in number old in
-    let rest = enter_head (with_own control loop) facts >>= λ _. (inside (without_own control loop) walking >>= λ behind.
+    let rest = enter_head (with_own control loop) facts >>= λ _. (inside (loop) walking >>= λ behind.
     (facts_given LoopTurn place facts >>= λ _. with_state behind)) in
     breach-first (context_of old) (facts_given LoopEntry place facts) (λ _. rest) (state_of old.flow) fault (is ready)
 
@@ -411,7 +411,7 @@ module _ (number : ℕ) (place : SourcePlace) (control : Option ℕ) (walking : 
     own = with_own control (loop_in number old)
 
     abbrev inner_context : Context
-    inner_context = record (context_of old) { rounds = (context_of old).rounds ++ without_own control (loop_in number old) ∷ [] }
+    inner_context = record (context_of old) { rounds = (context_of old).rounds ++ loop_in number old ∷ [] }
 
     abbrev turn : Walked State
     turn = walking inner_context (head_of tree_of (context_of old).limits own claims.facts (state_of old.flow))
@@ -511,7 +511,7 @@ module _ (number : ℕ) (place : SourcePlace) (control : Option ℕ) (walking : 
         let one = does (inner-ready head ready) in
         let within : context_of rounded ≡ inner_context head = context-within head rounded before after behind one in
         loop-behind head rounded before after behind one new
-        (left (rounded-ready head rounded before after behind one ready) (context_of old).rounds (without_own control (loop_in number old))
+        (left (rounded-ready head rounded before after behind one ready) (context_of old).rounds (loop_in number old)
         (ap (λ (context : Context). context.rounds) within))
     loop-done rounded before after behind does (Err fault) new left = λ ready.
         let head = entered ready in

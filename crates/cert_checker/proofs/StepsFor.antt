@@ -24,7 +24,7 @@ use Rattle.abstract_state.specs.declared.known.Known.TheVariants.{Ordinal}
 use Rattle.structured_states.specs.declared.ways.Way.{Way as KeptWay}
 use Rattle.structured_states.specs.Ways.{End, Way, end_of, entered, form_before, met, next, turn_begun, turn_ended, way_of, way_out, where_counts, with_values}
 use Rattle.expression_checker.specs.Walk.{changed_by}
-use Rattle.cert_checker.specs.Walk.{assign, begin_way, control_change, for_round, for_turns, for_walk, loop_walk, parted, rounds_of, statement_walk, steady_in}
+use Rattle.cert_checker.specs.Walk.{assign, begin_way, bounds_fit, for_round, for_turns, for_walk, loop_walk, parted, rounds_of, statement_walk, steady_in}
 use Rattle.cert_checker.specs.Walk.{tested_end, tested_way}
 use Rattle.cert_checker.specs.View.{AreLoops, Goes, IsMoved, Moves, Parts, Went, context_of, said_tested, viewed_in}
 use Rattle.cert_checker.proofs.Steps.{Does, Stops, branches-stopped, goes-as, goes-here, goes-stopped, goes-then, moved-loops, moved-same, viewed-same}
@@ -188,7 +188,7 @@ module _ (place : SourcePlace) (way : Way) (old : Walk) where
   -- what comes behind the test of the first bound, and behind that of the last
   abbrev from_last : Interval → Interval → Walking Way
   from_last first last =
-      control_change place way.control way.first.fits.range way.last.fits.range >>= λ _. give (with_values first last way)
+      bounds_fit place way.control way.first.fits.range way.last.fits.range >>= λ _. give (with_values first last way)
 
   abbrev from_first : Interval → Walking Way
   from_first first = tested_end start way.last >>= from_last first
@@ -237,19 +237,19 @@ module _ (place : SourcePlace) (way : Way) (old : Walk) where
           (subst (λ r. Does (last_test r) one visits two visits last) last_is passed_too) then)
 
       pub control-stopped : (new : Walk) (fault : CheckFault)
-          → Stops (control_change place way.control way.first.fits.range way.last.fits.range) two fault
+          → Stops (bounds_fit place way.control way.first.fits.range way.last.fits.range) two fault
           → Goes {A = Way} (tested_way place way) old visits (Err fault) new visits
       control-stopped new fault stopped =
           last-goes new (Err fault)
-          (goes-stopped (control_change place way.control way.first.fits.range way.last.fits.range) (λ _. give (with_values first last way)) two new visits
+          (goes-stopped (bounds_fit place way.control way.first.fits.range way.last.fits.range) (λ _. give (with_values first last way)) two new visits
           visits fault stopped)
 
       pub tests-done : (new : Walk) (tested : Way) → tested ≡ with_values first last way
-          → Does (control_change place way.control way.first.fits.range way.last.fits.range) two visits new visits tt
+          → Does (bounds_fit place way.control way.first.fits.range way.last.fits.range) two visits new visits tt
           → Does (tested_way place way) old visits new visits tested
       tests-done new tested is done =
           last-goes new (Ok tested)
-          (goes-then (control_change place way.control way.first.fits.range way.last.fits.range) (λ _. give (with_values first last way)) two new new visits
+          (goes-then (bounds_fit place way.control way.first.fits.range way.last.fits.range) (λ _. give (with_values first last way)) two new new visits
           visits visits tt (Ok tested) done
           (subst (λ t. Does (give (with_values first last way)) new visits new visits t) (sym is)
           (λ ready. walks-give (with_values first last way) new visits)))

@@ -26,7 +26,8 @@ use Rattle.leaf_rows.specs.Rows.{is_structured, rows_accessed, rows_of, values_a
 use Rattle.component_states.specs.Components.{Reach, all_stored}
 use Rattle.component_states.specs.Holds.{Knows}
 use Rattle.component_states.specs.States.{State}
-use Rattle.structured_states.specs.Loops.{Round, all_control, all_list}
+use Rattle.structured_states.proofs.Touched.{all_control}
+use Rattle.structured_states.specs.Loops.{Round, all_list}
 use Rattle.structured_states.specs.Pairs.{aliases_of, Listed, aliases_in}
 use Rattle.call_states.specs.Actuals.{lies_among}
 use Rattle.call_states.specs.Aliases.{reach_unless_alias, unless_alias, variable_values, with_aliases_stored}

@@ -22,7 +22,7 @@ use Rattle.cert_checker.specs.declared.walk.Walk.{Walk}
 use Rattle.structured_states.specs.declared.rounds.Round.{Round as KeptRound}
 use Rattle.structured_states.specs.declared.ways.Way.{Way as KeptWay}
 use Rattle.structured_states.specs.Loops.{Claims, Round, claims_at, gives_claims, head_of, round_of}
-use Rattle.structured_states.specs.Loops.{with_own, without_own}
+use Rattle.structured_states.specs.Loops.{with_own}
 use Rattle.structured_states.specs.Ways.{Way}
 use Rattle.place.specs.declared.Place.{Place}
 use Rattle.component_states.specs.States.{State, dead, joined_states}
@@ -135,7 +135,7 @@ pub record AtHead (number : ℕ) (control : Option ℕ) (old new : Walk) : Type 
       gives_claims (context_of old).tree (state_of old.flow) (claims_in number old).facts ≡ true
   pub context_is : context_of new
       ≡ record (context_of old) {
-        rounds = (context_of old).rounds ++ without_own control (loop_in number old) ∷ [];
+        rounds = (context_of old).rounds ++ loop_in number old ∷ [];
       }
   pub aliases_are : new.aliases.now ≡ old.aliases.now
   pub state_is : state_of new.flow

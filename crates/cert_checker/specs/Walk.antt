@@ -41,8 +41,8 @@ use Rattle.leaf_rows.specs.Rows.{rows_accessed, rows_of, values_at}
 use Rattle.component_states.specs.Components.{At, Inside, Reach, all_stored}
 use Rattle.component_states.specs.States.{State, dead, joined_states, over_bound, over_change, over_variables}
 use Rattle.structured_states.specs.Cases.{arm_start, constants_before}
-use Rattle.structured_states.specs.Loops.{Round, all_claims, all_control, claims_at, gives_claims}
-use Rattle.structured_states.specs.Loops.{head_of, round_of, touched, with_own, without_own}
+use Rattle.structured_states.specs.Loops.{Round, all_claims, claims_at, gives_claims}
+use Rattle.structured_states.specs.Loops.{head_of, round_of, touched, with_own}
 use Rattle.structured_states.specs.Ways.{End, Way, entered, met, next, steady, turn_begun, turn_ended, way_of, way_out}
 use Rattle.structured_states.specs.Ways.{where_counts, with_values}
 use Rattle.structured_states.specs.Pairs.{aliases_in}
@@ -288,23 +288,18 @@ loop_by place at_head round_body facts walking = do
 abbrev pub loop_walk : ℕ → Place → Option ℕ → Walking State → Walking (Unit {0})
 loop_walk number place control walking context =
     let loop = round_of context.tree context.pairs context.claims number in
-    loop_by place (with_own control loop) (without_own control loop) (claims_at context.claims number).facts walking
-    context
+    loop_by place (with_own control loop) loop (claims_at context.claims number).facts walking context
 
 -- ---- for statements
 
--- a variable may control a for statement whose bounds are tested for two ranges: these are those of its type, in each
--- loop round it is a for statement that this variable controls, and it has no aliases here
-abbrev pub may_control : Context → ℕ → (first last : OrdinalRange) → Bool
-may_control context root first last =
+-- the bounds of a for statement at a place are tested for values of its control variable's type
+abbrev pub fit_control : Context → ℕ → (first last : OrdinalRange) → Bool
+fit_control context root first last =
     let limits = limits_at context.limits root in
-    all_control root context.rounds
-    && (nat_eq (length (aliases_here context root)) 0
-    && (is_included (limits_of first) limits && is_included (limits_of last) limits))
+    is_included (limits_of first) limits && is_included (limits_of last) limits
 
--- a for statement at a place changes its control variable
-abbrev pub control_change : Place → ℕ → (first last : OrdinalRange) → Walking (Unit {0})
-control_change place root first last context = asked (may_control context root first last) Changes place context
+abbrev pub bounds_fit : Place → ℕ → (first last : OrdinalRange) → Walking (Unit {0})
+bounds_fit place root first last context = asked (fit_control context root first last) Changes place context
 
 -- the test of a bound: where its value lies that passes
 abbrev pub tested_end : State → End → Walking Interval
@@ -316,7 +311,7 @@ tested_way place way = do
   start ← here
   first ← tested_end start way.first
   last ← tested_end start way.last
-  _ ← control_change place way.control way.first.fits.range way.last.fits.range
+  _ ← bounds_fit place way.control way.first.fits.range way.last.fits.range
   give (with_values first last way)
 
 -- a round of a for: a turn, and then the control variable is the last bound, or has its next value

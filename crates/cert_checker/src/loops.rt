@@ -1,11 +1,8 @@
-ghost use Rattle.std.specs.Prelude.{◌≡◌, ◌&&◌, IfOk, None, length, nat_eq, true, false};
-ghost use Rattle.domain.specs.Interval.{is_included};
+ghost use Rattle.std.specs.Prelude.{◌≡◌, None, true, false};
 ghost use Rattle.abstract_state.specs.Loops.{with_undefined};
 ghost use Rattle.abstract_state.specs.State.{limits_of};
 ghost use Rattle.abstract_state.specs.View.{said_form};
 ghost use Rattle.component_states.specs.States.{joined_states, over_bound, over_change, over_variables};
-ghost use Rattle.leaf_rows.specs.Limits.{limits_at};
-ghost use Rattle.structured_states.specs.Loops.{all_control};
 ghost use Rattle.component_states.specs.View.{viewed};
 ghost use Rattle.structured_states.specs.View.{said_way};
 ghost use Rattle.structured_states.specs.Ways.{entered, next, turn_begun, turn_ended, way_out, where_counts};
@@ -14,8 +11,7 @@ ghost use Rattle.expression_checker.specs.Walk.{within};
 ghost use Rattle.cert_checker.specs.View.{AreLoops, EntersLoop, Goes, IsLoop, IsMoved, LeavesLoop, Moves, Parts};
 ghost use Rattle.cert_checker.specs.View.{context_of, said_tested, viewed_in};
 ghost use Rattle.expression_checker.specs.View.{state_of};
-ghost use Rattle.cert_checker.specs.Walk.{aliases_here, begin_way, control_change, may_control, steady_in};
-ghost use Rattle.cert_checker.specs.Walk.{tested_way};
+ghost use Rattle.cert_checker.specs.Walk.{begin_way, bounds_fit, fit_control, steady_in, tested_way};
 
 use crate::walk::Walk;
 use abstract_state::limits;
@@ -26,8 +22,7 @@ use expression_checker::fault::{CheckFault, Rule};
 use expression_checker::flow::asked;
 use leaf_rows::limits_at;
 use place::Place;
-use std::alloc::AllocError;
-use structured_states::rounds::{Round, all_control};
+use structured_states::rounds::Round;
 use structured_states::ways::Way;
 use typed_tree::tree::RangeTest;
 
@@ -118,7 +113,7 @@ impl<'a> Walk<'a> {
         let last = way.last.met(rows, &self.flow.state.variables);
         let first = self.tested_end(way.first.fits, first)?;
         let last = self.tested_end(way.last.fits, last)?;
-        self.control_change(place, &way)?;
+        self.bounds_fit(place, &way)?;
         Ok(way.with_values(first, last))
     }
 
@@ -130,46 +125,18 @@ impl<'a> Walk<'a> {
         self.flow.within(limits(fits.range), fits.site, range)
     }
 
-    /// In each loop round the walk is a for statement that the variable controls, its values are of its type, and none
-    /// of its aliases is visible.
-    fn control_change(&self, place: Place, way: &Way) -> Result<(), CheckFault>
-        ensures { (visits : Visits) → Goes (control_change place way.now.control way.now.first.fits.range
+    /// Both bounds are tested for values of the control variable's type.
+    fn bounds_fit(&self, place: Place, way: &Way) -> Result<(), CheckFault>
+        ensures { (visits : Visits) → Goes (bounds_fit place way.now.control way.now.first.fits.range
             way.now.last.fits.range) self.now visits result self.now visits }
     {
-        asked(self.may_control(way)?, Rule::Changes, place)
-    }
-
-    /// Whether it is so.
-    fn may_control(&self, way: &Way) -> Result<bool, AllocError>
-        ensures { IfOk result (λ may. may ≡ may_control (context_of self.now) way.now.control
-            way.now.first.fits.range way.now.last.fits.range) }
-    {
-        let alone = self.is_alone(way.control)?;
-        Ok(self.is_in_control(way.control) && alone && self.fits(way))
-    }
-
-    /// Whether in each loop round the walk is a for statement that a variable controls.
-    fn is_in_control(&self, root: u32) -> bool
-        ensures { result ≡ all_control root (context_of self.now).rounds }
-    {
-        all_control(&self.flow.grounds.rounds, root)
-    }
-
-    /// Whether none of a variable's aliases is visible in the block.
-    fn is_alone(&self, root: u32) -> Result<bool, AllocError>
-        ensures { IfOk result (λ alone. alone ≡ nat_eq (length (aliases_here (context_of self.now) root)) 0) }
-    {
-        let block = self.flow.grounds.block;
-        let aliases = self.flow.grounds.pairs.aliases_in(self.alloc, block, root)?;
-        Ok(aliases.is_empty())
+        asked(self.fits(way), Rule::Changes, place)
     }
 
     /// Whether both bounds are tested for the control variable's type.
     fn fits(&self, way: &Way) -> bool
-        ensures { result ≡ (is_included (limits_of way.now.first.fits.range)
-            (limits_at (context_of self.now).limits way.now.control)
-            && is_included (limits_of way.now.last.fits.range)
-            (limits_at (context_of self.now).limits way.now.control)) }
+        ensures { result ≡ fit_control (context_of self.now) way.now.control way.now.first.fits.range
+            way.now.last.fits.range }
     {
         let own = limits_at(self.flow.grounds.rows.limits(), way.control);
         limits(way.first.fits.range).leq(&own) && limits(way.last.fits.range).leq(&own)

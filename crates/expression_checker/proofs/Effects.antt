@@ -26,7 +26,7 @@ use Rattle.typed_tree.specs.declared.tree.Expr.TheViews.{roll-Expr, roll-Passed,
 use Rattle.typed_tree.specs.WellFormed.{length_of}
 use Rattle.meaning.specs.declared.store.Value.{Value}
 use Rattle.meaning.specs.declared.store.Value.TheVariants.{Number}
-use Rattle.meaning.specs.Store.{Place, part}
+use Rattle.meaning.specs.Store.{Environment, Place, part}
 use Rattle.meaning.specs.Effect.{Action, give, is_in, is_positive, number_of, require, row_text, text_of, write}
 use Rattle.meaning.specs.Effect as effect
 use Rattle.meaning.specs.Meaning.{Argument, Calls, Combination, Evaluation, Passing, Surroundings, accessed, all_passed, call_of, compared}
@@ -45,6 +45,37 @@ use Rattle.expression_checker.proofs.EffectsKept.{CanGive, IsUnder, Keeps, Stand
 use Rattle.expression_checker.proofs.EffectsKept.{keeps-combined, keeps-enter, keeps-fetch, keeps-fetch_all, keeps-give, keeps-operated, keeps-require}
 use Rattle.expression_checker.proofs.EffectsKept.{keeps-then, keeps-when, keeps-write}
 use Rattle.expression_checker.proofs.EffectsCalls.{AllTied, CallsLeave, DeclareTheirs, Grounds, StandsIn, Ties, Yields, keeps-call, yields-then}
+
+-- ---- where an access leads
+
+module _ (visible : Environment) (calls : Calls) where
+  abbrev around : Surroundings
+  around = record { visible = visible; calls = calls }
+
+  under-selected : (root : ℕ) (selectors : List Selector) (indexes : List Evaluation) (found result : Option Place) → IsUnder visible root found
+      → CanGive (selected selectors indexes around found) result → IsUnder visible root result
+  under-selected root [] indexes found result under given =
+      subst (λ (place : Option Place). IsUnder visible root place) (given-same found result given) under
+  under-selected root (Field position offset ∷ selectors) indexes found result under given =
+      under-selected root selectors indexes (part found (step.Field position ∷ [])) result
+      (part-under visible root found (step.Field position ∷ []) under) given
+  under-selected root (Element fits cells ∷ selectors) [] found result under given =
+      subst (λ (place : Option Place). IsUnder visible root place) (given-same None result given) (λ place is. absurd (cc))
+  under-selected root (Element fits cells ∷ selectors) (index ∷ indexes) found result under given =
+      let at_index = λ (v : Value). part found (step.Element (number_of v) ∷ []) in
+      let one = can-then (index around)
+      (λ v. effect.◌>>=◌ (require (is_in fits.range v) fits.site) (λ _. selected selectors indexes around (at_index v))) result given in
+      let two = can-then (require (is_in fits.range one.0) fits.site) (λ _. selected selectors indexes around (at_index one.0)) result one.2 in
+      under-selected root selectors indexes (at_index one.0) result
+      (part-under visible root found (step.Element (number_of one.0) ∷ []) under) two.2
+
+  -- what is accessed lies under the variable
+  pub under-accessed : (access : Access) (indexes : List Evaluation) (result : Option Place) → CanGive (accessed access indexes around) result
+      → IsUnder visible access.root result
+  under-accessed access indexes result given =
+      let found = visible.variables access.root in
+      let one = can-then (effect.enter access.number visible) (λ _. selected access.selectors.items indexes around found) result given in
+      under-selected access.root access.selectors.items indexes found result (variable-under visible access.root) one.2
 
 module _ (tree : Tree) (blocks : List BlockClaims) (declares : DeclareTheirs tree) (block : ℕ) (at : Standing)
     (grounds : Grounds tree blocks block at) (calls : Calls) (leave : CallsLeave tree blocks calls) where
@@ -109,23 +140,6 @@ module _ (tree : Tree) (blocks : List BlockClaims) (declares : DeclareTheirs tre
       (λ v. keeps-then at _ _ (keeps-require at (is_in fits.range v) fits.site)
       (λ _. keeps-selected selectors behind indexes (part found (step.Element (number_of v) ∷ [])) context (deeper two.0) result stands two.2))
 
-  under-selected : (root : ℕ) (selectors : List Selector) (indexes : List Evaluation) (found result : Option Place) → IsUnder at.visible root found
-      → CanGive (selected selectors indexes here found) result → IsUnder at.visible root result
-  under-selected root [] indexes found result under given =
-      subst (λ (place : Option Place). IsUnder at.visible root place) (given-same found result given) under
-  under-selected root (Field position offset ∷ selectors) indexes found result under given =
-      under-selected root selectors indexes (part found (step.Field position ∷ [])) result
-      (part-under at.visible root found (step.Field position ∷ []) under) given
-  under-selected root (Element fits cells ∷ selectors) [] found result under given =
-      subst (λ (place : Option Place). IsUnder at.visible root place) (given-same None result given) (λ place is. absurd (cc))
-  under-selected root (Element fits cells ∷ selectors) (index ∷ indexes) found result under given =
-      let at_index = λ (v : Value). part found (step.Element (number_of v) ∷ []) in
-      let one = can-then (index here)
-      (λ v. effect.◌>>=◌ (require (is_in fits.range v) fits.site) (λ _. selected selectors indexes here (at_index v))) result given in
-      let two = can-then (require (is_in fits.range one.0) fits.site) (λ _. selected selectors indexes here (at_index one.0)) result one.2 in
-      under-selected root selectors indexes (at_index one.0) result
-      (part-under at.visible root found (step.Element (number_of one.0) ∷ []) under) two.2
-
   keeps-accessed : (access : Access) (indexes : List KeptExpr) (context : Context) (reach : Reach) → In context
       → Yields context (walk.access_walk access (pieces indexes)) reach → Keeps at (accessed access (values indexes) here)
   keeps-accessed access indexes context reach stands yields =
@@ -133,14 +147,6 @@ module _ (tree : Tree) (blocks : List BlockClaims) (declares : DeclareTheirs tre
       let one = yields-then context (walk.enter access.number) (λ _. walk.indexes_walk selectors (pieces indexes) Entire) reach yields in
       keeps-then at _ _ (keeps-enter at access.number at.visible)
       (λ _. keeps-selected selectors selectors indexes (at.visible.variables access.root) context Entire reach stands one.2)
-
-  -- what is accessed lies under the variable
-  pub under-accessed : (access : Access) (indexes : List Evaluation) (result : Option Place) → CanGive (accessed access indexes here) result
-      → IsUnder at.visible access.root result
-  under-accessed access indexes result given =
-      let found = at.visible.variables access.root in
-      let one = can-then (effect.enter access.number at.visible) (λ _. selected access.selectors.items indexes here found) result given in
-      under-selected access.root access.selectors.items indexes found result (variable-under at.visible access.root) one.2
 
   keeps-components : (value : Whole) (indexes : List KeptExpr) (context : Context) (ranges : List Interval) → In context
       → Yields context (walk.whole_walk value (pieces indexes)) ranges → Keeps at (whole_of value (values indexes) here)
@@ -313,7 +319,7 @@ module _ (tree : Tree) (blocks : List BlockClaims) (declares : DeclareTheirs tre
         tied = λ argument given.
             let run = can-then (accessed access (values indexes.items) here) (λ found. give (OfPlace found)) argument given in
             tie-given (known one.0) actual (OfPlace run.0) argument one.2.value_is (given-same (OfPlace run.0) argument run.2)
-            (under-accessed access (values indexes.items) run.0 run.1);
+            (under-accessed at.visible calls access (values indexes.items) run.0 run.1);
       }
 
   link-layer : (y : Link-F KeptExpr KeptPassed KeptLink) (context : Context) (left known : Known) (v : Value) → In context

@@ -33,7 +33,7 @@ use Rattle.expression_checker.specs.declared.fault.Rule.{Rule}
 use Rattle.expression_checker.specs.declared.fault.Rule.TheVariants.{Changes}
 use Rattle.expression_checker.specs.Walk.{Breach, Context, Walking, ◌>>=◌, asked, block_lists, breach_unless, called, call_aliases, call_behind}
 use Rattle.expression_checker.specs.Walk.{call_change, call_entry, call_with, called_block, may_change, parameters_of}
-use Rattle.expression_checker.proofs.EffectsKept.{Keeps, Leaving, MayChange, MayWrite, Standing, leaves-itself, lies-itself, listed-under, under-write}
+use Rattle.expression_checker.proofs.EffectsKept.{Keeps, Leaving, MayChange, MayWrite, Standing, leaves-itself, lies-itself, listing, under-write}
 
 -- ---- walks that break no rule
 
@@ -77,11 +77,11 @@ pub record StandsIn (tree : Tree) (blocks : List BlockClaims) (block : ℕ) (con
   pub blocks_are : context.blocks ≡ blocks
   pub block_is : context.block ≡ block
 
--- an activation of a block: what is claimed to be changed is listed, and what the block declares lies in the activation or is listed, unless it is a
+-- an activation of a block: what is claimed to be changed may be, and what the block declares lies in the activation or may be changed, unless it is a
 -- parameter
 pub record Grounds (tree : Tree) (blocks : List BlockClaims) (block : ℕ) (at : Standing) : Type 0 where
   pub few : at.settled ≤ at.number
-  pub lists : (root : ℕ) → Contains (block_claims_at blocks block).changes root → Contains at.changes root
+  pub lists : (root : ℕ) (home : Place) → Contains (block_claims_at blocks block).changes root → at.visible.variables root ≡ Some home → at.may home
   pub own : (root : ℕ) (variable : DeclaredVariable) (home : Place) → slice_get tree.variables.items root ≡ Some variable
       → is_own block variable ≡ true → at.visible.variables root ≡ Some home → (at.settled ≤ home.activation) × MayWrite at home
 
@@ -101,15 +101,15 @@ owned block None is = absurd (cc)
 owned block (Some variable) is = (variable, refl, is)
 
 module _ (tree : Tree) (blocks : List BlockClaims) (block : ℕ) (at : Standing) (grounds : Grounds tree blocks block at) where
-  listed-here : (context : Context) → StandsIn tree blocks block context → (root : ℕ) → block_lists context root ≡ true
-      → Contains at.changes root
-  listed-here context stands root is =
+  listed-here : (context : Context) → StandsIn tree blocks block context → (root : ℕ) (home : Place) → block_lists context root ≡ true
+      → at.visible.variables root ≡ Some home → at.may home
+  listed-here context stands root home is seen =
       let changes_are : (block_claims_at context.blocks context.block).changes ≡ (block_claims_at blocks block).changes =
       ap (λ (claims : List BlockClaims). (block_claims_at claims context.block).changes) stands.blocks_are
       ∙ ap (λ (number : ℕ). (block_claims_at blocks number).changes) stands.block_is in
-      grounds.lists root
+      grounds.lists root home
       (subst (λ (changes : List ℕ). Contains changes root) changes_are
-      (among-contains root (block_claims_at context.blocks context.block).changes is))
+      (among-contains root (block_claims_at context.blocks context.block).changes is)) seen
 
   own-here : (context : Context) → StandsIn tree blocks block context → (root : ℕ) (home : Place)
       → of_one (is_own context.block) (slice_get context.tree.variables.items root) ≡ true → at.visible.variables root ≡ Some home
@@ -127,8 +127,7 @@ module _ (tree : Tree) (blocks : List BlockClaims) (block : ℕ) (at : Standing)
       let own = of_one (is_own context.block) (slice_get context.tree.variables.items root) in
       let parts = and_parts (all_list root context.rounds) (own || block_lists context root) may in
       ⊎_elim (λ (is : own ≡ true). own-here context stands root home is seen)
-      (λ (is : block_lists context root ≡ true) (earlier : home.activation < at.number).
-      (root, home, listed-here context stands root is, seen, lies-itself home))
+      (λ (is : block_lists context root ≡ true) (earlier : home.activation < at.number). listed-here context stands root home is seen)
       (or_cases own (block_lists context root) parts.1)
 
 -- ---- what is passed
@@ -302,12 +301,8 @@ activation_from number block arguments caller s =
 
 -- where it stands
 abbrev pub standing_from : Tree → List BlockClaims → ℕ → Block → List Argument → Environment → effect.State → Standing
-standing_from tree blocks number block arguments caller s = record {
-  number = s.activations;
-  settled = s.activations;
-  changes = (block_claims_at blocks number).changes;
-  visible = environment_of tree (activation_from number block arguments caller s);
-}
+standing_from tree blocks number block arguments caller s =
+    listing s.activations s.activations (block_claims_at blocks number).changes (environment_of tree (activation_from number block arguments caller s))
 
 -- calls leave what is not listed
 pub record CallsLeave (tree : Tree) (blocks : List BlockClaims) (calls : Calls) : Type 0 where
@@ -335,10 +330,10 @@ module _ (tree : Tree) (blocks : List BlockClaims) (declares : DeclareTheirs tre
     allowed-one : (root : ℕ) → list_all (may_change context) (root ∷ []) ≡ true → MayChange at root
     allowed-one root is = may-here tree blocks block at grounds context stands root (and_parts (may_change context root) true is).0
 
-    -- a place of what the callee lists is listed here, if it lies in an earlier activation
+    -- a place of what the callee lists may be changed here, if it lies in an earlier activation
     outer-listed : (root : ℕ) (home : Place) → Allowed root (actual_of bindings root)
         → IsOuter (activation_from number callee arguments at.visible s) root (slice_get tree.variables.items root) home
-        → home.activation < at.number → IsListed at.changes at.visible home
+        → home.activation < at.number → at.may home
     outer-listed root home allowed (inl passed) earlier =
         let (other, selectors, reach, actual_is, outer_home, seen, lies) =
         borne at.visible root home callee.heading.parameters.items actuals arguments tied passed in
@@ -353,11 +348,11 @@ module _ (tree : Tree) (blocks : List BlockClaims) (declares : DeclareTheirs tre
         under-write at root (Some home) may (λ place is. (home, seen, let same : home ≡ place = cc in subst (LiesUnder home) same (lies-itself home)))
         home refl earlier
 
-    inner-listed : (place : Place) → IsListed inner.changes inner.visible place → place.activation < at.number → IsListed at.changes at.visible place
+    inner-listed : (place : Place) → inner.may place → place.activation < at.number → at.may place
     inner-listed place (root, home, among, seen, lies) earlier =
         let home_earlier : home.activation < at.number = omega (arith, lies.0, earlier) in
         let allowed = all-changed (may_change context) bindings (block_claims_at blocks number).changes root all among in
-        listed-under at.changes at.visible home place
+        at.part_may home place
         (outer-listed root home allowed
         (outer (activation_from number callee arguments at.visible s) root (slice_get tree.variables.items root) home seen
         (omega (arith, home_earlier, begun))) home_earlier) lies

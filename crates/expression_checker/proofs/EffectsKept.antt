@@ -26,17 +26,18 @@ use Rattle.meaning.specs.Laws.{state_after}
 use Rattle.abstract_state.proofs.Apart.{place-same}
 use Rattle.call_states.specs.Environments.{IsListed, LiesUnder}
 
--- where a piece stands: what lies in activations of lower numbers is changed only where it is listed, and what lies in those below another number stays
--- defined; the changes that are listed, and what is visible
-pub record Standing : Type 0 where
+-- where a piece stands: what lies in activations of lower numbers is changed only where it may be, and what lies in those below another number stays
+-- defined; which places may be changed, a part with the whole; and what is visible
+pub record Standing : Type 1 where
   pub number : ℕ
   pub settled : ℕ
-  pub changes : List ℕ
+  pub may : Place → Type 0
+  pub part_may : (between place : Place) → may between → LiesUnder between place → may place
   pub visible : Environment
 
 -- what a piece leaves in earlier activations
 pub record LeavesSo (at : Standing) (before after : Store) : Type 0 where
-  pub values : (place : Place) → place.activation < at.number → IsListed at.changes at.visible place ⊎ (stored after place ≡ stored before place)
+  pub values : (place : Place) → place.activation < at.number → at.may place ⊎ (stored after place ≡ stored before place)
   pub defined : (place : Place) (v : Value) → place.activation < at.settled → stored before place ≡ Some v → (w : Value) × (stored after place ≡ Some w)
 
 -- what is left from one state to another, between which only activations begin
@@ -50,9 +51,9 @@ pub record Keeps {A : Type 0} (at : Standing) (action : Action A) : Type 0 where
 
 -- ---- places
 
--- a place may be changed: it lies in no earlier activation, or is listed
+-- a place may be written: it lies in no earlier activation, or may be changed
 abbrev pub MayWrite : Standing → Place → Type 0
-MayWrite at place = place.activation < at.number → IsListed at.changes at.visible place
+MayWrite at place = place.activation < at.number → at.may place
 
 -- a variable may be changed where it stands
 abbrev pub MayChange : Standing → ℕ → Type 0
@@ -110,11 +111,31 @@ pub listed-under : (changes : List ℕ) (visible : Environment) (between place :
 listed-under changes visible between place (root, home, among, is, under) lies =
     (root, home, among, is, lies-through home between place under lies)
 
+-- where a piece stands that may change what is listed
+abbrev pub listing : (number settled : ℕ) → List ℕ → Environment → Standing
+listing number settled changes visible = record {
+  number = number;
+  settled = settled;
+  may = IsListed changes visible;
+  part_may = listed-under changes visible;
+  visible = visible;
+}
+
+-- where a piece stands that may change all but what lies at a place
+abbrev pub watching : Place → Environment → Standing
+watching home visible = record {
+  number = suc home.activation;
+  settled = 0;
+  may = λ place. LiesUnder place home → ⊥;
+  part_may = λ between place may lies over. may (lies-through between place home lies over);
+  visible = visible;
+}
+
 -- what lies under a variable that may be changed may be written
 pub under-write : (at : Standing) (root : ℕ) (found : Option Place) → MayChange at root → IsUnder at.visible root found → MayWriteTo at found
 under-write at root found may under place is earlier =
     let (home, seen, lies) = under place is in
-    listed-under at.changes at.visible home place (may home seen (omega (arith, lies.0, earlier))) lies
+    at.part_may home place (may home seen (omega (arith, lies.0, earlier))) lies
 
 -- a variable's own place, and what is a part of it
 pub variable-under : (visible : Environment) (root : ℕ) → IsUnder visible root (visible.variables root)
@@ -136,7 +157,7 @@ part-write at None steps may place is earlier = absurd (cc)
 part-write at (Some p) steps may place is earlier =
     let same : record p { steps = p.steps ++ steps } ≡ place = cc in
     let lies : LiesUnder p place = subst (λ (q : Place). LiesUnder p q) same (part-lies p steps) in
-    listed-under at.changes at.visible p place (may p refl (omega (arith, lies.0, earlier))) lies
+    at.part_may p place (may p refl (omega (arith, lies.0, earlier))) lies
 
 -- ---- from one state to another
 
@@ -161,8 +182,8 @@ leaves-then at s t u one two = record {
   grows = omega (arith, one.grows, two.grows);
   leaves = record {
     values = λ place earlier.
-        ⊎_elim (λ listed. inl listed)
-        (λ later. ⊎_elim (λ listed. inl listed) (λ before. inr (later ∙ before)) (one.leaves.values place earlier))
+        ⊎_elim (λ may. inl may)
+        (λ later. ⊎_elim (λ may. inl may) (λ before. inr (later ∙ before)) (one.leaves.values place earlier))
         (two.leaves.values place earlier);
     defined = λ place v earlier is.
         let between = one.leaves.defined place v earlier is in
@@ -301,7 +322,7 @@ module _ (at : Standing) where
   -- ---- actions that write
 
   written-same : (place other : Place) (v : Value) (store : Store) (same : Bool) → place_eq place other ≡ same → MayWrite at place
-      → other.activation < at.number → IsListed at.changes at.visible other ⊎ ((if same then Some v else stored store other) ≡ stored store other)
+      → other.activation < at.number → at.may other ⊎ ((if same then Some v else stored store other) ≡ stored store other)
   written-same place other v store true is may earlier =
       let one = place-same place other is in
       inl (subst (λ (p : Place). MayWrite at p) one may earlier)
@@ -341,7 +362,7 @@ module _ (at : Standing) where
   own-write found own place is earlier = (own place is).1 earlier
 
   forgotten-same : (place other : Place) (store : Store) (same : Bool) → place_eq place other ≡ same → MayWrite at place
-      → other.activation < at.number → IsListed at.changes at.visible other ⊎ ((if same then None else stored store other) ≡ stored store other)
+      → other.activation < at.number → at.may other ⊎ ((if same then None else stored store other) ≡ stored store other)
   forgotten-same place other store true is may earlier =
       let one = place-same place other is in
       inl (subst (λ (p : Place). MayWrite at p) one may earlier)

@@ -13,7 +13,7 @@ use Rattle.component_states.specs.View.{viewed}
 use Rattle.leaf_rows.specs.Limits.{all_limits}
 use Rattle.expression_checker.specs.declared.fault.CheckFault.{CheckFault}
 use Rattle.structured_states.specs.Loops.{Claims}
-use Rattle.structured_states.specs.View.{kept_round}
+use Rattle.structured_states.specs.View.{loop_of_round}
 use Rattle.call_states.specs.declared.actuals.Actual.{Actual as KeptActual}
 use Rattle.call_states.specs.Actuals.{Actual}
 use Rattle.exit_states.specs.Exit.{result_range}
@@ -33,7 +33,7 @@ context_of grounds claims = record {
   blocks = map said_claims grounds.sections.items;
   pairs = grounds.pairs;
   block = grounds.block;
-  rounds = map kept_round grounds.rounds.items;
+  rounds = map loop_of_round grounds.rounds.items;
 }
 
 -- a block that the checker has found

@@ -7,7 +7,7 @@ use Rattle.typed_tree.specs.declared.tree.RangeTest.{RangeTest}
 use Rattle.typed_tree.specs.declared.tree.Expr.{Expr}
 use Rattle.typed_tree.specs.declared.tree.Stmt.{Stmt}
 use Rattle.typed_tree.specs.declared.tree.Stmt.TheVariants as stmt
-use Rattle.typed_tree.specs.Look.{Look, Fits, If, Then, Else, Do, For, Ends, look_expr, look_stmt}
+use Rattle.typed_tree.specs.Look.{Look, Fits, If, Then, Else, Controls, For, ForEnds, Ends, look_expr, look_stmt}
 use Rattle.typed_tree.proofs.Looks.{look_empty, look_if, look_if_else, look_for}
 use Rattle.typing.proofs.Written.{written_statements}
 use Rattle.resolver.specs.Made.{look_else}
@@ -30,17 +30,17 @@ pub look_counted : (number loop_number : ℕ) (place : Place) (control : ℕ) (f
     (last_fits : RangeTest) (body : Box Stmt Global)
     → look_stmt (stmt.For number loop_number place control first first_fits direction last last_fits body)
     ≡ (For number loop_number place control direction
-    ∷ ((look_expr first ++ (Fits first_fits ∷ [])) ++ ((look_expr last ++ (Fits last_fits ∷ [])) ++ (Do ∷ []))))
-    ++ (look_stmt body.value ++ (Ends ∷ []))
+    ∷ ((look_expr first ++ (Fits first_fits ∷ [])) ++ (look_expr last ++ (Fits last_fits ∷ []))))
+    ++ (Controls control ∷ (look_stmt body.value ++ (ForEnds ∷ [])))
 look_counted number loop_number place control first first_fits direction last last_fits body =
-    let inside = look_stmt body.value ++ (Ends ∷ []) in
+    let inside = Controls control ∷ (look_stmt body.value ++ (ForEnds ∷ [])) in
     let one = look_expr first ++ (Fits first_fits ∷ []) in
     let two = look_expr last ++ (Fits last_fits ∷ []) in
     look_for number loop_number place control first first_fits direction last last_fits body
     ∙ ap (λ look. For number loop_number place control direction ∷ look)
-    (sym (append_assoc (look_expr first) (Fits first_fits ∷ []) (look_expr last ++ (Fits last_fits ∷ Do ∷ inside)))
-    ∙ ap (λ look. one ++ look) (sym (append_assoc (look_expr last) (Fits last_fits ∷ []) (Do ∷ inside)) ∙ sym (append_assoc two (Do ∷ []) inside))
-    ∙ sym (append_assoc one (two ++ (Do ∷ [])) inside))
+    (sym (append_assoc (look_expr first) (Fits first_fits ∷ []) (look_expr last ++ (Fits last_fits ∷ inside)))
+    ∙ ap (λ look. one ++ look) (sym (append_assoc (look_expr last) (Fits last_fits ∷ []) inside))
+    ∙ sym (append_assoc one two inside))
 
 -- how statements are typed, and how those look that stand for no other
 pub ruleset made_statements = (written_statements, look_empty, look_choice)

@@ -19,7 +19,7 @@ use Rattle.typed_tree.specs.declared.tree.Written.{Written}
 use Rattle.typed_tree.specs.declared.tree.Whole.{Whole}
 use Rattle.types.specs.declared.form.TypeId.{TypeId}
 use Rattle.types.specs.Types.{is_ordinal}
-use Rattle.typed_tree.specs.Look.{Look, Mark, Fits, If, Then, Else, Do, For, Case, blocks_of_look, look_block}
+use Rattle.typed_tree.specs.Look.{Look, Mark, Fits, If, Then, Else, For, Case, blocks_of_look, look_block}
 use Rattle.typed_tree.specs.Look.{look_expr, look_stmt}
 use Rattle.typed_tree.specs.Look.{tree_look}
 use Rattle.typed_tree.specs.Look.{Copied, look_access, look_whole, look_written, look_parameter, look_width}
@@ -86,7 +86,7 @@ MakesCopied type_id =
 abbrev pub for_head_look : ForHead → Look
 for_head_look head =
     For head.number head.loop_number head.place head.control head.direction
-    ∷ (look_fitted head.first ++ (look_fitted head.last ++ (Do ∷ [])))
+    ∷ (look_fitted head.first ++ look_fitted head.last)
 
 -- a for as far as its `do`, by the root of its control variable
 abbrev pub MakesForHead : Checked (After ℕ) → Result ForHead TypeFault → Passed → Type 0

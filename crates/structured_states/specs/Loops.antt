@@ -1,7 +1,7 @@
 -- What a certificate claims of a loop, and what the checker goes by where a turn of it begins (ISO 7185:1990, 6.8.3.6).
 -- It does not say that a loop keeps to that.
-use Rattle.std.specs.Prelude.{ℕ, List, [], ◌∷◌, ◌++◌, Option, Some, None, Bool, false, not, ◌&&◌, if◌then◌else◌}
-use Rattle.std.specs.Prelude.{filter, flat_map, map, nat_eq, length, slice_get, slice_index_or}
+use Rattle.std.specs.Prelude.{ℕ, List, [], ◌∷◌, ◌++◌, Option, Some, None, Bool, false, ◌&&◌, if◌then◌else◌}
+use Rattle.std.specs.Prelude.{flat_map, map, nat_eq, length, slice_get, slice_index_or}
 use Rattle.std.specs.List.{filter_map, list_all, range_with_len}
 use Rattle.types.specs.Forms.{Form}
 use Rattle.types.specs.Types.{is_ordinal}
@@ -150,19 +150,6 @@ abbrev pub with_own : Option ℕ → Round → Round
 with_own None round = round
 with_own (Some control) round = record round { controls = control ∷ round.controls }
 
--- some variables but one
-abbrev pub all_but : ℕ → List ℕ → List ℕ
-all_but root roots = filter (λ other. not (nat_eq other root)) roots
-
--- a loop round its body: nothing in the body of a for statement changes the control variable
-abbrev pub without_own : Option ℕ → Round → Round
-without_own None round = round
-without_own (Some control) round = record {
-  changes = all_but control round.changes;
-  controls = all_but control round.controls;
-  aliases = all_but control round.aliases;
-}
-
 -- what a loop touches
 abbrev pub touched : Round → List ℕ
 touched round = round.controls ++ (round.changes ++ round.aliases)
@@ -180,7 +167,3 @@ head_of tree limits round facts state = record {
 -- each of these loops lists a variable
 abbrev pub all_list : ℕ → List Round → Bool
 all_list root rounds = list_all (λ round. is_among root round.changes) rounds
-
--- in each of them is a for statement that a variable controls
-abbrev pub all_control : ℕ → List Round → Bool
-all_control root rounds = list_all (λ round. is_among root round.controls) rounds

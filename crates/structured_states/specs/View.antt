@@ -22,7 +22,7 @@ use Rattle.structured_states.specs.declared.rounds.Round.{Round as KeptRound}
 use Rattle.structured_states.specs.declared.ways.End.{End as KeptEnd}
 use Rattle.structured_states.specs.declared.ways.Way.{Way as KeptWay}
 use Rattle.structured_states.specs.Loops.{Claims, Round, claims_of, or_else, round_of, rows_named}
-use Rattle.structured_states.specs.Loops.{with_own, without_own}
+use Rattle.structured_states.specs.Loops.{with_own}
 use Rattle.structured_states.specs.Pairs.{Listed, aliases_of, declared_aliases, declares, partner}
 use Rattle.structured_states.specs.Ways.{End, Way}
 
@@ -129,7 +129,7 @@ abbrev pub all_loop_aliases : Tree → Listed → List Claims → List (List ℕ
 all_loop_aliases tree listed claims =
     map (loop_aliases tree listed claims) (range_with_len 0 (length tree.loops.items))
 
--- a loop of the checker: the loop itself, at its head, and round its body
+-- a loop of the checker: round its body, and at its head
 abbrev pub loop_of_round : KeptRound → Round
 loop_of_round round = record {
   changes = (said_claims round.claims).changes;
@@ -140,13 +140,10 @@ loop_of_round round = record {
 abbrev pub head_round : KeptRound → Round
 head_round round = with_own round.own (loop_of_round round)
 
-abbrev pub kept_round : KeptRound → Round
-kept_round round = without_own round.own (loop_of_round round)
-
--- a variable is a loop's own control variable
-abbrev pub is_own : ℕ → Option ℕ → Bool
-is_own root None = false
-is_own root (Some control) = nat_eq control root
+-- the control variable of a for statement
+abbrev pub own_controls : Option ℕ → List ℕ
+own_controls None = []
+own_controls (Some control) = control ∷ []
 
 -- the way of a control variable, as the definitions see it
 abbrev pub said_end : KeptEnd → End

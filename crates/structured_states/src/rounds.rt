@@ -12,7 +12,7 @@ ghost use Rattle.component_states.specs.View.{said_component, viewed};
 ghost use Rattle.certificate.specs.Contents.{loop_of, said_fact};
 ghost use Rattle.structured_states.specs.Loops.{all_claims, claims_at, controls_inside, found_among};
 ghost use Rattle.structured_states.specs.Loops.{gives_claims, head_of, plain_facts, round_of, touched};
-ghost use Rattle.structured_states.specs.View.{AreFound, all_loop_aliases, head_round, is_own, kept_round};
+ghost use Rattle.structured_states.specs.View.{AreFound, all_loop_aliases, head_round, own_controls};
 ghost use Rattle.structured_states.specs.View.{loop_aliases, loop_of_round, said_claims};
 ghost use Rattle.structured_states.specs.Pairs.{Listed};
 
@@ -62,20 +62,11 @@ impl<'a> Round<'a> {
         }
     }
 
-    /// Whether its body changes a variable.
-    #[tactic(auto, using(crate::proofs::Touched::kept_changes))]
+    /// Whether its claims list a variable.
     fn lists(&self, root: u32) -> bool
-        ensures { result ≡ is_among root (kept_round self.now).changes }
+        ensures { result ≡ is_among root (loop_of_round self.now).changes }
     {
-        !self.is_own(root) && is_among(self.changes(), root)
-    }
-
-    /// Whether a variable controls a for statement in its body.
-    #[tactic(auto, using(crate::proofs::Touched::kept_controls))]
-    fn controls(&self, root: u32) -> bool
-        ensures { result ≡ is_among root (kept_round self.now).controls }
-    {
-        !self.is_own(root) && is_among(self.controls, root)
+        is_among(self.changes(), root)
     }
 
     /// Whether a turn gives a variable another value.
@@ -83,19 +74,19 @@ impl<'a> Round<'a> {
     pub fn touches(&self, root: u32) -> bool
         ensures { result ≡ is_among root (touched (head_round self.now)) }
     {
-        self.is_own(root)
+        self.is_control(root)
             || is_among(self.controls, root)
             || is_among(self.changes(), root)
             || is_among(self.aliases, root)
     }
 
     /// Whether a variable is its own control variable.
-    fn is_own(&self, root: u32) -> bool
-        ensures { result ≡ is_own root self.now.own }
+    fn is_control(&self, root: u32) -> bool
+        ensures { result ≡ is_among root (own_controls self.now.own) }
     {
         match self.own {
             None => false,
-            Some(control) => control == root,
+            Some(control) => is_among(&[control], root),
         }
     }
 
@@ -232,16 +223,9 @@ fn is_among(roots: &[u32], root: u32) -> bool
 
 /// Whether each of these loops lists a variable.
 pub fn all_list(rounds: &[Round], root: u32) -> bool
-    ensures { result ≡ list_all (λ round. is_among root (kept_round round).changes) rounds.now }
+    ensures { result ≡ list_all (λ round. is_among root (loop_of_round round).changes) rounds.now }
 {
     rounds.iter().all(|round| round.lists(root))
-}
-
-/// Whether in each of these loops is a for statement that a variable controls.
-pub fn all_control(rounds: &[Round], root: u32) -> bool
-    ensures { result ≡ list_all (λ round. is_among root (kept_round round).controls) rounds.now }
-{
-    rounds.iter().all(|round| round.controls(root))
 }
 
 /// The control variables of the for statements inside the loop of a number.

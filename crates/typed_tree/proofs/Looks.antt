@@ -31,7 +31,7 @@ use Rattle.typed_tree.specs.declared.tree.Stmt.TheOpen as stmt_layer
 use Rattle.typed_tree.specs.declared.tree.Stmt.TheFolds.{fold-roll-Stmt}
 use Rattle.typed_tree.specs.Look.{passed_look, look_call, look_passed, ForValue, ForWhole, ForVariable}
 use Rattle.typed_tree.specs.Look.{Look, link_look, expression_look, look_expr, look_link, look_parameter, statement_look, look_stmt, Constant, Value}
-use Rattle.typed_tree.specs.Look.{Operation, Applied, Begins, Operator, Ends, Empty, Assign, Target, Fits, Write, Compound, If, Then, Else, While, Do, Repeat}
+use Rattle.typed_tree.specs.Look.{Operation, Applied, Begins, Operator, Ends, Empty, Assign, Target, Fits, Write, Compound, If, Then, Else, While, Do, Repeat, Controls, ForEnds}
 use Rattle.typed_tree.specs.Look.{Until, For, Case, arms_look, look_whole, look_access, Compared, WholeTarget, Copied}
 use Rattle.typed_tree.specs.WellFormed.{length_of}
 pub use Rattle.typed_tree.proofs.Measured.{entries_are}
@@ -186,7 +186,7 @@ pub look_for : (number loop_number : ℕ) (place : Place) (control : ℕ) (first
     (last_fits : RangeTest) (body : Box Stmt Global)
     → look_stmt (stmt.For number loop_number place control first first_fits direction last last_fits body)
     ≡ For number loop_number place control direction
-    ∷ (look_expr first ++ (Fits first_fits ∷ (look_expr last ++ (Fits last_fits ∷ Do ∷ (look_stmt body.value ++ (Ends ∷ []))))))
+    ∷ (look_expr first ++ (Fits first_fits ∷ (look_expr last ++ (Fits last_fits ∷ Controls control ∷ (look_stmt body.value ++ (ForEnds ∷ []))))))
 look_for number loop_number place control first first_fits direction last last_fits body =
     ap look_stmt (sym (stmt.rolls-For number loop_number place control first first_fits direction last last_fits body))
     ∙ fold-roll-Stmt Look statement_look (stmt_layer.For number loop_number place control first first_fits direction last last_fits body)

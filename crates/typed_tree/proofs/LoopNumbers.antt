@@ -17,7 +17,7 @@ use Rattle.typed_tree.specs.Loops.{Inside, statement_inside, inside_of, loops_of
 use Rattle.typed_tree.proofs.Quiet.{quiet_expr, quiet_accessed, quiet_value, quiet_parameters, quiet_called}
 use Rattle.typed_tree.specs.Look.{Mark, Look, look_expr, look_parameter, arms_look, statement_look}
 use Rattle.typed_tree.specs.Look.{look_stmt, look_block, look_access, look_whole, Target, WholeTarget}
-use Rattle.typed_tree.specs.Look.{tree_look, mark_loops, loops_of_look, Ends, Then, Else, Do, Until, Fits as FitsMark, heading_look}
+use Rattle.typed_tree.specs.Look.{tree_look, mark_loops, loops_of_look, Ends, Then, Else, Do, Until, Controls, ForEnds, Fits as FitsMark, heading_look}
 use Rattle.typed_tree.specs.Look.{Copied}
 
 -- a form, and then one that is no loop
@@ -108,11 +108,11 @@ numbers_layer (Repeat number loop_number place statements condition) =
     ∙ ap₂ (λ a b. a ++ b) (numbers_joined statements.items) (ended (look_expr condition) Ends refl ∙ (quiet_expr condition).0)
     ∙ append-nil _)
 numbers_layer (For number loop_number place control first first_fits direction last last_fits body) =
-    let inside = look_stmt body.value.0 ++ (Ends ∷ []) in
+    let inside = look_stmt body.value.0 ++ (ForEnds ∷ []) in
     ap (λ more. loop_number ∷ more)
-    (behind (look_expr first) (FitsMark first_fits ∷ (look_expr last ++ (FitsMark last_fits ∷ Do ∷ inside))) ((quiet_expr first).0)
-    ∙ behind (look_expr last) (FitsMark last_fits ∷ Do ∷ inside) ((quiet_expr last).0)
-    ∙ ended (look_stmt body.value.0) Ends refl ∙ body.value.1)
+    (behind (look_expr first) (FitsMark first_fits ∷ (look_expr last ++ (FitsMark last_fits ∷ Controls control ∷ inside))) ((quiet_expr first).0)
+    ∙ behind (look_expr last) (FitsMark last_fits ∷ Controls control ∷ inside) ((quiet_expr last).0)
+    ∙ ended (look_stmt body.value.0) ForEnds refl ∙ body.value.1)
 numbers_layer (Case number site index constants arms) =
     let inside = arms_look constants.items (map look_stmt (map (λ s. s.0) arms.items)) in
     behind (look_expr index) (inside ++ (Ends ∷ [])) ((quiet_expr index).0) ∙ ended inside Ends refl ∙ numbers_arms constants.items arms.items

@@ -44,9 +44,9 @@ use Rattle.typed_tree.specs.WellFormed.{leads_to_ordinal, are_well_formed, is_we
 use Rattle.typed_tree.specs.WellFormed.{are_whole, stmt_is_well_formed, is_well_formed_stmt}
 use Rattle.typed_tree.specs.Look.{passed_look, call_look, look_passed, heading_look, Called, ForValue, ForWhole, ForVariable}
 use Rattle.typed_tree.specs.Look.{Mark, Look, link_look, expression_look, look_expr, look_link, look_width, look_parameter, arms_look, statement_look}
-use Rattle.typed_tree.specs.Look.{look_stmt, look_block, tree_look, mark_entries, entries_of_look, is_formed_mark, Ends, If as IfMark, Then, Else, Do, Until}
+use Rattle.typed_tree.specs.Look.{look_stmt, look_block, tree_look, mark_entries, entries_of_look, is_formed_mark, Ends, If as IfMark, Then, Else, Do, Until, Controls}
 use Rattle.typed_tree.specs.Look.{Fits as FitsMark, Written as WrittenMark, Width as WidthMark, Compared, WrittenString, look_whole, look_written}
-use Rattle.typed_tree.specs.Look.{Applied, Operator, Copied, access_look, whole_look, look_access, Value, WholeValue, Target, WholeTarget}
+use Rattle.typed_tree.specs.Look.{ForEnds, Applied, Operator, Copied, access_look, whole_look, look_access, Value, WholeValue, Target, WholeTarget}
 
 -- ---- a measure of looks that is a fold over trees
 
@@ -369,12 +369,12 @@ entries_stmt_layer (Repeat number loop_number place statements condition) =
     ∙ ap₂ (λ a b. a ++ b) (entries_joined look_stmt entries_of_statement statements.items)
     (entries_ended (look_expr condition) Ends refl ∙ entries_expr condition))
 entries_stmt_layer (For number loop_number place control first first_fits direction last last_fits body) =
-    let inside = look_stmt body.value.0 ++ (Ends ∷ []) in
+    let inside = look_stmt body.value.0 ++ (ForEnds ∷ []) in
     ap (λ entries. number ∷ entries)
-    (flat_map-append mark_entries (look_expr first) (FitsMark first_fits ∷ (look_expr last ++ (FitsMark last_fits ∷ Do ∷ inside)))
+    (flat_map-append mark_entries (look_expr first) (FitsMark first_fits ∷ (look_expr last ++ (FitsMark last_fits ∷ Controls control ∷ inside)))
     ∙ ap₂ (λ a b. a ++ b) (entries_expr first)
-    (flat_map-append mark_entries (look_expr last) (FitsMark last_fits ∷ Do ∷ inside)
-    ∙ ap₂ (λ a b. a ++ b) (entries_expr last) (entries_ended (look_stmt body.value.0) Ends refl ∙ body.value.1)))
+    (flat_map-append mark_entries (look_expr last) (FitsMark last_fits ∷ Controls control ∷ inside)
+    ∙ ap₂ (λ a b. a ++ b) (entries_expr last) (entries_ended (look_stmt body.value.0) ForEnds refl ∙ body.value.1)))
 entries_stmt_layer (Case number site index constants arms) =
     let inside = arms_look constants.items (map look_stmt (map (λ s. s.0) arms.items)) in
     ap (λ entries. number ∷ entries)
@@ -681,13 +681,13 @@ module _ (outline : Outline) (block_number : ℕ) where
       ∙ ap₂ (λ a b. a && b) (formed_joined look_stmt (is_well_formed_stmt outline block_number) statements.items)
       (formed_ended (look_expr condition) Ends refl ∙ formed_expr condition)
   formed_stmt_layer (For number loop_number place control first first_fits direction last last_fits body) =
-      let inside = look_stmt body.value.0 ++ (Ends ∷ []) in
+      let inside = look_stmt body.value.0 ++ (ForEnds ∷ []) in
       ap (λ b. is_control outline block_number control && b)
-      (formed_cut (look_expr first) (FitsMark first_fits ∷ (look_expr last ++ (FitsMark last_fits ∷ Do ∷ inside)))
+      (formed_cut (look_expr first) (FitsMark first_fits ∷ (look_expr last ++ (FitsMark last_fits ∷ Controls control ∷ inside)))
       ∙ ap₂ (λ a b. a && (is_well_formed_test outline block_number first_fits && b)) (formed_expr first)
-      (formed_cut (look_expr last) (FitsMark last_fits ∷ Do ∷ inside)
+      (formed_cut (look_expr last) (FitsMark last_fits ∷ Controls control ∷ inside)
       ∙ ap₂ (λ a b. a && (is_well_formed_test outline block_number last_fits && b)) (formed_expr last)
-      (formed_ended (look_stmt body.value.0) Ends refl ∙ body.value.1)))
+      (formed_ended (look_stmt body.value.0) ForEnds refl ∙ body.value.1)))
   formed_stmt_layer (Case number site index constants arms) =
       let inside = arms_look constants.items (map look_stmt (map (λ s. s.0) arms.items)) in
       ap (λ b. nat_lt site outline.sites && b)

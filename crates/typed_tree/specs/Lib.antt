@@ -3,6 +3,7 @@ pub mod Ids
 pub mod Entries
 pub mod Look
 pub mod Loops
+pub mod Threats
 pub mod Accesses
 pub mod WellFormed
 pub mod Calls

@@ -117,6 +117,9 @@ pub data Mark : Type 0 where
   Until : Mark
   -- a for: its number, the loop's number, the place of its word, the root of its control variable, and its way
   For : ℕ → ℕ → Place → ℕ → Direction → Mark
+  -- the statement of a for begins, whose control variable has this root; that statement ends
+  Controls : ℕ → Mark
+  ForEnds : Mark
   -- a case: its number, and its site; an arm begins, behind these constants
   Case : ℕ → ℕ → Mark
   Arm : List ℤ → Mark
@@ -245,7 +248,7 @@ statement_look (RepeatOf number loop_number place statements condition) =
 statement_look (ForOf number loop_number place control first first_fits direction last last_fits body) =
     For number loop_number place control direction
     ∷ (look_expr first
-    ++ (Fits first_fits ∷ (look_expr last ++ (Fits last_fits ∷ Do ∷ (body.value ++ (Ends ∷ []))))))
+    ++ (Fits first_fits ∷ (look_expr last ++ (Fits last_fits ∷ Controls control ∷ (body.value ++ (ForEnds ∷ []))))))
 statement_look (CaseOf number site index constants arms) =
     Case number site ∷ (look_expr index ++ (arms_look constants.items arms.items ++ (Ends ∷ [])))
 
@@ -302,6 +305,8 @@ mark_entries Do = []
 mark_entries (Repeat number loop_number place) = number ∷ []
 mark_entries Until = []
 mark_entries (For number loop_number place control direction) = number ∷ []
+mark_entries (Controls control) = []
+mark_entries ForEnds = []
 mark_entries (Case number site) = number ∷ []
 mark_entries (Arm constants) = []
 mark_entries (BlockEnds number around parameters result end) = []
@@ -367,6 +372,8 @@ is_formed_mark outline block (Repeat number loop_number place) = true
 is_formed_mark outline block Until = true
 is_formed_mark outline block (For number loop_number place control direction) =
     is_control outline block control
+is_formed_mark outline block (Controls control) = true
+is_formed_mark outline block ForEnds = true
 is_formed_mark outline block (Case number site) = nat_lt site outline.sites
 is_formed_mark outline block (Arm constants) = list_all is_whole constants
 is_formed_mark outline block (BlockEnds number around parameters result end) = true

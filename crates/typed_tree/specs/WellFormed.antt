@@ -52,6 +52,7 @@ use Rattle.typed_tree.specs.declared.tree.Stmt.TheOpen.Stmt-F.{Case, Copy, Call 
 use Rattle.typed_tree.specs.declared.tree.Stmt.TheFolds.{fold-Stmt}
 use Rattle.typed_tree.specs.Accesses.{accessed, are_values_of, index_count, is_type}
 use Rattle.typed_tree.specs.Loops.{AreLoopsOf}
+use Rattle.typed_tree.specs.Threats.{controls_but, spares}
 
 -- a program has no more variables
 abbrev pub most_variables : ℕ
@@ -488,3 +489,7 @@ pub record IsWellFormed (tree : Tree) : Type 0 where
   pub loops : AreLoopsOf tree.loops.items 0 tree.blocks.items
   -- the text has the statements of each block once
   pub bodies : IsPermutation (range_with_len 0 (length tree.blocks.items)) tree.bodies.items
+  -- a control variable is threatened neither in another block nor in the statement of its for (6.8.3.9)
+  pub unthreatened :
+      (number : ℕ) (block : Block) → slice_get tree.blocks.items number ≡ Some block
+      → spares block.body (controls_but number 0 tree.blocks.items) ≡ true

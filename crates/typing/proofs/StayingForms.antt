@@ -737,7 +737,6 @@ for_head_keeps place variable first direction last one two =
     keeps_then (enter_loop_keeps _) λ _.
     keeps_then (bound_keeps control.1 first one) λ _.
     keeps_then (bound_keeps control.1 last two) λ _.
-    keeps_then (mark_keeps Look.Do) λ _.
     pure_keeps control.0
 
 for_keeps : (place : Place) (variable : Name) (first : Written) (direction : SyntaxDirection) (last : Written) (body : Passing (Unit {0}))
@@ -746,9 +745,10 @@ unfolding Statements.for_body
 for_keeps place variable first direction last body one two three =
     keeps_then (for_head_keeps place variable first direction last one two) λ control.
     keeps_then (begin_control_keeps control) λ _.
+    keeps_then (mark_keeps (Look.Controls control)) λ _.
     keeps_then three λ _.
     keeps_then end_control_keeps λ _.
-    mark_keeps Look.Ends
+    mark_keeps Look.ForEnds
 
 case_constant_keeps : (type_id : TypeId) (before : List ℤ) (c : Constant) → Keeps (Statements.case_constant type_id before c)
 unfolding Statements.case_constant

@@ -47,7 +47,7 @@ use Rattle.typed_tree.specs.Accesses.{index_count}
 use Rattle.typed_tree.specs.WellFormed.{is_one_of}
 use Rattle.typed_tree.specs.Look.{Mark, Access, Assign, Target, WholeTarget, Copied, Fits, Write}
 use Rattle.typed_tree.specs.Look.{Written as WrittenMark, WrittenString, Width}
-use Rattle.typed_tree.specs.Look.{Empty, Compound, If, Then, Else, While, Do, Repeat, Until, For, Case, Arm, Ends}
+use Rattle.typed_tree.specs.Look.{Empty, Compound, If, Then, Else, While, Do, Repeat, Until, For, Controls, ForEnds, Case, Arm, Ends}
 use Rattle.typing.specs.Passing.{Checked, Passing, and_then, pure, fail, given, by_types, mark, each, ◌>>=◌, ◌>>◌}
 use Rattle.typing.specs.Passing.{◌>>?◌}
 use Rattle.typing.specs.Steps.{assign_result, fits, or_mismatch, pass, enter_as, enter_loop, site, find, heading_at}
@@ -310,16 +310,16 @@ for_head place variable first direction last = do
   enter_loop (λ n l. For n l place control.0 (way direction))
   bound control.1 first
   bound control.1 last
-  mark Do
   pure control.0
 
 -- the statement of a for changes the control variable nowhere
 unfoldable pub for_body : ℕ → Passing (Unit {0}) → Passing (Unit {0})
 for_body control body = do
   begin_control control
+  mark (Controls control)
   body
   end_control
-  mark Ends
+  mark ForEnds
 
 -- a for (6.8.3.9)
 abbrev pub for_loop : Place → Name → Written → SyntaxDirection → Written → Passing (Unit {0}) → Passing (Unit {0})

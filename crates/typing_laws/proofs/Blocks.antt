@@ -199,6 +199,8 @@ module _ (constants : List ConstantDefinition) (types : List TypeDefinition) (gr
           changed = f.changed;
           controlled = f.controlled;
           unthreatened = f.unthreatened;
+          controls_kept = f.controls_kept;
+          spared = f.spared;
         };
         standing = four.standing;
         came = none_waiting middle.enclosing.waiting came.1;
@@ -226,6 +228,8 @@ module _ (constants : List ConstantDefinition) (types : List TypeDefinition) (gr
           changes = grown.changes;
           controls = grown.controls;
           formed = grown.formed;
+          controls_kept = grown.controls_kept;
+          spared = grown.spared;
         };
         look = refl;
         covered = covers_both 0 declared_places (flat_map stmt_places statements) f.added grown.added f.covered grown.covered;

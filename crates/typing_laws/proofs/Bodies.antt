@@ -40,6 +40,8 @@ use Rattle.typing_laws.proofs.Steps.{Does, Anything, Nothing, Leaves, grown_sile
 use Rattle.typing_laws.proofs.Tables.{cells_in}
 use Rattle.typing_laws.proofs.Waiting.{count_append, count_of, one_if, is_place, told_of_it, told_of_others, waits_in}
 use Rattle.typing_laws.specs.Controls.{AreUnthreatened, Each, in_blocks, mark_changes, mark_controls}
+use Rattle.typing_laws.proofs.Spared.{none_held, spared_then}
+use Rattle.typing_laws.proofs.Reached.{apart_kept}
 use Rattle.typing_laws.proofs.Kept.{MayChange, changes_of, controls_of, each_append, each_more}
 use Rattle.typing_laws.proofs.Placed.{each_map, each_pair, each_square, placed_as_far, placed_inner}
 use Rattle.typing_laws.specs.Results.{is_target, mark_results}
@@ -60,6 +62,7 @@ pub record Told (here : Here) (under : List Region) (number : ℕ) (told : Bool)
   pub entries : new.entries ≡ old.entries
   pub loops : new.loops ≡ old.loops
   pub threatened : new.threatened ≡ old.threatened
+  pub controls_kept : new.controls ≡ old.controls
   pub assigned : new.assigned ≡ old.assigned
   pub types : IsLonger old.types new.types
   pub variables : IsLonger old.variables new.variables
@@ -126,6 +129,7 @@ new_told here under number place old now st b = record {
   entries = b.entries;
   loops = b.loops;
   threatened = b.threatened;
+  controls_kept = b.controls_kept;
   assigned = b.assigned;
   types = b.types;
   variables = b.variables;
@@ -185,6 +189,7 @@ resumed_told here under number s st waits = record {
   entries = refl;
   loops = refl;
   threatened = refl;
+  controls_kept = refl;
   assigned = refl;
   types = as_long;
   variables = as_long;
@@ -256,6 +261,8 @@ built_told here under number old new t = record {
   changed = tt;
   controlled = tt;
   unthreatened = tt;
+  controls_kept = t.controls_kept;
+  spared = refl;
 }
 
 -- what a routine builds, from where its heading begins
@@ -283,7 +290,7 @@ unfolding is_assigned
 is_assigned_does {here} place root = record {
   does = λ s a is fine h.
       let x = split_if (list_any (nat_eq root) s.assigned) (fault.NeverAssigned place) (after tt [] s) a is in
-      subst (Leaves here Nothing s Anything) x.1 (grown_silent here s s refl refl refl refl refl refl refl refl refl (λ root is. is) refl fine, tt);
+      subst (Leaves here Nothing s Anything) x.1 (grown_silent here s s refl refl refl refl refl refl refl refl refl (λ root is. is) refl refl fine, tt);
 }
 
 -- the site of a result stands at the end
@@ -436,6 +443,7 @@ module _ (here : Here) (under : List Region) (number : ℕ) (headed : Headed) (n
         variables = variables;
         headings = mapped_longer signature_passed headings;
         threats = λ root is. g.threats root (f.threats root is);
+        apart = λ root is. apart_kept middle last g.controls_kept root (apart_kept s middle f.controls_kept root is);
       } in
       record {
         ready = record {
@@ -986,6 +994,8 @@ routine_block_builds here under number name b places lawful old s a t is =
           unthreatened_at_end inside_here start i.middle p.end.passed f g mark_end
           (placed_inner mark_changes number headed.around headed.parameters c.result b.end look g.inner refl)
           (placed_inner mark_controls number headed.around headed.parameters c.result b.end look g.inner refl);
+      controls_kept = g.controls_kept ∙ f.controls_kept ∙ t.controls_kept;
+      spared = spared_then [] i.first ended f.spared (spared_then [] look (mark_end ∷ []) (g.spared [] (none_held i.middle.controls)) refl);
     } in
     let standing =
     left_standing here under number headed names s i.middle p.end.passed s.enclosing refl t.standing t.waits_it o.other f i.standing g in

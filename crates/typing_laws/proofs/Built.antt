@@ -24,7 +24,9 @@ use Rattle.typing_laws.proofs.Reached.{reached, whole_of, IsFurther, further_sti
 use Rattle.typing_laws.proofs.Ready.{heads_passed}
 use Rattle.typing_laws.proofs.Tables.{HaveTypes, cells_in}
 use Rattle.typing_laws.proofs.Waiting.{waits_in, one_if, count_of, count_append}
-use Rattle.typing_laws.specs.Controls.{AreUnthreatened, Each, in_blocks, mark_changes, mark_controls}
+use Rattle.typing_laws.specs.Controls.{AreUnthreatened, Each, in_blocks, mark_changes, mark_controls, spared_behind}
+use Rattle.typing_laws.proofs.Spared.{spared_then}
+use Rattle.typing_laws.proofs.Reached.{apart_kept}
 use Rattle.typing_laws.proofs.Kept.{each_append, each_more}
 use Rattle.typing_laws.proofs.Placed.{each_pair, each_square}
 use Rattle.typing_laws.specs.Results.{is_target, mark_results}
@@ -152,6 +154,8 @@ pub record Built (here : Here) (Has : List Stands → Type 0) (look : Look) (old
   pub changed : Each (IsChanged here look new) (in_blocks mark_changes look)
   pub controlled : Each (IsControlled look new) (in_blocks mark_controls look)
   pub unthreatened : AreUnthreatened look
+  pub controls_kept : new.controls ≡ old.controls
+  pub spared : spared_behind [] look ≡ Some []
 
 pub built_further : {here : Here} {Has : List Stands → Type 0} {look : Look} {old new : Passed} → Built here Has look old new
     → IsFurther (reached old) (reached new)
@@ -161,6 +165,7 @@ built_further {old = old} {new = new} b = record {
   variables = b.variables;
   headings = mapped_longer signature_passed b.headings;
   threats = b.threats;
+  apart = apart_kept old new b.controls_kept;
 }
 
 no_fewer : {A : Type 0} (old new : List A) → IsLonger old new → length old ≤ length new
@@ -383,6 +388,8 @@ built_then {here} {First} {Second} {Both} {look} {more} {old} {now} {new} joined
   changed = all_changed f g;
   controlled = all_controlled f g;
   unthreatened = all_unthreatened f g;
+  controls_kept = g.controls_kept ∙ f.controls_kept;
+  spared = spared_then [] look more f.spared g.spared;
 }
 
 -- with other sites
@@ -413,6 +420,8 @@ built_with has b = record {
   changed = b.changed;
   controlled = b.controlled;
   unthreatened = b.unthreatened;
+  controls_kept = b.controls_kept;
+  spared = b.spared;
 }
 
 -- a step that builds nothing
@@ -445,6 +454,8 @@ built_silent {here} {old} {new} q = record {
   changed = tt;
   controlled = tt;
   unthreatened = tt;
+  controls_kept = q.controls_kept;
+  spared = refl;
 }
 
 -- ---- where a block stands

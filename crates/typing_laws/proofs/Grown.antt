@@ -16,7 +16,9 @@ use Rattle.typing_laws.proofs.Reached.{IsLonger, longer_still, same_longer, get_
 use Rattle.typing_laws.proofs.Reached.{IsFurther, further_still, mapped_longer, Here, StandsIn, stands_later}
 use Rattle.typing_laws.proofs.Sound.{AreSound, inside_itself, regions_later, or_right}
 use Rattle.typing_laws.proofs.Tables.{AreLawful, AreTexts, stands_longer, is_ordinal_longer}
-use Rattle.typing_laws.specs.Controls.{Each, mark_changes, mark_controls}
+use Rattle.typing_laws.specs.Controls.{Each, mark_changes, mark_controls, spared_behind}
+use Rattle.typing_laws.proofs.Spared.{AreHeld, spared_then}
+use Rattle.typing_laws.proofs.Reached.{apart_kept}
 use Rattle.typing_laws.proofs.Kept.{MayChange, change_later, changes_of, controls_of, each_append, each_more}
 use Rattle.typing_laws.proofs.Owned.{Fails}
 use Rattle.typing_laws.specs.Results.{is_target, mark_targets}
@@ -131,6 +133,8 @@ pub record Grown (here : Here) (Has : List Stands → Type 0) (look : Look) (old
   pub changes : Each (MayChange here (reached new)) (changes_of look)
   pub controls : Each (IsFree here old new) (controls_of look)
   pub formed : (o : Outline) → IsFurther (reached new) (whole_of o) → list_all (is_formed_mark o here.block) look ≡ true
+  pub controls_kept : new.controls ≡ old.controls
+  pub spared : (roots : List ℕ) → AreHeld roots old.controls → spared_behind roots look ≡ Some roots
 
 pub range_joins : (a m n : ℕ) → range_with_len a (m + n) ≡ range_with_len a m ++ range_with_len (a + m) n
 range_joins a zero n =
@@ -152,12 +156,13 @@ more_sites {old = old} g = omega (arith, ap length g.sites, length-append old.si
 
 pub further : {here : Here} {Has : List Stands → Type 0} {look : Look} {old new : Passed} → Grown here Has look old new
     → IsFurther (reached old) (reached new)
-further g = record {
+further {old = old} {new = new} g = record {
   sites = more_sites g;
   types = g.longer;
   variables = same_longer g.variables_kept;
   headings = same_longer (ap (map signature_passed) g.headings_kept);
   threats = g.threats;
+  apart = apart_kept old new g.controls_kept;
 }
 
 pub fine_later : {here : Here} {Has : List Stands → Type 0} {look : Look} {old new : Passed} → Grown here Has look old new
@@ -282,4 +287,6 @@ grown_then {here} {First} {Second} {Both} {look} {more} {old} {now} {new} joined
       }) g.controls));
   formed = λ o h.
       list_all-append (is_formed_mark o here.block) look more ∙ both_true _ _ (f.formed o (further_still (further g) h)) (g.formed o h);
+  controls_kept = g.controls_kept ∙ f.controls_kept;
+  spared = λ roots held. spared_then roots look more (f.spared roots held) (g.spared roots (subst (AreHeld roots) (sym f.controls_kept) held));
 }

@@ -278,6 +278,7 @@ pub record HeadingAdded (here : Here) (under : List Region) (number : ℕ) (old 
   pub entries : new.entries ≡ old.entries
   pub loops : new.loops ≡ old.loops
   pub threatened : new.threatened ≡ old.threatened
+  pub controls_kept : new.controls ≡ old.controls
   pub assigned : new.assigned ≡ old.assigned
   pub types : IsLonger old.types new.types
   pub variables : IsLonger old.variables new.variables
@@ -478,6 +479,7 @@ module _ (here : Here) (under : List Region) (number : ℕ) (name : Name) (group
     pub from : (start.sites ≡ s.sites) × (start.entries ≡ s.entries) × (start.loops ≡ s.loops) × (start.regions ≡ s.regions)
         × (start.headings ≡ s.headings) × IsLonger s.types start.types × IsLonger s.variables start.variables
     pub threatened : start.threatened ≡ s.threatened
+    pub controls_kept : start.controls ≡ s.controls
     pub assigned : start.assigned ≡ s.assigned
     pub others : (block : ℕ) → Fails (nat_eq number block) → variables_of block start.variables ≡ variables_of block s.variables
     pub root : Option ℕ
@@ -543,6 +545,7 @@ module _ (here : Here) (under : List Region) (number : ℕ) (name : Name) (group
         start = z.0.passed;
         from = (k.1.sites, k.1.entries, k.1.loops, result_regions number name.place y.0.answer n3 z.0 z.1, k.1.headings, k.1.types, k.1.variables);
         threatened = k.1.threatened;
+        controls_kept = k.1.controls_kept;
         assigned = k.1.assigned;
         others = k.1.others;
         root = z.0.answer;
@@ -655,6 +658,7 @@ module _ (here : Here) (under : List Region) (number : ℕ) (name : Name) (group
         entries = p.silent.entries ∙ r.from.1;
         loops = p.silent.loops ∙ r.from.2;
         threatened = p.silent.threatened ∙ r.threatened;
+        controls_kept = p.silent.controls_kept ∙ r.controls_kept;
         assigned = p.silent.assigned ∙ r.assigned;
         types = types;
         variables = variables;

@@ -22,6 +22,7 @@ pub record Silent (counted : ℕ) (old new : Passed) : Type 0 where
   pub entries : new.entries ≡ old.entries
   pub loops : new.loops ≡ old.loops
   pub threatened : new.threatened ≡ old.threatened
+  pub controls_kept : new.controls ≡ old.controls
   pub assigned : new.assigned ≡ old.assigned
   pub types : IsLonger old.types new.types
   pub variables : IsLonger old.variables new.variables
@@ -37,6 +38,7 @@ silent_as_is = record {
   entries = refl;
   loops = refl;
   threatened = refl;
+  controls_kept = refl;
   assigned = refl;
   types = as_long;
   variables = as_long;
@@ -53,6 +55,7 @@ silent_then f g = record {
   entries = g.entries ∙ f.entries;
   loops = g.loops ∙ f.loops;
   threatened = g.threatened ∙ f.threatened;
+  controls_kept = g.controls_kept ∙ f.controls_kept;
   assigned = g.assigned ∙ f.assigned;
   types = longer_still f.types g.types;
   variables = longer_still f.variables g.variables;
@@ -70,6 +73,7 @@ silent_types types longer = record {
   entries = refl;
   loops = refl;
   threatened = refl;
+  controls_kept = refl;
   assigned = refl;
   types = longer;
   variables = as_long;
@@ -86,6 +90,7 @@ silent_regions regions = record {
   entries = refl;
   loops = refl;
   threatened = refl;
+  controls_kept = refl;
   assigned = refl;
   types = as_long;
   variables = as_long;
@@ -102,6 +107,7 @@ silent_latest place = record {
   entries = refl;
   loops = refl;
   threatened = refl;
+  controls_kept = refl;
   assigned = refl;
   types = as_long;
   variables = as_long;
@@ -118,6 +124,7 @@ silent_texts texts = record {
   entries = refl;
   loops = refl;
   threatened = refl;
+  controls_kept = refl;
   assigned = refl;
   types = as_long;
   variables = as_long;
@@ -135,6 +142,7 @@ silent_output = record {
   entries = refl;
   loops = refl;
   threatened = refl;
+  controls_kept = refl;
   assigned = refl;
   types = as_long;
   variables = as_long;
@@ -153,6 +161,7 @@ silent_variable {counted} {s} variable cells own = record {
   entries = refl;
   loops = refl;
   threatened = refl;
+  controls_kept = refl;
   assigned = refl;
   types = as_long;
   variables = one_longer s.variables variable;

@@ -25,6 +25,7 @@ pub record MayChange (here : Here) (now : Reached) (root : ℕ) : Type 0 where
   pub is_there : slice_get now.variables root ≡ Some variable
   pub is_visible : is_round_here here variable.block ≡ true
   pub may : (nat_eq variable.block here.block || now.threatens root) ≡ true
+  pub apart : now.apart root ≡ true
 
 -- one that controls a for statement of the block
 pub record MayControl (here : Here) (now : Reached) (root : ℕ) : Type 0 where
@@ -43,6 +44,7 @@ change_later here now next root more m = record {
   is_there = get_longer more.variables root m.variable m.is_there;
   is_visible = m.is_visible;
   may = or_later (nat_eq m.variable.block here.block) (now.threatens root) (next.threatens root) (more.threats root) m.may;
+  apart = more.apart root m.apart;
 }
 
 -- what forms change, and what controls for statements

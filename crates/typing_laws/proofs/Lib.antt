@@ -6,6 +6,9 @@ pub mod Constants
 mod Covers
 mod Owned
 mod Kept
+mod Spared
+pub mod Sparing
+pub mod Unthreatened
 pub mod Grown
 pub mod Steps
 pub mod Strings

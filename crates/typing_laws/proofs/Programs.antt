@@ -43,7 +43,8 @@ use Rattle.typing_laws.proofs.Sound.{IsSound, opened_holds, required_sound}
 use Rattle.typing_laws.proofs.Strings.{behind_nothing, both_and}
 use Rattle.typing_laws.proofs.Tables.{no_texts, required_lawful}
 use Rattle.typing_laws.proofs.Waiting.{count_append, count_of, count_range, one_if, same_counts, waits_in}
-use Rattle.typing_laws.specs.Controls.{AreUnthreatened, mark_changes, mark_controls}
+use Rattle.typing_laws.specs.Controls.{AreUnthreatened, mark_changes, mark_controls, spared_behind}
+use Rattle.typing_laws.proofs.Spared.{none_held, spared_then}
 use Rattle.typing_laws.proofs.Placed.{placed_inner}
 use Rattle.typing_laws.specs.Results.{are_assigned, is_target, mark_results}
 
@@ -323,6 +324,12 @@ module _ (program : Program) (a : After (Unit {0})) (w : Whole program a) where
       (placed_inner mark_changes 0 w.headed.around w.headed.parameters w.result w.end w.second w.grown.inner refl)
       (placed_inner mark_controls 0 w.headed.around w.headed.parameters w.result w.end w.second w.grown.inner refl))
 
+  -- and nowhere in the statement of their for
+  are_spared : spared_behind [] a.look ≡ Some []
+  are_spared =
+      ap (spared_behind []) w.look
+      ∙ spared_then [] w.first ended w.built.spared (spared_then [] w.second (mark_end ∷ []) (w.grown.spared [] (none_held w.middle.controls)) refl)
+
   -- each result is assigned
   has_results : are_assigned a.look ≡ true
   has_results =
@@ -384,6 +391,7 @@ module _ (program : Program) (a : After (Unit {0})) (w : Whole program a) where
       variables = same_longer is.variables;
       headings = same_longer same_headings;
       threats = λ root threatened. refl;
+      apart = λ root apart. refl;
     }
 
     is_formed : are_formed o a.look ≡ true
@@ -430,6 +438,7 @@ module _ (program : Program) (a : After (Unit {0})) (w : Whole program a) where
     declared =
         subst (λ n. list_all (λ (v : Variable). nat_lt v.block n) a.passed.variables ≡ true) (heads_count a.passed.headings) base.by_blocks;
     unthreatened = has_controls;
+    spared = are_spared;
     assigned = has_results;
     few_sites = w.grown.few_sites;
     types = w.grown.lawful.begin;

@@ -113,6 +113,8 @@ pub record Reached : Type 0 where
   pub headings : List Signature
   -- which variables blocks inside others may change
   pub threatens : ℕ → Bool
+  -- which variables control no for statement round the place
+  pub apart : ℕ → Bool
 
 abbrev pub reached : Passed → Reached
 reached s = record {
@@ -121,6 +123,7 @@ reached s = record {
   variables = s.variables;
   headings = map signature_passed s.headings;
   threatens = λ root. list_any (nat_eq root) s.threatened;
+  apart = λ root. not (list_any (λ control. nat_eq control root) s.controls);
 }
 
 -- the whole program
@@ -131,6 +134,7 @@ whole_of o = record {
   variables = o.variables;
   headings = map signature_of o.headings;
   threatens = λ root. true;
+  apart = λ root. true;
 }
 
 -- at least as far
@@ -140,6 +144,7 @@ pub record IsFurther (old new : Reached) : Type 0 where
   pub variables : IsLonger old.variables new.variables
   pub headings : IsLonger old.headings new.headings
   pub threats : (root : ℕ) → old.threatens root ≡ true → new.threatens root ≡ true
+  pub apart : (root : ℕ) → old.apart root ≡ true → new.apart root ≡ true
 
 pub as_far : {one : Reached} → IsFurther one one
 as_far = record {
@@ -148,6 +153,7 @@ as_far = record {
   variables = as_long;
   headings = as_long;
   threats = λ root is. is;
+  apart = λ root is. is;
 }
 
 pub further_still : {old now new : Reached} → IsFurther old now → IsFurther now new → IsFurther old new
@@ -157,6 +163,7 @@ further_still f g = record {
   variables = longer_still f.variables g.variables;
   headings = longer_still f.headings g.headings;
   threats = λ root is. g.threats root (f.threats root is);
+  apart = λ root is. g.apart root (f.apart root is);
 }
 
 -- ---- the block round a place
@@ -177,3 +184,7 @@ StandsIn here now = (signature : Signature) × (slice_get now.headings here.bloc
 
 pub stands_later : (here : Here) (now next : Reached) → IsFurther now next → StandsIn here now → StandsIn here next
 stands_later here now next more stands = (stands.0, get_longer more.headings here.block stands.0 stands.1, stands.2)
+
+-- where the control variables round a place are the same, so are those that are apart
+pub apart_kept : (old new : Passed) → new.controls ≡ old.controls → (root : ℕ) → (reached old).apart root ≡ true → (reached new).apart root ≡ true
+apart_kept old new kept root is = ap (λ (controls : List ℕ). not (list_any (λ control. nat_eq control root) controls)) kept ∙ is

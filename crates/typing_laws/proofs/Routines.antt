@@ -28,7 +28,7 @@ use Rattle.typing_laws.proofs.Headings.{HeadingAdded, Entering, declarer_last, h
 use Rattle.typing_laws.proofs.Keeping.{Ready}
 use Rattle.typing_laws.proofs.Owned.{Fails, other_block}
 use Rattle.typing_laws.proofs.Reached.{IsLonger, as_long, one_longer, get_last, get_mapped, mapped_longer, signature_passed, Head, reached, IsFurther, Here}
-use Rattle.typing_laws.proofs.Reached.{is_round_here, stands_later}
+use Rattle.typing_laws.proofs.Reached.{apart_kept, is_round_here, stands_later}
 use Rattle.typing_laws.proofs.Ready.{base_blocks, heads_passed}
 use Rattle.typing_laws.proofs.Sound.{IsRoutine, inside_itself, regions_later}
 use Rattle.typing_laws.proofs.Steps.{split_if, split_unless}
@@ -58,6 +58,7 @@ pub record Began (here : Here) (under : List Region) (number : ℕ) (old new : P
   pub entries : new.entries ≡ old.entries
   pub loops : new.loops ≡ old.loops
   pub threatened : new.threatened ≡ old.threatened
+  pub controls_kept : new.controls ≡ old.controls
   pub assigned : new.assigned ≡ old.assigned
   pub types : IsLonger old.types new.types
   pub variables : IsLonger old.variables new.variables
@@ -167,6 +168,7 @@ module _ (here : Here) (under : List Region) where
             variables = added.variables;
             headings = mapped_longer signature_passed longer;
             threats = λ root is. ap (list_any (nat_eq root)) added.threatened ∙ is;
+            apart = apart_kept s new added.controls_kept;
           } in
           record {
             number_is = refl;
@@ -174,6 +176,7 @@ module _ (here : Here) (under : List Region) where
             entries = added.entries;
             loops = added.loops;
             threatened = added.threatened;
+            controls_kept = added.controls_kept;
             assigned = added.assigned;
             types = added.types;
             variables = added.variables;

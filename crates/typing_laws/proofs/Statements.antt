@@ -39,7 +39,7 @@ use Rattle.typing.specs.declared.typed.Typed.{Typed}
 use Rattle.typing.specs.Expressions.{Written, WrittenActual, is_of, as_routine, as_variable, expression, written_actual}
 use Rattle.typing.specs.Statements.{assigned, copied, assignment, as_procedure, ends_line, is_output, names_file, unless_wide, is_file, written_values}
 use Rattle.typing.specs.Statements.{has_values, representation_of, written_as, measured, width, parameter, write, required_call, declared_call, call_by}
-use Rattle.typing.specs.Statements.{procedure_call, compound, condition, alternative, tested, choice, while_loop, repeat_loop, way, bound, for_head, for_body}
+use Rattle.typing.specs.Statements.{procedure_call, compound, condition, alternative, tested, choice, while_loop, repeat_loop, way, bound, for_head}
 use Rattle.typing.specs.Statements.{for_loop, case_arms, case_head, case_body, case_statement, statement_step, statement}
 use Rattle.typing_laws.proofs.Tables.{stands_longer, cells_of_longer}
 use Rattle.typing_laws.proofs.WholeRanges.{IsWholeRange}
@@ -49,7 +49,8 @@ use Rattle.typing_laws.proofs.Reached.{Reached, whole_of, IsFurther, further_sti
 use Rattle.typing_laws.proofs.Sound.{IsRoutine, variable_later}
 use Rattle.typing_laws.proofs.Steps.{Does, Anything, Nothing, IsFound, joins, quietly, last, checks, checks_types, sited, pure_does, given_does, by_types_does}
 use Rattle.typing_laws.proofs.Steps.{fail_does, find_does, pass_does, wants_output_does, mark_does, enter_does, enter_loop_does, may_change_does}
-use Rattle.typing_laws.proofs.Steps.{begin_control_does, end_control_does, site_does, IsKnown, controlled_does}
+use Rattle.typing_laws.specs.Controls.{is_bracket}
+use Rattle.typing_laws.proofs.Steps.{for_body_does, site_does, IsKnown, controlled_does}
 use Rattle.typing_laws.proofs.Leading.{IsLed, Types, lt_true, LawfulWritten, covers_test, led_covers}
 use Rattle.typing_laws.proofs.Accesses.{AreLawfulRows, leads_nowhere, leads_later, tests_ordinal_does, ordinal_formed}
 use Rattle.typing_laws.proofs.Calls.{IsLawfulWidth, LawfulActual, fitting_whole, copying_is, routine_is, routine_call_does}
@@ -73,7 +74,7 @@ measured_is place t id is = by (is_of integer t) t.site is
 -- a mark that says how a value is written is no entry
 abbrev IsForm : Mark → Type 0
 IsForm one =
-    (mark_entries one ≡ []) × (mark_loops one ≡ []) × (mark_blocks one ≡ []) × (mark_changes one ≡ [])
+    (mark_entries one ≡ []) × (mark_loops one ≡ []) × (mark_blocks one ≡ []) × (mark_changes one ≡ []) × (is_bracket one ≡ false)
     × ((o : Outline) (block : ℕ) → is_formed_mark o block one ≡ true)
 
 form_is : (place : Place) (types : List Form) (t : Typed) (form : Mark) → or_mismatch place (written_as types t) ≡ Ok form → IsForm form
@@ -81,9 +82,9 @@ form_is place types t form is = by (is_none t.length) (representation_of types t
   where
     by : (ordinal : Bool) (representation : Option Representation) (string : Bool)
         → (if ordinal then option_map WrittenMark representation else (if string then Some WrittenString else None)) ≡ Some form → IsForm form
-    by true (Some r) string h = let same : WrittenMark r ≡ form = cc in subst IsForm same (refl, refl, refl, refl, λ o block. refl)
+    by true (Some r) string h = let same : WrittenMark r ≡ form = cc in subst IsForm same (refl, refl, refl, refl, refl, λ o block. refl)
     by true None string h = absurd cc
-    by false r true h = let same : WrittenString ≡ form = cc in subst IsForm same (refl, refl, refl, refl, λ o block. refl)
+    by false r true h = let same : WrittenString ≡ form = cc in subst IsForm same (refl, refl, refl, refl, refl, λ o block. refl)
     by false r false h = absurd cc
 
 module _ (here : Here) where
@@ -108,7 +109,7 @@ module _ (here : Here) where
       (joins (leads_first 0 becomes (kind.Subrange ∷ []) places) (site_does kind.Subrange becomes) λ site there _ known.
       last (checks_types {L = λ range n. IsWholeRange range} (typed_does there places value None law tt) λ types t range n more same lawful fits _.
       fitting_whole becomes types lawful.whole id t range fits) λ range n more whole.
-      mark_does (Fits (record { site = site; range = range })) refl refl refl refl
+      mark_does (Fits (record { site = site; range = range })) refl refl refl refl refl
       (λ o h. both_true _ _ (lt_true site o.sites (omega (arith, known, more.sites, h.sites))) whole))
 
   copied_does : {least : Reached} (id : TypeId) (becomes : Place) (places : List Place) (value : Written) → id.index < length least.types
@@ -120,7 +121,7 @@ module _ (here : Here) where
       last (checks_types {L = λ cells n. nat_eq (cells_of n.types id) cells ≡ true} (typed_does now places value None law tt)
       λ types t cells n more same lawful copies _.
       subst (λ l. nat_eq (cells_of l id) cells ≡ true) (sym same) (copying_is becomes types id t cells copies)) λ cells n two as_many.
-      mark_does (Copied id cells) refl refl refl refl
+      mark_does (Copied id cells) refl refl refl refl refl
       (λ m h.
       let there = stands_longer (further_still one two).types id stands in
       ap (λ c. nat_eq c cells) (cells_of_longer h.types id there) ∙ as_many))
@@ -138,7 +139,7 @@ module _ (here : Here) where
   assignment_does name selectors rows ws becomes places value laws law = record {
     passes = λ least.
         sited (λ sites. covers_skip 0 name.place (selector_places selectors rows ++ (becomes ∷ places)) sites)
-        (quietly (enter_does (λ n. Assign n becomes) (λ n. refl) (λ n. refl) (λ n. refl) (λ n. refl) (λ n m h. refl)) λ _ _ _ _.
+        (quietly (enter_does (λ n. Assign n becomes) (λ n. refl) (λ n. refl) (λ n. refl) (λ n. refl) (λ n. refl) (λ n m h. refl)) λ _ _ _ _.
         joins (covers_both 0 (selector_places selectors rows) (becomes ∷ places)) (target_does here name selectors rows ws laws) λ id now _ stands.
         quietly (tests_ordinal_does here id) λ ordinal next one _.
         value_does ordinal id becomes places value (stands_longer one.types id stands) law);
@@ -187,7 +188,7 @@ module _ (here : Here) where
   width_does least places (Some w) law =
       last (checks {L = λ id n. IsKnown (Some id) n} (typed_does least places w (Some kind.Width) law (omega arith)) λ types t id n more is known.
       subst (λ z. IsKnown z n) (measured_is w.first t id is) known) λ id n more known.
-      mark_does (Width id) refl refl refl refl (λ m h. lt_true id m.sites (omega (arith, known, h.sites)))
+      mark_does (Width id) refl refl refl refl refl (λ m h. lt_true id m.sites (omega (arith, known, h.sites)))
 
   parameter_does : (least : Reached) (places : List Place) (a : WrittenActual) → LawfulActual here places a
       → Does here least (Covers 0 places) (parameter a) Anything
@@ -197,7 +198,7 @@ module _ (here : Here) where
       (joins (covers_both 0 law.of_value law.of_width)
       (checks {L = λ form n. IsForm form} (typed_does least law.of_value a.value None law.value tt) λ types t form n more is _.
       form_is a.value.first types t form is) λ form now _ is.
-      quietly (mark_does form is.0 is.1 is.2 is.3 (λ o h. is.4 o here.block)) λ _ next _ _.
+      quietly (mark_does form is.0 is.1 is.2 is.3 is.4 (λ o h. is.5 o here.block)) λ _ next _ _.
       width_does next law.of_width a.width law.width)
 
   parameters_do : (least : Reached) (values : List Actual)
@@ -213,12 +214,12 @@ module _ (here : Here) where
   unfolding write
   write_does least name actuals procedure =
       quietly (wants_output_does name.place) λ _ _ _ _.
-      quietly (enter_does (λ n. Write n name.place (ends_line procedure)) (λ n. refl) (λ n. refl) (λ n. refl) (λ n. refl) (λ n m h. refl)) λ _ _ _ _.
+      quietly (enter_does (λ n. Write n name.place (ends_line procedure)) (λ n. refl) (λ n. refl) (λ n. refl) (λ n. refl) (λ n. refl) (λ n m h. refl)) λ _ _ _ _.
       quietly (written_values_do actuals) λ values now _ among.
       sited among
       (quietly (given_does (has_values name.place procedure values)) λ _ there _ _.
       last (parameters_do there values) λ _ m _ _.
-      mark_does Ends refl refl refl refl (λ n h. refl))
+      mark_does Ends refl refl refl refl refl (λ n h. refl))
 
   joined_mapped : (actuals : List Actual) → joined_places (map actual_places actuals) ≡ flat_map actual_places actuals
   joined_mapped [] = refl
@@ -258,9 +259,9 @@ module _ (here : Here) where
   unfolding compound
   compound_does places statements row = record {
     passes = λ least.
-        quietly (enter_does Compound (λ n. refl) (λ n. refl) (λ n. refl) (λ n. refl) (λ n m h. refl)) λ _ now _ _.
+        quietly (enter_does Compound (λ n. refl) (λ n. refl) (λ n. refl) (λ n. refl) (λ n. refl) (λ n m h. refl)) λ _ now _ _.
         last (row now) λ _ m _ _.
-        mark_does Ends refl refl refl refl (λ n h. refl);
+        mark_does Ends refl refl refl refl refl (λ n h. refl);
   }
 
   -- ---- branches
@@ -279,7 +280,7 @@ module _ (here : Here) where
   unfolding alternative
   alternative_does least places None law =
       sited (λ sites none. subst (Covers 0 places) (sym none) (covers_none 0 places)) (pure_does {K = Anything} tt (λ n h. tt))
-  alternative_does least places (Some other) law = quietly (mark_does Else refl refl refl refl (λ n h. refl)) λ _ now _ _. law.passes now
+  alternative_does least places (Some other) law = quietly (mark_does Else refl refl refl refl refl (λ n h. refl)) λ _ now _ _. law.passes now
 
   tested_does : (least : Reached) (place : Place) (places : List Place) (w : Written) → LawfulWritten here places w
       → Does here least (Covers 0 (place ∷ places)) (tested place w) Anything
@@ -287,9 +288,9 @@ module _ (here : Here) where
   tested_does least place places w law =
       sited (λ sites. covers_skip 0 place places sites)
       (quietly (pass_does place) λ _ _ _ _.
-      quietly (enter_does If (λ n. refl) (λ n. refl) (λ n. refl) (λ n. refl) (λ n m h. refl)) λ _ now _ _.
+      quietly (enter_does If (λ n. refl) (λ n. refl) (λ n. refl) (λ n. refl) (λ n. refl) (λ n m h. refl)) λ _ now _ _.
       last (condition_does now places w law) λ _ _ _ _.
-      mark_does Then refl refl refl refl (λ n h. refl))
+      mark_does Then refl refl refl refl refl (λ n h. refl))
 
   choice_does : (place : Place) (tests first second : List Place) (w : Written) (consequence : Passing (Unit {0})) (other : Option (Passing (Unit {0})))
       → LawfulWritten here tests w → LawfulStatement first consequence → IsLawfulAlternative second other
@@ -300,7 +301,7 @@ module _ (here : Here) where
         joins (covers_both 0 (place ∷ tests) (first ++ second)) (tested_does least place tests w law) λ _ there _ _.
         joins (covers_both 0 first second) (one.passes there) λ _ next _ _.
         last (alternative_does next second other two) λ _ _ _ _.
-        mark_does Ends refl refl refl refl (λ n h. refl);
+        mark_does Ends refl refl refl refl refl (λ n h. refl);
   }
 
   -- ---- loops
@@ -312,11 +313,11 @@ module _ (here : Here) where
     passes = λ least.
         sited (λ sites. covers_skip 0 place (tests ++ inside) sites)
         (quietly (pass_does place) λ _ _ _ _.
-        quietly (enter_loop_does (λ n l. While n l place) (λ n l. refl) (λ n l. refl) (λ n l. refl) (λ n l. refl) (λ n l m h. refl)) λ _ now _ _.
+        quietly (enter_loop_does (λ n l. While n l place) (λ n l. refl) (λ n l. refl) (λ n l. refl) (λ n l. refl) (λ n l. refl) (λ n l m h. refl)) λ _ now _ _.
         joins (covers_both 0 tests inside) (condition_does now tests w law) λ _ _ _ _.
-        quietly (mark_does Do refl refl refl refl (λ n h. refl)) λ _ there _ _.
+        quietly (mark_does Do refl refl refl refl refl (λ n h. refl)) λ _ there _ _.
         last (one.passes there) λ _ _ _ _.
-        mark_does Ends refl refl refl refl (λ n h. refl));
+        mark_does Ends refl refl refl refl refl (λ n h. refl));
   }
 
   repeat_does : (place : Place) (inside tests : List Place) (statements : List (Passing (Unit {0}))) (w : Written)
@@ -327,11 +328,11 @@ module _ (here : Here) where
     passes = λ least.
         sited (λ sites. covers_skip 0 place (inside ++ tests) sites)
         (quietly (pass_does place) λ _ _ _ _.
-        quietly (enter_loop_does (λ n l. Repeat n l place) (λ n l. refl) (λ n l. refl) (λ n l. refl) (λ n l. refl) (λ n l m h. refl)) λ _ now _ _.
+        quietly (enter_loop_does (λ n l. Repeat n l place) (λ n l. refl) (λ n l. refl) (λ n l. refl) (λ n l. refl) (λ n l. refl) (λ n l m h. refl)) λ _ now _ _.
         joins (covers_both 0 inside tests) (row now) λ _ _ _ _.
-        quietly (mark_does Until refl refl refl refl (λ n h. refl)) λ _ there _ _.
+        quietly (mark_does Until refl refl refl refl refl (λ n h. refl)) λ _ there _ _.
         last (condition_does there tests w law) λ _ _ _ _.
-        mark_does Ends refl refl refl refl (λ n h. refl));
+        mark_does Ends refl refl refl refl refl (λ n h. refl));
   }
 
   -- the test of a bound stands before its first token's own sites
@@ -342,7 +343,7 @@ module _ (here : Here) where
       joins (covers_test here kind.Subrange (omega arith) (omega arith) places w law) (site_does kind.Subrange w.first) λ id there _ known.
       last (checks_types {L = λ range n. IsWholeRange range} (law.types there None tt) λ types t range n more same lawful fits _.
       fitting_whole w.first types lawful.whole type_id t range fits) λ range n more whole.
-      mark_does (Fits (record { site = id; range = range })) refl refl refl refl
+      mark_does (Fits (record { site = id; range = range })) refl refl refl refl refl
       (λ m h. both_true _ _ (lt_true id m.sites (omega (arith, known, more.sites, h.sites))) whole)
 
   -- a variable of the variable declaration part of the block
@@ -373,30 +374,25 @@ module _ (here : Here) where
       let found_there = variable_later here now tests control.0 control.1 (further_still more still) found in
       quietly (may_change_does name.place control.0 control.1 found_there) λ _ changed further may.
       controlled_does name.place control.0 (λ n l. For n l place control.0 (way d)) _ (λ n l. refl) (λ n l. refl) (λ n l. refl) (λ n l. refl)
-      (λ n l. refl) may
+      (λ n l. refl) (λ n l. refl) may
       (λ known later local n l o h.
       both_true _ _ (local_formed control.0 known o h local)
       (ordinal_formed here control.0 [] control.1 tests o seen ordinal (further_still further (further_still later h))))
       (λ now later.
       joins (covers_both 0 firsts lasts) (bound_does now control.1 firsts first one) λ _ next _ _.
       last (bound_does next control.1 lasts end two) λ _ _ _ _.
-      quietly (mark_does Do refl refl refl refl (λ n h. refl)) λ _ _ _ _.
       pure_does control.0 (λ n h. tt)))
 
   for_does : (place : Place) (name : Name) (firsts lasts inside : List Place) (first : Written) (d : SyntaxDirection) (end : Written)
       (body : Passing (Unit {0}))
       → LawfulWritten here firsts first → LawfulWritten here lasts end → LawfulStatement inside body
       → LawfulStatement (place ∷ name.place ∷ (firsts ++ (lasts ++ inside))) (for_loop place name first d end body)
-  unfolding for_body
   for_does place name firsts lasts inside first d end body one two three = record {
     passes = λ least.
         sited (λ sites. subst (λ p. Covers 0 (place ∷ name.place ∷ p) sites) (append_assoc firsts lasts inside))
         (joins (covers_both 0 (place ∷ name.place ∷ (firsts ++ lasts)) inside)
         (for_head_does least place name firsts lasts first d end one two) λ control _ _ _.
-        quietly (begin_control_does control) λ _ now _ _.
-        last (three.passes now) λ _ _ _ _.
-        quietly end_control_does λ _ _ _ _.
-        mark_does Ends refl refl refl refl (λ n h. refl));
+        for_body_does control body (λ next. three.passes next));
   }
 
   -- ---- cases
@@ -407,7 +403,7 @@ module _ (here : Here) where
   case_head_does least place places w law =
       led_covers here 0 place places (kind.Case ∷ []) (omega arith, tt)
       (joins (leads_first 0 place (kind.Case ∷ []) places) (site_does kind.Case place) λ id there _ known.
-      quietly (enter_does (λ n. Case n id) (λ n. refl) (λ n. refl) (λ n. refl) (λ n. refl)
+      quietly (enter_does (λ n. Case n id) (λ n. refl) (λ n. refl) (λ n. refl) (λ n. refl) (λ n. refl)
       (λ n m h. lt_true id m.sites (omega (arith, known, h.sites)))) λ _ now _ _.
       checks {L = Anything} (typed_does now places w None law tt) λ types t b n more is _. tt)
 
@@ -420,7 +416,7 @@ module _ (here : Here) where
     passes = λ least.
         joins (covers_both 0 (place ∷ tests) inside) (case_head_does least place tests w law) λ type_id there _ _.
         last (row there type_id) λ _ _ _ _.
-        mark_does Ends refl refl refl refl (λ n h. refl);
+        mark_does Ends refl refl refl refl refl (λ n h. refl);
   }
 
   -- ---- every statement
@@ -461,7 +457,7 @@ module _ (here : Here) where
   arms_lawful (row ∷ rows) (y ∷ ys) type_id before least =
       sited behind_constants
       (quietly (row_does here type_id before [] row.items refl) λ values _ _ whole.
-      quietly (mark_does (Arm values) refl refl refl refl (λ n h. whole)) λ _ now _ _.
+      quietly (mark_does (Arm values) refl refl refl refl refl (λ n h. whole)) λ _ now _ _.
       joins (covers_both 0 (stmt_places y.0) (arms_row rows ys)) (y.1.passes now) λ _ there _ _.
       arms_lawful rows ys type_id (before ++ values) there)
     where
@@ -472,7 +468,7 @@ module _ (here : Here) where
 
   statement_layer : (y : layer.Stmt-F WithStmt) → LawfulStmt (roll-Stmt (bare y))
   statement_layer layer.Empty =
-      from_layer layer.Empty (record { passes = λ least. enter_does Empty (λ n. refl) (λ n. refl) (λ n. refl) (λ n. refl) (λ n m h. refl) })
+      from_layer layer.Empty (record { passes = λ least. enter_does Empty (λ n. refl) (λ n. refl) (λ n. refl) (λ n. refl) (λ n. refl) (λ n m h. refl) })
   statement_layer (layer.Assign name selectors indexes becomes value) =
       from_layer (layer.Assign name selectors indexes becomes value)
       (assignment_does name selectors.items (map expr_places indexes.items) (map expression indexes.items) becomes (expr_places value) (expression value)

@@ -1,7 +1,10 @@
 -- What the steps of typing do, and what they do one after another.
 use Rattle.std.proofs.Common.{◌≡◌, ℕ, ◌+◌, ◌-◌, ◌<◌, Bool, true, false, nat_eq, nat_le, take, Result, List, [], ◌∷◌, ◌++◌, length, Option, Some, None, Ok, Err}
-use Rattle.std.proofs.Common.{if◌then◌else◌, get_or, slice_get, ◌&&◌, not, append-nil, length-append, refl, sym, ap, subst, ◌∙◌, arith, ◌||◌, inl}
-use Rattle.std.specs.List.{range_with_len, list_any}
+use Rattle.std.proofs.Common.{if◌then◌else◌, get_or, slice_get, ◌&&◌, not, append-nil, length-append, refl, sym, ap, subst, ◌∙◌, arith, ◌||◌, inl, ◌⊎◌}
+use Rattle.std.specs.List.{range_with_len, list_any, list_all, flat_map}
+use Rattle.std.specs.Option.{option_and_then}
+use Rattle.std.proofs.lemmas.Grind.{flat_map-append}
+use Rattle.std.proofs.lemmas.List.Folds.{list_all-append, list_any-append}
 use Rattle.std.proofs.lemmas.Bool.Decides.{nat_tests}
 use Rattle.std.proofs.lemmas.Bool.{eq-eqb}
 use Rattle.place.specs.declared.Place.{Place}
@@ -18,12 +21,14 @@ use Rattle.typed_tree.specs.declared.fault.TypeFault.TheVariants as fault
 use Rattle.typed_tree.specs.declared.site.SiteKind.{SiteKind}
 use Rattle.typed_tree.specs.Ids.{Stands}
 use Rattle.typed_tree.specs.WellFormed.{Outline, are_characters, is_local_kind}
-use Rattle.typed_tree.specs.Look.{For, Mark, Look, mark_entries, mark_loops, mark_blocks, is_formed_mark}
+use Rattle.typed_tree.specs.Threats.{is_none_of}
+use Rattle.typed_tree.specs.Look.{For, Controls, ForEnds, Mark, Look, mark_entries, mark_loops, mark_blocks, is_formed_mark}
 use Rattle.typing.specs.Passing.{Passed, Checked, After, Passing, and_then, after, pure, fail, given, by_types, mark, behind_marks, ◌>>=◌, ◌>>?◌}
 use Rattle.typing.specs.Steps.{most_sites, most_entries, pass, enter, enter_as, number_loop, begin_loop, enter_loop, site, find, told, may_change}
 use Rattle.typing.specs.Steps.{begin_control, end_control, wants_output, host_type, text_at, keep_text, is_own, is_local, may_control, with_one}
 use Rattle.typing.specs.Steps.{with_threatened, assign_result, enclosing_now, heading_at, variable_at, program_heading}
 use Rattle.typing.specs.Expressions.{behind}
+use Rattle.typing.specs.Statements.{for_body}
 use Rattle.typing.specs.Names.{folded}
 use Rattle.typing_laws.proofs.Covers.{at_place}
 use Rattle.typing_laws.proofs.Grown.{heads_of, FitsHeading, Fine, Grown, further, fine_later, grown_then, both_true, IsFree}
@@ -31,8 +36,10 @@ use Rattle.typing_laws.proofs.Reached.{IsLonger, as_long, get_longer, get_mapped
 use Rattle.typing_laws.proofs.Reached.{as_far, further_still, Here, StandsIn}
 use Rattle.typing_laws.proofs.Sound.{IsSound, found_holds, IsVariable, or_right}
 use Rattle.typing_laws.proofs.Tables.{AreLawful, AreTexts, texts_more}
-use Rattle.typing_laws.specs.Controls.{Each, mark_changes, mark_controls}
-use Rattle.typing_laws.proofs.Kept.{MayChange, change_later}
+use Rattle.typing_laws.specs.Controls.{Each, is_bracket, mark_changes, mark_controls, spared_behind}
+use Rattle.typing_laws.specs.Results.{mark_targets}
+use Rattle.typing_laws.proofs.Kept.{MayChange, change_later, changes_of, controls_of, each_more}
+use Rattle.typing_laws.proofs.Spared.{AreHeld, apart_held, one_mark, spared_append}
 
 -- a form has grown what is known, and its answer has this
 abbrev pub Leaves : {A : Type 0} → Here → (List Stands → Type 0) → Passed → (A → Reached → Type 0) → After A → Type 0
@@ -162,6 +169,8 @@ sited {here} {Has = Has} {Had = Had} has d = record {
       changes = g.changes;
       controls = g.controls;
       formed = g.formed;
+      controls_kept = g.controls_kept;
+      spared = g.spared;
     }
 
 -- the same, with something else that holds of its answer
@@ -190,9 +199,9 @@ pub grown_silent : (here : Here) (s new : Passed) → new.regions ≡ s.regions 
     → new.variables ≡ s.variables → new.headings ≡ s.headings → new.enclosing ≡ s.enclosing → new.sites ≡ s.sites
     → new.entries ≡ s.entries → new.loops ≡ s.loops
     → ((root : ℕ) → list_any (nat_eq root) s.threatened ≡ true → list_any (nat_eq root) new.threatened ≡ true)
-    → new.assigned ≡ s.assigned → Fine here s
+    → new.assigned ≡ s.assigned → new.controls ≡ s.controls → Fine here s
     → Grown here Nothing [] s new
-grown_silent here s new regions types texts declared headings enclosing sites entries loops threats assigned fine = record {
+grown_silent here s new regions types texts declared headings enclosing sites entries loops threats assigned kept fine = record {
   regions = regions;
   longer = subst (IsLonger s.types) (sym types) as_long;
   lawful = subst AreLawful (sym types) fine.lawful;
@@ -216,6 +225,8 @@ grown_silent here s new regions types texts declared headings enclosing sites en
   changes = tt;
   controls = tt;
   formed = λ o h. refl;
+  controls_kept = kept;
+  spared = λ roots held. refl;
 }
 
 pub pass_does : {here : Here} {least : Reached} (place : Place) → Does here least Nothing (pass place) Anything
@@ -224,7 +235,7 @@ pass_does {here} place = record {
   does = λ s a is fine h.
       let same : after tt [] (record s { latest = place }) ≡ a = cc in
       subst (Leaves here Nothing s Anything) same
-      (grown_silent here s (record s { latest = place }) refl refl refl refl refl refl refl refl refl (λ root is. is) refl fine, tt);
+      (grown_silent here s (record s { latest = place }) refl refl refl refl refl refl refl refl refl (λ root is. is) refl refl fine, tt);
 }
 
 pub pure_does : {here : Here} {least : Reached} {A : Type 0} {K : A → Reached → Type 0} (x : A)
@@ -232,7 +243,7 @@ pub pure_does : {here : Here} {least : Reached} {A : Type 0} {K : A → Reached 
 pure_does {here} {least} {A} {K} x known = record {
   does = λ s a is fine h.
       let same : after x [] s ≡ a = cc in
-      subst (Leaves here Nothing s K) same (grown_silent here s s refl refl refl refl refl refl refl refl refl (λ root is. is) refl fine, known (reached s) h);
+      subst (Leaves here Nothing s K) same (grown_silent here s s refl refl refl refl refl refl refl refl refl (λ root is. is) refl refl fine, known (reached s) h);
 }
 
 pub given_does : {here : Here} {least : Reached} {A : Type 0} (checked : Checked A)
@@ -242,7 +253,7 @@ given_does {here} {least} {A} checked = record {
       let x = split checked (λ b. Ok (after b [] s)) a is in
       let same : after x.0 [] s ≡ a = cc in
       subst (Leaves here Nothing s (λ x now. checked ≡ Ok x)) same
-      (grown_silent here s s refl refl refl refl refl refl refl refl refl (λ root is. is) refl fine, x.1);
+      (grown_silent here s s refl refl refl refl refl refl refl refl refl (λ root is. is) refl refl fine, x.1);
 }
 
 pub by_types_does : {here : Here} {least : Reached} {A : Type 0} (test : List Form → Checked A)
@@ -252,7 +263,7 @@ by_types_does {here} {least} {A} test = record {
       let x = split (test s.types) (λ b. Ok (after b [] s)) a is in
       let same : after x.0 [] s ≡ a = cc in
       subst (Leaves here Nothing s (λ x now. AreLawful now.types × (test now.types ≡ Ok x))) same
-      (grown_silent here s s refl refl refl refl refl refl refl refl refl (λ root is. is) refl fine, (fine.lawful, x.1));
+      (grown_silent here s s refl refl refl refl refl refl refl refl refl (λ root is. is) refl refl fine, (fine.lawful, x.1));
 }
 
 pub fail_does : {here : Here} {least : Reached} {A : Type 0} {Has : List Stands → Type 0} {K : A → Reached → Type 0} (why : TypeFault)
@@ -277,7 +288,7 @@ find_does {here} name = record {
       let same : after x.0 [] (record s { latest = name.place }) ≡ a = cc in
       let there = found_holds (IsSound here s.variables s.types (heads_of (reached s))) s.regions text x.0 fine.sound (by (found s.regions text) x.0 x.1) in
       subst (Leaves here Nothing s (λ denotation now. IsFound here denotation now)) same
-      (grown_silent here s (record s { latest = name.place }) refl refl refl refl refl refl refl refl refl (λ root is. is) refl fine, (there, fine.stands));
+      (grown_silent here s (record s { latest = name.place }) refl refl refl refl refl refl refl refl refl (λ root is. is) refl refl fine, (there, fine.stands));
 }
   where
     by : (r : Result Denotation ScopeFault) (d : Denotation) → told name.place r ≡ Ok d → r ≡ Ok d
@@ -289,17 +300,25 @@ unfolding wants_output
 wants_output_does {here} place = record {
   does = λ s a is fine h.
       let x = split_if s.has_output (fault.NotProgramParameter place) (after tt [] s) a is in
-      subst (Leaves here Nothing s Anything) x.1 (grown_silent here s s refl refl refl refl refl refl refl refl refl (λ root is. is) refl fine, tt);
+      subst (Leaves here Nothing s Anything) x.1 (grown_silent here s s refl refl refl refl refl refl refl refl refl (λ root is. is) refl refl fine, tt);
 }
 
 -- ---- marks
 
+-- what may be changed is no control variable of a for statement round the place
+all_apart : (here : Here) (s : Passed) (roots changes : List ℕ) → AreHeld roots s.controls → Each (MayChange here (reached s)) (changes ++ [])
+    → list_all (is_none_of roots) changes ≡ true
+all_apart here s roots [] held may = refl
+all_apart here s roots (root ∷ changes) held may =
+    both_true (is_none_of roots root) (list_all (is_none_of roots) changes) (apart_held roots s.controls root held may.0.apart)
+    (all_apart here s roots changes held may.1)
+
 -- no entry, but well formed
 marked_does : {here : Here} {least : Reached} (one : Mark) → mark_entries one ≡ [] → mark_loops one ≡ [] → mark_blocks one ≡ []
-    → ((now : Reached) → IsFurther least now → Each (MayChange here now) (mark_changes one ++ [])) → mark_controls one ≡ []
+    → is_bracket one ≡ false → ((now : Reached) → IsFurther least now → Each (MayChange here now) (mark_changes one ++ [])) → mark_controls one ≡ []
     → ((o : Outline) → IsFurther least (whole_of o) → is_formed_mark o here.block one ≡ true)
     → Does here least Nothing (mark one) Anything
-marked_does {here} {least} one none no_loop no_block changes no_control formed = record {
+marked_does {here} {least} one none no_loop no_block plain changes no_control formed = record {
   does = λ s a is fine h.
       let same : after tt (one ∷ []) s ≡ a = cc in
       let counted : length (mark_entries one ++ []) ≡ 0 = ap (λ (l : List ℕ). length (l ++ [])) none in
@@ -328,6 +347,8 @@ marked_does {here} {least} one none no_loop no_block changes no_control formed =
         changes = changes (reached s) h;
         controls = subst (λ (l : List ℕ). Each (IsFree here s s) (l ++ [])) (sym no_control) tt;
         formed = λ o more. both_true _ true (formed o (further_still h more)) refl;
+        controls_kept = refl;
+        spared = λ roots held. one_mark one roots plain (all_apart here s roots (mark_changes one) held (changes (reached s) h));
       } in
       subst (Leaves here Nothing s Anything) same (g, tt);
 }
@@ -338,27 +359,28 @@ no_control (For number loop_number place control direction) none = absurd cc
 no_control other none = refl
 
 pub mark_does : {here : Here} {least : Reached} (one : Mark) → mark_entries one ≡ [] → mark_loops one ≡ [] → mark_blocks one ≡ []
-    → mark_changes one ≡ [] → ((o : Outline) → IsFurther least (whole_of o) → is_formed_mark o here.block one ≡ true)
+    → mark_changes one ≡ [] → is_bracket one ≡ false → ((o : Outline) → IsFurther least (whole_of o) → is_formed_mark o here.block one ≡ true)
     → Does here least Nothing (mark one) Anything
-mark_does {here} one none no_loop no_block no_change formed =
-    marked_does one none no_loop no_block (λ now more. subst (λ (l : List ℕ). Each (MayChange here now) (l ++ [])) (sym no_change) tt)
+mark_does {here} one none no_loop no_block no_change plain formed =
+    marked_does one none no_loop no_block plain (λ now more. subst (λ (l : List ℕ). Each (MayChange here now) (l ++ [])) (sym no_change) tt)
     (no_control one no_change) formed
 
 -- one that changes a variable
 pub change_does : {here : Here} {least : Reached} (one : Mark) (root : ℕ) → mark_entries one ≡ [] → mark_loops one ≡ [] → mark_blocks one ≡ []
-    → mark_changes one ≡ root ∷ [] → mark_controls one ≡ [] → MayChange here least root
+    → mark_changes one ≡ root ∷ [] → mark_controls one ≡ [] → is_bracket one ≡ false → MayChange here least root
     → ((o : Outline) → IsFurther least (whole_of o) → is_formed_mark o here.block one ≡ true) → Does here least Nothing (mark one) Anything
-change_does {here} {least} one root none no_loop no_block change no_control may formed =
-    marked_does one none no_loop no_block
+change_does {here} {least} one root none no_loop no_block change no_control plain may formed =
+    marked_does one none no_loop no_block plain
     (λ now more. subst (λ (l : List ℕ). Each (MayChange here now) (l ++ [])) (sym change) (change_later here least now root more may, tt)) no_control formed
 
 -- an entry, with the next number
 pub enter_does : {here : Here} {least : Reached} (marked : ℕ → Mark) → ((k : ℕ) → mark_entries (marked k) ≡ k ∷ [])
     → ((k : ℕ) → mark_loops (marked k) ≡ []) → ((k : ℕ) → mark_blocks (marked k) ≡ []) → ((k : ℕ) → mark_changes (marked k) ≡ [])
+    → ((k : ℕ) → is_bracket (marked k) ≡ false)
     → ((k : ℕ) (o : Outline) → IsFurther least (whole_of o) → is_formed_mark o here.block (marked k) ≡ true)
     → Does here least Nothing (enter_as marked) Anything
 unfolding enter
-enter_does {here} {least} marked one no_loop no_block no_change formed = record {
+enter_does {here} {least} marked one no_loop no_block no_change plain formed = record {
   does = λ s a is fine h.
       let x = split (if nat_le most_entries s.entries then Err (fault.TooMany s.latest) else Ok (after s.entries [] (record s { entries = s.entries + 1 })))
       (λ b. behind_marks b.look (mark (marked b.answer) b.passed)) a is in
@@ -392,6 +414,8 @@ enter_does {here} {least} marked one no_loop no_block no_change formed = record 
         changes = subst (λ (l : List ℕ). Each (MayChange here (reached new)) (l ++ [])) (sym (no_change number)) tt;
         controls = subst (λ (l : List ℕ). Each (IsFree here s new) (l ++ [])) (sym (no_control (marked number) (no_change number))) tt;
         formed = λ o more. both_true _ true (formed number o (further_still h more)) refl;
+        controls_kept = refl;
+        spared = λ roots held. one_mark (marked number) roots (plain number) (ap (list_all (is_none_of roots)) (no_change number));
       } in
       subst (Leaves here Nothing s Anything) same (g, tt);
 }
@@ -405,13 +429,14 @@ enter_does {here} {least} marked one no_loop no_block no_change formed = record 
 
 -- a loop, with the next two numbers
 enter_loop_at : {here : Here} (marked : ℕ → ℕ → Mark) → ((k l : ℕ) → mark_entries (marked k l) ≡ k ∷ [])
-    → ((k l : ℕ) → mark_loops (marked k l) ≡ l ∷ []) → ((k l : ℕ) → mark_blocks (marked k l) ≡ []) → (s : Passed) (a : After (Unit {0}))
+    → ((k l : ℕ) → mark_loops (marked k l) ≡ l ∷ []) → ((k l : ℕ) → mark_blocks (marked k l) ≡ [])
+    → ((k l : ℕ) → is_bracket (marked k l) ≡ false) → (s : Passed) (a : After (Unit {0}))
     → ((k l : ℕ) → Each (MayChange here (reached s)) (mark_changes (marked k l) ++ []))
     → ((k l : ℕ) (new : Passed) → new.variables ≡ s.variables → Each (IsFree here s new) (mark_controls (marked k l) ++ []))
     → ((k l : ℕ) (o : Outline) → IsFurther (reached s) (whole_of o) → is_formed_mark o here.block (marked k l) ≡ true)
     → Fine here s → enter_loop marked s ≡ Ok a → Leaves here Nothing s Anything a
 unfolding begin_loop enter
-enter_loop_at {here} marked one loop no_block s a changes controls formed fine is = by (nat_le most_entries s.entries) refl is
+enter_loop_at {here} marked one loop no_block plain s a changes controls formed fine is = by (nat_le most_entries s.entries) refl is
   where
     by : (test : Bool) → nat_le most_entries s.entries ≡ test
         → and_then (and_then (if test then Err (fault.TooMany s.latest) else Ok (after s.entries [] (record s { entries = s.entries + 1 })))
@@ -449,16 +474,20 @@ enter_loop_at {here} marked one loop no_block s a changes controls formed fine i
           changes = changes s.entries s.loops;
           controls = controls s.entries s.loops new refl;
           formed = λ o more. both_true _ true (formed s.entries s.loops o more) refl;
+          controls_kept = refl;
+          spared = λ roots held.
+              one_mark made roots (plain s.entries s.loops) (all_apart here s roots (mark_changes made) held (changes s.entries s.loops));
         } in
         subst (Leaves here Nothing s Anything) same (g, tt)
 
 pub enter_loop_does : {here : Here} {least : Reached} (marked : ℕ → ℕ → Mark) → ((k l : ℕ) → mark_entries (marked k l) ≡ k ∷ [])
     → ((k l : ℕ) → mark_loops (marked k l) ≡ l ∷ []) → ((k l : ℕ) → mark_blocks (marked k l) ≡ []) → ((k l : ℕ) → mark_changes (marked k l) ≡ [])
+    → ((k l : ℕ) → is_bracket (marked k l) ≡ false)
     → ((k l : ℕ) (o : Outline) → IsFurther least (whole_of o) → is_formed_mark o here.block (marked k l) ≡ true)
     → Does here least Nothing (enter_loop marked) Anything
-enter_loop_does {here} {least} marked one loop no_block no_change formed = record {
+enter_loop_does {here} {least} marked one loop no_block no_change plain formed = record {
   does = λ s a is fine h.
-      enter_loop_at marked one loop no_block s a
+      enter_loop_at marked one loop no_block plain s a
       (λ k l. subst (λ (m : List ℕ). Each (MayChange here (reached s)) (m ++ [])) (sym (no_change k l)) tt)
       (λ k l new same. subst (λ (m : List ℕ). Each (IsFree here s new) (m ++ [])) (sym (no_control (marked k l) (no_change k l))) tt)
       (λ k l o more. formed k l o (further_still h more)) fine is;
@@ -492,7 +521,8 @@ may_change_does {here} {least} place root type_id known = record {
   does = λ s a is fine h.
       let x = split_unless (list_any (λ control. nat_eq control root) s.controls) (fault.Threatened place) (after tt [] (with_threatened root s)) a is in
       let there = get_longer h.variables root known.variable known.is_there in
-      let k = by s (is_own s.enclosing.block (slice_get s.variables root)) refl fine there in
+      let apart = ap not x.0 in
+      let k = by s (is_own s.enclosing.block (slice_get s.variables root)) refl fine there apart in
       subst (Leaves here Nothing s (λ _ now. MayChange here now root)) x.1 k;
 }
   where
@@ -517,26 +547,28 @@ may_change_does {here} {least} place root type_id known = record {
     or_left false b is = absurd cc
 
     by : (s : Passed) (test : Bool) → is_own s.enclosing.block (slice_get s.variables root) ≡ test → Fine here s
-        → slice_get s.variables root ≡ Some known.variable
+        → slice_get s.variables root ≡ Some known.variable → not (list_any (λ control. nat_eq control root) s.controls) ≡ true
         → Leaves here Nothing s (λ _ now. MayChange here now root)
         (after (tt {0}) [] (if test then s else record s { threatened = with_one s.threatened root }))
-    by s true own fine there = (
-      grown_silent here s s refl refl refl refl refl refl refl refl refl (λ root is. is) refl fine,
+    by s true own fine there apart = (
+      grown_silent here s s refl refl refl refl refl refl refl refl refl (λ root is. is) refl refl fine,
       record {
         variable = known.variable;
         is_there = there;
         is_visible = known.is_visible;
         may = or_left (nat_eq known.variable.block here.block) (list_any (nat_eq root) s.threatened) (own_is s fine there own);
+        apart = apart;
       },
     )
-    by s false own fine there = (
+    by s false own fine there apart = (
       grown_silent here s (record s { threatened = with_one s.threatened root }) refl refl refl refl refl refl refl refl refl
-          (kept_with s.threatened root) refl fine,
+          (kept_with s.threatened root) refl refl fine,
       record {
         variable = known.variable;
         is_there = there;
         is_visible = known.is_visible;
         may = or_right (nat_eq known.variable.block here.block) (list_any (nat_eq root) (with_one s.threatened root)) (added s.threatened root);
+        apart = apart;
       },
     )
 
@@ -545,13 +577,13 @@ may_change_does {here} {least} place root type_id known = record {
 pub controlled_does : {here : Here} {least : Reached} {B : Type 0} {Has : List Stands → Type 0} {L : B → Reached → Type 0} (place : Place) (root : ℕ)
     (marked : ℕ → ℕ → Mark) (rest : Passing B) → ((k l : ℕ) → mark_entries (marked k l) ≡ k ∷ []) → ((k l : ℕ) → mark_loops (marked k l) ≡ l ∷ [])
     → ((k l : ℕ) → mark_blocks (marked k l) ≡ []) → ((k l : ℕ) → mark_changes (marked k l) ≡ root ∷ [])
-    → ((k l : ℕ) → mark_controls (marked k l) ≡ root ∷ []) → MayChange here least root
+    → ((k l : ℕ) → mark_controls (marked k l) ≡ root ∷ []) → ((k l : ℕ) → is_bracket (marked k l) ≡ false) → MayChange here least root
     → ((now : Reached) → IsFurther least now → is_local here.block (slice_get now.variables root) ≡ true → (k l : ℕ) (o : Outline)
     → IsFurther now (whole_of o) → is_formed_mark o here.block (marked k l) ≡ true)
     → ((now : Reached) → IsFurther least now → Does here now Has rest L)
     → Does here least Has (may_control place root >>= (λ _. enter_loop marked >>= (λ _. rest))) L
 unfolding may_control
-controlled_does {here} {least} {B} {Has} {L} place root marked rest one loop no_block changes controls may formed law = record {
+controlled_does {here} {least} {B} {Has} {L} place root marked rest one loop no_block changes controls plain may formed law = record {
   does = λ s b is fine h.
       let own = is_local s.enclosing.block (slice_get s.variables root) in
       let free = not (list_any (nat_eq root) s.threatened) in
@@ -569,7 +601,7 @@ controlled_does {here} {least} {B} {Has} {L} place root marked rest one loop no_
       let none = second_of own (list_any (nat_eq root) s.threatened) test.0 in
       let changed = change_later here least (reached s) root h may in
       let first =
-      enter_loop_at marked one loop no_block s u.0
+      enter_loop_at marked one loop no_block plain s u.0
       (λ k l. subst (λ (m : List ℕ). Each (MayChange here (reached s)) (m ++ [])) (sym (changes k l)) (changed, tt))
       (λ k l new same. subst (λ (m : List ℕ). Each (IsFree here s new) (m ++ [])) (sym (controls k l))
       (is_free s new changed.variable changed.is_there same local none, tt))
@@ -599,23 +631,176 @@ controlled_does {here} {least} {B} {Has} {L} place root marked rest one loop no_
       free = none;
     }
 
-pub begin_control_does : {here : Here} {least : Reached} (root : ℕ) → Does here least Nothing (begin_control root) Anything
-unfolding begin_control
-begin_control_does {here} root = record {
-  does = λ s a is fine h.
-      let new : Passed = record s { controls = s.controls ++ root ∷ [] } in
-      let same : after tt [] new ≡ a = cc in
-      subst (Leaves here Nothing s Anything) same (grown_silent here s new refl refl refl refl refl refl refl refl refl (λ root is. is) refl fine, tt);
+-- ---- the statement of a for
+
+-- the last one ends
+take_front : (roots : List ℕ) (root : ℕ) → take (length roots) (roots ++ root ∷ []) ≡ roots
+take_front [] root = refl
+take_front (first ∷ roots) root = ap (λ (more : List ℕ). first ∷ more) (take_front roots root)
+
+ended_control : (roots : List ℕ) (root : ℕ) → take (length (roots ++ root ∷ []) - 1) (roots ++ root ∷ []) ≡ roots
+ended_control roots root =
+    let counted = length-append roots (root ∷ []) in
+    let one_less : length (roots ++ root ∷ []) - 1 ≡ length roots = omega (arith, counted) in
+    ap (λ (n : ℕ). take n (roots ++ root ∷ [])) one_less ∙ take_front roots root
+
+-- what is apart from several is apart from all but the last
+apart_front : (roots : List ℕ) (last root : ℕ) → not (list_any (λ control. nat_eq control root) (roots ++ last ∷ [])) ≡ true
+    → not (list_any (λ control. nat_eq control root) roots) ≡ true
+apart_front roots last root apart =
+    by (list_any (λ control. nat_eq control root) roots) (list_any (λ control. nat_eq control root) (last ∷ []))
+    (ap not (sym (list_any-append (λ control. nat_eq control root) roots (last ∷ []))) ∙ apart)
+  where
+    by : (a b : Bool) → not (a || b) ≡ true → not a ≡ true
+    by true b is = absurd cc
+    by false b is = refl
+
+held_more : (roots controls : List ℕ) (root : ℕ) → AreHeld roots controls → AreHeld (root ∷ roots) (controls ++ root ∷ [])
+held_more roots controls root held other is =
+    list_any-append (λ control. nat_eq control other) controls (root ∷ [])
+    ∙ by (nat_eq root other) (list_any (λ one. nat_eq one other) roots) (list_any (λ control. nat_eq control other) controls) (held other) is
+  where
+    by : (same own there : Bool) → (own ≡ true → there ≡ true) → (same || own) ≡ true → (there || (same || false)) ≡ true
+    by true own true held is = refl
+    by true own false held is = refl
+    by false own there held is = ap (λ (b : Bool). b || false) (held is)
+
+-- a bracket tells nothing else
+ended_flat : {A : Type 0} (f : Mark → List A) (look : Look) → f ForEnds ≡ [] → flat_map f (look ++ (ForEnds ∷ [])) ≡ flat_map f look
+ended_flat f look none =
+    flat_map-append f look (ForEnds ∷ []) ∙ ap (λ l. flat_map f look ++ (l ++ [])) none ∙ append-nil (flat_map f look)
+
+module _ (root : ℕ) (look : Look) (s new : Passed) where
+  abbrev inside : Passed
+  inside = record s { controls = s.controls ++ root ∷ [] }
+
+  abbrev behind_it : Passed
+  behind_it = record new { controls = take (length new.controls - 1) new.controls }
+
+  abbrev bracketed : Look
+  bracketed = Controls root ∷ (look ++ (ForEnds ∷ []))
+
+  still_apart : new.controls ≡ inside.controls → (other : ℕ) → (reached new).apart other ≡ true → (reached behind_it).apart other ≡ true
+  still_apart kept other apart =
+      ap (λ (all : List ℕ). not (list_any (λ control. nat_eq control other) all))
+      (ap (λ (all : List ℕ). take (length all - 1) all) kept ∙ ended_control s.controls root)
+      ∙ apart_front s.controls root other (sym (ap (λ (all : List ℕ). not (list_any (λ control. nat_eq control other) all)) kept) ∙ apart)
+
+  grown_bracketed : {here : Here} {Has : List Stands → Type 0} → Grown here Has look inside new → Grown here Has bracketed s behind_it
+  grown_bracketed {here} {Has} g =
+      let entries = ended_flat mark_entries look refl in
+      let loops = ended_flat mark_loops look refl in
+      record {
+        regions = g.regions;
+        longer = g.longer;
+        lawful = g.lawful;
+        texts = g.texts;
+        variables_kept = g.variables_kept;
+        headings_kept = g.headings_kept;
+        enclosing_kept = g.enclosing_kept;
+        added = g.added;
+        sites = g.sites;
+        covered = g.covered;
+        few_sites = g.few_sites;
+        numbered = entries ∙ g.numbered ∙ ap (λ (l : List ℕ). range_with_len s.entries (length l)) (sym entries);
+        entered = omega (arith, g.entered, ap length entries);
+        few_entries = g.few_entries;
+        looped = loops ∙ g.looped ∙ ap (λ (l : List ℕ). range_with_len s.loops (length l)) (sym loops);
+        begun = omega (arith, g.begun, ap length loops);
+        inner = ended_flat mark_blocks look refl ∙ g.inner;
+        threats = g.threats;
+        assigns = g.assigns;
+        assigned = λ settled other is.
+            subst (λ (targets : List ℕ). (list_any (nat_eq other) s.assigned ≡ true) ⊎ (list_any (nat_eq other) targets ≡ true))
+            (sym (ended_flat mark_targets look refl)) (g.assigned settled other is);
+        changes =
+            subst (Each (MayChange here (reached behind_it))) (sym (ended_flat mark_changes look refl))
+            (each_more (MayChange here (reached new)) (MayChange here (reached behind_it)) (changes_of look) (λ other m. record {
+              variable = m.variable;
+              is_there = m.is_there;
+              is_visible = m.is_visible;
+              may = m.may;
+              apart = still_apart g.controls_kept other m.apart;
+            }) g.changes);
+        controls =
+            subst (Each (IsFree here s behind_it)) (sym (ended_flat mark_controls look refl))
+            (each_more (IsFree here inside new) (IsFree here s behind_it) (controls_of look) (λ other c. record {
+              variable = c.variable;
+              is_there = c.is_there;
+              own = c.own;
+              free = c.free;
+            }) g.controls);
+        formed = λ o h.
+            list_all-append (is_formed_mark o here.block) look (ForEnds ∷ [])
+            ∙ both_true _ _ (g.formed o (record {
+              sites = h.sites;
+              types = h.types;
+              variables = h.variables;
+              headings = h.headings;
+              threats = h.threats;
+              apart = λ other apart. refl;
+            })) refl;
+        controls_kept = ap (λ (all : List ℕ). take (length all - 1) all) g.controls_kept ∙ ended_control s.controls root;
+        spared = λ roots held.
+            spared_append (root ∷ roots) look (ForEnds ∷ [])
+            ∙ ap (option_and_then (λ (behind : List ℕ). spared_behind behind (ForEnds ∷ [])))
+            (g.spared (root ∷ roots) (held_more roots s.controls root held));
+      }
+
+-- so many control variables more
+fine_inside : {here : Here} (s : Passed) (controls : List ℕ) → Fine here s → Fine here (record s { controls = controls })
+fine_inside s controls fine = record {
+  sound = fine.sound;
+  lawful = fine.lawful;
+  texts = fine.texts;
+  few_sites = fine.few_sites;
+  few_entries = fine.few_entries;
+  block = fine.block;
+  around = fine.around;
+  stands = fine.stands;
+  fit = record {
+    fits = λ block signature is.
+        let f = fine.fit.fits block signature is in
+        record {
+          formals = λ position root at.
+              let formal = f.formals position root at in
+              record { variable = formal.variable; is_there = formal.is_there; is_parameter = formal.is_parameter; stands = formal.stands };
+          outcome = λ root at.
+              let outcome = f.outcome root at in
+              record {
+                variable = outcome.variable;
+                is_there = outcome.is_there;
+                of_block = outcome.of_block;
+                ordinal = outcome.ordinal;
+                stands = outcome.stands;
+              };
+        };
+  };
 }
 
-pub end_control_does : {here : Here} {least : Reached} → Does here least Nothing end_control Anything
-unfolding end_control
-end_control_does {here} = record {
+-- the statement of a for changes neither its control variable nor one of those round it
+pub for_body_does : {here : Here} {least : Reached} {Has : List Stands → Type 0} (root : ℕ) (body : Passing (Unit {0}))
+    → ((next : Reached) → Does here next Has body Anything) → Does here least Has (for_body root body) Anything
+unfolding for_body begin_control end_control
+for_body_does {here} {least} {Has} root body law = record {
   does = λ s a is fine h.
-      let new : Passed = record s { controls = take (length s.controls - 1) s.controls } in
-      let same : after tt [] new ≡ a = cc in
-      subst (Leaves here Nothing s Anything) same (grown_silent here s new refl refl refl refl refl refl refl refl refl (λ root is. is) refl fine, tt);
+      let start : Passed = record s { controls = s.controls ++ root ∷ [] } in
+      let to_end = λ (t : Passed). behind_marks [] (mark ForEnds (record t { controls = take (length t.controls - 1) t.controls })) in
+      let from_body = and_then (body start) (λ b. behind_marks b.look (to_end b.passed)) in
+      let x = split_behind [] (behind_marks (Controls root ∷ []) from_body) a is in
+      let y = split_behind (Controls root ∷ []) from_body x.0 x.1 in
+      let z = split (body start) (λ b. behind_marks b.look (to_end b.passed)) y.0 y.1 in
+      let b = z.0 in
+      let behind : Passed = record (b.passed) { controls = take (length b.passed.controls - 1) b.passed.controls } in
+      let ended : after tt (b.look ++ (ForEnds ∷ [])) behind ≡ y.0 = ok_same z.2 in
+      let whole : after tt (Controls root ∷ (b.look ++ (ForEnds ∷ []))) behind ≡ a =
+      ap (λ (e : After (Unit {0})). after e.answer (Controls root ∷ e.look) e.passed) ended ∙ y.2 ∙ x.2 in
+      let one = (law (reached start)).does start b z.1 (fine_inside s (s.controls ++ root ∷ []) fine) as_far in
+      subst (Leaves here Has s Anything) whole (grown_bracketed root b.look s b.passed one.0, tt);
 }
+  where
+    ok_same : {b c : After (Unit {0})} → ◌≡◌ {A = Checked (After (Unit {0}))} (Ok b) (Ok c) → b ≡ c
+    ok_same h = cc
 
 pub host_type_does : {here : Here} {least : Reached} (id : TypeId) → Does here least Nothing (host_type id) Anything
 unfolding host_type
@@ -634,7 +819,7 @@ enclosing_now_does {here} = record {
   does = λ s a is fine h.
       let same : after s.enclosing [] s ≡ a = cc in
       subst (Leaves here Nothing s (λ enclosing now. (enclosing.block ≡ here.block) × (enclosing.around ≡ here.around))) same
-      (grown_silent here s s refl refl refl refl refl refl refl refl refl (λ root is. is) refl fine, (fine.block, fine.around));
+      (grown_silent here s s refl refl refl refl refl refl refl refl refl (λ root is. is) refl refl fine, (fine.block, fine.around));
 }
 
 -- the heading of a block that was passed tells what is so
@@ -648,7 +833,7 @@ heading_at_does {here} block signature there = record {
       let found : get_or s.headings block program_heading ≡ at.0 = get_or_is s.headings block program_heading at.0 at.1 in
       let same : after (get_or s.headings block program_heading) [] s ≡ a = cc in
       subst (Leaves here Nothing s (λ headed now. (signature_passed headed ≡ signature) × FitsHeading now block signature)) same (
-        grown_silent here s s refl refl refl refl refl refl refl refl refl (λ root is. is) refl fine,
+        grown_silent here s s refl refl refl refl refl refl refl refl refl (λ root is. is) refl refl fine,
         (ap signature_passed found ∙ at.2, fine.fit.fits block signature known),
       );
 }
@@ -660,7 +845,7 @@ variable_at_does {here} root = record {
   does = λ s a is fine h.
       let same : after (slice_get s.variables root) [] s ≡ a = cc in
       subst (Leaves here Nothing s (λ found now. slice_get now.variables root ≡ found)) same
-      (grown_silent here s s refl refl refl refl refl refl refl refl refl (λ root is. is) refl fine, refl);
+      (grown_silent here s s refl refl refl refl refl refl refl refl refl (λ root is. is) refl refl fine, refl);
 }
 
 -- the target of what is assigned comes behind
@@ -694,6 +879,8 @@ assign_result_does {here} root owing = record {
         changes = tt;
         controls = tt;
         formed = λ o more. refl;
+        controls_kept = refl;
+        spared = λ roots held. refl;
       } in
       subst (Leaves here Nothing s Anything) same (g, tt);
 }
@@ -710,7 +897,7 @@ text_at_does {here} {least} number = record {
   does = λ s a is fine h.
       let same : after (get_or s.texts number []) [] s ≡ a = cc in
       subst (Leaves here Nothing s (λ text now. are_characters text ≡ true)) same
-      (grown_silent here s s refl refl refl refl refl refl refl refl refl (λ root is. is) refl fine, fine.texts number);
+      (grown_silent here s s refl refl refl refl refl refl refl refl refl (λ root is. is) refl refl fine, fine.texts number);
 }
 
 pub keep_text_does : {here : Here} {least : Reached} (text : List ℕ) → are_characters text ≡ true
@@ -744,6 +931,8 @@ keep_text_does {here} {least} text is_text = record {
         changes = tt;
         controls = tt;
         formed = λ o more. refl;
+        controls_kept = refl;
+        spared = λ roots held. refl;
       } in
       subst (Leaves here Nothing s Anything) same (g, tt);
 }
@@ -782,6 +971,8 @@ site_does {here} {least} kind place = record {
         changes = tt;
         controls = tt;
         formed = λ o more. refl;
+        controls_kept = refl;
+        spared = λ roots held. refl;
       } in
       subst (Leaves here (λ added. added ≡ (kind, place) ∷ []) s (λ id now. id < now.sites)) y.1 (g, omega (arith, counted));
 }

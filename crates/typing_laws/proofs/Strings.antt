@@ -173,6 +173,8 @@ module _ {here : Here} {least : Reached} where
           changes = tt;
           controls = tt;
           formed = λ o more. refl;
+          controls_kept = refl;
+          spared = λ roots held. refl;
         } in
         subst (Leaves here Nothing s (λ id now. nat_le n 65536 ≡ true)) made.same (g, made.few);
   }

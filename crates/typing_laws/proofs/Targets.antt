@@ -44,10 +44,10 @@ module _ (here : Here) where
   target_formed : {least : Reached} (root : ℕ) (selectors : List TreeSelector) (id : TypeId) (ordinal : Bool) → LeadsTo here root selectors id least
       → is_ordinal least.types id ≡ ordinal → MayChange here least root → Does here least Nothing (mark (target_mark ordinal root selectors id)) Anything
   target_formed {least} root selectors id true l is may =
-      change_does (Target root selectors (index_count selectors)) root refl refl refl refl refl may
+      change_does (Target root selectors (index_count selectors)) root refl refl refl refl refl refl may
       (λ n h. ordinal_formed here root selectors id least n l is h)
   target_formed {least} root selectors id false l is may =
-      change_does (WholeTarget root selectors (index_count selectors) id) root refl refl refl refl refl may
+      change_does (WholeTarget root selectors (index_count selectors) id) root refl refl refl refl refl refl may
       (λ n h. whole_formed here root selectors id least n l is h)
 
   -- it is of a type that stands in the table
@@ -135,7 +135,7 @@ module _ (here : Here) where
       → Does here least (Covers 0 (selector_places selectors rows)) (access_typing name selectors ws variable) StandsThere
   access_does {least} name selectors rows ws laws variable found =
       quietly (may_change_does name.place variable.0 variable.1 found.0) λ _ changed two may.
-      quietly (enter_does Access (λ n. refl) (λ n. refl) (λ n. refl) (λ n. refl) (λ n m h. refl)) λ _ entered three _.
+      quietly (enter_does Access (λ n. refl) (λ n. refl) (λ n. refl) (λ n. refl) (λ n. refl) (λ n m h. refl)) λ _ entered three _.
       let start = leads_nowhere here variable.0 variable.1 least found.0 found.1 in
       last (selected_does here variable.0 [] variable.1 selectors rows ws laws
       (leads_later here variable.0 [] variable.1 least entered (further_still two three) start))
@@ -332,6 +332,7 @@ module _ (here : Here) where
           is_there = m.is_there;
           is_visible = m.is_visible;
           may = m.may;
+          apart = m.apart;
         }) g.changes;
     controls =
         each_more (IsFree (owing_here here) old new) (IsFree here old new) (controls_of look) (λ root c. record {
@@ -341,6 +342,8 @@ module _ (here : Here) where
           free = c.free;
         }) g.controls;
     formed = g.formed;
+    controls_kept = g.controls_kept;
+    spared = g.spared;
   }
 
   -- its target is told behind what is assigned

@@ -29,6 +29,8 @@ use Rattle.typing_laws.specs.Lawful.{BeginWithRequired, IsOutlineOf, Lawful, Tel
 use Rattle.typing_laws.proofs.Grown.{both_true}
 use Rattle.typing_laws.proofs.Programs.{typing_is_lawful}
 use Rattle.typing_laws.proofs.Reached.{mapped_get}
+use Rattle.typing_laws.proofs.Unthreatened.{are_unthreatened}
+use Rattle.typing_laws.specs.Controls.{AreUnthreatened, spared_behind}
 
 -- ---- the headings that a tree's look tells
 
@@ -133,6 +135,8 @@ module _ (program : Program) (a : After (Unit {0})) (tree : Tree) (lawful : Lawf
         subst (λ n. is_well_formed_block (outline_of tree) n block ≡ true) plain (block_formed number block is));
     loops = loops_have_rows tree tree.loops.items has_bodies loops loops_are_numbered;
     bodies = has_bodies;
+    unthreatened =
+        are_unthreatened tree has_bodies (subst AreUnthreatened (sym looks) lawful.unthreatened) (ap (spared_behind []) looks ∙ lawful.spared);
   }
 
   pub has_types : BeginWithRequired tree.types

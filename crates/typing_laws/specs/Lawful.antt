@@ -16,7 +16,7 @@ use Rattle.typed_tree.specs.WellFormed.{Outline, most_variables, are_few_cells, 
 use Rattle.typing.specs.Passing.{After}
 use Rattle.typing.specs.Steps.{most_sites, most_entries}
 use Rattle.typing.specs.Typing.{typing}
-use Rattle.typing_laws.specs.Controls.{AreUnthreatened}
+use Rattle.typing_laws.specs.Controls.{AreUnthreatened, spared_behind}
 use Rattle.typing_laws.specs.Results.{are_assigned}
 
 -- the required types, and then a program's own
@@ -68,6 +68,8 @@ pub record Lawful (program : Program) (a : After (Unit {0})) : Type 0 where
   pub few_cells : (outline : Outline) → IsOutlineOf a outline → (number : ℕ) → are_few_cells outline number ≡ true
   -- the variable of each for statement is changed in its block alone
   pub unthreatened : AreUnthreatened a.look
+  -- and the statement of that for changes it nowhere
+  pub spared : spared_behind [] a.look ≡ Some []
   -- the result of each function is assigned somewhere
   pub assigned : are_assigned a.look ≡ true
   pub few_variables : length a.passed.variables ≤ most_variables

@@ -18,17 +18,17 @@ returns-in_err-last c = λ visits.
     (last-stopped c.args.place (said_way c.args.way) c.args.self.now c.tested_end.new.self visits c.met-first.result c.met-last.result c.in_ok-first.first
     c.met-first.ensures c.met-last.ensures (c.in_ok-first.ensures visits) c.tested_end-2.new.self fault (c.in_err-last.ensures visits))
 
-pub returns-in_err-control_change : goal.returns-in_err-control_change
-returns-in_err-control_change c = λ visits.
-    let fault = c.in_err-control_change.field-0.0 in
-    let left = c.from_residual-in_err-control_change in
+pub returns-in_err-bounds_fit : goal.returns-in_err-bounds_fit
+returns-in_err-bounds_fit c = λ visits.
+    let fault = c.in_err-bounds_fit.field-0.0 in
+    let left = c.from_residual-in_err-bounds_fit in
     way-given_up c.args.place (said_way c.args.way) c.args.self.now c.tested_end-2.new.self visits fault left.result left.ensures
     (control-stopped c.args.place (said_way c.args.way) c.args.self.now c.tested_end.new.self visits c.met-first.result c.met-last.result
     c.in_ok-first.first c.met-first.ensures c.met-last.ensures (c.in_ok-first.ensures visits) c.tested_end-2.new.self c.in_ok-last.last
-    (c.in_ok-last.ensures visits) c.tested_end-2.new.self fault (c.in_err-control_change.ensures visits))
+    (c.in_ok-last.ensures visits) c.tested_end-2.new.self fault (c.in_err-bounds_fit.ensures visits))
 
 pub returns : goal.returns
 returns c = λ visits.
     tests-done c.args.place (said_way c.args.way) c.args.self.now c.tested_end.new.self visits c.met-first.result c.met-last.result c.in_ok-first.first
     c.met-first.ensures c.met-last.ensures (c.in_ok-first.ensures visits) c.tested_end-2.new.self c.in_ok-last.last (c.in_ok-last.ensures visits)
-    c.tested_end-2.new.self (said_way c.with_values.result) c.with_values.ensures (c.in_ok-control_change.ensures visits)
+    c.tested_end-2.new.self (said_way c.with_values.result) c.with_values.ensures (c.in_ok-bounds_fit.ensures visits)
