@@ -12,9 +12,10 @@ use Rattle.std.specs.declared.boxed.Box.{Box}
 use Rattle.std.specs.declared.vec.Vec.{Vec}
 use Rattle.std.specs.declared.alloc.Global.{Global}
 use Rattle.expression_checker.specs.declared.fault.CheckFault.{CheckFault}
-use Rattle.expression_checker.specs.declared.fault.CheckFault.TheVariants.{Broken}
+use Rattle.expression_checker.specs.declared.fault.CheckFault.TheVariants.{Broken, Memory}
 use Rattle.abstract_state.specs.declared.known.Known.{Known}
-use Rattle.expression_checker.specs.Visits.{Visits, all_counted}
+use Rattle.expression_checker.specs.Visits.{HasBegun, Visits, all_counted, counted}
+use Rattle.expression_checker.proofs.Begun.{begun-all}
 use Rattle.cert_checker.specs.declared.walk.Walk.{Walk}
 use Rattle.component_states.specs.declared.state.State.{State as Kept}
 use Rattle.component_states.specs.View.{viewed}
@@ -26,7 +27,7 @@ use Rattle.cert_checker.specs.Walk.{statement_walk, all_of, branches, enter_head
 use Rattle.cert_checker.specs.Walk.{blocks_walk, first_context}
 use Rattle.cert_checker.specs.Walk.{program_walk, here, inside, loop_walk, parted, repeat_round, while_round, where_so}
 use Rattle.cert_checker.specs.View.{at_state, claims_in, context_of, else_walk, AtHead, EntersLoop, IsBehind, IsMoved, LeavesLoop, loop_in, Meets}
-use Rattle.cert_checker.specs.View.{Parts, Walks, viewed_in}
+use Rattle.cert_checker.specs.View.{Parts, Walks, said_state, viewed_in}
 use Rattle.cert_checker.specs.View.{AreLoops, Goes, IsLoop}
 use Rattle.structured_states.specs.Loops.{Claims, Round, claims_at, gives_claims, head_of, round_of, with_own}
 use Rattle.typed_tree.specs.declared.tree.Tree.{Tree}
@@ -42,8 +43,8 @@ use Rattle.structured_states.proofs.Claims.{item-cut, drop-past}
 use Rattle.expression_checker.specs.declared.flow.Flow.{Flow}
 use Rattle.expression_checker.specs.declared.grounds.Grounds.{Grounds}
 use Rattle.expression_checker.specs.View as expressions
-use Rattle.expression_checker.proofs.Steps.{breach-first, breach-same, breach-stays, counted-both}
-use Rattle.expression_checker.specs.View.{state_of}
+use Rattle.expression_checker.proofs.Steps.{breach-same, counted-both, left-at_once, left-behind, left-first, left-same, left-stays}
+use Rattle.expression_checker.specs.View.{IsLeft, state_of}
 
 -- ---- the walk, form by form
 
@@ -70,8 +71,8 @@ abbrev pub Does : {A : Type 0} → Walking A → Walk → Visits → Walk → Vi
 Does walking old before new after value = AreLoops (context_of old) old.aliases.now → Walks walking old before new after value
 
 -- it gave up over a piece
-abbrev pub Stops : {A : Type 0} → Walking A → Walk → CheckFault → Type 0
-Stops walking old fault = AreLoops (context_of old) old.aliases.now → IsBreachOf (walking (context_of old) (state_of old.flow)) fault
+abbrev pub Stops : {A : Type 0} → Walking A → Walk → Visits → Visits → CheckFault → Type 0
+Stops walking old before after fault = AreLoops (context_of old) old.aliases.now → IsLeft (walking (context_of old) (state_of old.flow)) before after fault
 
 -- it has them where it goes by the same
 pub loops-same : (old new : Walk) (context : Context) → context_of new ≡ context → new.aliases.now ≡ old.aliases.now
@@ -123,9 +124,12 @@ module _ {A B : Type 0} (first : Walking A) (next : A → Walking B) (old mid : 
     unbroken = sym both-broken ∙ two.unbroken;
   }
 
-  -- the first breach of the next is that of both
-  breach-later : (fault : CheckFault) → IsBreachOf later fault → IsBreachOf ((first >>= next) (context_of old) (state_of old.flow)) fault
-  breach-later fault is = breach-same later ((first >>= next) (context_of old) (state_of old.flow)) fault both-broken is
+  -- where the checker gave up over the next, it did so over both
+  left-later : (after : Visits) (fault : CheckFault) → IsLeft later between after fault
+      → IsLeft ((first >>= next) (context_of old) (state_of old.flow)) before after fault
+  left-later after fault is =
+      left-behind begun later ((first >>= next) (context_of old) (state_of old.flow)) before between after fault both-broken
+      (ap (λ w. begun.linked ++ w.linked) (sym then-same)) one.visits_are is
 
   -- the checker has the aliases of the loops behind the first
   loops-then : AreLoops (context_of old) old.aliases.now → AreLoops (context_of mid) mid.aliases.now
@@ -166,12 +170,31 @@ pub goes-then : {A B : Type 0} (first : Walking A) (next : A → Walking B)
 goes-then first next old mid new before between after a (Ok b) one two = λ ready.
     walks-then first next old mid before between a (one ready) new after b (two (loops-then first next old mid before between a (one ready) ready))
 goes-then first next old mid new before between after a (Err fault) one two = λ ready.
-    breach-later first next old mid before between a (one ready) fault (two (loops-then first next old mid before between a (one ready) ready))
+    left-later first next old mid before between a (one ready) after fault (two (loops-then first next old mid before between a (one ready) ready))
 
 -- the checker gave up over the first piece: so it does over both
 pub goes-stopped : {A B : Type 0} (first : Walking A) (next : A → Walking B) (old new : Walk) (before after : Visits) (fault : CheckFault)
-    → Stops first old fault → Goes (first >>= next) old before (Err fault) new after
-goes-stopped first next old new before after fault is = λ ready. breach-first (context_of old) first next (state_of old.flow) fault (is ready)
+    → Stops first old before after fault → Goes (first >>= next) old before (Err fault) new after
+goes-stopped first next old new before after fault is = λ ready. left-first (context_of old) first next (state_of old.flow) before after fault (is ready)
+
+-- it found no memory before the first entry
+pub goes-nowhere : {A : Type 0} (walk : Walking A) (old new : Walk) (visits : Visits) (fault : CheckFault) → fault ≡ Memory
+    → Goes {A = A} walk old visits (Err fault) new visits
+goes-nowhere walk old new visits fault is = λ ready.
+    let walked = walk (context_of old) (state_of old.flow) in
+    left-at_once walked visits fault (subst (IsBreachOf walked) (sym is) tt)
+
+-- an entry
+pub goes-entered : (number : ℕ) (old : Walk) (before after : Visits) → after ≡ counted number before → Goes (enter number) old before (Ok tt) old after
+goes-entered number old before after is = λ ready. record {
+  context_is = refl;
+  aliases_are = refl;
+  value_is = refl;
+  state_is = refl;
+  open_is = sym (append-nil old.flow.open_ids.items);
+  visits_are = is;
+  unbroken = refl;
+}
 
 -- by what a walk is
 pub goes-as : {A : Type 0} (walk form : Walking A) (old new : Walk) (before after : Visits) (result : Result A CheckFault) → walk ≡ form
@@ -194,8 +217,8 @@ goes-here walk form old new before after (Ok value) is goes = λ ready.
       unbroken = ap (λ w. w.broken) is ∙ one.unbroken;
     }
 goes-here walk form old new before after (Err fault) is goes = λ ready.
-    breach-same (form (context_of old) (state_of old.flow)) (walk (context_of old) (state_of old.flow)) fault (ap (λ w. w.broken) (sym is))
-    (goes ready)
+    left-same (form (context_of old) (state_of old.flow)) (walk (context_of old) (state_of old.flow)) before after fault (ap (λ w. w.broken) (sym is))
+    (ap (λ w. w.linked) (sym is)) (goes ready)
 
 -- what the checker answers where a rule asks for something
 abbrev pub answered : Bool → Rule → SourcePlace → Result (Unit {0}) CheckFault
@@ -212,7 +235,8 @@ asked-told true rule place old visits = λ ready. record {
   visits_are = refl;
   unbroken = refl;
 }
-asked-told false rule place old visits = λ ready. refl
+asked-told false rule place old visits = λ ready.
+    left-at_once (asked false rule place (context_of old) (state_of old.flow)) visits (Broken rule place) refl
 
 -- what a rule asks for where the checker is
 pub asked-goes : (walk : Walking (Unit {0})) (kept is_kept : Bool) (rule : Rule) (place : SourcePlace) (old : Walk) (visits : Visits)
@@ -248,7 +272,7 @@ all-step walk items i item old mid new before between after value result inside 
     (goes-then (walk item) (λ _. all_of (map walk (drop (i + 1) items))) old mid new before between after value result one two)
 
 pub all-stopped : {X : Type 0} (walk : X → Walking (Unit {0})) (items : List X) (i : ℕ) (item : X) (old new : Walk) (before after : Visits) (fault : CheckFault)
-    → i < length items → item ≡ get_or items i item → Stops (walk item) old fault
+    → i < length items → item ≡ get_or items i item → Stops (walk item) old before after fault
     → Goes (all_of (map walk (drop i items))) old before (Err fault) new after
 all-stopped walk items i item old new before after fault inside is one =
     goes-as (all_of (map walk (drop i items))) (walk item >>= λ _. all_of (map walk (drop (i + 1) items))) old new before after (Err fault)
@@ -273,6 +297,27 @@ moved-same walking state old new moved =
 pub moved-loops : (state : State) (old new : Walk) → IsMoved state old new → AreLoops (context_of old) old.aliases.now
     → AreLoops (context_of new) new.aliases.now
 moved-loops state old new moved ready = subst (λ (walk : Walk). AreLoops (context_of walk) walk.aliases.now) (sym moved.only_state) ready
+
+-- the entries of both ways
+branches-counted : (one_state other_state : State → State) (one_walk other_walk : Walking (Unit {0})) (old taken mid start done : Walk)
+    (before between after : Visits)
+    → IsMoved (one_state (state_of old.flow)) old taken → Does one_walk taken before mid between tt
+    → IsMoved (other_state (state_of old.flow)) mid start → Does other_walk start between done after tt → AreLoops (context_of old) old.aliases.now
+    → after ≡ all_counted (numbers_of (parted one_state other_state one_walk other_walk (context_of old) (state_of old.flow)).linked) before
+branches-counted one_state other_state one_walk other_walk old taken mid start done before between after to_yes first_did to_no second_did ready =
+    let first : Walked (Unit {0}) = one_walk (context_of old) (one_state (state_of old.flow)) in
+    let second : Walked (Unit {0}) = other_walk (context_of old) (other_state (state_of old.flow)) in
+    let first_same = moved-same one_walk (one_state (state_of old.flow)) old taken to_yes in
+    let taken_ready = moved-loops (one_state (state_of old.flow)) old taken to_yes ready in
+    let one = first_did taken_ready in
+    let context : context_of mid ≡ context_of old = one.context_is ∙ ap context_of to_yes.only_state in
+    let mid_ready = loops-same taken mid (context_of taken) one.context_is one.aliases_are taken_ready in
+    let two = second_did (moved-loops (other_state (state_of old.flow)) mid start to_no mid_ready) in
+    let second_same : other_walk (context_of start) (state_of start.flow) ≡ second =
+    moved-same other_walk (other_state (state_of old.flow)) mid start to_no ∙ ap (λ x. other_walk x (other_state (state_of old.flow))) context in
+    two.visits_are ∙ ap (λ w. all_counted (numbers_of w.linked) between) second_same
+    ∙ ap (all_counted (numbers_of second.linked)) (one.visits_are ∙ ap (λ w. all_counted (numbers_of w.linked) before) first_same)
+    ∙ sym (counted-both first.linked second.linked before)
 
 -- the ways of two branches, and where they meet
 pub branches-walk : (one_state other_state : State → State) (one_walk other_walk : Walking (Unit {0})) (old taken mid start done new : Walk)
@@ -307,12 +352,20 @@ branches-walk one_state other_state one_walk other_walk old taken mid start done
           ∙ ap (λ (w : Walk). w.flow.open_ids.items ++ (other_walk (context_of start) (state_of start.flow)).open_ids) to_no.only_state
           ∙ ap (λ w. mid.flow.open_ids.items ++ w.open_ids) second_same ∙ ap (λ ids. ids ++ second.open_ids) first_open
           ∙ append_assoc old.flow.open_ids.items first.open_ids second.open_ids;
-      visits_are = two.visits_are ∙ ap (λ w. all_counted (numbers_of w.linked) between) second_same
-          ∙ ap (all_counted (numbers_of second.linked)) (one.visits_are ∙ ap (λ w. all_counted (numbers_of w.linked) before) first_same)
-          ∙ sym (counted-both first.linked second.linked before);
+      visits_are = branches-counted one_state other_state one_walk other_walk old taken mid start done before between after to_yes first_did to_no
+          second_did ready;
       unbroken = ap (λ b. b ++ second.broken) (ap (λ w. w.broken) (sym first_same) ∙ one.unbroken)
           ∙ ap (λ w. w.broken) (sym second_same) ∙ two.unbroken;
     }
+
+-- the checker goes on to the other way behind the first one
+other-way : (one_state other_state : State → State) (one_walk : Walking (Unit {0})) (old taken mid start : Walk) (before between : Visits) (otherwise : Kept)
+    → Parts one_state other_state old (Ok otherwise) taken → Walks one_walk taken before mid between tt
+    → start.flow.state ≡ otherwise → start ≡ at_state start.flow.state mid → IsMoved (other_state (state_of old.flow)) mid start
+other-way one_state other_state one_walk old taken mid start before between otherwise parts first replaced only = record {
+  only_state = only;
+  says = viewed-moved mid start otherwise replaced only ∙ viewed-same old mid otherwise (first.context_is ∙ ap context_of parts.0.only_state) ∙ parts.1;
+}
 
 -- where the ways meet, or no memory is found there
 pub branches-done : (one_state other_state : State → State) (one_walk other_walk : Walking (Unit {0})) (old taken mid start done new : Walk)
@@ -328,10 +381,7 @@ branches-done one_state other_state one_walk other_walk old taken mid start done
     let taken_ready = moved-loops (one_state (state_of old.flow)) old taken parts.0 ready in
     let first = one taken_ready in
     let mid_ready = loops-same taken mid (context_of taken) first.context_is first.aliases_are taken_ready in
-    let to_no : IsMoved (other_state (state_of old.flow)) mid start = record {
-      only_state = only;
-      says = viewed-moved mid start otherwise replaced only ∙ viewed-same old mid otherwise (first.context_is ∙ ap context_of parts.0.only_state) ∙ parts.1;
-    } in
+    let to_no = other-way one_state other_state one_walk old taken mid start before between otherwise parts first replaced only in
     let second = two (moved-loops (other_state (state_of old.flow)) mid start to_no mid_ready) in
     let behind_same : viewed_in done behind ≡ state_of mid.flow =
     viewed-same mid done behind (second.context_is ∙ ap context_of only) ∙ ap (viewed_in mid) behind_is in
@@ -340,21 +390,52 @@ branches-done one_state other_state one_walk other_walk old taken mid start done
 branches-done one_state other_state one_walk other_walk old taken mid start done new before between after behind otherwise
     (Err fault) parts one behind_is replaced only two
     is = λ ready.
-    subst (IsBreachOf (parted one_state other_state one_walk other_walk (context_of old) (state_of old.flow))) (sym is) tt
+    let whole = parted one_state other_state one_walk other_walk (context_of old) (state_of old.flow) in
+    let taken_ready = moved-loops (one_state (state_of old.flow)) old taken parts.0 ready in
+    let first = one taken_ready in
+    let to_no = other-way one_state other_state one_walk old taken mid start before between otherwise parts first replaced only in
+    record {
+      breach_is = subst (IsBreachOf whole) (sym is) tt;
+      visits_are = begun-all (numbers_of whole.linked) before after
+          (branches-counted one_state other_state one_walk other_walk old taken mid start done before between after parts.0 one to_no two ready);
+    }
 
 -- the checker gave up on the first way
 pub branches-stopped : (one_state other_state : State → State) (one_walk other_walk : Walking (Unit {0})) (old taken new : Walk) (before after : Visits)
     (otherwise : Kept)
     (fault : CheckFault)
-    → Parts one_state other_state old (Ok otherwise) taken → Stops one_walk taken fault
+    → Parts one_state other_state old (Ok otherwise) taken → Stops one_walk taken before after fault
     → Goes (parted one_state other_state one_walk other_walk) old before (Err fault) new after
 branches-stopped one_state other_state one_walk other_walk old taken new before after otherwise fault parts is = λ ready.
     let first : Walked (Unit {0}) = one_walk (context_of old) (one_state (state_of old.flow)) in
     let second : Walked (Unit {0}) = other_walk (context_of old) (other_state (state_of old.flow)) in
-    breach-stays first second fault (parted one_state other_state one_walk other_walk (context_of old) (state_of old.flow)) refl
-    (breach-same (one_walk (context_of taken) (state_of taken.flow)) first fault
-    (ap (λ w. w.broken) (moved-same one_walk (one_state (state_of old.flow)) old taken parts.0))
+    let same = moved-same one_walk (one_state (state_of old.flow)) old taken parts.0 in
+    left-stays first second (parted one_state other_state one_walk other_walk (context_of old) (state_of old.flow)) before after fault refl refl
+    (left-same (one_walk (context_of taken) (state_of taken.flow)) first before after fault (ap (λ w. w.broken) same) (ap (λ w. w.linked) same)
     (is (moved-loops (one_state (state_of old.flow)) old taken parts.0 ready)))
+
+-- it gave up on the other way
+pub branches-half : (one_state other_state : State → State) (one_walk other_walk : Walking (Unit {0})) (old taken mid start new : Walk)
+    (before between after : Visits) (otherwise : Kept) (fault : CheckFault)
+    → Parts one_state other_state old (Ok otherwise) taken → Does one_walk taken before mid between tt
+    → start.flow.state ≡ otherwise → start ≡ at_state start.flow.state mid → Stops other_walk start between after fault
+    → Goes (parted one_state other_state one_walk other_walk) old before (Err fault) new after
+branches-half one_state other_state one_walk other_walk old taken mid start new before between after otherwise fault parts one replaced only is = λ ready.
+    let first : Walked (Unit {0}) = one_walk (context_of old) (one_state (state_of old.flow)) in
+    let second : Walked (Unit {0}) = other_walk (context_of old) (other_state (state_of old.flow)) in
+    let first_same = moved-same one_walk (one_state (state_of old.flow)) old taken parts.0 in
+    let taken_ready = moved-loops (one_state (state_of old.flow)) old taken parts.0 ready in
+    let done = one taken_ready in
+    let context : context_of mid ≡ context_of old = done.context_is ∙ ap context_of parts.0.only_state in
+    let mid_ready = loops-same taken mid (context_of taken) done.context_is done.aliases_are taken_ready in
+    let to_no = other-way one_state other_state one_walk old taken mid start before between otherwise parts done replaced only in
+    let second_same : other_walk (context_of start) (state_of start.flow) ≡ second =
+    moved-same other_walk (other_state (state_of old.flow)) mid start to_no ∙ ap (λ x. other_walk x (other_state (state_of old.flow))) context in
+    left-behind first second (parted one_state other_state one_walk other_walk (context_of old) (state_of old.flow)) before between after fault
+    (sym (ap (λ b. b ++ second.broken) (ap (λ w. w.broken) (sym first_same) ∙ done.unbroken))) refl
+    (done.visits_are ∙ ap (λ w. all_counted (numbers_of w.linked) before) first_same)
+    (left-same (other_walk (context_of start) (state_of start.flow)) second between after fault (ap (λ w. w.broken) second_same)
+    (ap (λ w. w.linked) second_same) (is (moved-loops (other_state (state_of old.flow)) mid start to_no mid_ready)))
 
 -- a conditional statement from its entry on
 pub if-begun : (statement : Stmt) (number : ℕ) (condition : Expr) (consequence : Box Stmt Global) (alternative : Option (Box Stmt Global)) (inner : Stmt)
@@ -376,7 +457,7 @@ if-begun statement number condition consequence alternative inner old entered va
 pub if-stopped : (statement : Stmt) (number : ℕ) (condition : Expr) (consequence : Box Stmt Global) (alternative : Option (Box Stmt Global))
     (old entered new : Walk) (before between after : Visits) (fault : CheckFault)
     → statement ≡ stmt.If number condition consequence alternative → Does (enter number) old before entered between tt
-    → Stops (value_walk condition) entered fault
+    → Stops (value_walk condition) entered between after fault
     → Goes (statement_walk statement) old before (Err fault) new after
 if-stopped statement number condition consequence alternative old entered new before between after fault is one stopped =
     let chosen = branches condition (statement_walk consequence.value) (else_walk alternative) in
@@ -388,16 +469,17 @@ if-stopped statement number condition consequence alternative old entered new be
 -- ---- loops
 
 -- the facts of a loop weren't given where it is entered
-pub loop-not_entered : (number : ℕ) (place : SourcePlace) (control : Option ℕ) (walking : Walking State) (old new : Walk) (before after : Visits)
+pub loop-not_entered : (number : ℕ) (place : SourcePlace) (control : Option ℕ) (walking : Walking State) (old new : Walk) (visits : Visits)
     (fault : CheckFault)
     → EntersLoop number place control old (Err fault) new
-    → Goes (loop_walk number place control walking) old before (Err fault) new after
-loop-not_entered number place control walking old new before after fault is = λ ready.
+    → Goes (loop_walk number place control walking) old visits (Err fault) new visits
+loop-not_entered number place control walking old new visits fault is = λ ready.
     let facts = (claims_in number old).facts in
     let loop = loop_in number old in
     let rest = enter_head (with_own control loop) facts >>= λ _. (inside (loop) walking >>= λ behind.
     (facts_given LoopTurn place facts >>= λ _. with_state behind)) in
-    breach-first (context_of old) (facts_given LoopEntry place facts) (λ _. rest) (state_of old.flow) fault (is ready)
+    left-first (context_of old) (facts_given LoopEntry place facts) (λ _. rest) (state_of old.flow) visits visits fault
+    (left-at_once (facts_given LoopEntry place facts (context_of old) (state_of old.flow)) visits fault (is ready))
 
 module _ (number : ℕ) (place : SourcePlace) (control : Option ℕ) (walking : Walking State) (old headed : Walk) where
   module _ (at_head : AtHead number control old headed) where
@@ -432,12 +514,14 @@ module _ (number : ℕ) (place : SourcePlace) (control : Option ℕ) (walking : 
         ap (λ given. breach_unless given LoopEntry place
         ++ (turn.broken ++ ((facts_given LoopTurn place claims.facts (context_of old) turn.after).broken ++ []))) at_head.given
 
-    round-stopped : (fault : CheckFault) → IsBreachOf (walking (context_of headed) (state_of headed.flow)) fault → IsBreachOf whole fault
-    round-stopped fault is =
+    round-stopped : (before after : Visits) (fault : CheckFault) → IsLeft (walking (context_of headed) (state_of headed.flow)) before after fault
+        → IsLeft whole before after fault
+    round-stopped before after fault is =
         let rest : Walked (Unit {0}) = followed (facts_given LoopTurn place claims.facts (context_of old) turn.after)
         (with_state turn.value (context_of old) turn.after) in
-        breach-stays turn rest fault whole entered-unbroken
-        (breach-same (walking (context_of headed) (state_of headed.flow)) turn fault (ap (λ w. w.broken) turn-same) is)
+        left-stays turn rest whole before after fault entered-unbroken refl
+        (left-same (walking (context_of headed) (state_of headed.flow)) turn before after fault (ap (λ w. w.broken) turn-same) (ap (λ w. w.linked) turn-same)
+        is)
 
     module _ (rounded : Walk) (before after : Visits) (behind : Kept) (one : Walks walking headed before rounded after (viewed_in headed behind)) where
       context-within : context_of rounded ≡ inner_context
@@ -466,6 +550,12 @@ module _ (number : ℕ) (place : SourcePlace) (control : Option ℕ) (walking : 
       whole-broken =
           entered-unbroken ∙ ap (λ b. b ++ (breach_unless (gives_claims tree_of turn.after claims.facts) LoopTurn place ++ [])) turn-unbroken
 
+      -- its entries are those of the round
+      whole-counted : after ≡ all_counted (numbers_of whole.linked) before
+      whole-counted =
+          one.visits_are ∙ ap (λ (w : Walked State). all_counted (numbers_of w.linked) before) turn-same
+          ∙ ap (λ linked. all_counted (numbers_of linked) before) (sym (append-nil turn.linked))
+
       loop-behind : (new : Walk) → IsBehind number behind (context_of old).rounds rounded new
           → Walks (loop_walk number place control walking) old before new after tt
       loop-behind new behind_loop =
@@ -482,26 +572,27 @@ module _ (number : ℕ) (place : SourcePlace) (control : Option ℕ) (walking : 
                 ∙ ap (λ (ids : Vec ℕ Global). ids.items ++ (walking (context_of headed) (state_of headed.flow)).open_ids) at_head.open_is
                 ∙ ap (λ (w : Walked State). old.flow.open_ids.items ++ w.open_ids) turn-same
                 ∙ ap (λ ids. old.flow.open_ids.items ++ ids) (sym (append-nil turn.open_ids));
-            visits_are = one.visits_are ∙ ap (λ (w : Walked State). all_counted (numbers_of w.linked) before) turn-same
-                ∙ ap (λ linked. all_counted (numbers_of linked) before) (sym (append-nil turn.linked));
+            visits_are = whole-counted;
             unbroken = whole-broken ∙ ap (λ given. breach_unless given LoopTurn place ++ []) given;
           }
 
       loop-not_left : (fault : CheckFault)
           → IsBreachOf (facts_given LoopTurn place (claims_in number rounded).facts (context_of rounded) (state_of rounded.flow)) fault
-          → IsBreachOf whole fault
-      loop-not_left fault is =
-          breach-same (facts_given LoopTurn place (claims_in number rounded).facts (context_of rounded) (state_of rounded.flow)) whole fault
-          (ap (λ (c : Claims). breach_unless (gives_claims (context_of rounded).tree (state_of rounded.flow) c.facts) LoopTurn place) claims-same
-          ∙ ap (λ (tree : Tree). breach_unless (gives_claims tree (state_of rounded.flow) claims.facts) LoopTurn place) tree-same
-          ∙ ap (λ (s : State). breach_unless (gives_claims tree_of s claims.facts) LoopTurn place) after-same
-          ∙ sym (append-nil (breach_unless (gives_claims tree_of turn.after claims.facts) LoopTurn place)) ∙ sym whole-broken) is
+          → IsLeft whole before after fault
+      loop-not_left fault is = record {
+        breach_is = breach-same (facts_given LoopTurn place (claims_in number rounded).facts (context_of rounded) (state_of rounded.flow)) whole fault
+            (ap (λ (c : Claims). breach_unless (gives_claims (context_of rounded).tree (state_of rounded.flow) c.facts) LoopTurn place) claims-same
+            ∙ ap (λ (tree : Tree). breach_unless (gives_claims tree (state_of rounded.flow) claims.facts) LoopTurn place) tree-same
+            ∙ ap (λ (s : State). breach_unless (gives_claims tree_of s claims.facts) LoopTurn place) after-same
+            ∙ sym (append-nil (breach_unless (gives_claims tree_of turn.after claims.facts) LoopTurn place)) ∙ sym whole-broken) is;
+        visits_are = begun-all (numbers_of whole.linked) before after whole-counted;
+      }
 
   module _ (entered : EntersLoop number place control old (Ok tt) headed) where
     -- the checker gave up in a round
-    pub loop-stopped : (new : Walk) (before after : Visits) (fault : CheckFault) → Stops walking headed fault
+    pub loop-stopped : (new : Walk) (before after : Visits) (fault : CheckFault) → Stops walking headed before after fault
         → Goes (loop_walk number place control walking) old before (Err fault) new after
-    loop-stopped new before after fault is = λ ready. round-stopped (entered ready) fault (is (inner-ready (entered ready) ready))
+    loop-stopped new before after fault is = λ ready. round-stopped (entered ready) before after fault (is (inner-ready (entered ready) ready))
 
     pub loop-done : (rounded : Walk) (before after : Visits) (behind : Kept) → Does walking headed before rounded after (viewed_in headed behind)
         → (result : Result (Unit {0}) CheckFault) (new : Walk) → LeavesLoop number place behind rounded result new
@@ -617,6 +708,81 @@ repeat_round-done body condition known old bodied valued taken new before betwee
       unbroken = refl;
     })) ready
 
+-- ---- where the checker gave up in a round
+
+-- by the fault that is handed on
+pub state-given_up : (walk : Walking State) (old new : Walk) (before after : Visits) (fault : CheckFault) (result : Result Kept CheckFault)
+    → IsErr result × IsErrAnd result (λ e. e ≡ fault)
+    → Goes {A = State} walk old before (Err fault) new after → Goes walk old before (said_state old result) new after
+state-given_up walk old new before after fault (Ok state) is goes = absurd is.1
+state-given_up walk old new before after fault (Err other) is goes =
+    subst (λ f. Goes {A = State} walk old before (Err f) new after) (sym is.1) goes
+
+-- what comes behind the condition of a while
+abbrev while_rest : Expr → Walking (Unit {0}) → Known → Walking State
+while_rest condition body known =
+    here >>= λ tested. (with_state (where_so true condition known tested) >>= λ _. (body >>= λ _. give (where_so false condition known tested)))
+
+-- it gave up in the condition of a while
+pub while_round-untested : (condition : Expr) (body : Walking (Unit {0})) (old new : Walk) (before after : Visits) (fault : CheckFault)
+    → Stops (value_walk condition) old before after fault → Goes {A = State} (while_round condition body) old before (Err fault) new after
+while_round-untested condition body old new before after fault stopped =
+    goes-stopped (value_walk condition) (while_rest condition body) old new before after fault stopped
+
+-- behind it there was no memory
+pub while_round-unparted : (condition : Expr) (body : Walking (Unit {0})) (known : Known) (old valued new : Walk) (before after : Visits)
+    (fault : CheckFault)
+    → Does (value_walk condition) old before valued after known → fault ≡ Memory
+    → Goes {A = State} (while_round condition body) old before (Err fault) new after
+while_round-unparted condition body known old valued new before after fault one is =
+    goes-then (value_walk condition) (while_rest condition body) old valued new before after after known (Err fault) one
+    (goes-nowhere (while_rest condition body known) valued new after fault is)
+
+-- it gave up in the body
+pub while_round-stopped : (condition : Expr) (body : Walking (Unit {0})) (known : Known) (old valued taken new : Walk) (before between after : Visits)
+    (behind : Kept) (fault : CheckFault)
+    → Does (value_walk condition) old before valued between known
+    → Parts (where_so true condition known) (where_so false condition known) valued (Ok behind) taken → Stops body taken between after fault
+    → Goes {A = State} (while_round condition body) old before (Err fault) new after
+while_round-stopped condition body known old valued taken new before between after behind fault one parts stopped =
+    let start = where_so true condition known (state_of valued.flow) in
+    let was : Walked (Unit {0}) = body (context_of valued) start in
+    let same = moved-same body start valued taken parts.0 in
+    goes-then (value_walk condition) (while_rest condition body) old valued new before between after known (Err fault) one (λ ready.
+    left-stays was (give (tt {0}) (context_of valued) was.after) (while_rest condition body known (context_of valued) (state_of valued.flow)) between after
+    fault refl refl
+    (left-same (body (context_of taken) (state_of taken.flow)) was between after fault (ap (λ w. w.broken) same) (ap (λ w. w.linked) same)
+    (stopped (moved-loops start valued taken parts.0 ready))))
+
+-- what comes behind the condition of a repeat
+abbrev repeat_rest : Expr → Known → Walking State
+repeat_rest condition known =
+    here >>= λ tested. (with_state (where_so false condition known tested) >>= λ _. give (where_so true condition known tested))
+
+-- it gave up in the body of a repeat
+pub repeat_round-stopped : (body : Walking (Unit {0})) (condition : Expr) (old new : Walk) (before after : Visits) (fault : CheckFault)
+    → Stops body old before after fault → Goes {A = State} (repeat_round body condition) old before (Err fault) new after
+repeat_round-stopped body condition old new before after fault stopped =
+    goes-stopped body (λ _. value_walk condition >>= repeat_rest condition) old new before after fault stopped
+
+-- in the condition
+pub repeat_round-untested : (body : Walking (Unit {0})) (condition : Expr) (old bodied new : Walk) (before between after : Visits) (fault : CheckFault)
+    → Does body old before bodied between tt → Stops (value_walk condition) bodied between after fault
+    → Goes {A = State} (repeat_round body condition) old before (Err fault) new after
+repeat_round-untested body condition old bodied new before between after fault one stopped =
+    goes-then body (λ _. value_walk condition >>= repeat_rest condition) old bodied new before between after tt (Err fault) one
+    (goes-stopped (value_walk condition) (repeat_rest condition) bodied new between after fault stopped)
+
+-- behind it there was no memory
+pub repeat_round-unparted : (body : Walking (Unit {0})) (condition : Expr) (known : Known) (old bodied valued new : Walk) (before between after : Visits)
+    (fault : CheckFault)
+    → Does body old before bodied between tt → Does (value_walk condition) bodied between valued after known → fault ≡ Memory
+    → Goes {A = State} (repeat_round body condition) old before (Err fault) new after
+repeat_round-unparted body condition known old bodied valued new before between after fault one two is =
+    goes-then body (λ _. value_walk condition >>= repeat_rest condition) old bodied new before between after tt (Err fault) one
+    (goes-then (value_walk condition) (repeat_rest condition) bodied valued new between after after known (Err fault) two
+    (goes-nowhere (repeat_rest condition known) valued new after fault is))
+
 -- ---- the whole program
 
 module _ (tree : Tree) (certificate : Certificate) (begun : Walk) (context_is : context_of begun ≡ first_context tree certificate)
@@ -642,14 +808,23 @@ module _ (tree : Tree) (certificate : Certificate) (begun : Walk) (context_is : 
     pub program-unbroken : (program_walk tree certificate).broken ≡ []
     program-unbroken = ap (λ w. w.broken) (sym program-same) ∙ (walked loops).unbroken
 
-  pub program-stopped : (fault : CheckFault) → Stops over_blocks begun fault → IsBreachOf (program_walk tree certificate) fault
-  program-stopped fault is =
-      breach-same (over_blocks (context_of begun) (state_of begun.flow)) (program_walk tree certificate) fault (ap (λ w. w.broken) program-same)
-      (is loops)
+  pub program-stopped : (before after : Visits) (fault : CheckFault) → Stops over_blocks begun before after fault
+      → IsLeft (program_walk tree certificate) before after fault
+  program-stopped before after fault is =
+      left-same (over_blocks (context_of begun) (state_of begun.flow)) (program_walk tree certificate) before after fault
+      (ap (λ w. w.broken) program-same) (ap (λ w. w.linked) program-same) (is loops)
 
-  pub program-given_up : {A : Type 0} (P : A → Type 0) (result : Result A CheckFault) (fault : CheckFault)
-      → IsErr result × IsErrAnd result (λ e. e ≡ fault) → Stops over_blocks begun fault
+  pub program-given_up : {A : Type 0} (P : A → Type 0) (result : Result A CheckFault) (before after : Visits) (fault : CheckFault)
+      → IsErr result × IsErrAnd result (λ e. e ≡ fault) → Stops over_blocks begun before after fault
       → MatchResult result P (IsBreachOf (program_walk tree certificate))
-  program-given_up P (Ok a) fault left is = absurd left.1
-  program-given_up P (Err other) fault left is =
-      subst (IsBreachOf (program_walk tree certificate)) (sym left.1) (program-stopped fault is)
+  program-given_up P (Ok a) before after fault left is = absurd left.1
+  program-given_up P (Err other) before after fault left is =
+      subst (IsBreachOf (program_walk tree certificate)) (sym left.1) (program-stopped before after fault is).breach_is
+
+  pub program-begun : {A : Type 0} (P : A → Type 0) (result : Result A CheckFault) (before after : Visits) (numbers : List ℕ)
+      → numbers_of (program_walk tree certificate).linked ≡ numbers → (fault : CheckFault)
+      → IsErr result × IsErrAnd result (λ e. e ≡ fault) → Stops over_blocks begun before after fault
+      → MatchResult result P (λ _. HasBegun numbers before after)
+  program-begun P (Ok a) before after numbers are fault left is = absurd left.1
+  program-begun P (Err other) before after numbers are fault left is =
+      subst (λ (list : List ℕ). HasBegun list before after) are (program-stopped before after fault is).visits_are

@@ -17,12 +17,12 @@ use Rattle.call_states.specs.Sections.{BlockClaims, all_block_claims, all_pairs,
 use Rattle.expression_checker.specs.declared.fault.CheckFault.{CheckFault}
 use Rattle.expression_checker.specs.declared.fault.Rule.TheVariants.{Exit}
 use Rattle.expression_checker.specs.Visits.{Visits}
-use Rattle.expression_checker.specs.Walk.{Context, IsBreachOf, Walking, ◌>>=◌}
+use Rattle.expression_checker.specs.Walk.{Context, Walking, ◌>>=◌}
 use Rattle.cert_checker.specs.declared.walk.Walk.{Walk}
 use Rattle.cert_checker.specs.Walk.{begin, block_walk, block_walk_by, blocks_walk, facts_given, first_context, result_use, statement_walk}
 use Rattle.cert_checker.specs.View.{AreDeclared, AreLoops, Goes, Walks, context_of}
 use Rattle.cert_checker.proofs.Steps.{Does, Stops, goes-as, goes-stopped, goes-then, walks-give}
-use Rattle.expression_checker.specs.View.{state_of}
+use Rattle.expression_checker.specs.View.{IsLeft, state_of}
 
 -- ---- blocks, from one of them on
 
@@ -42,7 +42,7 @@ blocks-step blocks i block old mid new before between after result inside is one
     (goes-then (block_walk i block) (λ _. blocks_walk (i + 1) (drop (i + 1) blocks)) old mid new before between after tt result one two)
 
 pub blocks-stopped : (blocks : List Block) (i : ℕ) (block : Block) (old new : Walk) (before after : Visits) (fault : CheckFault)
-    → i < length blocks → block ≡ get_or blocks i block → Stops (block_walk i block) old fault
+    → i < length blocks → block ≡ get_or blocks i block → Stops (block_walk i block) old before after fault
     → Goes (blocks_walk i (drop i blocks)) old before (Err fault) new after
 blocks-stopped blocks i block old new before after fault inside is one =
     goes-as (blocks_walk i (drop i blocks)) (block_walk i block >>= λ _. blocks_walk (i + 1) (drop (i + 1) blocks)) old new before after (Err fault)
@@ -89,20 +89,22 @@ module _ (number : ℕ) (block : Block) (claims : BlockClaims) (old : Walk) (cla
       subst (λ (n : ℕ). Does (block_walk number block) old before (in_block n mid) after tt) (sym outer_is)
       (block-walked mid before after (subst (λ (n : ℕ). Does (block_walk_by number block claims) (in_block n old) before mid after tt) inner_is done))
 
-  block-left : (fault : CheckFault) → Stops (block_walk_by number block claims) (in_block number old) fault → Stops (block_walk number block) old fault
-  block-left fault stopped = λ ready.
-      subst (λ (c : BlockClaims). IsBreachOf (block_walk_by number block c (context_of (in_block number old)) (state_of old.flow)) fault) claims_are
+  block-left : (before after : Visits) (fault : CheckFault) → Stops (block_walk_by number block claims) (in_block number old) before after fault
+      → Stops (block_walk number block) old before after fault
+  block-left before after fault stopped = λ ready.
+      subst (λ (c : BlockClaims). IsLeft (block_walk_by number block c (context_of (in_block number old)) (state_of old.flow)) before after fault) claims_are
       (stopped ready)
 
-  pub block-stopped : (new : Walk) (before after : Visits) (fault : CheckFault) → Stops (block_walk_by number block claims) (in_block inner old) fault
+  pub block-stopped : (new : Walk) (before after : Visits) (fault : CheckFault)
+      → Stops (block_walk_by number block claims) (in_block inner old) before after fault
       → Goes (block_walk number block) old before (Err fault) new after
   block-stopped new before after fault stopped =
-      block-left fault (subst (λ (n : ℕ). Stops (block_walk_by number block claims) (in_block n old) fault) inner_is stopped)
+      block-left before after fault (subst (λ (n : ℕ). Stops (block_walk_by number block claims) (in_block n old) before after fault) inner_is stopped)
 
 -- ---- from the start of a block to its end
 
 pub begin-stopped : (number : ℕ) (block : Block) (claims : BlockClaims) (old new : Walk) (before after : Visits) (fault : CheckFault)
-    → Stops (begin number claims.entry) old fault → Goes (block_walk_by number block claims) old before (Err fault) new after
+    → Stops (begin number claims.entry) old before after fault → Goes (block_walk_by number block claims) old before (Err fault) new after
 begin-stopped number block claims old new before after fault stopped =
     goes-stopped (begin number claims.entry)
     (λ _. statement_walk block.body >>= λ _. (result_use block.heading.result >>= λ _. facts_given Exit block.end claims.exit)) old new before after fault
@@ -119,7 +121,7 @@ module _ (number : ℕ) (block : Block) (claims : BlockClaims) (old begun : Walk
   abbrev from_body : Walking (Unit {0})
   from_body = statement_walk block.body >>= λ _. from_result
 
-  pub body-stopped : (new : Walk) (after : Visits) (fault : CheckFault) → Stops (statement_walk block.body) begun fault
+  pub body-stopped : (new : Walk) (after : Visits) (fault : CheckFault) → Stops (statement_walk block.body) begun before after fault
       → Goes (block_walk_by number block claims) old before (Err fault) new after
   body-stopped new after fault stopped =
       goes-then (begin number claims.entry) (λ _. from_body) old begun new before before after tt (Err fault) one
@@ -132,7 +134,7 @@ module _ (number : ℕ) (block : Block) (claims : BlockClaims) (old begun : Walk
         goes-then (begin number claims.entry) (λ _. from_body) old begun new before before after tt result one
         (goes-then (statement_walk block.body) (λ _. from_result) begun walked new before after after tt result two goes)
 
-    pub result-stopped : (new : Walk) (fault : CheckFault) → Stops (result_use block.heading.result) walked fault
+    pub result-stopped : (new : Walk) (fault : CheckFault) → Stops (result_use block.heading.result) walked after after fault
         → Goes (block_walk_by number block claims) old before (Err fault) new after
     result-stopped new fault stopped =
         from-walked (Err fault) new (goes-stopped (result_use block.heading.result) (λ _. at_end) walked new after after fault stopped)

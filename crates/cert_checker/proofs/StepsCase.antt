@@ -26,7 +26,8 @@ use Rattle.structured_states.proofs.Claims.{item-cut, drop-past}
 use Rattle.expression_checker.specs.Walk.{IsBreachOf, Walked, Walking, ◌>>=◌, enter, give, numbers_of, tested, value_walk}
 use Rattle.cert_checker.specs.Walk.{arm_walk, arms_walk, case_walk, here, index_test, no_more, statement_walk}
 use Rattle.cert_checker.specs.View.{Goes, IsMoved, Meets, at_state, context_of, said_state, viewed_in}
-use Rattle.expression_checker.proofs.Steps.{breach-same}
+use Rattle.expression_checker.proofs.Begun.{begun-all}
+use Rattle.expression_checker.proofs.Steps.{left-same}
 use Rattle.cert_checker.proofs.Steps.{Does, Stops, goes-as, goes-stopped, goes-then, moved-loops, moved-same, viewed-moved, viewed-same, walks-give}
 use Rattle.expression_checker.specs.View.{state_of}
 
@@ -54,6 +55,18 @@ case-begun statement number site index constants arms rows items known range old
     (ap rest known_is ∙ ap (λ r. case_walk site index r (map statement_walk arms.items) (Ordinal range)) (sym rows_are)
     ∙ ap (λ l. case_walk site index rows (map statement_walk l) (Ordinal range)) (sym items_are)) three)))
 
+-- the checker gave up in the index
+pub case-not_valued : (statement : Stmt) (number site : ℕ) (index : Expr) (constants : Vec (Vec ℤ Global) Global) (arms : Vec Stmt Global)
+    (old entered new : Walk) (before between after : Visits) (fault : CheckFault)
+    → statement ≡ stmt.Case number site index constants arms → Does (enter number) old before entered between tt
+    → Stops (value_walk index) entered between after fault → Goes (statement_walk statement) old before (Err fault) new after
+case-not_valued statement number site index constants arms old entered new before between after fault is one stopped =
+    let rest = case_walk site index constants.items (map statement_walk arms.items) in
+    goes-as (statement_walk statement) (enter number >>= λ _. (value_walk index >>= rest)) old new before after (Err fault)
+    (ap statement_walk is ∙ statement-Case number site index constants arms)
+    (goes-then (enter number) (λ _. value_walk index >>= rest) old entered new before between after tt (Err fault) one
+    (goes-stopped (value_walk index) rest entered new between after fault stopped))
+
 -- the index was tested: what is known then, and the arms
 pub case-tested : (site : ℕ) (index : Expr) (rows : List (Vec ℤ Global)) (arms : List Stmt) (range : Interval) (count : ℕ) (root : Option ℕ) (base : Kept)
     (old tested new : Walk) (before after : Visits) (result : Result (Unit {0}) CheckFault)
@@ -72,14 +85,14 @@ case-tested site index rows arms range count root base old tested new before aft
 
 pub case-not_tested : (site : ℕ) (index : Expr) (rows : List (Vec ℤ Global)) (arms : List Stmt) (range : Interval) (count : ℕ) (old new : Walk)
     (before after : Visits) (fault : CheckFault)
-    → count ≡ length arms → Stops (index_test site (constants_before count rows) range) old fault
+    → count ≡ length arms → Stops (index_test site (constants_before count rows) range) old before after fault
     → Goes (case_walk site index rows (map statement_walk arms) (Ordinal range)) old before (Err fault) new after
 case-not_tested site index rows arms range count old new before after fault count_is is =
     let inner = map statement_walk arms in
     let many : count ≡ length inner = count_is ∙ sym (length-map arms statement_walk) in
     let rest = λ (base : State). arms_walk base (root_of (condition_of index).form) rows inner in
     goes-stopped (index_test site (constants_before (length inner) rows) range) rest old new before after fault
-    (subst (λ n. Stops (index_test site (constants_before n rows) range) old fault) many is)
+    (subst (λ n. Stops (index_test site (constants_before n rows) range) old before after fault) many is)
 
 -- ---- the test of an index
 
@@ -109,7 +122,7 @@ index-done site constants range closed passed value base old mid new visits clos
 pub index-stopped : (site : ℕ) (constants : List ℤ) (range : Interval) (closed : Bool) (passed : Interval) (old new : Walk) (visits : Visits)
     (fault : CheckFault) (result : Result Kept CheckFault)
     → closed ≡ is_covered range constants → passed ≡ common range (hull constants) → IsErr result × IsErrAnd result (λ e. e ≡ fault)
-    → Stops (tested closed site passed) old fault
+    → Stops (tested closed site passed) old visits visits fault
     → Goes (index_test site constants range) old visits (said_state old result) new visits
 index-stopped site constants range closed passed old new visits fault (Ok base) closed_is passed_is left stopped = absurd left.1
 index-stopped site constants range closed passed old new visits fault (Err other) closed_is passed_is left stopped =
@@ -117,8 +130,8 @@ index-stopped site constants range closed passed old new visits fault (Err other
     let rest = here >>= λ base. (no_more >>= λ _. give base) in
     subst (λ f. Goes {A = State} (index_test site constants range) old visits (Err f) new visits) (sym left.1)
     (goes-stopped first (λ _. rest) old new visits visits fault
-    (subst (λ c. Stops (tested c site (common range (hull constants))) old fault) closed_is
-    (subst (λ p. Stops (tested closed site p) old fault) passed_is stopped)))
+    (subst (λ c. Stops (tested c site (common range (hull constants))) old visits visits fault) closed_is
+    (subst (λ p. Stops (tested closed site p) old visits visits fault) passed_is stopped)))
 
 -- ---- an arm
 
@@ -151,13 +164,18 @@ module _ (start : Kept) (arm : Walking (Unit {0})) (old begun : Walk) (begins : 
         unbroken = ap (λ w. w.broken) (sym same) ∙ one.unbroken;
       }
   arm-done behind done new before after (Err fault) behind_is walked is = λ ready.
-      subst (IsBreachOf (arm_walk (viewed_in old start) arm (context_of old) (state_of old.flow))) (sym is) tt
+      let whole = arm_walk (viewed_in old start) arm (context_of old) (state_of old.flow) in
+      let one = walked (moved-loops (viewed_in old start) old begun moved ready) in
+      record {
+        breach_is = subst (IsBreachOf whole) (sym is) tt;
+        visits_are = begun-all (numbers_of whole.linked) before after (one.visits_are ∙ ap (λ w. all_counted (numbers_of w.linked) before) same);
+      }
 
-  pub arm-stopped : (new : Walk) (before after : Visits) (fault : CheckFault) → Stops arm begun fault
+  pub arm-stopped : (new : Walk) (before after : Visits) (fault : CheckFault) → Stops arm begun before after fault
       → Goes (arm_walk (viewed_in old start) arm) old before (Err fault) new after
   arm-stopped new before after fault is = λ ready.
-      breach-same (arm (context_of begun) (state_of begun.flow)) (arm_walk (viewed_in old start) arm (context_of old) (state_of old.flow)) fault
-      (ap (λ w. w.broken) same) (is (moved-loops (viewed_in old start) old begun moved ready))
+      left-same (arm (context_of begun) (state_of begun.flow)) (arm_walk (viewed_in old start) arm (context_of old) (state_of old.flow)) before after fault
+      (ap (λ w. w.broken) same) (ap (λ w. w.linked) same) (is (moved-loops (viewed_in old start) old begun moved ready))
 
 -- ---- the arms, from one of them on
 
@@ -202,13 +220,13 @@ module _ (base : State) (index : Option ℕ) (rows : List (Vec ℤ Global)) (arm
       (subst (λ s. Does (arm_walk s (statement_walk arm)) old before mid between value) start_is one) two)
 
   pub arms-stopped : (old new : Walk) (before after : Visits) (fault : CheckFault)
-      → Stops (arm_walk start (statement_walk arm)) old fault
+      → Stops (arm_walk start (statement_walk arm)) old before after fault
       → Goes (arms_from base index rows arms i) old before (Err fault) new after
   arms-stopped old new before after fault stopped =
       goes-as (arms_from base index rows arms i) (first >>= λ _. arms_from base index rows arms (i + 1)) old new before after (Err fault)
       (from-cut base index rows arms i arm inside is)
       (goes-stopped first (λ _. arms_from base index rows arms (i + 1)) old new before after fault
-      (subst (λ s. Stops (arm_walk s (statement_walk arm)) old fault) start_is stopped))
+      (subst (λ s. Stops (arm_walk s (statement_walk arm)) old before after fault) start_is stopped))
 
 pub arms-end : (base : State) (index : Option ℕ) (rows : List (Vec ℤ Global)) (arms : List Stmt) (i : ℕ) (old : Walk) (visits : Visits) → length arms ≤ i
     → Goes (arms_from base index rows arms i) old visits (Ok tt) old visits

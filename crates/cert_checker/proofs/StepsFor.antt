@@ -26,9 +26,11 @@ use Rattle.structured_states.specs.Ways.{End, Way, end_of, entered, form_before,
 use Rattle.expression_checker.specs.Walk.{changed_by}
 use Rattle.cert_checker.specs.Walk.{assign, begin_way, bounds_fit, for_round, for_turns, for_walk, loop_walk, parted, rounds_of, statement_walk, steady_in}
 use Rattle.cert_checker.specs.Walk.{tested_end, tested_way}
-use Rattle.cert_checker.specs.View.{AreLoops, Goes, IsMoved, Moves, Parts, Went, context_of, said_tested, viewed_in}
+use Rattle.cert_checker.specs.View.{AreLoops, Goes, IsMoved, Moves, Parts, Walks, Went, context_of, said_state, said_tested, viewed_in}
 use Rattle.cert_checker.proofs.Steps.{Does, Stops, branches-stopped, goes-as, goes-here, goes-stopped, goes-then, moved-loops, moved-same, viewed-same}
 use Rattle.cert_checker.proofs.Steps.{walks-give}
+use Rattle.expression_checker.proofs.Begun.{begun-all}
+use Rattle.expression_checker.proofs.Steps.{left-same, left-stays}
 use Rattle.expression_checker.specs.View.{state_of}
 
 pub statement-For : (number loop_number : ℕ) (place : SourcePlace) (control : ℕ) (first : Expr) (first_fits : RangeTest) (direction : Direction) (last : Expr)
@@ -67,7 +69,7 @@ pub for-first_stopped : (statement : Stmt) (number loop_number : ℕ) (place : S
     (direction : Direction) (last : Expr) (last_fits : RangeTest) (body : Box Stmt Global) (old entered new : Walk) (before between after : Visits)
     (fault : CheckFault)
     → statement ≡ stmt.For number loop_number place control first first_fits direction last last_fits body
-    → Does (enter number) old before entered between tt → Stops (value_walk first) entered fault
+    → Does (enter number) old before entered between tt → Stops (value_walk first) entered between after fault
     → Goes (statement_walk statement) old before (Err fault) new after
 for-first_stopped statement number loop_number place control first first_fits direction last last_fits body old entered new before between after fault is
     one stopped =
@@ -84,7 +86,7 @@ pub for-last_stopped : (statement : Stmt) (number loop_number : ℕ) (place : So
     (before between middle after : Visits) (fault : CheckFault)
     → statement ≡ stmt.For number loop_number place control first first_fits direction last last_fits body
     → Does (enter number) old before entered between tt → Does (value_walk first) entered between begun middle from
-    → Stops (value_walk last) begun fault → Goes (statement_walk statement) old before (Err fault) new after
+    → Stops (value_walk last) begun middle after fault → Goes (statement_walk statement) old before (Err fault) new after
 for-last_stopped statement number loop_number place control first first_fits direction last last_fits body from old entered begun new before between middle
     after fault is one two stopped =
     let walked = λ (from to : Known). for_walk loop_number place (statement_walk body.value)
@@ -103,6 +105,17 @@ counting counts way = over_variables (where_counts counts way)
 -- and behind both
 abbrev pub left_undefined : Way → State → State
 left_undefined way = over_change way.control None (with_undefined way.control)
+
+-- the entries of the turns are those of the whole
+turns-counted : (number : ℕ) (place : SourcePlace) (body : Walking (Unit {0})) (way : Way) (never : Kept) (old taken mid : Walk) (before after : Visits)
+    → Parts (counting true way) (counting false way) old (Ok never) taken → Walks (for_turns number place body way) taken before mid after tt
+    → after ≡ all_counted (numbers_of (for_walk number place body way (context_of old) (state_of old.flow)).linked) before
+turns-counted number place body way never old taken mid before after parts one =
+    let turns = for_turns number place body way in
+    let first : Walked (Unit {0}) = turns (context_of old) (counting true way (state_of old.flow)) in
+    one.visits_are
+    ∙ ap (λ w. all_counted (numbers_of w.linked) before) (moved-same turns (counting true way (state_of old.flow)) old taken parts.0)
+    ∙ ap (λ linked. all_counted (numbers_of linked) before) (sym (append-nil first.linked) ∙ sym (append-nil (first.linked ++ [])))
 
 -- where there are values and where there are none, and behind both
 pub for-done : (number : ℕ) (place : SourcePlace) (body : Walking (Unit {0})) (way : Way) (never : Kept) (old taken mid new : Walk) (before after : Visits)
@@ -127,17 +140,22 @@ for-done number place body way never old taken mid new before after (Ok value) p
           ∙ ap (λ (w : Walk). w.flow.open_ids.items ++ (turns (context_of taken) (state_of taken.flow)).open_ids) parts.0.only_state
           ∙ ap (λ w. old.flow.open_ids.items ++ w.open_ids) same
           ∙ ap (λ ids. old.flow.open_ids.items ++ ids) (sym (append-nil first.open_ids) ∙ sym (append-nil (first.open_ids ++ [])));
-      visits_are = one.visits_are ∙ ap (λ w. all_counted (numbers_of w.linked) before) same
-          ∙ ap (λ linked. all_counted (numbers_of linked) before) (sym (append-nil first.linked) ∙ sym (append-nil (first.linked ++ [])));
+      visits_are = turns-counted number place body way never old taken mid before after parts one;
       unbroken = append-nil (first.broken ++ []) ∙ append-nil first.broken ∙ ap (λ w. w.broken) (sym same) ∙ one.unbroken;
     }
 for-done number place body way never old taken mid new before after (Err fault) parts turned left = λ ready.
-    subst (IsBreachOf (for_walk number place body way (context_of old) (state_of old.flow))) (sym left) tt
+    let whole = for_walk number place body way (context_of old) (state_of old.flow) in
+    let one = turned (moved-loops (counting true way (state_of old.flow)) old taken parts.0 ready) in
+    record {
+      breach_is = subst (IsBreachOf whole) (sym left) tt;
+      visits_are = begun-all (numbers_of whole.linked) before after
+          (turns-counted number place body way never old taken mid before after parts one);
+    }
 
 pub for-stopped : (number : ℕ) (place : SourcePlace) (body : Walking (Unit {0})) (way : Way) (never : Kept) (old taken new : Walk) (before after : Visits)
     (fault : CheckFault)
     → Parts (counting true way) (counting false way) old (Ok never) taken
-    → Stops (for_turns number place body way) taken fault
+    → Stops (for_turns number place body way) taken before after fault
     → Goes (for_walk number place body way) old before (Err fault) new after
 for-stopped number place body way never old taken new before after fault parts is =
     let turns = for_turns number place body way in
@@ -153,7 +171,14 @@ module _ (way : Way) (body : Walking (Unit {0})) (old begun : Walk) (moved : IsM
   same : body (context_of begun) (state_of begun.flow) ≡ was
   same = moved-same body (over_variables (turn_begun way) (state_of old.flow)) old begun moved
 
-  pub for_round-done : (bodied new : Walk) (before after : Visits) (behind : Kept) → Does body begun before bodied after tt
+  -- the entries of a round are those of its turn
+  turn-counted : (bodied : Walk) (before after : Visits) → Walks body begun before bodied after tt
+      → after ≡ all_counted (numbers_of (for_round way body (context_of old) (state_of old.flow)).linked) before
+  turn-counted bodied before after one =
+      one.visits_are ∙ ap (λ w. all_counted (numbers_of w.linked) before) same
+      ∙ ap (λ linked. all_counted (numbers_of linked) before) (sym (append-nil was.linked))
+
+  for_round-done : (bodied new : Walk) (before after : Visits) (behind : Kept) → Does body begun before bodied after tt
       → Parts (over_change way.control (next way) (turn_ended way)) (over_bound way.control way.last.form (way_out way)) bodied (Ok behind) new
       → Does (for_round way body) old before new after (viewed_in old behind)
   for_round-done bodied new before after behind done parts = λ ready.
@@ -168,10 +193,35 @@ module _ (way : Way) (body : Walking (Unit {0})) (old begun : Walk) (moved : IsM
         open_is = ap (λ (w : Walk). w.flow.open_ids.items) parts.0.only_state ∙ one.open_is
             ∙ ap (λ (w : Walk). w.flow.open_ids.items ++ (body (context_of begun) (state_of begun.flow)).open_ids) moved.only_state
             ∙ ap (λ w. old.flow.open_ids.items ++ w.open_ids) same ∙ ap (λ ids. old.flow.open_ids.items ++ ids) (sym (append-nil was.open_ids));
-        visits_are = one.visits_are ∙ ap (λ w. all_counted (numbers_of w.linked) before) same
-            ∙ ap (λ linked. all_counted (numbers_of linked) before) (sym (append-nil was.linked));
+        visits_are = turn-counted bodied before after one;
         unbroken = append-nil was.broken ∙ ap (λ w. w.broken) (sym same) ∙ one.unbroken;
       }
+
+  -- the checker gave up in the turn
+  pub for_round-stopped : (new : Walk) (before after : Visits) (fault : CheckFault) → Stops body begun before after fault
+      → Goes {A = State} (for_round way body) old before (Err fault) new after
+  for_round-stopped new before after fault stopped = λ ready.
+      left-stays was (give (tt {0}) (context_of old) was.after) (for_round way body (context_of old) (state_of old.flow)) before after fault refl refl
+      (left-same (body (context_of begun) (state_of begun.flow)) was before after fault (ap (λ w. w.broken) same) (ap (λ w. w.linked) same)
+      (stopped (moved-loops (over_variables (turn_begun way) (state_of old.flow)) old begun moved ready)))
+
+  -- behind the turn there was no memory
+  for_round-unended : (bodied new : Walk) (before after : Visits) (fault : CheckFault) → Does body begun before bodied after tt → fault ≡ Memory
+      → Goes {A = State} (for_round way body) old before (Err fault) new after
+  for_round-unended bodied new before after fault done is = λ ready.
+      let whole = for_round way body (context_of old) (state_of old.flow) in
+      let one = done (moved-loops (over_variables (turn_begun way) (state_of old.flow)) old begun moved ready) in
+      record {
+        breach_is = subst (IsBreachOf whole) (sym is) tt;
+        visits_are = begun-all (numbers_of whole.linked) before after (turn-counted bodied before after one);
+      }
+
+  -- behind the turn, or where there was no memory
+  pub for_round-ends : (bodied new : Walk) (before after : Visits) (result : Result Kept CheckFault) → Does body begun before bodied after tt
+      → Parts (over_change way.control (next way) (turn_ended way)) (over_bound way.control way.last.form (way_out way)) bodied result new
+      → Goes (for_round way body) old before (said_state old result) new after
+  for_round-ends bodied new before after (Ok behind) done parts = for_round-done bodied new before after behind done parts
+  for_round-ends bodied new before after (Err fault) done is = for_round-unended bodied new before after fault done is
 
 -- the tests of both bounds
 module _ (place : SourcePlace) (way : Way) (old : Walk) where
@@ -205,11 +255,11 @@ module _ (place : SourcePlace) (way : Way) (old : Walk) where
       goes-here (tested_way place way) (tested_end start way.first >>= from_first) old new visits visits result refl one
 
   pub tests-first : (new : Walk) (visits : Visits) (fault : CheckFault) (range : Interval) → range ≡ met way.first.form start.variables way.first.values
-      → Stops (first_test range) old fault → Goes {A = Way} (tested_way place way) old visits (Err fault) new visits
+      → Stops (first_test range) old visits visits fault → Goes {A = Way} (tested_way place way) old visits (Err fault) new visits
   tests-first new visits fault range is stopped =
       tests-go new visits (Err fault)
       (goes-stopped (tested_end start way.first) from_first old new visits visits fault
-      (subst (λ r. Stops (first_test r) old fault) is stopped))
+      (subst (λ r. Stops (first_test r) old visits visits fault) is stopped))
 
   module _ (one : Walk) (visits : Visits) (first_range last_range first : Interval)
       (first_is : first_range ≡ met way.first.form start.variables way.first.values)
@@ -221,12 +271,12 @@ module _ (place : SourcePlace) (way : Way) (old : Walk) where
         (goes-then (tested_end start way.first) from_first old one new visits visits visits first result
         (subst (λ r. Does (first_test r) old visits one visits first) first_is passed) then)
 
-    pub last-stopped : (new : Walk) (fault : CheckFault) → Stops (last_test last_range) one fault
+    pub last-stopped : (new : Walk) (fault : CheckFault) → Stops (last_test last_range) one visits visits fault
         → Goes {A = Way} (tested_way place way) old visits (Err fault) new visits
     last-stopped new fault stopped =
         first-goes new (Err fault)
         (goes-stopped (tested_end start way.last) (from_last first) one new visits visits fault
-        (subst (λ r. Stops (last_test r) one fault) last_is stopped))
+        (subst (λ r. Stops (last_test r) one visits visits fault) last_is stopped))
 
     module _ (two : Walk) (last : Interval) (passed_too : Does (last_test last_range) one visits two visits last) where
       last-goes : (new : Walk) (result : Result Way CheckFault) → Goes (from_last first last) two visits result new visits
@@ -237,7 +287,7 @@ module _ (place : SourcePlace) (way : Way) (old : Walk) where
           (subst (λ r. Does (last_test r) one visits two visits last) last_is passed_too) then)
 
       pub control-stopped : (new : Walk) (fault : CheckFault)
-          → Stops (bounds_fit place way.control way.first.fits.range way.last.fits.range) two fault
+          → Stops (bounds_fit place way.control way.first.fits.range way.last.fits.range) two visits visits fault
           → Goes {A = Way} (tested_way place way) old visits (Err fault) new visits
       control-stopped new fault stopped =
           last-goes new (Err fault)
@@ -290,13 +340,13 @@ module _ (number : ℕ) (place : SourcePlace) (body : Walking (Unit {0})) (way :
   from_tests tested = begin_way tested >>= λ _. rounds_of number place body tested
 
   pub turns-not_tested : (new : Walk) (before after : Visits) (fault : CheckFault)
-      → Stops (tested_way place way) old fault
+      → Stops (tested_way place way) old before after fault
       → Goes (for_turns number place body way) old before (Err fault) new after
   turns-not_tested new before after fault stopped = goes-stopped (tested_way place way) from_tests old new before after fault stopped
 
   module _ (one : Walk) (before : Visits) (tested : Way) (done : Does (tested_way place way) old before one before tested) where
     pub turns-not_begun : (new : Walk) (after : Visits) (fault : CheckFault)
-        → Stops (begin_way tested) one fault
+        → Stops (begin_way tested) one before after fault
         → Goes (for_turns number place body way) old before (Err fault) new after
     turns-not_begun new after fault stopped =
         goes-then (tested_way place way) from_tests old one new before before after tested (Err fault) done

@@ -29,7 +29,7 @@ use Rattle.component_states.specs.States.{State, dead, joined_states}
 use Rattle.call_states.specs.Aliases.{Stored}
 use Rattle.call_states.specs.Starts.{all_declared}
 use Rattle.expression_checker.specs.View as expressions
-use Rattle.expression_checker.specs.View.{state_of}
+use Rattle.expression_checker.specs.View.{IsLeft, state_of}
 use Rattle.expression_checker.specs.Walk.{Context, IsBreachOf, Walking, give, numbers_of}
 use Rattle.cert_checker.specs.Walk.{facts_given, statement_walk}
 use Rattle.expression_checker.specs.declared.fault.Rule.TheVariants.{LoopEntry, LoopTurn}
@@ -64,11 +64,11 @@ pub record Walks {A : Type 0} (walking : Walking A) (old : Walk) (before : Visit
   pub visits_are : after ≡ all_counted (numbers_of (walking (context_of old) (state_of old.flow)).linked) before
   pub unbroken : (walking (context_of old) (state_of old.flow)).broken ≡ []
 
--- the checker went over a piece of a program: it walked over it, or it tells the first rule that the piece breaks, or
--- it found no memory
+-- the checker went over a piece of a program: it walked over it, or it gave up, for the first rule that the piece breaks
+-- or for want of memory, and counted a beginning of the piece's entries
 abbrev pub Went : {A : Type 0} → Walking A → Walk → Visits → Result A CheckFault → Walk → Visits → Type 0
 Went walking old before (Ok value) new after = Walks walking old before new after value
-Went walking old before (Err fault) new after = IsBreachOf (walking (context_of old) (state_of old.flow)) fault
+Went walking old before (Err fault) new after = IsLeft (walking (context_of old) (state_of old.flow)) before after fault
 
 -- it did so, if it has the aliases of the loops
 abbrev pub Goes : {A : Type 0} → Walking A → Walk → Visits → Result A CheckFault → Walk → Visits → Type 0

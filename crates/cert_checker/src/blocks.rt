@@ -1,4 +1,4 @@
-ghost use Rattle.std.specs.Prelude.{◌≡◌, IfOk, length, map};
+ghost use Rattle.std.specs.Prelude.{◌≡◌, ◌≤◌, ◌^◌, IfOk, MatchResult, length, map};
 ghost use Rattle.std.specs.List.{list_all};
 ghost use Rattle.domain.specs.Facts.{said};
 ghost use Rattle.abstract_state.specs.State.{gives_fact};
@@ -127,7 +127,8 @@ impl<'a> Walk<'a> {
 
 /// How many blocks there are, if 32 bits hold their number: more fit no memory.
 fn block_count(tree: &Tree) -> Result<u32, AllocError>
-    ensures { IfOk result (λ count. count ≡ length tree.now.blocks.items) }
+    ensures { MatchResult result (λ count. count ≡ length tree.now.blocks.items)
+        (λ _. 2 ^ 32 ≤ length tree.now.blocks.items) }
 {
     let count = tree.blocks.len();
     if count > u32::MAX as usize {

@@ -68,6 +68,6 @@ pub fn check(alloc: Global, tree: &Tree, certificate: &Certificate) -> Result<Ve
     let entries = visits.finish(tree, &walked);
     Ok(Verdict {
         open_sites: open_sites(alloc, &tree.sites, walked?)?,
-        visits: entries,
+        visits: entries?,
     })
 }

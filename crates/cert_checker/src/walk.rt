@@ -5,9 +5,9 @@ ghost use Rattle.component_states.specs.States.{over_variables};
 ghost use Rattle.component_states.specs.View.{said_reach, viewed};
 ghost use Rattle.structured_states.specs.Cases.{arm_start, constants_before};
 ghost use Rattle.structured_states.specs.View.{said_way};
-ghost use Rattle.expression_checker.specs.Visits.{Visits, all_counted};
+ghost use Rattle.expression_checker.specs.Visits.{HasBegun, Visits, all_counted};
 ghost use Rattle.expression_checker.specs.View.{said_ranges, seen};
-ghost use Rattle.expression_checker.specs.Walk.{IsBreachOf, access_walk, call_walk, enter, index_pieces};
+ghost use Rattle.expression_checker.specs.Walk.{IsBreachOf, access_walk, call_walk, index_pieces};
 ghost use Rattle.expression_checker.specs.Walk.{parameter_walk, passed_piece_of, value_walk, whole_walk};
 ghost use Rattle.cert_checker.specs.View.{Goes, IsBegun, Meets, Parts};
 ghost use Rattle.cert_checker.specs.View.{else_walk, said_state, viewed_in};
@@ -56,7 +56,9 @@ pub(crate) fn program(
     visits: &mut Visits,
 ) -> Result<Vec<u32>, CheckFault>
     ensures sites { IfOk result (λ ids. ids.items ≡ (program_walk rows.now certificate.now).open_ids) }
-    ensures entries { IfOk result (λ _. visits.new ≡ all_counted (entries_of rows.now) visits.old) }
+    ensures entries { MatchResult result
+        (λ _. visits.new ≡ all_counted (entries_of rows.now) visits.old)
+        (λ _. HasBegun (entries_of rows.now) visits.old visits.new) }
     ensures rules { MatchResult result (λ _. (program_walk rows.now certificate.now).broken ≡ [])
         (IsBreachOf (program_walk rows.now certificate.now)) }
 {
@@ -109,7 +111,10 @@ impl<'a> Walk<'a> {
         ensures { Goes (statement_walk statement.now) self.old visits.old result self.new visits.new }
     {
         match statement {
-            Stmt::Empty { number } => self.enter(*number, visits),
+            Stmt::Empty { number } => {
+                visits.tick(*number);
+                Ok(())
+            }
             Stmt::Assign {
                 number,
                 becomes,
@@ -118,7 +123,7 @@ impl<'a> Walk<'a> {
                 fits,
                 value,
             } => {
-                self.enter(*number, visits)?;
+                visits.tick(*number);
                 self.assignment(*becomes, target, indexes, *fits, value, visits)
             }
             Stmt::Copy {
@@ -130,7 +135,7 @@ impl<'a> Walk<'a> {
                 value,
                 value_indexes,
             } => {
-                self.enter(*number, visits)?;
+                visits.tick(*number);
                 self.copying(
                     *becomes,
                     target,
@@ -146,12 +151,12 @@ impl<'a> Walk<'a> {
                 parameters,
                 ..
             } => {
-                self.enter(*number, visits)?;
+                visits.tick(*number);
                 self.parameters(parameters, visits)
             }
             Stmt::Call { call, actuals } => self.call(*call, actuals, visits),
             Stmt::Compound { number, statements } => {
-                self.enter(*number, visits)?;
+                visits.tick(*number);
                 self.statements(statements, visits)
             }
             Stmt::If {
@@ -160,7 +165,7 @@ impl<'a> Walk<'a> {
                 consequence,
                 alternative,
             } => {
-                self.enter(*number, visits)?;
+                visits.tick(*number);
                 let known = self.expression(condition, visits)?;
                 let otherwise = self.part(condition, known)?;
                 self.statement(consequence, visits)?;
@@ -175,7 +180,7 @@ impl<'a> Walk<'a> {
                 condition,
                 body,
             } => {
-                self.enter(*number, visits)?;
+                visits.tick(*number);
                 self.enter_loop(*loop_number, *place, None)?;
                 let behind = self.while_round(body, condition, visits)?;
                 self.leave_loop(*loop_number, *place, behind)
@@ -187,7 +192,7 @@ impl<'a> Walk<'a> {
                 statements,
                 condition,
             } => {
-                self.enter(*number, visits)?;
+                visits.tick(*number);
                 self.enter_loop(*loop_number, *place, None)?;
                 let behind = self.repeat_round(statements, condition, visits)?;
                 self.leave_loop(*loop_number, *place, behind)
@@ -204,7 +209,7 @@ impl<'a> Walk<'a> {
                 last_fits,
                 body,
             } => {
-                self.enter(*number, visits)?;
+                visits.tick(*number);
                 let from = self.expression(first, visits)?;
                 let to = self.expression(last, visits)?;
                 let way = Way {
@@ -222,7 +227,7 @@ impl<'a> Walk<'a> {
                 constants,
                 arms,
             } => {
-                self.enter(*number, visits)?;
+                visits.tick(*number);
                 let known = self.expression(index, visits)?;
                 let range = known.range();
                 self.case_statement(arms, *site, index, constants, range, visits)
@@ -475,13 +480,6 @@ impl<'a> Walk<'a> {
             (seen said_ranges result) self.new visits.new }
     {
         self.flow.whole_value(value, indexes, visits)
-    }
-
-    /// Counts the entry into a statement.
-    fn enter(&mut self, number: u32, visits: &mut Visits) -> Result<(), CheckFault>
-        ensures { Goes (enter number) self.old visits.old result self.new visits.new }
-    {
-        self.flow.enter(number, visits)
     }
 }
 

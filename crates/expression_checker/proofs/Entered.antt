@@ -1,5 +1,5 @@
 -- The walk over an expression links a state to each of its entries, once and in their order.
-use Rattle.std.proofs.Common.{arith, ◌+◌, ◌≡◌, ◌∙◌, sym, ap, ap₂, refl, ℕ, List, [], ◌∷◌, ◌++◌, Option, Some, None, length, map, append-nil}
+use Rattle.std.proofs.Common.{◌≡◌, ◌∙◌, sym, ap, ap₂, refl, ℕ, List, [], ◌∷◌, ◌++◌, Option, Some, None, map, append-nil}
 use Rattle.std.proofs.lemmas.List.{map-append}
 use Rattle.typed_tree.specs.declared.tree.Monadic.{Monadic}
 use Rattle.typed_tree.specs.declared.tree.Monadic.TheVariants as monadic
@@ -30,7 +30,6 @@ use Rattle.typed_tree.specs.Entries.{call_entries, entries_of_passed, passed_ent
 use Rattle.typed_tree.specs.Entries.{entries_of_written, index_entries}
 use Rattle.abstract_state.specs.declared.known.Known.{Known}
 use Rattle.abstract_state.specs.declared.known.Known.TheVariants.{Ordinal}
-use Rattle.expression_checker.specs.Visits.{Visits, all_counted, counted}
 use Rattle.component_states.specs.Components.{Reach, Entire}
 use Rattle.component_states.specs.States.{State}
 use Rattle.expression_checker.specs.Walk.{Context, Joint, Linked, Piece, Walking, Combination, numbers_of, operated, combined, width_test}
@@ -349,10 +348,3 @@ parameter-entered parameter context state =
     let first = written_walk parameter.value context state in
     let width = width_walk parameter.width context first.after in
     and_then first.linked width.linked _ _ (written-entered parameter.value context state) (width-entered parameter.width context first.after)
-
--- the entries are as many as the numbers that were counted
-pub counted-many : (numbers : List ℕ) (visits : Visits) → (all_counted numbers visits).entries ≡ visits.entries + length numbers
-counted-many [] visits = omega arith
-counted-many (number ∷ numbers) visits =
-    let rest = counted-many numbers (counted number visits) in
-    omega (arith, rest)

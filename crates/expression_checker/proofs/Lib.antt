@@ -1,3 +1,4 @@
+pub mod Begun
 pub mod Effects
 pub mod EffectsCalls
 pub mod EffectsKept

@@ -24,7 +24,7 @@ use Rattle.expression_checker.specs.Walk as walk
 use Rattle.expression_checker.specs.Walk.{called_block, copied, fits_whole, fitting, piece_of, range_in, result_of, result_walk}
 use Rattle.expression_checker.specs.Walk.{Breach, Context, Linked, Walked, Walking, ◌>>=◌, actuals_walk, give, numbers_of, passed_piece_of}
 use Rattle.expression_checker.proofs.Forms.{passed-holds}
-use Rattle.expression_checker.proofs.Steps.{Stops, actual-cut, actual-end, actual-stopped, actuals_from, breach-same, goes-then}
+use Rattle.expression_checker.proofs.Steps.{Stops, actual-cut, actual-end, actual-stopped, actuals_from, goes-then, left-same}
 
 -- a walk with values before its own
 abbrev pub prefixed : List Actual → Walking (List Actual) → Walking (List Actual)
@@ -49,8 +49,8 @@ goes-alike one other old new before after (Ok value) same goes = λ claims.
     }
 goes-alike one other old new before after (Err fault) same goes = λ claims.
     let context = context_of old.grounds claims in
-    breach-same (one context (state_of old)) (other context (state_of old)) fault
-    (ap (λ w. w.broken) (same context (state_of old))) (goes claims)
+    left-same (one context (state_of old)) (other context (state_of old)) before after fault
+    (ap (λ w. w.broken) (same context (state_of old))) (ap (λ w. w.linked) (same context (state_of old))) (goes claims)
 
 -- ---- from the first one on
 
@@ -106,12 +106,12 @@ passing-step items i one passed actual old mid new before between after result i
 
 -- the checker gave up over one of them
 pub passing-stopped : (items : List Passed) (i : ℕ) (one : Passed) (passed : List Actual) (old new : Flow) (before after : Visits) (fault : CheckFault)
-    → i < length items → one ≡ get_or items i one → Stops (passed_piece_of one).walk old fault
+    → i < length items → one ≡ get_or items i one → Stops (passed_piece_of one).walk old before after fault
     → Goes (prefixed passed (actuals_from items i)) old before (Err fault) new after
 passing-stopped items i one passed old new before after fault inside is stops = λ claims.
     let context = context_of old.grounds claims in
     let walk = actuals_from items i in
-    breach-same (walk context (state_of old)) (prefixed passed walk context (state_of old)) fault refl
+    left-same (walk context (state_of old)) (prefixed passed walk context (state_of old)) before after fault refl refl
     (actual-stopped items i one old new before after fault inside is stops claims)
 
 -- none is left

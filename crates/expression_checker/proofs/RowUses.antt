@@ -22,7 +22,7 @@ use Rattle.expression_checker.specs.Visits.{Visits, all_counted}
 use Rattle.expression_checker.specs.Walk.{Context, Walked, Walking, all_joined, component_use, is_covered, left_open, numbers_of, ranges_of}
 use Rattle.expression_checker.specs.Walk.{whole_use, with_used}
 use Rattle.expression_checker.specs.View.{Flows, Goes, context_of, opened, state_of}
-use Rattle.expression_checker.proofs.Steps.{Stops, breach-same}
+use Rattle.expression_checker.proofs.Steps.{Stops, left-same}
 
 -- ---- the rows of a span
 
@@ -111,10 +111,10 @@ component-goes root selectors reach site rows closed range old mid last visits r
     (one.open_is ∙ ap (λ c. old.open_ids.items ++ left_open c site) closed_is) one.visits_are refl
 
 pub component-stopped : (root : ℕ) (selectors : List Selector) (reach : Reach) (site : ℕ) (closed : Bool) (old new : Flow) (before after : Visits)
-    (fault : CheckFault) → Stops (opened closed site) old fault → Goes (component_use root selectors reach site) old before (Err fault) new after
+    (fault : CheckFault) → Stops (opened closed site) old before after fault → Goes (component_use root selectors reach site) old before (Err fault) new after
 component-stopped root selectors reach site closed old new before after fault stops = λ claims.
     let context = context_of old.grounds claims in
-    breach-same (opened closed site context (state_of old)) (component_use root selectors reach site context (state_of old)) fault refl
+    left-same (opened closed site context (state_of old)) (component_use root selectors reach site context (state_of old)) before after fault refl refl
     (stops claims)
 
 -- ---- the use of a whole value
@@ -154,9 +154,9 @@ whole-goes type_id root selectors reach site rows closed ranges old mid last vis
     (one.open_is ∙ ap (λ c. old.open_ids.items ++ left_open c site) closed_is) one.visits_are refl
 
 pub whole-stopped : (type_id : TypeId) (root : ℕ) (selectors : List Selector) (reach : Reach) (site : ℕ) (closed : Bool) (old new : Flow)
-    (before after : Visits) (fault : CheckFault) → Stops (opened closed site) old fault
+    (before after : Visits) (fault : CheckFault) → Stops (opened closed site) old before after fault
     → Goes (whole_use type_id root selectors reach site) old before (Err fault) new after
 whole-stopped type_id root selectors reach site closed old new before after fault stops = λ claims.
     let context = context_of old.grounds claims in
-    breach-same (opened closed site context (state_of old)) (whole_use type_id root selectors reach site context (state_of old)) fault refl
-    (stops claims)
+    left-same (opened closed site context (state_of old)) (whole_use type_id root selectors reach site context (state_of old)) before after fault refl
+    refl (stops claims)

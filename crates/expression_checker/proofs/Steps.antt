@@ -33,7 +33,8 @@ use Rattle.component_states.specs.Components.{Index, Reach}
 use Rattle.component_states.specs.States.{State, over_variables}
 use Rattle.domain.specs.Interval.{Interval, between}
 use Rattle.std.proofs.lemmas.Int.{ints}
-use Rattle.expression_checker.specs.Visits.{Visits, all_counted, counted}
+use Rattle.expression_checker.specs.Visits.{HasBegun, Visits, all_counted, counted}
+use Rattle.expression_checker.proofs.Begun.{begun-first, begun-later, begun-none, numbers-both}
 use Rattle.expression_checker.specs.Walk.{Breach, Context, Linked, Walked, Walking, IsBreachOf, use_of, tested, positive, within, width_test, fitting, ◌>>=◌}
 use Rattle.expression_checker.specs.Walk.{behind_next, deeper, form_before, give, index_test, index_pieces, indexes_walk, next_test, related_walk}
 use Rattle.expression_checker.specs.Walk.{variable_walk}
@@ -42,7 +43,7 @@ use Rattle.expression_checker.specs.Walk.{actuals_walk, function_walk, passed_pi
 use Rattle.expression_checker.specs.Walk.{ordinal, enter, first_breach, left_open, operated, combined, in_turn, value_walk, link_walk, numbers_of}
 use Rattle.structured_states.specs.Loops.{Claims}
 use Rattle.expression_checker.specs.declared.grounds.Grounds.{Grounds}
-use Rattle.expression_checker.specs.View.{Flows, Goes, context_of, seen, state_of}
+use Rattle.expression_checker.specs.View.{Flows, Goes, IsLeft, context_of, seen, state_of}
 use Rattle.structured_states.proofs.Claims.{item-cut, drop-past}
 
 -- ---- the walk, form by form
@@ -82,8 +83,8 @@ first-stays : (one two : List Breach) (breach : Breach) → first_breach one ≡
 first-stays [] two breach is = cc
 first-stays (first ∷ one) two breach is = is
 
-pub breach-stays : {A B : Type 0} (walked : Walked A) (more : Walked B) (fault : CheckFault) (both : Walked B) → both.broken ≡ walked.broken ++ more.broken
-    → IsBreachOf walked fault → IsBreachOf both fault
+pub breach-stays : {A B C : Type 0} (walked : Walked A) (more : Walked B) (fault : CheckFault) (both : Walked C)
+    → both.broken ≡ walked.broken ++ more.broken → IsBreachOf walked fault → IsBreachOf both fault
 breach-stays walked more Memory both are is = tt
 breach-stays walked more Foreign both are is = is
 breach-stays walked more (Broken rule place) both are is =
@@ -95,6 +96,40 @@ pub breach-same : {A B : Type 0} (walked : Walked A) (other : Walked B) (fault :
 breach-same walked other Memory same is = tt
 breach-same walked other Foreign same is = is
 breach-same walked other (Broken rule place) same is = ap first_breach (sym same) ∙ is
+
+-- ---- where the checker gave up
+
+-- before the first entry
+pub left-at_once : {A : Type 0} (walked : Walked A) (visits : Visits) (fault : CheckFault) → IsBreachOf walked fault → IsLeft walked visits visits fault
+left-at_once walked visits fault is = record { breach_is = is; visits_are = begun-none (numbers_of walked.linked) visits }
+
+-- the rules that are broken and the entries are the same
+pub left-same : {A B : Type 0} (walked : Walked A) (other : Walked B) (before after : Visits) (fault : CheckFault) → walked.broken ≡ other.broken
+    → walked.linked ≡ other.linked → IsLeft walked before after fault → IsLeft other before after fault
+left-same walked other before after fault same linked_same was = record {
+  breach_is = breach-same walked other fault same was.breach_is;
+  visits_are = subst (λ linked. HasBegun (numbers_of linked) before after) linked_same was.visits_are;
+}
+
+-- in the first of two pieces
+pub left-stays : {A B C : Type 0} (walked : Walked A) (more : Walked B) (both : Walked C) (before after : Visits) (fault : CheckFault)
+    → both.broken ≡ walked.broken ++ more.broken → both.linked ≡ walked.linked ++ more.linked
+    → IsLeft walked before after fault → IsLeft both before after fault
+left-stays walked more both before after fault are linked_are was = record {
+  breach_is = breach-stays walked more fault both are was.breach_is;
+  visits_are = subst (λ numbers. HasBegun numbers before after) (sym (ap numbers_of linked_are ∙ numbers-both walked.linked more.linked))
+      (begun-first (numbers_of walked.linked) (numbers_of more.linked) before after was.visits_are);
+}
+
+-- in the second, where the first breaks no rule
+pub left-behind : {A B C : Type 0} (walked : Walked A) (then : Walked B) (both : Walked C) (before between after : Visits) (fault : CheckFault)
+    → then.broken ≡ both.broken → both.linked ≡ walked.linked ++ then.linked → between ≡ all_counted (numbers_of walked.linked) before
+    → IsLeft then between after fault → IsLeft both before after fault
+left-behind walked then both before between after fault same linked_are entries was = record {
+  breach_is = breach-same then both fault same was.breach_is;
+  visits_are = subst (λ numbers. HasBegun numbers before after) (sym (ap numbers_of linked_are ∙ numbers-both walked.linked then.linked))
+      (begun-later (numbers_of walked.linked) (numbers_of then.linked) before between after entries was.visits_are);
+}
 
 -- ---- one piece of a walk after another, in a context
 
@@ -133,9 +168,11 @@ module _ {A B : Type 0} (context : Context) (first : Walking A) (next : A → Wa
     unbroken = sym both-broken ∙ two.unbroken;
   }
 
-  -- the first breach of the next is that of both
-  pub breach-later : (fault : CheckFault) → IsBreachOf then fault → IsBreachOf ((first >>= next) context (state_of old)) fault
-  breach-later fault is = breach-same then ((first >>= next) context (state_of old)) fault both-broken is
+  -- where the checker gave up over the next, it did so over both
+  pub left-later : (after : Visits) (fault : CheckFault) → IsLeft then between after fault → IsLeft ((first >>= next) context (state_of old)) before after fault
+  left-later after fault is =
+      left-behind was then ((first >>= next) context (state_of old)) before between after fault both-broken
+      (ap (λ w. was.linked ++ w.linked) (sym then-same)) one.visits_are is
 
 -- a piece that only gives its value
 pub flows-give : {A : Type 0} (context : Context) (value : A) (old : Flow) (visits : Visits) → Flows context (give value) old visits old visits value
@@ -148,18 +185,22 @@ flows-give context value old visits = record {
   unbroken = refl;
 }
 
--- the first breach of a piece is that of it and the next
-pub breach-first : {A B : Type 0} (context : Context) (first : Walking A) (next : A → Walking B) (state : State) (fault : CheckFault)
-    → IsBreachOf (first context state) fault → IsBreachOf ((first >>= next) context state) fault
-breach-first {A} context first next state fault is =
+-- where the checker gave up over a piece, it did so over it and the next
+pub left-first : {A B : Type 0} (context : Context) (first : Walking A) (next : A → Walking B) (state : State) (before after : Visits) (fault : CheckFault)
+    → IsLeft (first context state) before after fault → IsLeft ((first >>= next) context state) before after fault
+left-first {A} context first next state before after fault is =
     let was : Walked A = first context state in
-    breach-stays was (next was.value context was.after) fault ((first >>= next) context state) refl is
+    left-stays was (next was.value context was.after) ((first >>= next) context state) before after fault refl refl is
 
 -- ---- the same in every context of the flow's program
 
 -- the checker gave up over a piece
-abbrev pub Stops : {A : Type 0} → Walking A → Flow → CheckFault → Type 0
-Stops walk old fault = (claims : List Claims) → IsBreachOf (walk (context_of old.grounds claims) (state_of old)) fault
+abbrev pub Stops : {A : Type 0} → Walking A → Flow → Visits → Visits → CheckFault → Type 0
+Stops walk old before after fault = (claims : List Claims) → IsLeft (walk (context_of old.grounds claims) (state_of old)) before after fault
+
+-- it found no memory before the first entry
+pub goes-nowhere : {A : Type 0} (walk : Walking A) (old new : Flow) (visits : Visits) → Goes {A = A} walk old visits (Err Memory) new visits
+goes-nowhere walk old new visits = λ claims. left-at_once (walk (context_of old.grounds claims) (state_of old)) visits Memory tt
 
 -- the first piece was walked over: what the checker did over the next is what it did over both
 pub goes-then : {A B : Type 0} (first : Walking A) (next : A → Walking B)
@@ -171,14 +212,25 @@ goes-then first next old mid new before between after a (Ok b) one two = λ clai
     (subst (λ (grounds : Grounds). Flows (context_of grounds claims) (next a) mid between new after b) begun.grounds_are (two claims))
 goes-then first next old mid new before between after a (Err fault) one two = λ claims.
     let begun = one claims in
-    breach-later (context_of old.grounds claims) first next old mid before between a begun fault
-    (subst (λ (grounds : Grounds). IsBreachOf (next a (context_of grounds claims) (state_of mid)) fault) begun.grounds_are (two claims))
+    left-later (context_of old.grounds claims) first next old mid before between a begun after fault
+    (subst (λ (grounds : Grounds). IsLeft (next a (context_of grounds claims) (state_of mid)) between after fault) begun.grounds_are (two claims))
 
 -- the checker gave up over the first piece: so it does over both
 pub goes-stopped : {A B : Type 0} (first : Walking A) (next : A → Walking B) (old new : Flow) (before after : Visits) (fault : CheckFault)
-    → Stops first old fault → Goes (first >>= next) old before (Err fault) new after
+    → Stops first old before after fault → Goes (first >>= next) old before (Err fault) new after
 goes-stopped first next old new before after fault stops =
-    λ claims. breach-first (context_of old.grounds claims) first next (state_of old) fault (stops claims)
+    λ claims. left-first (context_of old.grounds claims) first next (state_of old) before after fault (stops claims)
+
+-- an entry
+pub goes-entered : (number : ℕ) (old : Flow) (before after : Visits) → after ≡ counted number before → Goes (enter number) old before (Ok tt) old after
+goes-entered number old before after is = λ claims. record {
+  grounds_are = refl;
+  value_is = refl;
+  state_is = refl;
+  open_is = sym (append-nil old.open_ids.items);
+  visits_are = is;
+  unbroken = refl;
+}
 
 -- a piece that only gives its value
 pub goes-give : {A : Type 0} (value : A) (old : Flow) (visits : Visits) → Goes (give value) old visits (Ok value) old visits
@@ -207,7 +259,7 @@ seen-fault view (Err other) fault is = is
 pub stopped-as : {A B : Type 0} (walk : Walking B) (first : Walking A) (next : A → Walking B)
     (old new : Flow) (before after : Visits) (fault : CheckFault) (result : Result B CheckFault)
     → walk ≡ (first >>= next) → IsErr result × IsErrAnd result (λ e. e ≡ fault)
-    → Stops first old fault → Goes walk old before result new after
+    → Stops first old before after fault → Goes walk old before result new after
 stopped-as walk first next old new before after fault result is left stopped =
     given-up walk old new before after fault result left
     (goes-as walk (first >>= next) old new before after (Err fault) is (goes-stopped first next old new before after fault stopped))
@@ -229,7 +281,7 @@ turn-step items i link left value old mid new before between after result inside
     (goes-then (link_walk link left) (in_turn (map link_walk (drop (i + 1) items))) old mid new before between after value result one two)
 
 pub turn-stopped : (items : List Link) (i : ℕ) (link : Link) (left : Known) (old new : Flow) (before after : Visits) (fault : CheckFault)
-    → i < length items → link ≡ get_or items i link → Stops (link_walk link left) old fault
+    → i < length items → link ≡ get_or items i link → Stops (link_walk link left) old before after fault
     → Goes (in_turn (map link_walk (drop i items)) left) old before (Err fault) new after
 turn-stopped items i link left old new before after fault inside is one =
     goes-as (in_turn (map link_walk (drop i items)) left) (link_walk link left >>= in_turn (map link_walk (drop (i + 1) items))) old new before after
@@ -283,10 +335,11 @@ use-goes root site closed range value old new state before after closed_is range
     }
 
 pub use-stopped : (root site : ℕ) (old new : Flow) (before after : Visits) (closed : Bool) (range : Interval) (state : Kept) (fault : CheckFault)
-    → Stops (tested closed site range) (record old { state = state }) fault → Goes (use_of root site) old before (Err fault) new after
+    → Stops (tested closed site range) (record old { state = state }) before after fault → Goes (use_of root site) old before (Err fault) new after
 use-stopped root site old new before after closed range state fault stops = λ claims.
     let context = context_of old.grounds claims in
-    breach-same (tested closed site range context (viewed old.grounds.rows.now state)) (use_of root site context (state_of old)) fault refl (stops claims)
+    left-same (tested closed site range context (viewed old.grounds.rows.now state)) (use_of root site context (state_of old)) before after fault refl refl
+    (stops claims)
 
 -- ---- an expression that the checker has begun
 
@@ -387,7 +440,7 @@ index-step selectors behind items i index reach next fits known range old valued
 
 -- the checker gave up over an index expression, or over the test of its value
 pub index-stopped : (selectors : List Selector) (items : List Expr) (i : ℕ) (index : Expr) (reach : Reach) (old new : Flow) (before after : Visits)
-    (fault : CheckFault) → i < length items → index ≡ get_or items i index → Stops (value_walk index) old fault
+    (fault : CheckFault) → i < length items → index ≡ get_or items i index → Stops (value_walk index) old before after fault
     → Goes (indexes_walk selectors (index_pieces (drop i items)) reach) old before (Err fault) new after
 index-stopped selectors items i index reach old new before after fault inside is one =
     let next = λ (known : Known). index_test (next_test selectors) known >>= behind_walk (behind_next selectors) index (drop (i + 1) items) reach in
@@ -397,7 +450,7 @@ index-stopped selectors items i index reach old new before after fault inside is
 pub test-stopped : (selectors : List Selector) (items : List Expr) (i : ℕ) (index : Expr) (reach : Reach) (fits : Option RangeTest) (known : Known)
     (old valued new : Flow) (before between after : Visits) (fault : CheckFault)
     → i < length items → index ≡ get_or items i index → fits ≡ next_test selectors → Goes (value_walk index) old before (Ok known) valued between
-    → Stops (index_test fits known) valued fault
+    → Stops (index_test fits known) valued between after fault
     → Goes (indexes_walk selectors (index_pieces (drop i items)) reach) old before (Err fault) new after
 test-stopped selectors items i index reach fits known old valued new before between after fault inside is fits_is one two =
     let rest = behind_walk (behind_next selectors) index (drop (i + 1) items) reach in
@@ -466,7 +519,7 @@ actual-step items i one actual old mid new before between after result inside is
     (goes-then (passed_piece_of one).walk next old mid new before between after actual result first rest)
 
 pub actual-stopped : (items : List Passed) (i : ℕ) (one : Passed) (old new : Flow) (before after : Visits) (fault : CheckFault) → i < length items
-    → one ≡ get_or items i one → Stops (passed_piece_of one).walk old fault → Goes (actuals_from items i) old before (Err fault) new after
+    → one ≡ get_or items i one → Stops (passed_piece_of one).walk old before after fault → Goes (actuals_from items i) old before (Err fault) new after
 actual-stopped items i one old new before after fault inside is stops =
     let next = λ (actual : Actual). actuals_from items (i + 1) >>= λ more. give (actual ∷ more) in
     goes-as (actuals_from items i) ((passed_piece_of one).walk >>= next) old new before after (Err fault) (actual-cut items i one inside is)

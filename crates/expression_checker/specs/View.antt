@@ -21,8 +21,9 @@ use Rattle.call_states.specs.Sections.{block_claims_at}
 use Rattle.call_states.specs.View.{said_actual, said_claims}
 use Rattle.expression_checker.specs.declared.flow.Flow.{Flow}
 use Rattle.expression_checker.specs.declared.grounds.Grounds.{Grounds}
-use Rattle.expression_checker.specs.Visits.{Visits, all_counted}
-use Rattle.expression_checker.specs.Walk.{Context, IsBreachOf, Walking, called_block, left_open, numbers_of, result_of}
+use Rattle.expression_checker.specs.Visits.{HasBegun, Visits, all_counted}
+use Rattle.expression_checker.specs.Walk.{Context, IsBreachOf, Walked, Walking, called_block, left_open, numbers_of}
+use Rattle.expression_checker.specs.Walk.{result_of}
 
 -- what a walk goes by, with these claims on loops
 abbrev pub context_of : Grounds → List Claims → Context
@@ -65,13 +66,19 @@ pub record Flows {A : Type 0} (context : Context) (walking : Walking A) (old : F
   pub visits_are : after ≡ all_counted (numbers_of (walking context (state_of old)).linked) before
   pub unbroken : (walking context (state_of old)).broken ≡ []
 
+-- the checker gave up over a piece that was walked over so: it tells the first rule that the piece breaks, or it found
+-- no memory; and it counted a beginning of the piece's entries
+pub record IsLeft {A : Type 0} (walked : Walked A) (before after : Visits) (fault : CheckFault) : Type 0 where
+  pub breach_is : IsBreachOf walked fault
+  pub visits_are : HasBegun (numbers_of walked.linked) before after
+
 -- the flow went over a piece of a program by its grounds, whatever is claimed of loops: it came to its end, or the
--- checker tells the first rule that the piece breaks, or it found no memory
+-- checker gave up
 abbrev pub Goes : {A : Type 0} → Walking A → Flow → Visits → Result A CheckFault → Flow → Visits → Type 0
 Goes walking old before (Ok value) new after =
     (claims : List Claims) → Flows (context_of old.grounds claims) walking old before new after value
 Goes walking old before (Err fault) new after =
-    (claims : List Claims) → IsBreachOf (walking (context_of old.grounds claims) (state_of old)) fault
+    (claims : List Claims) → IsLeft (walking (context_of old.grounds claims) (state_of old)) before after fault
 
 -- an answer of the checker, with its value as the definitions see it
 abbrev pub seen : {A B : Type 0} → (A → B) → Result A CheckFault → Result B CheckFault

@@ -11,7 +11,7 @@ ghost use Rattle.expression_checker.specs.View.{Goes, said_actuals, said_ranges,
 ghost use Rattle.expression_checker.specs.Walk.{actuals_walk, call_walk, called, fits_whole, form_before};
 ghost use Rattle.expression_checker.specs.Walk.{function_walk, passed_piece_of, piece_of};
 ghost use Rattle.expression_checker.specs.Walk.{above, access_walk, behind_next, below, combined, deeper, divisor};
-ghost use Rattle.expression_checker.specs.Walk.{enter, fitting, index_pieces, index_test, indexes_walk, link_walk};
+ghost use Rattle.expression_checker.specs.Walk.{fitting, index_pieces, index_test, indexes_walk, link_walk};
 ghost use Rattle.expression_checker.specs.Walk.{next_test, operated, parameter_walk, positive, related_walk, tested};
 ghost use Rattle.expression_checker.specs.Walk.{value_walk, variable_walk, whole, whole_walk, width_test, width_walk};
 ghost use Rattle.expression_checker.specs.Walk.{within, written_walk};
@@ -48,18 +48,6 @@ pub struct Flow<'a> {
 }
 
 impl<'a> Flow<'a> {
-    /// Counts the entry into a statement or an expression.
-    pub fn enter(&mut self, number: u32, visits: &mut Visits) -> Result<(), CheckFault>
-        ensures { Goes (enter number) self.old visits.old result self.new visits.new }
-    {
-        // A tree of so many entries fits no memory, so this never comes: it spares the callers a bound on the tree.
-        if !visits.has_room() {
-            return Err(CheckFault::Memory);
-        }
-        visits.tick(number);
-        Ok(())
-    }
-
     /// What is known of an expression's value (ISO 7185:1990, 6.7).
     ///
     /// # Errors
@@ -74,7 +62,7 @@ impl<'a> Flow<'a> {
     {
         match expression {
             Expr::Constant { number, value } => {
-                self.enter(*number, visits)?;
+                visits.tick(*number);
                 Ok(Known::Ordinal(Interval::between(*value, *value)))
             }
             Expr::Variable {
@@ -87,7 +75,7 @@ impl<'a> Flow<'a> {
                 operation,
                 operand,
             } => {
-                self.enter(*number, visits)?;
+                visits.tick(*number);
                 let known = self.expression(operand, visits)?;
                 self.operated(*operation, known)
             }
@@ -118,7 +106,7 @@ impl<'a> Flow<'a> {
     fn link(&mut self, link: &Link, left: Known, visits: &mut Visits) -> Result<Known, CheckFault>
         ensures { Goes (link_walk link.now left) self.old visits.old result self.new visits.new }
     {
-        self.enter(link.number, visits)?;
+        visits.tick(link.number);
         let right = self.expression(&link.operand, visits)?;
         self.combined(link.operation, left, right)
     }
@@ -151,7 +139,7 @@ impl<'a> Flow<'a> {
         ensures { Goes (related_walk number right.now (index_pieces indexes.now))
             self.old visits.old result self.new visits.new }
     {
-        self.enter(number, visits)?;
+        visits.tick(number);
         self.whole_value(right, indexes, visits)?;
         Ok(Known::Ordinal(Interval::TRUTH_VALUES))
     }
@@ -173,7 +161,7 @@ impl<'a> Flow<'a> {
     {
         match value {
             Whole::Text { number, characters } => {
-                self.enter(*number, visits)?;
+                visits.tick(*number);
                 self.text(characters)
             }
             Whole::Variable {
@@ -202,7 +190,7 @@ impl<'a> Flow<'a> {
         ensures { Goes (access_walk access.now (index_pieces indexes.now)) self.old visits.old
             (seen said_reach result) self.new visits.new }
     {
-        self.enter(access.number, visits)?;
+        visits.tick(access.number);
         self.indexes(&access.selectors, indexes, visits)
     }
 
@@ -262,7 +250,7 @@ impl<'a> Flow<'a> {
         ensures { Goes (call_walk call (map passed_piece_of actuals.now)) self.old visits.old result
             self.new visits.new }
     {
-        self.enter(call.number, visits)?;
+        visits.tick(call.number);
         let passed = self.actuals(actuals, visits)?;
         self.called(call, actuals_hold_call(actuals), passed)
     }

@@ -1,8 +1,10 @@
-ghost use Rattle.std.specs.Prelude.{◌≡◌, ◌↔◌, ◌-◌, ◌^◌, ◌<◌, IfOk, IsTrue};
+ghost use Rattle.std.specs.Prelude.{◌≡◌, ◌<◌, ◌^◌, ◌-◌, IsOk, MatchResult, length};
 ghost use Rattle.typed_tree.specs.Entries.{entries_of};
-ghost use Rattle.expression_checker.specs.Visits.{Visits as Counter, all_counted, counted, none_counted};
+ghost use Rattle.expression_checker.specs.Visits.{HasBegun, Visits as Counter, all_counted, counted, most_counted};
+ghost use Rattle.expression_checker.specs.Visits.{none_counted};
 
 use crate::fault::CheckFault;
+use std::alloc::AllocError;
 use std::marker::Model;
 use typed_tree::tree::Tree;
 
@@ -10,6 +12,7 @@ use typed_tree::tree::Tree;
 ///
 /// It can't be thrown away: only `finish` takes it, which asks for a walk over the whole program.
 pub struct Visits {
+    // As far as 64 bits count.
     entries: u64,
     // Whether each entry so far came at its own number: the first at 0, the next at 1, and so on.
     are_in_order: bool,
@@ -32,32 +35,34 @@ impl Visits {
         }
     }
 
-    /// The entry into the statement or expression of a number; for less than 18446744073709551615 entries so far.
+    /// The entry into the statement or expression of a number.
     pub fn tick(&mut self, number: u32)
-        requires { self.old.entries < 2 ^ 64 - 1 }
         ensures { self.new ≡ counted number self.old }
     {
         self.are_in_order = self.are_in_order && u64::from(number) == self.entries;
-        self.entries += 1;
-    }
-
-    /// Whether `tick` may be called.
-    pub fn has_room(&self) -> bool
-        ensures { IsTrue result ↔ (self.now.entries < 2 ^ 64 - 1) }
-    {
-        self.entries < u64::MAX
+        self.entries = self.entries.saturating_add(1);
     }
 
     /// The entries that were counted, once the walk over the program ended. Where the walk was not refused, they are
-    /// those of the program, each once and in their order.
-    pub fn finish<T>(self, tree: &Tree, walked: &Result<T, CheckFault>) -> u64
-        requires { IfOk walked.now (λ _. self ≡ all_counted (entries_of tree.now) none_counted) }
-        ensures { result ≡ self.entries }
+    /// those of the program, each once and in their order; where it was, they are a beginning of those.
+    ///
+    /// # Errors
+    /// A program of 18446744073709551615 entries or more, which fits no memory.
+    pub fn finish<T>(self, tree: &Tree, walked: &Result<T, CheckFault>) -> Result<u64, AllocError>
+        requires { MatchResult walked.now
+            (λ _. self ≡ all_counted (entries_of tree.now) none_counted)
+            (λ _. HasBegun (entries_of tree.now) none_counted self) }
+        ensures told { MatchResult result (λ entries. (entries ≡ self.entries) × (entries < most_counted))
+            (λ _. self.entries ≡ most_counted) }
+        ensures few { length (entries_of tree.now) < most_counted → IsOk result }
     {
         let Visits {
             entries,
             are_in_order: _,
         } = self;
-        entries
+        if entries == u64::MAX {
+            return Err(AllocError);
+        }
+        Ok(entries)
     }
 }

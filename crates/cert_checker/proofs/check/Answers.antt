@@ -7,7 +7,7 @@ use Rattle.certificate_names.specs.Names.{is_known}
 use Rattle.cert_checker.specs.Promise.{open_in}
 use Rattle.expression_checker.specs.Visits.{all_counted, Visits}
 use Rattle.cert_checker.specs.Walk.{program_walk}
-use Rattle.expression_checker.proofs.Entered.{counted-many}
+use Rattle.expression_checker.proofs.Begun.{counted-many}
 use Rattle.cert_checker.proofs.EffectsRoutines.{calls-change-what-they-list}
 use Rattle.cert_checker.proofs.Entered.{links_entries, program-entered}
 use Rattle.cert_checker.proofs.SoundProgram.{closed-never_err, states-hold}

@@ -1,14 +1,20 @@
 use Rattle.std.proofs.Common.{refl, length, map, subst, ◌+◌, true, false, Some, None, Ok, Err}
 use Rattle.component_states.specs.States.{State}
+use Rattle.cert_checker.specs.Walk.{arm_walk, branches}
 use Rattle.cert_checker.specs.Walk.{all_of, arms_walk, case_walk, for_round, for_turns, for_walk, repeat_round, rounds_of, statement_walk, where_so}
 use Rattle.cert_checker.specs.Walk.{while_round}
 use Rattle.structured_states.specs.View.{said_end, said_way}
 use Rattle.cert_checker.specs.View.{Goes, else_walk, viewed_in}
+use Rattle.cert_checker.proofs.Steps.{all-stopped, branches-half, goes-entered, goes-nowhere, repeat_round-stopped, repeat_round-unparted}
+use Rattle.cert_checker.proofs.Steps.{repeat_round-untested, state-given_up, while_round-stopped, while_round-unparted, while_round-untested}
+use Rattle.expression_checker.specs.declared.fault.CheckFault.TheVariants.{Memory}
 use Rattle.cert_checker.proofs.Steps.{all-step, all-end, given-up, if-begun, branches-done, branches-stopped, loop-done, loop-stopped, while-begun}
 use Rattle.cert_checker.proofs.Steps.{if-stopped, loop-not_entered, repeat-begun, viewed-same, while_round-done, repeat_round-done}
+use Rattle.cert_checker.proofs.StepsFor.{for_round-ends, for_round-stopped}
 use Rattle.cert_checker.proofs.StepsFor.{for-begun, for-done, for-first_stopped, for-last_stopped, for-stopped, rounds-go, turns-done}
 use Rattle.cert_checker.proofs.StepsFor.{turns-not_begun, turns-not_tested, way-same}
-use Rattle.cert_checker.proofs.StepsCase.{arms_from, arms-end, arms-step, arms-stopped, case-begun, case-not_tested, case-tested}
+use Rattle.cert_checker.proofs.StepsCase.{arm-done, arm-stopped, arms_from, arms-end, arms-step, arms-stopped, case-begun, case-not_tested, case-not_valued}
+use Rattle.cert_checker.proofs.StepsCase.{case-tested}
 use Rattle.abstract_state.specs.declared.known.Known.TheVariants.{Ordinal}
 use Rattle.cert_checker.proofs.walk.Walk.+statement.Goals as goal
 
@@ -32,10 +38,10 @@ statement-returns-in_err-known-in-If t c =
     let new = c.expression.new.self in
     let after = c.expression.new.visits in
     let fault = c.in_err-known-in-If.field-0.0 in
-    let left = c.from_residual-in_err-known-in-If in
+    let left = c.from_residual in
     given-up (statement_walk c.args.statement.now) c.args.self.now new c.args.visits.now after fault left.result left.ensures
-    (if-stopped c.args.statement.now it.number it.condition it.consequence it.alternative c.args.self.now c.enter-in-If.new.self new c.args.visits.now
-    c.enter-in-If.new.visits after fault it.is c.in_ok-enter-in-If.ensures c.in_err-known-in-If.ensures)
+    (if-stopped c.args.statement.now it.number it.condition it.consequence it.alternative c.args.self.now c.args.self.now new c.args.visits.now
+    c.tick-in-If.new.self after fault it.is (goes-entered _ c.args.self.now _ _ c.tick-in-If.ensures) c.in_err-known-in-If.ensures)
 
 pub statement-returns-in_err-statement-in-If : goal.statement-returns-in_err-statement-in-If
 statement-returns-in_err-statement-in-If t c =
@@ -48,8 +54,8 @@ statement-returns-in_err-statement-in-If t c =
     let fault = c.in_err-statement-in-If.field-0.0 in
     let left = c.from_residual-in_err-statement-in-If in
     given-up (statement_walk c.args.statement.now) c.args.self.now new c.args.visits.now after fault left.result left.ensures
-    (if-begun c.args.statement.now it.number it.condition it.consequence it.alternative c.deref-in-If.result.now c.args.self.now c.enter-in-If.new.self
-    valued new c.args.visits.now c.enter-in-If.new.visits between after known (Err fault) it.is c.deref-in-If.ensures c.in_ok-enter-in-If.ensures
+    (if-begun c.args.statement.now it.number it.condition it.consequence it.alternative c.deref-in-If.result.now c.args.self.now c.args.self.now
+    valued new c.args.visits.now c.tick-in-If.new.self between after known (Err fault) it.is c.deref-in-If.ensures (goes-entered _ c.args.self.now _ _ c.tick-in-If.ensures)
     c.in_ok-known-in-If.ensures
     (branches-stopped (where_so true it.condition known) (where_so false it.condition known) (statement_walk c.deref-in-If.result.now)
     (else_walk it.alternative) valued c.part.new.self new between after
@@ -60,9 +66,9 @@ statement-returns-in_ok-alternative-in-If t c =
     let it = c.in-If in
     let valued = c.expression.new.self in
     let known = c.in_ok-known-in-If.known in
-    if-begun c.args.statement.now it.number it.condition it.consequence it.alternative c.deref-in-If.result.now c.args.self.now c.enter-in-If.new.self
-    valued c.meet.new.self c.args.visits.now c.enter-in-If.new.visits c.expression.new.visits c.alternative.new.visits known c.meet.result
-    it.is c.deref-in-If.ensures c.in_ok-enter-in-If.ensures c.in_ok-known-in-If.ensures
+    if-begun c.args.statement.now it.number it.condition it.consequence it.alternative c.deref-in-If.result.now c.args.self.now c.args.self.now
+    valued c.meet.new.self c.args.visits.now c.tick-in-If.new.self c.expression.new.visits c.alternative.new.visits known c.meet.result
+    it.is c.deref-in-If.ensures (goes-entered _ c.args.self.now _ _ c.tick-in-If.ensures) c.in_ok-known-in-If.ensures
     (branches-done (where_so true it.condition known) (where_so false it.condition known) (statement_walk c.deref-in-If.result.now)
     (else_walk it.alternative) valued c.part.new.self c.statement.new.self _
     c.alternative.new.self c.meet.new.self c.expression.new.visits c.statement.new.visits c.alternative.new.visits c.replace-behind.result
@@ -85,25 +91,25 @@ pub statement-returns-in_err-enter_loop-in-While : goal.statement-returns-in_err
 statement-returns-in_err-enter_loop-in-While t c =
     let it = c.in-While in
     let walking = while_round it.condition (statement_walk it.body.value) in
-    let entered = c.enter-in-While.new.self in
+    let entered = c.args.self.now in
     let new = c.enter_loop.new.self in
-    let after = c.enter-in-While.new.visits in
+    let after = c.tick-in-While.new.self in
     let fault = c.in_err-enter_loop-in-While.field-0.0 in
     let left = c.from_residual-in_err-enter_loop-in-While in
     given-up (statement_walk c.args.statement.now) c.args.self.now new c.args.visits.now after fault left.result left.ensures
     (while-begun c.args.statement.now it.number it.loop_number it.place it.condition it.body it.body.value c.args.self.now entered new c.args.visits.now
-    after after (Err fault) it.is refl c.in_ok-enter-in-While.ensures
-    (loop-not_entered it.loop_number it.place None walking entered new after after fault c.in_err-enter_loop-in-While.ensures))
+    after after (Err fault) it.is refl (goes-entered _ c.args.self.now _ _ c.tick-in-While.ensures)
+    (loop-not_entered it.loop_number it.place None walking entered new after fault c.in_err-enter_loop-in-While.ensures))
 
 pub statement-returns-in_ok-behind-in-While : goal.statement-returns-in_ok-behind-in-While
 statement-returns-in_ok-behind-in-While t c =
     let it = c.in-While in
     let walking = while_round it.condition (statement_walk c.deref-in-While.result.now) in
-    let entered = c.enter-in-While.new.self in
-    let between = c.enter-in-While.new.visits in
+    let entered = c.args.self.now in
+    let between = c.tick-in-While.new.self in
     while-begun c.args.statement.now it.number it.loop_number it.place it.condition it.body c.deref-in-While.result.now c.args.self.now entered
     c.leave_loop.new.self
-    c.args.visits.now between c.while_round.new.visits c.leave_loop.result it.is c.deref-in-While.ensures c.in_ok-enter-in-While.ensures
+    c.args.visits.now between c.while_round.new.visits c.leave_loop.result it.is c.deref-in-While.ensures (goes-entered _ c.args.self.now _ _ c.tick-in-While.ensures)
     (loop-done it.loop_number it.place None walking entered c.enter_loop.new.self c.in_ok-enter_loop-in-While.ensures c.while_round.new.self between
     c.while_round.new.visits c.in_ok-behind-in-While.behind c.in_ok-behind-in-While.ensures c.leave_loop.result c.leave_loop.new.self c.leave_loop.ensures)
 
@@ -111,15 +117,15 @@ pub statement-returns-in_err-behind-in-While : goal.statement-returns-in_err-beh
 statement-returns-in_err-behind-in-While t c =
     let it = c.in-While in
     let walking = while_round it.condition (statement_walk c.deref-in-While.result.now) in
-    let entered = c.enter-in-While.new.self in
-    let between = c.enter-in-While.new.visits in
+    let entered = c.args.self.now in
+    let between = c.tick-in-While.new.self in
     let new = c.while_round.new.self in
     let after = c.while_round.new.visits in
     let fault = c.in_err-behind-in-While.field-0.0 in
     let left = c.from_residual-in_err-behind-in-While in
     given-up (statement_walk c.args.statement.now) c.args.self.now new c.args.visits.now after fault left.result left.ensures
     (while-begun c.args.statement.now it.number it.loop_number it.place it.condition it.body c.deref-in-While.result.now c.args.self.now entered new
-    c.args.visits.now between after (Err fault) it.is c.deref-in-While.ensures c.in_ok-enter-in-While.ensures
+    c.args.visits.now between after (Err fault) it.is c.deref-in-While.ensures (goes-entered _ c.args.self.now _ _ c.tick-in-While.ensures)
     (loop-stopped it.loop_number it.place None walking entered c.enter_loop.new.self c.in_ok-enter_loop-in-While.ensures new between after fault
     c.in_err-behind-in-While.ensures))
 
@@ -127,25 +133,25 @@ pub statement-returns-in_err-enter_loop-in-Repeat : goal.statement-returns-in_er
 statement-returns-in_err-enter_loop-in-Repeat t c =
     let it = c.in-Repeat in
     let walking = repeat_round (all_of (map statement_walk it.statements.items)) it.condition in
-    let entered = c.enter-in-Repeat.new.self in
+    let entered = c.args.self.now in
     let new = c.enter_loop-in-Repeat.new.self in
-    let after = c.enter-in-Repeat.new.visits in
+    let after = c.tick-in-Repeat.new.self in
     let fault = c.in_err-enter_loop-in-Repeat.field-0.0 in
     let left = c.from_residual-in_err-enter_loop-in-Repeat in
     given-up (statement_walk c.args.statement.now) c.args.self.now new c.args.visits.now after fault left.result left.ensures
     (repeat-begun c.args.statement.now it.number it.loop_number it.place it.statements it.condition it.statements.items c.args.self.now entered new
-    c.args.visits.now after after (Err fault) it.is refl c.in_ok-enter-in-Repeat.ensures
-    (loop-not_entered it.loop_number it.place None walking entered new after after fault c.in_err-enter_loop-in-Repeat.ensures))
+    c.args.visits.now after after (Err fault) it.is refl (goes-entered _ c.args.self.now _ _ c.tick-in-Repeat.ensures)
+    (loop-not_entered it.loop_number it.place None walking entered new after fault c.in_err-enter_loop-in-Repeat.ensures))
 
 pub statement-returns-in_ok-behind-in-Repeat : goal.statement-returns-in_ok-behind-in-Repeat
 statement-returns-in_ok-behind-in-Repeat t c =
     let it = c.in-Repeat in
     let walking = repeat_round (all_of (map statement_walk c.deref-in-Repeat.result.now)) it.condition in
-    let entered = c.enter-in-Repeat.new.self in
-    let between = c.enter-in-Repeat.new.visits in
+    let entered = c.args.self.now in
+    let between = c.tick-in-Repeat.new.self in
     repeat-begun c.args.statement.now it.number it.loop_number it.place it.statements it.condition c.deref-in-Repeat.result.now c.args.self.now entered
     c.leave_loop-in-Repeat.new.self
-    c.args.visits.now between c.repeat_round.new.visits c.leave_loop-in-Repeat.result it.is c.deref-in-Repeat.ensures.value c.in_ok-enter-in-Repeat.ensures
+    c.args.visits.now between c.repeat_round.new.visits c.leave_loop-in-Repeat.result it.is c.deref-in-Repeat.ensures.value (goes-entered _ c.args.self.now _ _ c.tick-in-Repeat.ensures)
     (loop-done it.loop_number it.place None walking entered c.enter_loop-in-Repeat.new.self c.in_ok-enter_loop-in-Repeat.ensures c.repeat_round.new.self between
     c.repeat_round.new.visits c.in_ok-behind-in-Repeat.behind c.in_ok-behind-in-Repeat.ensures c.leave_loop-in-Repeat.result c.leave_loop-in-Repeat.new.self
     c.leave_loop-in-Repeat.ensures)
@@ -154,15 +160,15 @@ pub statement-returns-in_err-behind-in-Repeat : goal.statement-returns-in_err-be
 statement-returns-in_err-behind-in-Repeat t c =
     let it = c.in-Repeat in
     let walking = repeat_round (all_of (map statement_walk c.deref-in-Repeat.result.now)) it.condition in
-    let entered = c.enter-in-Repeat.new.self in
-    let between = c.enter-in-Repeat.new.visits in
+    let entered = c.args.self.now in
+    let between = c.tick-in-Repeat.new.self in
     let new = c.repeat_round.new.self in
     let after = c.repeat_round.new.visits in
     let fault = c.in_err-behind-in-Repeat.field-0.0 in
     let left = c.from_residual-in_err-behind-in-Repeat in
     given-up (statement_walk c.args.statement.now) c.args.self.now new c.args.visits.now after fault left.result left.ensures
     (repeat-begun c.args.statement.now it.number it.loop_number it.place it.statements it.condition c.deref-in-Repeat.result.now c.args.self.now entered new
-    c.args.visits.now between after (Err fault) it.is c.deref-in-Repeat.ensures.value c.in_ok-enter-in-Repeat.ensures
+    c.args.visits.now between after (Err fault) it.is c.deref-in-Repeat.ensures.value (goes-entered _ c.args.self.now _ _ c.tick-in-Repeat.ensures)
     (loop-stopped it.loop_number it.place None walking entered c.enter_loop-in-Repeat.new.self c.in_ok-enter_loop-in-Repeat.ensures new between after fault
     c.in_err-behind-in-Repeat.ensures))
 
@@ -247,7 +253,7 @@ statement-returns-in_err-from-in-For t c =
     let left = c.from_residual-in_err-from-in-For in
     given-up (statement_walk c.args.statement.now) c.args.self.now new c.args.visits.now after fault left.result left.ensures
     (for-first_stopped c.args.statement.now it.number it.loop_number it.place it.control it.first it.first_fits it.direction it.last it.last_fits it.body
-    c.args.self.now c.enter-in-For.new.self new c.args.visits.now c.enter-in-For.new.visits after fault it.is c.in_ok-enter-in-For.ensures
+    c.args.self.now c.args.self.now new c.args.visits.now c.tick-in-For.new.self after fault it.is (goes-entered _ c.args.self.now _ _ c.tick-in-For.ensures)
     c.in_err-from-in-For.ensures)
 
 pub statement-returns-in_err-to-in-For : goal.statement-returns-in_err-to-in-For
@@ -258,20 +264,20 @@ statement-returns-in_err-to-in-For t c =
     given-up (statement_walk c.args.statement.now) c.args.self.now c.expression-in-For-2.new.self c.args.visits.now c.expression-in-For-2.new.visits fault
     left.result left.ensures
     (for-last_stopped c.args.statement.now it.number it.loop_number it.place it.control it.first it.first_fits it.direction it.last it.last_fits it.body
-    c.in_ok-from-in-For.from c.args.self.now c.enter-in-For.new.self c.expression-in-For.new.self c.expression-in-For-2.new.self c.args.visits.now
-    c.enter-in-For.new.visits c.expression-in-For.new.visits c.expression-in-For-2.new.visits fault it.is c.in_ok-enter-in-For.ensures
+    c.in_ok-from-in-For.from c.args.self.now c.args.self.now c.expression-in-For.new.self c.expression-in-For-2.new.self c.args.visits.now
+    c.tick-in-For.new.self c.expression-in-For.new.visits c.expression-in-For-2.new.visits fault it.is (goes-entered _ c.args.self.now _ _ c.tick-in-For.ensures)
     c.in_ok-from-in-For.ensures c.in_err-to-in-For.ensures)
 
 pub statement-returns-in_ok-to-in-For : goal.statement-returns-in_ok-to-in-For
 statement-returns-in_ok-to-in-For t c =
     let it = c.in-For in
     for-begun c.args.statement.now it.number it.loop_number it.place it.control it.first it.first_fits it.direction it.last it.last_fits it.body
-    c.deref-in-For.result.now _ c.in_ok-from-in-For.from c.in_ok-to-in-For.to c.args.self.now c.enter-in-For.new.self c.expression-in-For.new.self
-    c.expression-in-For-2.new.self c.for_statement.new.self c.args.visits.now c.enter-in-For.new.visits c.expression-in-For.new.visits
+    c.deref-in-For.result.now _ c.in_ok-from-in-For.from c.in_ok-to-in-For.to c.args.self.now c.args.self.now c.expression-in-For.new.self
+    c.expression-in-For-2.new.self c.for_statement.new.self c.args.visits.now c.tick-in-For.new.self c.expression-in-For.new.visits
     c.expression-in-For-2.new.visits c.for_statement.new.visits c.for_statement.result it.is c.deref-in-For.ensures
     (way-same it.control it.direction it.first it.last it.first_fits it.last_fits c.in_ok-from-in-For.from c.in_ok-to-in-For.to
     (said_end c.before-in-For.result) (said_end c.new.result) c.before-in-For.ensures c.new.ensures)
-    c.in_ok-enter-in-For.ensures c.in_ok-from-in-For.ensures c.in_ok-to-in-For.ensures c.for_statement.ensures
+    (goes-entered _ c.args.self.now _ _ c.tick-in-For.ensures) c.in_ok-from-in-For.ensures c.in_ok-to-in-For.ensures c.for_statement.ensures
 
 pub arms-loop-i-preserved : goal.arms-loop-i-preserved
 arms-loop-i-preserved t c = λ result new after goes.
@@ -313,9 +319,9 @@ pub statement-returns-in_ok-known-in-Case : goal.statement-returns-in_ok-known-i
 statement-returns-in_ok-known-in-Case t c =
     let it = c.in-Case in
     case-begun c.args.statement.now it.number it.site it.index it.constants it.arms c.deref-in-Case-2.result.now c.deref-in-Case.result.now
-    c.in_ok-known-in-Case.known c.range-range.result c.args.self.now c.enter-in-Case.new.self c.expression-in-Case.new.self c.case_statement.new.self
-    c.args.visits.now c.enter-in-Case.new.visits c.expression-in-Case.new.visits c.case_statement.new.visits c.case_statement.result it.is
-    c.deref-in-Case-2.ensures.value c.deref-in-Case.ensures.value c.range-range.ensures c.in_ok-enter-in-Case.ensures c.in_ok-known-in-Case.ensures
+    c.in_ok-known-in-Case.known c.range-range.result c.args.self.now c.args.self.now c.expression-in-Case.new.self c.case_statement.new.self
+    c.args.visits.now c.tick-in-Case.new.self c.expression-in-Case.new.visits c.case_statement.new.visits c.case_statement.result it.is
+    c.deref-in-Case-2.ensures.value c.deref-in-Case.ensures.value c.range-range.ensures (goes-entered _ c.args.self.now _ _ c.tick-in-Case.ensures) c.in_ok-known-in-Case.ensures
     c.case_statement.ensures
 
 pub arms-returns-in_err-arm : goal.arms-returns-in_err-arm
@@ -331,3 +337,201 @@ arms-returns-in_err-arm t c =
     (here.invariant (Err fault) new after
     (arms-stopped base c.args.index c.args.constants.now c.args.arms.now here.i c.index-arms-i.result c.loop-i-test.true c.index-arms-i.is
     (viewed_in here.self c.in_ok-start.start) c.in_ok-start.ensures here.self new here.visits after fault c.in_err-arm.ensures))
+
+pub while_round-returns-in_err-known : goal.while_round-returns-in_err-known
+while_round-returns-in_err-known t c =
+    let body = statement_walk c.args.body.now in
+    let new = c.expression.new.self in
+    let after = c.expression.new.visits in
+    let fault = c.in_err-known.field-0.0 in
+    let left = c.from_residual in
+    state-given_up (while_round c.args.condition.now body) c.args.self.now new c.args.visits.now after fault left.result left.ensures
+    (while_round-untested c.args.condition.now body c.args.self.now new c.args.visits.now after fault c.in_err-known.ensures)
+
+pub while_round-returns-in_err-behind : goal.while_round-returns-in_err-behind
+while_round-returns-in_err-behind t c =
+    let body = statement_walk c.args.body.now in
+    let new = c.part.new.self in
+    let after = c.expression.new.visits in
+    let fault = c.in_err-behind.field-0.0 in
+    let left = c.from_residual-in_err-behind in
+    state-given_up (while_round c.args.condition.now body) c.args.self.now new c.args.visits.now after fault left.result left.ensures
+    (while_round-unparted c.args.condition.now body c.in_ok-known.known c.args.self.now c.expression.new.self new c.args.visits.now after fault
+    c.in_ok-known.ensures c.in_err-behind.ensures)
+
+pub while_round-returns-in_err-statement : goal.while_round-returns-in_err-statement
+while_round-returns-in_err-statement t c =
+    let body = statement_walk c.args.body.now in
+    let new = c.statement.new.self in
+    let after = c.statement.new.visits in
+    let fault = c.in_err-statement.field-0.0 in
+    let left = c.from_residual-in_err-statement in
+    state-given_up (while_round c.args.condition.now body) c.args.self.now new c.args.visits.now after fault left.result left.ensures
+    (while_round-stopped c.args.condition.now body c.in_ok-known.known c.args.self.now c.expression.new.self c.part.new.self new c.args.visits.now
+    c.expression.new.visits after c.in_ok-behind.behind fault c.in_ok-known.ensures c.in_ok-behind.ensures c.in_err-statement.ensures)
+
+pub repeat_round-returns-in_err-statements : goal.repeat_round-returns-in_err-statements
+repeat_round-returns-in_err-statements t c =
+    let body = all_of (map statement_walk c.args.statements.now) in
+    let new = c.statements.new.self in
+    let after = c.statements.new.visits in
+    let fault = c.in_err-statements.field-0.0 in
+    let left = c.from_residual in
+    state-given_up (repeat_round body c.args.condition.now) c.args.self.now new c.args.visits.now after fault left.result left.ensures
+    (repeat_round-stopped body c.args.condition.now c.args.self.now new c.args.visits.now after fault c.in_err-statements.ensures)
+
+pub repeat_round-returns-in_err-known : goal.repeat_round-returns-in_err-known
+repeat_round-returns-in_err-known t c =
+    let body = all_of (map statement_walk c.args.statements.now) in
+    let new = c.expression.new.self in
+    let after = c.expression.new.visits in
+    let fault = c.in_err-known.field-0.0 in
+    let left = c.from_residual-in_err-known in
+    state-given_up (repeat_round body c.args.condition.now) c.args.self.now new c.args.visits.now after fault left.result left.ensures
+    (repeat_round-untested body c.args.condition.now c.args.self.now c.statements.new.self new c.args.visits.now c.statements.new.visits after fault
+    c.in_ok-statements.ensures c.in_err-known.ensures)
+
+pub repeat_round-returns-in_err-again : goal.repeat_round-returns-in_err-again
+repeat_round-returns-in_err-again t c =
+    let body = all_of (map statement_walk c.args.statements.now) in
+    let new = c.part.new.self in
+    let after = c.expression.new.visits in
+    let fault = c.in_err-again.field-0.0 in
+    let left = c.from_residual-in_err-again in
+    state-given_up (repeat_round body c.args.condition.now) c.args.self.now new c.args.visits.now after fault left.result left.ensures
+    (repeat_round-unparted body c.args.condition.now c.in_ok-known.known c.args.self.now c.statements.new.self c.expression.new.self new c.args.visits.now
+    c.statements.new.visits after fault c.in_ok-statements.ensures c.in_ok-known.ensures c.in_err-again.ensures)
+
+pub statement-returns-in_err-otherwise-in-If : goal.statement-returns-in_err-otherwise-in-If
+statement-returns-in_err-otherwise-in-If t c =
+    let it = c.in-If in
+    let valued = c.expression.new.self in
+    let new = c.part.new.self in
+    let after = c.expression.new.visits in
+    let known = c.in_ok-known-in-If.known in
+    let fault = c.in_err-otherwise-in-If.field-0.0 in
+    let left = c.from_residual-in_err-otherwise-in-If in
+    given-up (statement_walk c.args.statement.now) c.args.self.now new c.args.visits.now after fault left.result left.ensures
+    (if-begun c.args.statement.now it.number it.condition it.consequence it.alternative it.consequence.value c.args.self.now c.args.self.now valued new
+    c.args.visits.now c.tick-in-If.new.self after after known (Err fault) it.is refl (goes-entered _ c.args.self.now _ _ c.tick-in-If.ensures)
+    c.in_ok-known-in-If.ensures
+    (goes-nowhere (branches it.condition (statement_walk it.consequence.value) (else_walk it.alternative) known) valued new after fault
+    c.in_err-otherwise-in-If.ensures))
+
+pub statement-returns-in_err-alternative-in-If : goal.statement-returns-in_err-alternative-in-If
+statement-returns-in_err-alternative-in-If t c =
+    let it = c.in-If in
+    let valued = c.expression.new.self in
+    let new = c.alternative.new.self in
+    let after = c.alternative.new.visits in
+    let known = c.in_ok-known-in-If.known in
+    let fault = c.in_err-alternative-in-If.field-0.0 in
+    let left = c.from_residual-in_err-alternative-in-If in
+    given-up (statement_walk c.args.statement.now) c.args.self.now new c.args.visits.now after fault left.result left.ensures
+    (if-begun c.args.statement.now it.number it.condition it.consequence it.alternative c.deref-in-If.result.now c.args.self.now c.args.self.now
+    valued new c.args.visits.now c.tick-in-If.new.self c.expression.new.visits after known (Err fault) it.is c.deref-in-If.ensures
+    (goes-entered _ c.args.self.now _ _ c.tick-in-If.ensures) c.in_ok-known-in-If.ensures
+    (branches-half (where_so true it.condition known) (where_so false it.condition known) (statement_walk c.deref-in-If.result.now)
+    (else_walk it.alternative) valued c.part.new.self c.statement.new.self _ new c.expression.new.visits c.statement.new.visits after
+    c.in_ok-otherwise-in-If.otherwise fault c.in_ok-otherwise-in-If.ensures c.in_ok-statement-in-If.ensures c.replace-behind.ensures.after refl
+    c.in_err-alternative-in-If.ensures))
+
+pub statement-returns-in_err-known-in-Case : goal.statement-returns-in_err-known-in-Case
+statement-returns-in_err-known-in-Case t c =
+    let it = c.in-Case in
+    let new = c.expression-in-Case.new.self in
+    let after = c.expression-in-Case.new.visits in
+    let fault = c.in_err-known-in-Case.field-0.0 in
+    let left = c.from_residual-in_err-known-in-Case in
+    given-up (statement_walk c.args.statement.now) c.args.self.now new c.args.visits.now after fault left.result left.ensures
+    (case-not_valued c.args.statement.now it.number it.site it.index it.constants it.arms c.args.self.now c.args.self.now new c.args.visits.now
+    c.tick-in-Case.new.self after fault it.is (goes-entered _ c.args.self.now _ _ c.tick-in-Case.ensures) c.in_err-known-in-Case.ensures)
+
+pub statements-returns-in_err-statement : goal.statements-returns-in_err-statement
+statements-returns-in_err-statement t c =
+    let here = c.loop-statement in
+    let new = c.statement.new.self in
+    let after = c.statement.new.visits in
+    let fault = c.in_err-statement.field-0.0 in
+    let left = c.from_residual in
+    given-up (all_of (map statement_walk c.args.statements.now)) c.args.self.now new c.args.visits.now after fault left.result left.ensures
+    (here.invariant (Err fault) new after
+    (all-stopped statement_walk c.args.statements.now here.statement-index c.statement-item.result here.self new here.visits after fault
+    c.loop-statement-test.true c.statement-item.is c.in_err-statement.ensures))
+
+pub for_statement-returns-in_err-never : goal.for_statement-returns-in_err-never
+for_statement-returns-in_err-never t c =
+    let walk = for_walk c.args.number c.args.place (statement_walk c.args.body.now) (said_way c.args.way) in
+    let visits = c.args.visits.now in
+    let fault = c.in_err-never.field-0.0 in
+    let left = c.from_residual in
+    given-up walk c.args.self.now c.part_way.new.self visits visits fault left.result left.ensures
+    (goes-nowhere walk c.args.self.now c.part_way.new.self visits fault c.in_err-never.ensures)
+
+pub rounds_of-returns-in_err-enter_loop : goal.rounds_of-returns-in_err-enter_loop
+rounds_of-returns-in_err-enter_loop t c =
+    let way = said_way c.args.way in
+    let steady = said_way c.steady_in-steady.result in
+    let body = statement_walk c.args.body.now in
+    let fault = c.in_err-enter_loop.field-0.0 in
+    let left = c.from_residual in
+    let new = c.enter_loop.new.self in
+    let visits = c.args.visits.now in
+    given-up (rounds_of c.args.number c.args.place body way) c.args.self.now new visits visits fault left.result left.ensures
+    (rounds-go c.args.number c.args.place body way steady c.args.self.now new visits visits (Err fault) c.steady_in-steady.ensures
+    (loop-not_entered c.args.number c.args.place (Some c.args.way.control) (for_round steady body) c.args.self.now new visits fault
+    c.in_err-enter_loop.ensures))
+
+pub for_round-returns-in_err-begin_turn : goal.for_round-returns-in_err-begin_turn
+for_round-returns-in_err-begin_turn t c =
+    let walk = for_round (said_way c.args.way) (statement_walk c.args.body.now) in
+    let visits = c.args.visits.now in
+    let fault = c.in_err-begin_turn.field-0.0 in
+    let left = c.from_residual in
+    state-given_up walk c.args.self.now c.begin_turn.new.self visits visits fault left.result left.ensures
+    (goes-nowhere walk c.args.self.now c.begin_turn.new.self visits fault c.in_err-begin_turn.ensures)
+
+pub for_round-returns-in_err-statement : goal.for_round-returns-in_err-statement
+for_round-returns-in_err-statement t c =
+    let way = said_way c.args.way in
+    let body = statement_walk c.args.body.now in
+    let new = c.statement.new.self in
+    let after = c.statement.new.visits in
+    let fault = c.in_err-statement.field-0.0 in
+    let left = c.from_residual-in_err-statement in
+    state-given_up (for_round way body) c.args.self.now new c.args.visits.now after fault left.result left.ensures
+    (for_round-stopped way body c.args.self.now c.begin_turn.new.self c.in_ok-begin_turn.ensures new c.args.visits.now after fault
+    c.in_err-statement.ensures)
+
+pub for_round-returns : goal.for_round-returns
+for_round-returns t c =
+    for_round-ends (said_way c.args.way) (statement_walk c.args.body.now) c.args.self.now c.begin_turn.new.self c.in_ok-begin_turn.ensures
+    c.statement.new.self c.end_turn.new.self c.args.visits.now c.statement.new.visits c.end_turn.result c.in_ok-statement.ensures c.end_turn.ensures
+
+pub arms-returns-in_err-start : goal.arms-returns-in_err-start
+arms-returns-in_err-start t c =
+    let here = c.loop-i in
+    let base = c.args.base.now in
+    let left = c.from_residual in
+    let arms = c.args.arms.now in
+    given-up (arms_walk (viewed_in c.args.self.now base) c.args.index c.args.constants.now (map statement_walk arms)) c.args.self.now here.self
+    c.args.visits.now here.visits Memory left.result left.ensures
+    (here.invariant (Err Memory) here.self here.visits
+    (goes-nowhere (arms_from (viewed_in here.self base) c.args.index c.args.constants.now arms here.i) here.self here.self here.visits Memory refl))
+
+pub arm-returns-in_err-statement : goal.arm-returns-in_err-statement
+arm-returns-in_err-statement t c =
+    let arm = statement_walk c.args.arm.now in
+    let old = c.args.self.now in
+    let new = c.statement.new.self in
+    let after = c.statement.new.visits in
+    let fault = c.in_err-statement.field-0.0 in
+    let left = c.from_residual in
+    given-up (arm_walk (viewed_in old c.args.start) arm) old new c.args.visits.now after fault left.result left.ensures
+    (arm-stopped c.args.start arm old _ c.replace-behind.ensures.after refl new c.args.visits.now after fault c.in_err-statement.ensures)
+
+pub arm-returns : goal.arm-returns
+arm-returns t c =
+    arm-done c.args.start (statement_walk c.args.arm.now) c.args.self.now _ c.replace-behind.ensures.after refl c.replace-behind.result
+    c.statement.new.self c.meet.new.self c.args.visits.now c.statement.new.visits c.meet.result c.replace-behind.ensures.value c.in_ok-statement.ensures
+    c.meet.ensures

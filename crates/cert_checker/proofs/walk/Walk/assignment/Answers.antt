@@ -73,3 +73,20 @@ returns c =
     (c.reach_stored-reach.ensures ∙ ap₂ (λ (own : List Selector) holds. reach_stored own holds reach) c.deref.ensures.value c.holds_call.ensures) c.in_ok-reach.ensures c.in_ok-known.ensures
     (goes-then (fitting fits known) stored valued tested new after after after passed c.assign_to.result
     (lifted (fitting fits known) valued c.fitting.new.self after after (Ok passed) (c.in_ok-passed.ensures after)) (c.assign_to.ensures after))
+
+pub returns-in_err-reach : goal.returns-in_err-reach
+returns-in_err-reach c =
+    let target = c.args.target.now in
+    let pieces = index_pieces c.args.indexes.now in
+    let fits = c.args.fits in
+    let value = c.args.value.now in
+    let stored = λ (reach : Reach) (known : Known).
+    fitting fits known >>= assign_to c.args.becomes target.root target.selectors.items (reach_before (holds_call value) reach) (limits_of fits.range)
+    (bound_form value) in
+    let fault = c.in_err-reach.field-0.0 in
+    let left = c.from_residual in
+    let new = c.access.new.self in
+    let after = c.access.new.visits in
+    given-up (assignment c.args.becomes target pieces fits value) c.args.self.now new c.args.visits.now after fault left.result left.ensures
+    (goes-stopped (access_walk target pieces) (λ reach. value_walk value >>= stored reach) c.args.self.now new c.args.visits.now after fault
+    c.in_err-reach.ensures)

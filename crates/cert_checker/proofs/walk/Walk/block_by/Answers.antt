@@ -18,7 +18,7 @@ returns-in_err-begin c = λ are.
     let left = c.from_residual in
     given-up (block_walk_by number c.args.block.now claims) old c.begin.new.self visits visits fault left.result left.ensures
     (begin-stopped number c.args.block.now claims old c.begin.new.self visits visits fault
-    (subst (λ (facts : List Fact). Stops (begin number facts) old fault) c.entry.ensures (c.in_err-begin.ensures visits are)))
+    (subst (λ (facts : List Fact). Stops (begin number facts) old visits visits fault) c.entry.ensures (c.in_err-begin.ensures visits are)))
 
 pub returns-in_err-statement : goal.returns-in_err-statement
 returns-in_err-statement c = λ are.

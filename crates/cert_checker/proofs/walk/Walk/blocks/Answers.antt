@@ -1,7 +1,8 @@
-use Rattle.std.proofs.Common.{arith, ◌≡◌, ◌∙◌, ap, ◌<◌, ◌≤◌, Err, Ok, get_or, length}
+use Rattle.std.proofs.Common.{arith, ◌≡◌, ◌∙◌, ap, refl, ◌<◌, ◌≤◌, Err, Ok, get_or, length}
 use Rattle.typed_tree.specs.declared.tree.Tree.{Tree}
 use Rattle.cert_checker.specs.Walk.{block_walk, blocks_walk}
-use Rattle.cert_checker.proofs.Steps.{Does, given-up}
+use Rattle.expression_checker.specs.declared.fault.CheckFault.TheVariants.{Memory}
+use Rattle.cert_checker.proofs.Steps.{Does, given-up, goes-nowhere}
 use Rattle.cert_checker.proofs.StepsBlocks.{declared-behind, blocks-end, blocks-step, blocks-stopped}
 use Rattle.cert_checker.proofs.walk.Walk.blocks.Goals as goal
 
@@ -48,3 +49,11 @@ returns-in_err-block c = λ are.
     given-up (blocks_walk 0 blocks) c.args.self.now new c.args.visits.now after fault left.result left.ensures
     (here.invariant (Err fault) new after
     (λ here_are. blocks-stopped blocks number block here.self new here.visits after fault inside is (c.in_err-block.ensures here_are)) are)
+
+pub returns-in_err-number-end : goal.returns-in_err-number-end
+returns-in_err-number-end c = λ are.
+    let walk = blocks_walk 0 c.args.self.now.flow.grounds.rows.now.blocks.items in
+    let visits = c.args.visits.now in
+    let left = c.from_residual in
+    given-up walk c.args.self.now c.args.self.now visits visits Memory left.result left.ensures
+    (goes-nowhere walk c.args.self.now c.args.self.now visits Memory refl)

@@ -1,4 +1,4 @@
-use Rattle.std.proofs.Common.{◌+◌, List, Bool, subst, ap₂, refl, rules, Ok, Err, [], ◌∷◌, ap, map, sym, ◌∙◌, ◌≡◌, ℤ, to_z, of_z, w32}
+use Rattle.std.proofs.Common.{◌+◌, ◌++◌, List, Bool, subst, ap₂, refl, rules, Ok, Err, [], ◌∷◌, ap, map, sym, ◌∙◌, ◌≡◌, ℤ, to_z, of_z, w32}
 use Rattle.std.proofs.lemmas.Int.{to_z-of_z}
 use Rattle.std.proofs.lemmas.List.{map-append, take_rest}
 use Rattle.domain.specs.Interval.{between}
@@ -8,10 +8,12 @@ use Rattle.component_states.specs.Components.{Entire, Reach}
 use Rattle.component_states.specs.View.{said_reach}
 use Rattle.expression_checker.specs.View.{said_ranges, seen}
 use Rattle.domain.specs.Interval.{truth_values}
-use Rattle.expression_checker.proofs.Steps.{chain-begun, given-up, goes-as, goes-give, goes-stopped, goes-then, link-done, link-walks, monadic-begun}
+use Rattle.expression_checker.proofs.Steps.{chain-begun, given-up, goes-as, goes-entered, goes-give, goes-nowhere, goes-stopped, goes-then, link-done, link-walks}
+use Rattle.expression_checker.proofs.Steps.{monadic-begun}
+use Rattle.expression_checker.specs.declared.fault.CheckFault.TheVariants.{Memory}
 use Rattle.expression_checker.proofs.Steps.{index-end, index_at, index-step, index-stopped, seen-fault, test-stopped}
 use Rattle.expression_checker.proofs.Steps.{one-number, stopped-as, turn-end, turn-step, turn-stopped, value-Chain, value-Compare, value-Constant}
-use Rattle.expression_checker.proofs.Steps.{value-Monadic, value-Variable}
+use Rattle.expression_checker.proofs.Steps.{value-Variable}
 use Rattle.abstract_state.specs.declared.known.Known.TheVariants.{Ordinal}
 use Rattle.typed_tree.specs.declared.tree.Selector.{Selector}
 use Rattle.abstract_state.specs.Forms.{bound_of}
@@ -34,29 +36,29 @@ pub expression-returns-in_err-known-in-Monadic : goal.expression-returns-in_err-
 expression-returns-in_err-known-in-Monadic t c =
     let operation = c.in-Monadic.operation in
     let inner = c.deref-in-Monadic.result.now in
-    let entered = c.enter-in-Monadic.new.self in
-    let between = c.enter-in-Monadic.new.visits in
+    let entered = c.args.self.now in
+    let between = c.tick-in-Monadic.new.self in
     let new = c.expression.new.self in
     let after = c.expression.new.visits in
     let fault = c.in_err-known-in-Monadic.field-0.0 in
-    let left = c.from_residual-in_err-known-in-Monadic in
+    let left = c.from_residual in
     given-up (value_walk c.args.expression.now) c.args.self.now new c.args.visits.now after fault left.result left.ensures
     (monadic-begun c.args.expression.now c.in-Monadic.number operation c.in-Monadic.operand inner c.args.self.now entered new
     c.args.visits.now between after tt (Err fault)
-    c.in-Monadic.is c.deref-in-Monadic.ensures c.in_ok-enter-in-Monadic.ensures
+    c.in-Monadic.is c.deref-in-Monadic.ensures (goes-entered _ c.args.self.now _ _ c.tick-in-Monadic.ensures)
     (goes-stopped (value_walk inner) (operated operation) entered new between after fault c.in_err-known-in-Monadic.ensures))
 
 pub expression-returns-in_ok-known-in-Monadic : goal.expression-returns-in_ok-known-in-Monadic
 expression-returns-in_ok-known-in-Monadic t c =
     let operation = c.in-Monadic.operation in
     let inner = c.deref-in-Monadic.result.now in
-    let entered = c.enter-in-Monadic.new.self in
-    let between = c.enter-in-Monadic.new.visits in
+    let entered = c.args.self.now in
+    let between = c.tick-in-Monadic.new.self in
     let new = c.operated.new.self in
     let after = c.expression.new.visits in
     monadic-begun c.args.expression.now c.in-Monadic.number operation c.in-Monadic.operand inner c.args.self.now entered new
     c.args.visits.now between after tt c.operated.result
-    c.in-Monadic.is c.deref-in-Monadic.ensures c.in_ok-enter-in-Monadic.ensures
+    c.in-Monadic.is c.deref-in-Monadic.ensures (goes-entered _ c.args.self.now _ _ c.tick-in-Monadic.ensures)
     (goes-then (value_walk inner) (operated operation) entered c.expression.new.self new between after after c.in_ok-known-in-Monadic.known c.operated.result
     c.in_ok-known-in-Monadic.ensures (c.operated.ensures after))
 
@@ -82,38 +84,22 @@ expression-returns-after-loop-link t c =
 
 pub link-returns : goal.link-returns
 link-returns t c =
-    link-done c.args.link.now c.args.left c.in_ok-right.right c.args.self.now c.enter.new.self c.expression.new.self c.combined.new.self
-    c.args.visits.now c.enter.new.visits c.expression.new.visits c.expression.new.visits tt c.combined.result c.in_ok-enter.ensures c.in_ok-right.ensures
+    link-done c.args.link.now c.args.left c.in_ok-right.right c.args.self.now c.args.self.now c.expression.new.self c.combined.new.self
+    c.args.visits.now c.tick.new.self c.expression.new.visits c.expression.new.visits tt c.combined.result (goes-entered _ c.args.self.now _ _ c.tick.ensures) c.in_ok-right.ensures
     (c.combined.ensures c.expression.new.visits)
 
-pub expression-returns-in_err-enter-in-Constant : goal.expression-returns-in_err-enter-in-Constant
-expression-returns-in_err-enter-in-Constant t c =
+pub expression-returns-in-Constant : goal.expression-returns-in-Constant
+expression-returns-in-Constant t c =
     let number = c.in-Constant.number in
     let value = c.in-Constant.value in
-    stopped-as (value_walk c.args.expression.now) (enter number) (λ _. ordinal (record { first = value; last = value })) c.args.self.now c.enter.new.self
-    c.args.visits.now c.enter.new.visits c.in_err-enter-in-Constant.field-0.0 c.from_residual.result
-    (ap value_walk c.in-Constant.is ∙ value-Constant number value) c.from_residual.ensures c.in_err-enter-in-Constant.ensures
-
-pub expression-returns-in_ok-enter-in-Constant : goal.expression-returns-in_ok-enter-in-Constant
-expression-returns-in_ok-enter-in-Constant t c =
-    let number = c.in-Constant.number in
-    let value = c.in-Constant.value in
-    let visits = c.enter.new.visits in
+    let visits = c.tick.new.self in
     let held : ◌≡◌ {A = ℤ} (to_z w32 (of_z w32 value)) value = search (rules, to_z-of_z) in
-    goes-as (value_walk c.args.expression.now) (enter number >>= λ _. ordinal c.between.result) c.args.self.now c.enter.new.self c.args.visits.now visits
+    goes-as (value_walk c.args.expression.now) (enter number >>= λ _. ordinal c.between.result) c.args.self.now c.args.self.now c.args.visits.now visits
     (Ok (Ordinal c.between.result))
     (ap value_walk c.in-Constant.is ∙ value-Constant number value
     ∙ ap (λ range. enter number >>= λ _. ordinal range) (sym (c.between.ensures.ends ∙ ap (λ n. between n n) held ∙ one-number value)))
-    (goes-then (enter number) (λ _. ordinal c.between.result) c.args.self.now c.enter.new.self c.enter.new.self c.args.visits.now visits visits tt
-    (Ok (Ordinal c.between.result)) c.in_ok-enter-in-Constant.ensures (goes-give (Ordinal c.between.result) c.enter.new.self visits))
-
-pub expression-returns-in_err-enter-in-Monadic : goal.expression-returns-in_err-enter-in-Monadic
-expression-returns-in_err-enter-in-Monadic t c =
-    let it = c.in-Monadic in
-    let left = c.from_residual-in_err-enter-in-Monadic in
-    stopped-as (value_walk c.args.expression.now) (enter it.number) (λ _. value_walk it.operand.value >>= operated it.operation) c.args.self.now
-    c.enter-in-Monadic.new.self c.args.visits.now c.enter-in-Monadic.new.visits c.in_err-enter-in-Monadic.field-0.0 left.result
-    (ap value_walk it.is ∙ value-Monadic it.number it.operation it.operand) left.ensures c.in_err-enter-in-Monadic.ensures
+    (goes-then (enter number) (λ _. ordinal c.between.result) c.args.self.now c.args.self.now c.args.self.now c.args.visits.now visits visits tt
+    (Ok (Ordinal c.between.result)) (goes-entered _ c.args.self.now _ _ c.tick.ensures) (goes-give (Ordinal c.between.result) c.args.self.now visits))
 
 pub expression-returns-in_err-known-in-Chain : goal.expression-returns-in_err-known-in-Chain
 expression-returns-in_err-known-in-Chain t c =
@@ -138,26 +124,19 @@ expression-returns-in_err-known-in-Chain-2 t c =
     (turn-stopped c.deref-link-items.result.now here.link-index c.link-item.result here.known here.self new here.visits after fault c.loop-link-test.true
     c.link-item.is c.in_err-known-in-Chain-2.ensures))
 
-pub link-returns-in_err-enter : goal.link-returns-in_err-enter
-link-returns-in_err-enter t c =
-    let link = c.args.link.now in
-    stopped-as (link_walk link c.args.left) (enter link.number) (λ _. value_walk link.operand >>= combined link.operation c.args.left) c.args.self.now
-    c.enter.new.self c.args.visits.now c.enter.new.visits c.in_err-enter.field-0.0 c.from_residual.result (ap (λ walk. walk c.args.left) (link-walks link))
-    c.from_residual.ensures c.in_err-enter.ensures
-
 pub link-returns-in_err-right : goal.link-returns-in_err-right
 link-returns-in_err-right t c =
     let link = c.args.link.now in
     let new = c.expression.new.self in
     let after = c.expression.new.visits in
     let fault = c.in_err-right.field-0.0 in
-    let left = c.from_residual-in_err-right in
+    let left = c.from_residual in
     given-up (link_walk link c.args.left) c.args.self.now new c.args.visits.now after fault left.result left.ensures
     (goes-as (link_walk link c.args.left) (enter link.number >>= λ _. (value_walk link.operand >>= combined link.operation c.args.left)) c.args.self.now new
     c.args.visits.now after (Err fault) (ap (λ walk. walk c.args.left) (link-walks link))
-    (goes-then (enter link.number) (λ _. value_walk link.operand >>= combined link.operation c.args.left) c.args.self.now c.enter.new.self new
-    c.args.visits.now c.enter.new.visits after tt (Err fault) c.in_ok-enter.ensures
-    (goes-stopped (value_walk link.operand) (combined link.operation c.args.left) c.enter.new.self new c.enter.new.visits after fault
+    (goes-then (enter link.number) (λ _. value_walk link.operand >>= combined link.operation c.args.left) c.args.self.now c.args.self.now new
+    c.args.visits.now c.tick.new.self after tt (Err fault) (goes-entered _ c.args.self.now _ _ c.tick.ensures)
+    (goes-stopped (value_walk link.operand) (combined link.operation c.args.left) c.args.self.now new c.tick.new.self after fault
     c.in_err-right.ensures)))
 
 pub expression-returns-in-Variable : goal.expression-returns-in-Variable
@@ -210,72 +189,55 @@ variable-returns t c =
     c.args.self.now c.access.new.self c.used.new.self c.args.visits.now between between (said_reach c.in_ok-reach.reach) c.used.result
     c.in_ok-reach.ensures (c.used.ensures between)
 
-pub related-returns-in_err-enter : goal.related-returns-in_err-enter
-related-returns-in_err-enter t c =
-    let right = whole_walk c.args.right.now (index_pieces c.args.indexes.now) in
-    stopped-as (related_walk c.args.number c.args.right.now (index_pieces c.args.indexes.now)) (enter c.args.number)
-    (λ _. right >>= λ _. ordinal truth_values) c.args.self.now c.enter.new.self c.args.visits.now c.enter.new.visits c.in_err-enter.field-0.0
-    c.from_residual.result refl c.from_residual.ensures c.in_err-enter.ensures
-
 pub related-returns-in_err-whole_value : goal.related-returns-in_err-whole_value
 related-returns-in_err-whole_value t c =
     let right = whole_walk c.args.right.now (index_pieces c.args.indexes.now) in
-    let entered = c.enter.new.self in
-    let counted = c.enter.new.visits in
+    let entered = c.args.self.now in
+    let counted = c.tick.new.self in
     let new = c.whole_value.new.self in
     let after = c.whole_value.new.visits in
     let fault = c.in_err-whole_value.field-0.0 in
-    let left = c.from_residual-in_err-whole_value in
+    let left = c.from_residual in
     given-up (related_walk c.args.number c.args.right.now (index_pieces c.args.indexes.now)) c.args.self.now new c.args.visits.now after fault left.result
     left.ensures
     (goes-then (enter c.args.number) (λ _. right >>= λ _. ordinal truth_values) c.args.self.now entered new c.args.visits.now counted after tt (Err fault)
-    c.in_ok-enter.ensures
+    (goes-entered _ c.args.self.now _ _ c.tick.ensures)
     (goes-stopped right (λ _. ordinal truth_values) entered new counted after fault c.in_err-whole_value.ensures))
 
 pub related-returns : goal.related-returns
 related-returns t c =
     let right = whole_walk c.args.right.now (index_pieces c.args.indexes.now) in
     let result = Ok (Ordinal truth_values) in
-    let entered = c.enter.new.self in
-    let counted = c.enter.new.visits in
+    let entered = c.args.self.now in
+    let counted = c.tick.new.self in
     let new = c.whole_value.new.self in
     let after = c.whole_value.new.visits in
     goes-then (enter c.args.number) (λ _. right >>= λ _. ordinal truth_values) c.args.self.now entered new c.args.visits.now counted after tt result
-    c.in_ok-enter.ensures
+    (goes-entered _ c.args.self.now _ _ c.tick.ensures)
     (goes-then right (λ _. ordinal truth_values) entered new new counted after after (said_ranges c.in_ok-whole_value.field-0) result
     c.in_ok-whole_value.ensures
     (goes-give (Ordinal truth_values) new after))
 
-pub whole_value-returns-in_err-enter-in-Text : goal.whole_value-returns-in_err-enter-in-Text
-whole_value-returns-in_err-enter-in-Text t c =
-    let it = c.in-Text in
-    let pieces = index_pieces c.args.indexes.now in
-    let fault = c.in_err-enter-in-Text.field-0.0 in
-    let left = c.from_residual in
-    stopped-as (whole_walk c.args.value.now pieces) (enter it.number) (λ _. give (text_range it.characters.items ∷ [])) c.args.self.now c.enter.new.self
-    c.args.visits.now c.enter.new.visits fault (seen said_ranges left.result) (ap (λ value. whole_walk value pieces) it.is)
-    (seen-fault said_ranges left.result fault left.ensures) c.in_err-enter-in-Text.ensures
-
-pub whole_value-returns-in_ok-enter-in-Text : goal.whole_value-returns-in_ok-enter-in-Text
-whole_value-returns-in_ok-enter-in-Text t c =
+pub whole_value-returns-in-Text : goal.whole_value-returns-in-Text
+whole_value-returns-in-Text t c =
     let it = c.in-Text in
     let pieces = index_pieces c.args.indexes.now in
     let characters = c.deref.result.now in
-    let entered = c.enter.new.self in
-    let between = c.enter.new.visits in
+    let entered = c.args.self.now in
+    let between = c.tick.new.self in
     let result = seen said_ranges c.text.result in
     goes-as (whole_walk c.args.value.now pieces) (enter it.number >>= λ _. give (text_range characters ∷ [])) c.args.self.now entered c.args.visits.now
     between result
     (ap (λ value. whole_walk value pieces) it.is ∙ ap (λ text. enter it.number >>= λ _. give (text_range text ∷ [])) (sym c.deref.ensures.value))
     (goes-then (enter it.number) (λ _. give (text_range characters ∷ [])) c.args.self.now entered entered c.args.visits.now between between tt result
-    c.in_ok-enter-in-Text.ensures (c.text.ensures between))
+    (goes-entered _ c.args.self.now _ _ c.tick.ensures) (c.text.ensures between))
 
 pub whole_value-returns-in_err-reach-in-Variable : goal.whole_value-returns-in_err-reach-in-Variable
 whole_value-returns-in_err-reach-in-Variable t c =
     let it = c.in-Variable in
     let pieces = index_pieces c.args.indexes.now in
     let fault = c.in_err-reach-in-Variable.field-0.0 in
-    let left = c.from_residual-in_err-reach-in-Variable in
+    let left = c.from_residual in
     stopped-as (whole_walk c.args.value.now pieces) (access_walk it.access pieces)
     (λ reach. whole_use it.type_id it.access.root it.access.selectors.items reach it.defined) c.args.self.now c.access.new.self
     c.args.visits.now c.access.new.visits fault (seen said_ranges left.result) (ap (λ value. whole_walk value pieces) it.is)
@@ -293,16 +255,6 @@ whole_value-returns-in_ok-reach-in-Variable t c =
     (goes-then (access_walk it.access pieces) next c.args.self.now c.access.new.self c.used_whole.new.self c.args.visits.now
     between between (said_reach c.in_ok-reach-in-Variable.reach) result c.in_ok-reach-in-Variable.ensures (c.used_whole.ensures between))
 
-pub access-returns-in_err-enter : goal.access-returns-in_err-enter
-access-returns-in_err-enter t c =
-    let access = c.args.access.now in
-    let pieces = index_pieces c.args.indexes.now in
-    let fault = c.in_err-enter.field-0.0 in
-    let left = c.from_residual in
-    stopped-as (access_walk access pieces) (enter access.number) (λ _. indexes_walk access.selectors.items pieces Entire) c.args.self.now c.enter.new.self
-    c.args.visits.now c.enter.new.visits fault (seen said_reach left.result) refl (seen-fault said_reach left.result fault left.ensures)
-    c.in_err-enter.ensures
-
 pub access-returns : goal.access-returns
 access-returns t c =
     let access = c.args.access.now in
@@ -311,8 +263,8 @@ access-returns t c =
     let result = seen said_reach c.indexes.result in
     goes-as (access_walk access pieces) (enter access.number >>= λ _. rest) c.args.self.now c.indexes.new.self c.args.visits.now c.indexes.new.visits
     result (ap (λ selectors. enter access.number >>= λ _. indexes_walk selectors pieces Entire) (sym c.deref.ensures.value))
-    (goes-then (enter access.number) (λ _. rest) c.args.self.now c.enter.new.self c.indexes.new.self c.args.visits.now c.enter.new.visits
-    c.indexes.new.visits tt result c.in_ok-enter.ensures c.indexes.ensures)
+    (goes-then (enter access.number) (λ _. rest) c.args.self.now c.args.self.now c.indexes.new.self c.args.visits.now c.tick.new.self
+    c.indexes.new.visits tt result (goes-entered _ c.args.self.now _ _ c.tick.ensures) c.indexes.ensures)
 
 pub indexes-returns-in_err-known : goal.indexes-returns-in_err-known
 indexes-returns-in_err-known t c =
@@ -510,42 +462,35 @@ actuals-returns t c =
     here.invariant (Ok (said_actuals here.passed)) here.self here.visits
     (passing-end c.args.actuals.now here.actual-index (map said_actual here.passed.items) here.self here.visits c.loop-actual-test.false)
 
-pub call-returns-in_err-enter : goal.call-returns-in_err-enter
-call-returns-in_err-enter t c =
-    let call = c.args.call in
-    let pieces = map passed_piece_of c.args.actuals.now in
-    stopped-as (call_walk call pieces) (enter call.number) (λ _. actuals_walk pieces >>= called call (actuals_hold_call pieces)) c.args.self.now
-    c.enter.new.self c.args.visits.now c.enter.new.visits c.in_err-enter.field-0.0 c.from_residual.result refl c.from_residual.ensures c.in_err-enter.ensures
-
 pub call-returns-in_err-passed : goal.call-returns-in_err-passed
 call-returns-in_err-passed t c =
     let call = c.args.call in
     let pieces = map passed_piece_of c.args.actuals.now in
     let next = called call (actuals_hold_call pieces) in
-    let entered = c.enter.new.self in
-    let counted = c.enter.new.visits in
+    let entered = c.args.self.now in
+    let counted = c.tick.new.self in
     let new = c.actuals.new.self in
     let after = c.actuals.new.visits in
     let fault = c.in_err-passed.field-0.0 in
-    let left = c.from_residual-in_err-passed in
+    let left = c.from_residual in
     given-up (call_walk call pieces) c.args.self.now new c.args.visits.now after fault left.result left.ensures
     (goes-then (enter call.number) (λ _. actuals_walk pieces >>= next) c.args.self.now entered new c.args.visits.now counted after tt (Err fault)
-    c.in_ok-enter.ensures (goes-stopped (actuals_walk pieces) next entered new counted after fault c.in_err-passed.ensures))
+    (goes-entered _ c.args.self.now _ _ c.tick.ensures) (goes-stopped (actuals_walk pieces) next entered new counted after fault c.in_err-passed.ensures))
 
 pub call-returns : goal.call-returns
 call-returns t c =
     let call = c.args.call in
     let pieces = map passed_piece_of c.args.actuals.now in
     let next = called call (actuals_hold_call pieces) in
-    let entered = c.enter.new.self in
-    let counted = c.enter.new.visits in
+    let entered = c.args.self.now in
+    let counted = c.tick.new.self in
     let mid = c.actuals.new.self in
     let new = c.called.new.self in
     let after = c.actuals.new.visits in
     let said = said_actuals c.in_ok-passed.passed in
     let held : c.actuals_hold_call.result ≡ actuals_hold_call pieces = c.actuals_hold_call.ensures ∙ sym (actuals-hold c.args.actuals.now) in
     goes-then (enter call.number) (λ _. actuals_walk pieces >>= next) c.args.self.now entered new c.args.visits.now counted after tt c.called.result
-    c.in_ok-enter.ensures
+    (goes-entered _ c.args.self.now _ _ c.tick.ensures)
     (goes-then (actuals_walk pieces) next entered mid new counted after after said c.called.result c.in_ok-passed.ensures
     (subst (λ (holds : Bool). Goes (called call holds said) mid after c.called.result new after) held (c.called.ensures after)))
 
@@ -578,3 +523,19 @@ function-returns t c =
     (result-goes call range mid new after refl refl
     (ap (λ known. record (state_of mid) { variables = known }) (c.unless_empty.ensures (all_limits mid.grounds.rows.now)))
     c.result_range-range.ensures)
+
+pub actuals-returns-in_err-push : goal.actuals-returns-in_err-push
+actuals-returns-in_err-push t c =
+    let here = c.loop-actual in
+    let items = c.args.actuals.now in
+    let passed = map said_actual here.passed.items in
+    let actual = said_actual c.in_ok-actual.field-0 in
+    let new = c.actual.new.self in
+    let after = c.actual.new.visits in
+    let left = c.from_residual-in_err-push in
+    given-up (actuals_walk (map passed_piece_of items)) c.args.self.now new c.args.visits.now after Memory (seen said_actuals left.result)
+    (seen-fault said_actuals left.result Memory left.ensures)
+    (here.invariant (Err Memory) new after
+    (passing-step items here.actual-index c.actual-item.result passed actual here.self new new here.visits after after (Err Memory) c.loop-actual-test.true
+    c.actual-item.is c.in_ok-actual.ensures
+    (goes-nowhere (prefixed (passed ++ actual ∷ []) (actuals_from items (here.actual-index + 1))) new new after)))
