@@ -28,6 +28,7 @@ use Rattle.leaf_rows.specs.Rows.{Parts, all_parts, has_components, no_parts, par
 use Rattle.leaf_rows.proofs.Accessed.{leaf-of, parts-at}
 use Rattle.component_states.specs.Laws.{AreEntire}
 use Rattle.structured_states.specs.Loops.{controls_inside, controls_of, has_ordinals, is_ordinal_variable}
+use Rattle.call_states.proofs.Headings.{one-there}
 use Rattle.expression_checker.proofs.Fitting.{some-at}
 use Rattle.expression_checker.proofs.SoundAccesses.{leads-seen, leads-type}
 

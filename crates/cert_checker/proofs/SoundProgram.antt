@@ -26,7 +26,7 @@ use Rattle.meaning.specs.Effect as effect
 use Rattle.meaning.specs.Effect.{Reply, Visit}
 use Rattle.meaning.specs.Meaning.{calls_of, ended, environment_of, first_state, program_activation, run, run_of}
 use Rattle.call_states.specs.Environments.{Fine}
-use Rattle.call_states.specs.Sections.{BlockClaims, block_claims_at, block_claims_in}
+use Rattle.call_states.specs.Sections.{BlockClaims, all_pairs, block_claims_at, block_claims_in}
 use Rattle.call_states.proofs.AliasedStores.{head-or_tail}
 use Rattle.call_states.proofs.Claimed.{AllHold}
 use Rattle.call_states.proofs.Started.{no-claims, program-proper, program-start}
@@ -39,7 +39,9 @@ use Rattle.expression_checker.proofs.SoundCalls.{CallLaws}
 use Rattle.certificate_names.specs.Names.{block_is_known, claims_are_known, is_known, is_of_loops, section_is_known}
 use Rattle.cert_checker.specs.Promise.{open_in, ClosedNeverErr, HoldsAt, StatesHold}
 use Rattle.cert_checker.specs.Walk.{program_walk}
-use Rattle.cert_checker.proofs.ClaimsKnown.{are-claims}
+use Rattle.cert_checker.proofs.ClaimsKnown.{are-claims, pairs-known}
+use Rattle.cert_checker.proofs.HiddenControls.{IsKnownPair}
+use Rattle.cert_checker.proofs.SparedCalls.{spared-calls}
 use Rattle.cert_checker.proofs.EffectsRoutines.{claims-are}
 use Rattle.cert_checker.proofs.SoundBlocks.{body-good, program_world, sound-calls}
 

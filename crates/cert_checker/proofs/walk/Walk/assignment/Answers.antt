@@ -81,7 +81,7 @@ returns-in_err-reach c =
     let fits = c.args.fits in
     let value = c.args.value.now in
     let stored = λ (reach : Reach) (known : Known).
-    fitting fits known >>= assign_to c.args.becomes target.root target.selectors.items (reach_before (holds_call value) reach) (limits_of fits.range)
+    fitting fits known >>= assign_to c.args.becomes target.root target.selectors.items (reach_stored target.selectors.items (holds_call value) reach) (limits_of fits.range)
     (bound_form value) in
     let fault = c.in_err-reach.field-0.0 in
     let left = c.from_residual in
