@@ -172,14 +172,16 @@ module _ (types : List Form) where
   whole_within (Text number characters) indexes = omega arith
   whole_within (VariableOf access type_id cells defined) indexes = omega (arith, access_within indexes)
 
-  rolled_expr : (x : Expr-F Expr Passed Link) → expr_depth_step (map-Expr Expr Passed Link ℕ PassedDepth ℕ expr_depth passed_depth link_depth x) ≤ expr_need_step
-      (map-Expr Expr Passed Link ℕ ℕ ℕ (expr_need types) (passed_need types) link_need x) → ExprWithin (roll-Expr x)
+  rolled_expr : (x : Expr-F Expr Passed Link)
+      → expr_depth_step (map-Expr Expr Passed Link ℕ PassedDepth ℕ expr_depth passed_depth link_depth x)
+      ≤ expr_need_step (map-Expr Expr Passed Link ℕ ℕ ℕ (expr_need types) (passed_need types) link_need x) → ExprWithin (roll-Expr x)
   rolled_expr x =
       same_within _ _ _ _ (fold-roll-Expr ℕ PassedDepth ℕ expr_depth_step passed_depth_step link_depth_step x)
       (fold-roll-Expr ℕ ℕ ℕ expr_need_step (passed_need_step types) link_need_step x)
 
-  rolled_link : (x : Link-F Expr Passed Link) → link_depth_step (map-Link Expr Passed Link ℕ PassedDepth ℕ expr_depth passed_depth link_depth x) ≤ link_need_step
-      (map-Link Expr Passed Link ℕ ℕ ℕ (expr_need types) (passed_need types) link_need x) → LinkWithin (roll-Link x)
+  rolled_link : (x : Link-F Expr Passed Link)
+      → link_depth_step (map-Link Expr Passed Link ℕ PassedDepth ℕ expr_depth passed_depth link_depth x)
+      ≤ link_need_step (map-Link Expr Passed Link ℕ ℕ ℕ (expr_need types) (passed_need types) link_need x) → LinkWithin (roll-Link x)
   rolled_link x =
       same_within _ _ _ _ (fold-roll-Link ℕ PassedDepth ℕ expr_depth_step passed_depth_step link_depth_step x)
       (fold-roll-Link ℕ ℕ ℕ expr_need_step (passed_need_step types) link_need_step x)
@@ -200,7 +202,8 @@ module _ (types : List Form) where
 
   rolled_passed : (x : Passed-F Expr Passed Link) (d : PassedDepth) (n : ℕ)
       → passed_depth_step (map-Passed Expr Passed Link ℕ PassedDepth ℕ expr_depth passed_depth link_depth x) ≡ d
-      → passed_need_step types (map-Passed Expr Passed Link ℕ ℕ ℕ (expr_need types) (passed_need types) link_need x) ≡ n → d.depth ≤ n → d.cells ≤ n → PassedWithin (roll-Passed x)
+      → passed_need_step types (map-Passed Expr Passed Link ℕ ℕ ℕ (expr_need types) (passed_need types) link_need x) ≡ n → d.depth ≤ n → d.cells ≤ n
+      → PassedWithin (roll-Passed x)
   rolled_passed x d n deep much depth cells =
       let is = fold-roll-Passed ℕ PassedDepth ℕ expr_depth_step passed_depth_step link_depth_step x ∙ deep in
       let needs = fold-roll-Passed ℕ ℕ ℕ expr_need_step (passed_need_step types) link_need_step x ∙ much in (
@@ -220,7 +223,8 @@ module _ (types : List Form) where
   passed_layer (Reference type_id access indexes) =
       let depths = map expr_depth (map (λ (e : HereWithin). e.0) indexes.items) in
       let needs = map (expr_need types) (map (λ (e : HereWithin). e.0) indexes.items) in
-      rolled_passed (bare_passed (Reference type_id access indexes)) (record { depth = access_depth depths; cells = 1 }) (reached_need types type_id needs) refl refl
+      rolled_passed (bare_passed (Reference type_id access indexes)) (record { depth = access_depth depths; cells = 1 })
+      (reached_need types type_id needs) refl refl
       (omega (arith, access_within indexes.items)) (omega arith)
 
   expr_layer : (y : Expr-F HereWithin PassedHereWithin LinkHereWithin) → ExprWithin (roll-Expr (bare_expr y))
@@ -274,7 +278,8 @@ module _ (types : List Form) where
 
   value_within : (value : Whole) (indexes : List Expr) → whole_depth value (index_depths indexes) + 6 ≤ whole_need value (index_needs types indexes)
   value_within value indexes =
-      subst (λ es. whole_depth value (index_depths es) + 6 ≤ whole_need value (index_needs types es)) (without indexes) (whole_within value (with_proofs indexes))
+      subst (λ es. whole_depth value (index_depths es) + 6 ≤ whole_need value (index_needs types es)) (without indexes)
+      (whole_within value (with_proofs indexes))
 
   store_within : (indexes : List Expr) (value : Expr)
       → store_depth (index_depths indexes) (expr_depth value) ≤ 2 + sum (index_needs types indexes) + expr_need types value
