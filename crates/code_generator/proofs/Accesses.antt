@@ -14,7 +14,6 @@ use Rattle.pcode_assembler.specs.declared.instr.Instr.TheVariants as instr
 use Rattle.types.specs.declared.form.Step.TheVariants as step
 use Rattle.types.specs.declared.form.TypeId.{TypeId}
 use Rattle.types.specs.Types.{cells_of, is_ordinal}
-use Rattle.types.proofs.Elements.{element_cells}
 use Rattle.typed_tree.specs.declared.tree.Access.{Access}
 use Rattle.typed_tree.specs.declared.tree.Expr.{Expr}
 use Rattle.typed_tree.specs.declared.tree.RangeTest.{RangeTest}
@@ -32,7 +31,6 @@ use Rattle.meaning.specs.Effect.{Reply, Gives, Action, ◌>>=◌, fetch, require
 use Rattle.meaning.specs.Meaning.{Evaluation, selected, value_of}
 use Rattle.meaning.specs.Laws.{UsesTurnsExactly}
 use Rattle.meaning.specs.Meaning as meaning
-use Rattle.meaning.proofs.Used.{exact_value}
 use Rattle.stack_machine.specs.declared.cell.Cell.{Cell}
 use Rattle.stack_machine.specs.declared.cell.Cell.TheVariants.{Number}
 use Rattle.stack_machine.specs.Addresses.{element}
@@ -211,7 +209,7 @@ module _ (g : Setting) where
       let f = is_field_of g.tree.types t part position before is in
       subst (λ k. IsPart g.tree.types g.world end (inner p (step.Field position ∷ [])) part (d + k)) (sym f.offset_is)
       (subst (λ u. IsPart g.tree.types g.world end (inner p (step.Field position ∷ [])) u (d + f.field.offset)) f.type_is
-      (field_part g.tree.types g.world end p t d position f.field f.found whole))
+      (field_part g.tree.types g.world end g.known p t d position f.field f.found whole))
 
   -- the part that an element is, at an index in the range of the test
   element_at_part : (fits : RangeTest) (cells d n : ℕ) (index : ℤ) (p : Place) (t part : TypeId)
@@ -219,10 +217,10 @@ module _ (g : Setting) where
       → pos n ≡ index -ℤ fits.range.first → PartAt p t d → PartAt (inner p (step.Element index ∷ [])) part (d + n * cells) × (cells ≤ 65536)
   element_at_part fits cells d n index p t part is low high counts whole =
       let e = is_element g.tree.types t part fits cells is in
-      let lies = element_part g.tree.types g.world g.below p t d e.element e.found index (subst (λ z. z ≤ℤ index) e.first low)
+      let lies = element_part g.tree.types g.world g.below g.known p t d e.element e.found index (subst (λ z. z ≤ℤ index) e.first low)
       (subst (λ z. index ≤ℤ z) e.last high) n (counts ∙ ap (λ z. index -ℤ z) e.first) whole in
       let few = lies.few in
-      let same = element_cells g.tree.types t e.element e.found in
+      let same = (g.known.elements g.tree.types t e.element e.found).cells in
       let as_told = e.cells_are in (
         subst (λ k. PartAt (inner p (step.Element index ∷ [])) part (d + n * k)) (sym e.cells_are)
             (subst (λ u. PartAt (inner p (step.Element index ∷ [])) u (d + n * e.element.cells)) e.type_is lies),
@@ -348,7 +346,7 @@ module _ (g : Setting) where
       subst (λ there. Addresses (on g ((base ++ held) ++ Number (pos d) ∷ []) place s.output) held there last (value_of index.0 (around g) >>= next) s) e
       (subst (λ cells. Addresses (on g cells place s.output) held end last (value_of index.0 (around g) >>= next) s)
       (one_held g base held (pos d))
-      (index_addresses _ above held (place + length c) end last (value_of index.0 (around g)) next s (exact_value (around g) (exact_around g) index.0) evaluated
+      (index_addresses _ above held (place + length c) end last (value_of index.0 (around g)) next s ((exact_around g).values index.0) evaluated
       (λ base2 n s2 based2 fit2 room2.
       subst (λ cs. Addresses (on g (cs ++ Number n ∷ []) (place + length c) s2.output) held end last (next (value.Number n)) s2)
       (sym (one_held g base2 held (pos d)))
@@ -649,7 +647,7 @@ module _ (g : Setting) where
       pub scalar_there : start.rest ≡ [] → LiesIn g.world start.there start.cell
       scalar_there none =
           let same : start.its ≡ last = same_Some start.its last (ap (λ rest. led g.tree.types rest start.its) (sym none) ∙ start.ends) in
-          ordinal_part g.tree.types g.world g.below start.there last start.cell ordinal (subst (λ u. PartAt start.there u start.cell) same start.part)
+          ordinal_part g.tree.types g.world g.below g.known start.there last start.cell ordinal (subst (λ u. PartAt start.there u start.cell) same start.part)
 
       fetch_by : (way : Reached) → reached g.scope access (codes indexes) ≡ way → IsReached way start.cell start.first start.rest (codes indexes)
           → (defined place : ℕ) (base held : List Cell) (s : effect.State) → defined < sites g
@@ -692,7 +690,7 @@ module _ (g : Setting) where
           let full = based2.full in
           let long = length-append base2 held in
           loaded_runs defined (place + length code) ((base2 ++ held) ++ Number (pos d) ∷ []) base2 held p d s2 within
-          (ordinal_part g.tree.types g.world g.below p last d ordinal part2) tested.0 based2 room2
+          (ordinal_part g.tree.types g.world g.below g.known p last d ordinal part2) tested.0 based2 room2
           (λ cell inside at'.
           acts g (instr.LoadIndirect 0) ((base2 ++ held) ++ Number (pos d) ∷ []) ((base2 ++ held) ++ cell ∷ []) (place + length code) s2.output _ here.0 refl
           (loads_indirect g.frame g.limit g.size (base2 ++ held) (linked g s2 base2 held based2) d cell (omega arith) (omega arith) inside at'))))

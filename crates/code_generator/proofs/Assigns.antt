@@ -10,7 +10,6 @@ use Rattle.types.specs.Forms.{Form}
 use Rattle.types.specs.declared.form.TypeId.{TypeId}
 use Rattle.types.specs.Components.{components_of}
 use Rattle.types.specs.Types.{cells_of, is_ordinal, is_same}
-use Rattle.types.proofs.Laid.{length_components}
 use Rattle.typed_tree.specs.declared.tree.Access.{Access}
 use Rattle.typed_tree.specs.declared.tree.Expr.{Expr}
 use Rattle.typed_tree.specs.declared.tree.RangeTest.{RangeTest}
@@ -25,7 +24,6 @@ use Rattle.meaning.specs.Store.{Place, kept}
 use Rattle.meaning.specs.Effect as effect
 use Rattle.meaning.specs.Effect.{Action, ◌>>=◌, require, store_all}
 use Rattle.meaning.specs.Meaning.{accessed, selected, value_of, whole_of}
-use Rattle.meaning.proofs.Used.{exact_value}
 use Rattle.stack_machine.specs.declared.cell.Cell.{Cell}
 use Rattle.stack_machine.specs.declared.cell.Cell.TheVariants.{Number}
 use Rattle.stack_machine.specs.Addresses.{store_indirect}
@@ -40,7 +38,6 @@ use Rattle.code_generator.proofs.Accesses.{leads, pushed_runs, scalar_there}
 use Rattle.code_generator.proofs.Acts.{length_one, is_in_range, stores}
 use Rattle.code_generator.proofs.Addressing.{stores_indirect}
 use Rattle.code_generator.proofs.Alike.{Leads, LiesIn, cell_within}
-use Rattle.code_generator.proofs.Exact.{exact_whole}
 use Rattle.code_generator.proofs.Passing.{CallsAt}
 use Rattle.code_generator.proofs.Evaluating.{sites, ExecutesAs, frames_of, one_held}
 use Rattle.code_generator.proofs.Exprs.{expr_runs}
@@ -96,7 +93,7 @@ module _ (g : Setting) (known : CallsAt g) where
         let c = expr_code g.scope v in
         let check = range_check fits ∷ [] in
         let e : place + length (c ++ check) ≡ place + length c + 1 = omega (arith, length-append c check) in
-        after_value g _ held held' (place + length c) end (value_of v (around g)) (tested next) s (exact_value (around g) (exact_around g) v)
+        after_value g _ held held' (place + length c) end (value_of v (around g)) (tested next) s ((exact_around g).values v)
         (expr_runs g known v place base held s (stands_front g.target place c check stands) good based deep)
         (λ base2 n t based2 fit.
         subst (λ test. Executes g (on g ((base2 ++ held) ++ Number n ∷ []) (place + length c) t.output) held' end
@@ -163,7 +160,7 @@ module _ (g : Setting) (known : CallsAt g) where
           subst (λ q. Executes g (on g (base ++ held) place s.output) held q (target_found >>= next) s) e
           (address_executes g _ held held from end last target_found next s (exact_found g target indexes last start wells_good counts) addressed
           (λ base1 d p s1 based1 part1 room1.
-          let lies = ordinal_part g.tree.types g.world g.below p last d ordinal part1 in
+          let lies = ordinal_part g.tree.types g.world g.below g.known p last d ordinal part1 in
           let above = held ++ Number (pos d) ∷ [] in
           let high = length_one held (Number (pos d)) in
           subst (λ cells. Executes g (on g cells from s1.output) held end (next (Some p)) s1) (one_held g base1 held (pos d))
@@ -251,7 +248,7 @@ module _ (g : Setting) (known : CallsAt g) where
       let high = length-append base held in
       let inside = part.within in
       let full = based.full in
-      let many = length_components g.tree.types type_id in
+      let many = g.known.cells g.tree.types type_id in
       let kept_base = row_kept g p components d ns s base part.from.each (omega arith) fit based in
       let stored = acts g (instr.StoreMany count) ((below ++ Number (pos d) ∷ []) ++ row) (set_row base d row ++ held) place s.output _ stands.0 refl
       (stores_many g.frame g.limit g.size below (linked g s base held based) row count d (omega arith) (omega arith)
@@ -326,7 +323,7 @@ module _ (g : Setting) (known : CallsAt g) where
         let part = subst (λ t. PartAt g p t a) its part1 in
         subst (λ cs. Executes g (on g cs from s1.output) held (there + 1) (next g.tree.types (Some p)) s1) (one_held g base1 held (pos a))
         (row_executes g _ above held there (there + 1) n (whole_of v (map value_of (expressions g value_indexes)) (around g))
-        (λ ns. store_all (Some p) (components_of g.tree.types type_id) ns) s1 (exact_whole (around g) (exact_around g) v (expressions g value_indexes))
+        (λ ns. store_all (Some p) (components_of g.tree.types type_id) ns) s1 ((exact_around g).wholes v (expressions g value_indexes))
         (whole_runs g v value_indexes from base1 above s1 (stands_front g.target from d store behind) four.0 four.1 based1 (omega arith))
         (λ base2 ns t based2 long fit.
         subst (λ cs. Executes g (on g (cs ++ number_cells ns) there t.output) held (there + 1) (store_all (Some p) (components_of g.tree.types type_id) ns) t)

@@ -10,7 +10,6 @@ use Rattle.std.proofs.lemmas.List.Sums.{sum_by-cons}
 use Rattle.std.proofs.lemmas.Option.{none-some, same_Some, slice_get_within}
 use Rattle.types.specs.Components.{components_of}
 use Rattle.types.specs.Types.{cells_of}
-use Rattle.types.proofs.Laid.{length_components}
 use Rattle.typed_tree.specs.declared.tree.Block.{Block}
 use Rattle.typed_tree.specs.declared.tree.Variable.{Variable}
 use Rattle.typed_tree.specs.declared.tree.VariableKind.{VariableKind}
@@ -189,7 +188,7 @@ module _ (g : Setting) (number : ℕ) (block : Block) (block_is : slice_get g.tr
   old_below p c l = let same = g.fixed_is in let there = slice_get_within g.fixed c None (g.apart.free p c l) in omega (arith, same, there)
 
   own_above : (p : Place) (c : ℕ) → Lies new_activation p c → new_frame + 4 ≤ c
-  own_above p c l = (lies_inside g.tree new_activation number p c refl l).0
+  own_above p c l = (lies_inside g.tree g.known new_activation number p c refl l).0
 
   mixed : (p q : Place) (c d : ℕ) → Lies new_activation p c → LiesIn g.world q d → ((c ≡ d → ⊥) × (p.activation ≡ q.activation → ⊥))
   mixed p q c d l m =
@@ -203,7 +202,7 @@ module _ (g : Setting) (number : ℕ) (block : Block) (block_is : slice_get g.tr
   apart_by : (p q : Place) (c d : ℕ) (l : LiesIn new_world p c) (m : LiesIn new_world q d) → (l.owner ≡ new_activation) ⊎ Lives g.world l.owner
       → (m.owner ≡ new_activation) ⊎ Lives g.world m.owner → ((c ≡ d) × (place_eq p q ≡ true)) ⊎ ((c ≡ d → ⊥) × (place_eq p q ≡ false))
   apart_by p q c d l m (inl mine) (inl its) =
-      own_scalars g.tree new_activation number refl p q c d (own_lies p c l mine) (own_lies q d m its)
+      own_scalars g.tree g.known new_activation number refl p q c d (own_lies p c l mine) (own_lies q d m its)
   apart_by p q c d l m (inl mine) (inr its) =
       let differ = mixed p q c d (own_lies p c l mine) (old_lies q d m its) in inr (differ.0, place_apart p q differ.1)
   apart_by p q c d l m (inr mine) (inl its) =
@@ -234,7 +233,7 @@ module _ (g : Setting) (number : ℕ) (block : Block) (block_is : slice_get g.tr
         inward : l.inward < slot_cells g.tree.types o.variable
         inward =
             let long : length (components_of g.tree.types o.variable.type_id) ≡ length l.extent.components = ap (λ e. length e.components) o.extent_is in
-            omega (arith, long, slice_get_within l.extent.components l.inward p.steps l.reached, slot_of g.tree o.variable o.no_reference)
+            omega (arith, long, slice_get_within l.extent.components l.inward p.steps l.reached, slot_of g.tree g.known o.variable o.no_reference)
 
         row_long : length row ≡ parameters
         row_long = (marked_long g number mark variables arguments cells laid).0 ∙ cells_long
@@ -412,8 +411,8 @@ module _ (g : Setting) (number : ℕ) (block : Block) (block_is : slice_get g.tr
     pub own_part : is_variable_kind v.kind ≡ false → IsPart g.tree.types new_world new_below (own_place activation root) v.type_id
         (new_frame + (variable_home new_scope root).start)
     own_part plain =
-        let slot = slot_of g.tree v plain in
-        let many = length_components g.tree.types v.type_id in
+        let slot = slot_of g.tree g.known v plain in
+        let many = g.known.cells g.tree.types v.type_id in
         let ends = variable_ends g.tree root v at in
         let front = ap (parameter_cells g.tree) own in
         let rest = ap (other_cells g.tree) own in
@@ -449,14 +448,14 @@ module _ (g : Setting) (number : ℕ) (block : Block) (block_is : slice_get g.tr
                 let start = starts_as_parameter g.tree root v is in
                 let front = ap (parameter_cells g.tree) own in
                 let small = (small_block g.tree g.short number block block_is).parameters in
-                omega (arith, ends, start, front, small, slot_of g.tree v plain, length_components g.tree.types v.type_id)
+                omega (arith, ends, start, front, small, slot_of g.tree g.known v plain, g.known.cells g.tree.types v.type_id)
             by false is =
                 let ends = other_ends g.tree root v at is in
                 let start = starts_as_other g.tree root v is in
                 let front = ap (parameter_cells g.tree) own in
                 let rest = ap (other_cells g.tree) own in
                 let few = others_few g.tree g.well g.short number block block_is in
-                omega (arith, ends, start, front, rest, few, slot_of g.tree v plain, length_components g.tree.types v.type_id)
+                omega (arith, ends, start, front, rest, few, slot_of g.tree g.known v plain, g.known.cells g.tree.types v.type_id)
 
     shown_direct : is_variable_kind v.kind ≡ false → home_in begun root v.kind ≡ Some (own_place activation root) → NewShown root v
     shown_direct plain home = record {
@@ -624,7 +623,7 @@ module _ (g : Setting) (number : ℕ) (block : Block) (block_is : slice_get g.tr
       let near = start_near g.tree g.well g.short v.block b.0 b.1 root v at refl in
       let refers : is_variable_kind v.kind ≡ false = sym (ap (λ (h : Home). h.refers) (its_home root v at)) ∙ plain in
       let start : (variable_home new_scope root).start ≡ offset (start_of g.tree root v) = ap (λ (h : Home). h.start) (its_home root v at) in
-      omega (arith, near.0, near.1, start, slot_of g.tree v refers, length_components g.tree.types v.type_id)
+      omega (arith, near.0, near.1, start, slot_of g.tree g.known v refers, g.known.cells g.tree.types v.type_id)
 
   -- ---- the setting
 
@@ -643,6 +642,7 @@ module _ (g : Setting) (number : ℕ) (block : Block) (block_is : slice_get g.tr
   abbrev pub callee : Setting
   callee =
       record {
+        known = g.known;
         tree = g.tree;
         well = g.well;
         short = g.short;

@@ -17,8 +17,6 @@ use Rattle.meaning.specs.declared.store.Value.TheVariants as value
 use Rattle.meaning.specs.Effect as effect
 use Rattle.meaning.specs.Effect.{Reply, Gives, Action, ◌>>=◌, give}
 use Rattle.meaning.specs.Meaning.{Activation as Begun, Argument, activated, assign_all, calls_of, effect_of, executed, result_of}
-use Rattle.meaning.proofs.Used.{Exact, exact_calls, exact_closed, exact_effect}
-use Rattle.meaning.proofs.Walks.{of_assign_all}
 use Rattle.stack_machine.specs.declared.stop.Stop.TheVariants as stop
 use Rattle.stack_machine.specs.declared.cell.Cell.{Cell}
 use Rattle.stack_machine.specs.declared.cell.Cell.TheVariants.{Undefined, Number}
@@ -43,7 +41,7 @@ use Rattle.code_generator.proofs.Passing.{returns_from}
 use Rattle.code_generator.proofs.Reach.{Comes, Stands, StandsAt, Stops, comes_at_rate, comes_by, comes_less, comes_on, stands_back, stands_front, stays_here}
 use Rattle.code_generator.proofs.Reach.{stops_by, stops_on}
 use Rattle.code_generator.proofs.Returning.{back_based, back_comes, back_place, count_of, finish, restored}
-use Rattle.code_generator.proofs.Setting.{Setting, Based, Ends, Executes, Starves, around, on, outline, running_at, starves_first}
+use Rattle.code_generator.proofs.Setting.{exact_around, Setting, Based, Ends, Executes, Starves, around, on, outline, running_at, starves_first}
 use Rattle.code_generator.proofs.Starting.{assigned, begun_state, h, started}
 use Rattle.code_generator.proofs.Stmts.{stmt_runs}
 
@@ -264,7 +262,7 @@ module _ (g : Setting) (depth : ℕ) (known : CallsRun depth) (depth_is : g.dept
         (omega arith) in
         let ran = subst (λ cs. Executes its (on its cs inside t.output) [] behind_body (effect_of block.body (around its)) t) none runs in
         executed_returns its (on its base2 inside t.output) [] [] behind_body _ is_function (effect_of block.body (around its))
-        (λ _. result_of block.heading.result its.environment) t (exact_effect (around its) (exact_calls g.tree depth) block.body) ran
+        (λ _. result_of block.heading.result its.environment) t ((exact_around its).statements block.body) ran
         (λ last u after2.
         (finish g number block block_is callable outer way base held cells arguments s based return depth depth_is room laid fits is_function kind_and_count.0
         behind_body last u after2 ending_stands (omega arith)).0)
@@ -294,7 +292,7 @@ module _ (g : Setting) (depth : ℕ) (known : CallsRun depth) (depth_is : g.dept
         (returns_behind its (on its entry_cells inside s1.output) (on its entry_cells inside s1.output) [] _ is_function
         (assign_all g.tree its.environment block.heading.parameters.items arguments)
         (λ _. effect_of block.body (around its) >>= λ _. result_of block.heading.result its.environment) s1 (record s1 { store = a.0 }) tt
-        (of_assign_all Exact exact_closed g.tree its.environment block.heading.parameters.items arguments).1 assigning (omega arith)
+        ((exact_around its).assigned g.tree block.heading.parameters.items arguments) assigning (omega arith)
         (comes_less g.target (s1.turns - s1.turns) 0 _ _ (omega arith) (stays_here g.target _))
         (body_runs entry_cells (record s1 { store = a.0 }) after))
 

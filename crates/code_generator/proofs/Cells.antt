@@ -8,8 +8,6 @@ use Rattle.std.proofs.lemmas.Option.{cond_some, none-some, same_Some, slice_get_
 use Rattle.types.specs.Components.{components_of}
 use Rattle.types.specs.Forms.{Form}
 use Rattle.types.specs.Types.{cells_of}
-use Rattle.types.proofs.Laid.{length_components}
-use Rattle.types.proofs.Once.{components_once}
 use Rattle.typed_tree.specs.declared.tree.Block.{Block}
 use Rattle.typed_tree.specs.declared.tree.Tree.{Tree}
 use Rattle.typed_tree.specs.declared.tree.Variable.{Variable}
@@ -21,6 +19,7 @@ use Rattle.code_scheme.specs.declared.home.Home.{Home}
 use Rattle.code_scheme.specs.Depth.{block_depth}
 use Rattle.code_scheme.specs.Scopes.{Scope, cells_where, home_of, home_or_none, homes_from, homes_of, is_other_of, is_parameter_of, offset, other_cells}
 use Rattle.code_scheme.specs.Scopes.{parameter_cells, slot_cells, start_of, variable_home}
+use Rattle.code_generator.specs.Known.{Known}
 use Rattle.code_generator.specs.Large.{frame_cells, has_large_frame, is_large_block, is_too_large}
 use Rattle.code_generator.proofs.Alike.{Activation, Extent, Lies}
 use Rattle.code_generator.proofs.Nesting.{well_block}
@@ -261,13 +260,13 @@ module _ (tree : Tree) where
       else None) (eq-eqb v.block number own)
       ∙ ap (λ b. if not b then Some (record { start = start_of tree root v; components = components_of tree.types v.type_id }) else None) plain
 
-  pub slot_of : (v : Variable) → is_variable_kind v.kind ≡ false → slot_cells tree.types v ≡ length (components_of tree.types v.type_id)
-  slot_of v plain = ap (λ b. if b then 1 else cells_of tree.types v.type_id) plain ∙ sym (length_components tree.types v.type_id)
+  pub slot_of : (known : Known) (v : Variable) → is_variable_kind v.kind ≡ false → slot_cells tree.types v ≡ length (components_of tree.types v.type_id)
+  slot_of known v plain = ap (λ b. if b then 1 else cells_of tree.types v.type_id) plain ∙ sym (known.cells tree.types v.type_id)
 
   -- each lies in the frame, behind the links and before what is held
-  pub lies_inside : (a : Activation) (number : ℕ) (p : Place) (c : ℕ) → a.owns ≡ owned_in number → Lies a p c
+  pub lies_inside : (known : Known) (a : Activation) (number : ℕ) (p : Place) (c : ℕ) → a.owns ≡ owned_in number → Lies a p c
       → (a.frame + 4 ≤ c) × (c < a.frame + (4 + parameter_cells tree number + other_cells tree number))
-  lies_inside a number p c owns l =
+  lies_inside known a number p c owns l =
       let o = owned number p.variable l.extent (ap (λ (f : ℕ → Option Extent). f p.variable) (sym owns) ∙ l.owned) in
       let start : start_of tree p.variable o.variable ≡ l.extent.start = ap (λ (e : Extent). e.start) o.extent_is in
       let long : length (components_of tree.types o.variable.type_id) ≡ length l.extent.components = ap (λ (e : Extent). length e.components) o.extent_is in
@@ -277,7 +276,7 @@ module _ (tree : Tree) where
       let rest = ap (other_cells tree) o.own in
       let cell = l.cell_is in
       let first = begins_behind p.variable o.variable in
-      (omega (arith, start, first, cell), omega (arith, start, long, inside, ends, front, rest, cell, slot_of o.variable o.no_reference))
+      (omega (arith, start, first, cell), omega (arith, start, long, inside, ends, front, rest, cell, slot_of known o.variable o.no_reference))
     where
       begins_behind : (root : ℕ) (v : Variable) → 4 ≤ start_of tree root v
       begins_behind root v = by (is_parameter_kind v.kind) refl
@@ -287,7 +286,7 @@ module _ (tree : Tree) where
           by false is = omega (arith, starts_as_other root v is)
 
   -- two scalars of one activation are one, or they lie apart
-  module _ (a : Activation) (number : ℕ) (owns : a.owns ≡ owned_in number) (p q : Place) (c d : ℕ) (l : Lies a p c) (m : Lies a q d) where
+  module _ (known : Known) (a : Activation) (number : ℕ) (owns : a.owns ≡ owned_in number) (p q : Place) (c d : ℕ) (l : Lies a p c) (m : Lies a q d) where
     same_activation : p.activation ≡ q.activation
     same_activation = l.its ∙ sym m.its
 
@@ -317,7 +316,7 @@ module _ (tree : Tree) where
         inr (
           (λ f. e (omega arith)),
           place_other p q (λ v s. e
-              (components_once tree.types first.variable.type_id l.inward m.inward p.steps (ap (λ r. slice_get r l.inward) row ∙ l.reached)
+              (known.once tree.types first.variable.type_id l.inward m.inward p.steps (ap (λ r. slice_get r l.inward) row ∙ l.reached)
               (ap (λ r. slice_get r m.inward) row ∙ reached ∙ ap Some (sym s)))),
         ))
         at
@@ -334,8 +333,8 @@ module _ (tree : Tree) where
         ≡ length l.extent.components = ap (λ (e : Extent). length e.components) first.extent_is in
         let long' : length (components_of tree.types second.variable.type_id) ≡ length m.extent.components =
         ap (λ (e : Extent). length e.components) second.extent_is in
-        let slot = slot_of first.variable first.no_reference in
-        let slot' = slot_of second.variable second.no_reference in
+        let slot = slot_of known first.variable first.no_reference in
+        let slot' = slot_of known second.variable second.no_reference in
         inr (
           (λ f.
               ⊎_elim

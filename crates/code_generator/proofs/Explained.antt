@@ -11,9 +11,8 @@ use Rattle.stack_machine.specs.declared.stop.Stop.{Stop}
 use Rattle.stack_machine.specs.declared.stop.Stop.TheVariants as stop
 use Rattle.stack_machine.specs.Machine.{State}
 use Rattle.stack_machine.specs.Run.{Outcome, steps}
-use Rattle.stack_machine.proofs.Growing.{begins_itself}
 use Rattle.code_generator.specs.Follows.{BeginsWith, StopsAs, DoesAll, DoesAsMuch, IsExplained, IsFullAtStart, IsFullAtCall}
-use Rattle.code_generator.proofs.Reach.{IsOver, longer, one_end, grows_to}
+use Rattle.code_generator.proofs.Reach.{IsOver, WritesOn, begins_itself, longer, one_end, grows_to}
 
 -- a stop that is an end of the program
 abbrev pub IsEnd : Stop → Type 0
@@ -130,17 +129,18 @@ module _ (tree : Tree) (input : List ℕ) (cells : ℕ) where
     explained_more stop.ReadFailed e = goes_on stop.ReadFailed e tt
     explained_more stop.WriteFailed e = goes_on stop.WriteFailed e tt
 
-pub leads_to : (sites : List Plain) (code : List Instr) (b j : ℕ) (m : State) → IsOver (steps sites code j m).stop
+pub leads_to : (sites : List Plain) (code : List Instr) (b j : ℕ) (m : State) → WritesOn sites code m → IsOver (steps sites code j m).stop
     → Leads (steps sites code b m) (steps sites code j m)
-leads_to sites code b j m over = record {
+leads_to sites code b j m on over = record {
   over = λ over'. one_end sites code b j m over' over;
   begins = ⊎_elim
-      (λ (lt : b < j). grows_to sites code b j (omega (arith, lt)) m)
+      (λ (lt : b < j). grows_to sites code b j (omega (arith, lt)) m on)
       (λ (le : j ≤ b).
       subst (λ r. BeginsWith (steps sites code j m).output r.output) (longer sites code j b le m over) (begins_itself (steps sites code j m).output))
       (cases_lt b j);
 }
 
-pub leads_before : (sites : List Plain) (code : List Instr) (b j : ℕ) (m : State) → b ≤ j → Leads (steps sites code b m) (steps sites code j m)
-leads_before sites code b j m le =
-    record { over = longer sites code b j le m; begins = grows_to sites code b j le m }
+pub leads_before : (sites : List Plain) (code : List Instr) (b j : ℕ) (m : State) → WritesOn sites code m → b ≤ j
+    → Leads (steps sites code b m) (steps sites code j m)
+leads_before sites code b j m on le =
+    record { over = longer sites code b j le m; begins = grows_to sites code b j le m on }

@@ -45,7 +45,6 @@ use Rattle.meaning.specs.Effect.{Action, ◌>>=◌, fetch, require, give}
 use Rattle.meaning.specs.Meaning.{Evaluation, Combination, value_of, link_of, value_step, operated, combined, relates, in_turn, width_of, order_of}
 use Rattle.meaning.specs.Meaning.{Argument, OfValue, OfRow, OfPlace, Passing, all_passed, calls_of, passing_of}
 use Rattle.meaning.specs.Meaning as meaning
-use Rattle.meaning.proofs.Used.{exact_value}
 use Rattle.meaning.specs.Integers.{is_within, magnitude, truth}
 use Rattle.stack_machine.specs.declared.cell.Cell.{Cell}
 use Rattle.stack_machine.specs.declared.cell.Cell.TheVariants.{Number}
@@ -70,7 +69,7 @@ use Rattle.check_remover.specs.Strip.{moved}
 use Rattle.code_scheme.proofs.Pieces.{start_within}
 use Rattle.code_generator.proofs.Alike.{Leads, leads_split}
 use Rattle.code_generator.proofs.Calling.{marks}
-use Rattle.code_generator.proofs.Exact.{exact_link, exact_passed, exact_passing, exact_whole}
+use Rattle.code_generator.proofs.Exact.{exact_link, exact_passed}
 use Rattle.code_generator.proofs.Passing.{AllPass, CallsAt, PassedRuns, Passes, PassesAs, Returns, address_passes, function_evaluates, links_of, passed_then}
 use Rattle.code_generator.proofs.Passing.{returns_from, row_passes, then_pass, then_returns, value_passes}
 use Rattle.code_generator.proofs.Reach.{StandsAt, Stands, obeys, stands_front, stands_back, Comes, comes_less, comes_on, stays_here}
@@ -466,7 +465,7 @@ module _ (g : Setting) where
       subst (λ p. Evaluates g (on g (base ++ held) place s.output) held p
       (meaning.whole_of left (map value_of (expressions g left_indexes)) (around g) >>= next) s) e
       (row_evaluates g _ held held there end n (meaning.whole_of left (map value_of (expressions g left_indexes)) (around g)) next s
-      (exact_whole (around g) (exact_around g) left (expressions g left_indexes))
+      ((exact_around g).wholes left (expressions g left_indexes))
       (whole_runs g left left_indexes place base held s (stands_front g.target place c (d ++ last) stands) one.0 left_well based (omega arith))
       (λ base2 ns s2 based2 long fits.
       let above = held ++ cells_of ns in
@@ -475,7 +474,7 @@ module _ (g : Setting) where
       let wide = length-cells_of ns in
       subst (λ cells. Evaluates g (on g cells there s2.output) held end (next ns) s2) (sym (append_assoc base2 held (cells_of ns)))
       (row_evaluates g _ above held (there + length d) end (length_of right) (meaning.whole_of right (map value_of (expressions g right_indexes)) (around g))
-      (next' ns) s3 (exact_whole (around g) (exact_around g) right (expressions g right_indexes))
+      (next' ns) s3 ((exact_around g).wholes right (expressions g right_indexes))
       (whole_runs g right right_indexes there base2 above s3 (stands_front g.target there d last behind) three.0 right_well
       based2 (omega arith))
       (λ base3 ms s4 based4 long' fits'.
@@ -556,7 +555,7 @@ module _ (g : Setting) where
       let next : Value → Action Value = λ w. in_turn (map link_of (map (λ k. k.0) links)) (around g) w in
       subst (λ p. Evaluates g (on g (base ++ held) place s.output) held p (value_of first.0 (around g) >>= next) s) e
       (then_evaluates g _ held held (place + length c) (place + length c + length rest) (value_of first.0 (around g)) next s
-      (exact_value (around g) (exact_around g) first.0)
+      ((exact_around g).values first.0)
       (first.1 place base held s (stands_front g.target place c rest stands) (and_parts _ _ good).0 based (omega arith))
       (λ base2 n s2 based2 fit2 room2. links_run links (expr_depth first.0) (place + length c) base2 held n s2 (stands_back g.target place c rest stands)
       (and_parts _ _ good).1 based2 deep room2 fit2))
@@ -629,7 +628,7 @@ module _ (g : Setting) where
       let next : Value → Action Argument = λ w. require (effect.is_in fits.range w) fits.site >>= λ _. give (OfValue w) in
       subst (λ p. Passes g (on g (base ++ held) place s.output) held p 1 callee position (value_of v.0 (around g) >>= next) s) e
       (value_passes g _ held held (place + length c) (place + length c + 1) 1 callee position (value_of v.0 (around g)) next s
-      (exact_value (around g) (exact_around g) v.0) (v.1 place base held s (stands_front g.target place c check stands) parts.0 based deep)
+      ((exact_around g).values v.0) (v.1 place base held s (stands_front g.target place c check stands) parts.0 based deep)
       (λ base2 n t based2 fit.
       subst (λ test. Passes g (on g ((base2 ++ held) ++ Number n ∷ []) (place + length c) t.output) held (place + length c + 1) 1 callee position
       (require test fits.site >>= λ _. give (OfValue (value.Number n))) t) (sym (same_range fits.range n fit))
@@ -655,7 +654,7 @@ module _ (g : Setting) where
       let many : type_cells types formal.0.type_id ≡ n =
       ap (λ (id : TypeId). type_cells types id) (sym (same_type g type_id formal.0.type_id same.0)) ∙ eqb-true (type_cells types type_id) n sizes.1 in
       row_passes g _ held held (place + length c) (place + length c) n n callee position (meaning.whole_of v (map value_of (expressions g indexes)) (around g))
-      (λ ns. give (OfRow ns)) s (exact_whole (around g) (exact_around g) v (expressions g indexes))
+      (λ ns. give (OfRow ns)) s ((exact_around g).wholes v (expressions g indexes))
       (whole_runs g v indexes place base held s stands one.0 well based deep)
       (λ base2 ns t based2 long fits.
       inr (
@@ -739,7 +738,7 @@ module _ (g : Setting) where
       give (argument ∷ arguments) in
       subst (λ p. AllPass g (on g (base ++ held) place s.output) held p callee position (suc (length actuals)) (passing_of one.0 (around g) >>= next) s) e
       (then_pass g _ held held (place + length c) end d.cells callee position position (suc (length actuals)) (passing_of one.0 (around g)) next s
-      (exact_passing (around g) (exact_around g) one.0)
+      ((exact_around g).actuals one.0)
       (one.1 callee position place base held s (stands_front g.target place c rest stands) parts.0 based (omega (arith, high)))
       (λ base2 argument cells formal t based2 is fitted long.
       let above = held ++ cells in
@@ -896,7 +895,7 @@ module _ (g : Setting) where
     expr_layer (MonadicOf number operation operand) =
         rolled_expr (MonadicOf number operation (record { ptr = operand.ptr; alloc = operand.alloc; value = operand.value.0 }))
         (monadic_runs number operation (expr_code g.scope operand.value.0) (expr_depth operand.value.0)
-        (is_well_formed_expr (outline g) g.number operand.value.0) (value_of operand.value.0) (exact_value (around g) (exact_around g) operand.value.0)
+        (is_well_formed_expr (outline g) g.number operand.value.0) (value_of operand.value.0) ((exact_around g).values operand.value.0)
         operand.value.1)
     expr_layer (Chain first rest) = rolled_expr (plain (Chain first rest)) (chain_runs first.value rest.items)
     expr_layer (Compare number r left left_indexes right right_indexes) =
@@ -915,7 +914,7 @@ module _ (g : Setting) where
     link_layer y =
         let x = plain_link y in
         let meant = fold-roll-Link Evaluation Passing Combination value_step meaning.passed_step meaning.link_step x in
-        let exact = exact_value (around g) (exact_around g) y.operand.0 in (
+        let exact = (exact_around g).values y.operand.0 in (
           same_combines _ _ _ _ _ _ _ _ (fold-roll-Link Code Code Code (expr_step g.scope) (passed_code_step g.scope) link_step x)
               (fold-roll-Link ℕ PassedDepth ℕ expr_depth_step passed_depth_step link_depth_step x)
               (fold-roll-Link Bool Test Bool is_step is_passed_step is_link_step x) meant
@@ -971,7 +970,7 @@ module _ (g : Setting) where
         let next : Value → Action Value = λ w. require (effect.is_positive w) width.site >>= λ _. give w in
         subst (λ p. Evaluates g (on g (base ++ held) place s.output) held p (value_of width.value (around g) >>= next) s) e
         (then_evaluates g _ held held (place + length c) (place + length c + 1) (value_of width.value (around g)) next s
-        (exact_value (around g) (exact_around g) width.value)
+        ((exact_around g).values width.value)
         (expr_runs width.value place base held s (stands_front g.target place c (check ∷ []) stands) parts.1 based room)
         (λ base2 n s2 based2 fit room2.
         tested_runs check width.site (place + length c) base2 held n s2 _ (int_le (pos 1) n) (stands_back g.target place c (check ∷ []) stands).0 refl refl

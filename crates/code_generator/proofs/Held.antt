@@ -169,7 +169,7 @@ module _ (g : Setting) where
         let same = same_Some found.variable.type_id found.last found.ends in
         let here : g.frame ≡ shown.owner = subst (λ n. Leads g.fixed n g.frame shown.owner) no_links shown.leads in
         subst (λ frame. LiesIn g.world shown.place (frame + control_offset g.scope root)) (sym here)
-        (ordinal_part g.tree.types g.world g.below shown.place found.variable.type_id (shown.owner + home_here.start)
+        (ordinal_part g.tree.types g.world g.below g.known shown.place found.variable.type_id (shown.owner + home_here.start)
         (ap (is_ordinal g.tree.types) same ∙ found.is_wanted) r.1)
     lies_by (ByAddress address) r = absurd (false≢true (sym refers_not ∙ r.0))
 

@@ -9,8 +9,6 @@ use Rattle.std.proofs.lemmas.Bool.{false≢true, false_from_ne_true, eqb-true}
 use Rattle.std.proofs.lemmas.List.{length-map}
 use Rattle.std.proofs.lemmas.Option.{none-some, same_Some}
 use Rattle.types.specs.Types.{cells_of}
-use Rattle.types.proofs.Laid.{length_components}
-use Rattle.types.proofs.Scalars.{ordinal_component}
 use Rattle.typed_tree.specs.declared.tree.Variable.{Variable}
 use Rattle.typed_tree.specs.declared.tree.VariableKind.{VariableKind}
 use Rattle.typed_tree.specs.declared.tree.VariableKind.TheVariants as kinds
@@ -40,9 +38,9 @@ module _ (g : Setting) (number : ℕ) where
   fitted_length v (OfValue (value.Number n)) first f =
       let slot : slot_cells g.tree.types v ≡ cells_of g.tree.types v.type_id =
       ap (λ b. if b then 1 else cells_of g.tree.types v.type_id) (no_reference v.kind f.0) in
-      let one = ap length (ordinal_component g.tree.types v.type_id f.1) in
+      let one = ap length (g.known.ordinals g.tree.types v.type_id f.1) in
       let cells = ap length f.3 in
-      let many = length_components g.tree.types v.type_id in
+      let many = g.known.cells g.tree.types v.type_id in
       omega (arith, slot, one, cells, many)
   fitted_length v (OfRow ns) first f =
       let slot : slot_cells g.tree.types v ≡ cells_of g.tree.types v.type_id =

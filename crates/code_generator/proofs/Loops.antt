@@ -8,8 +8,7 @@ use Rattle.meaning.specs.declared.store.Value.{Value}
 use Rattle.meaning.specs.declared.store.Value.TheVariants as value
 use Rattle.meaning.specs.Effect as effect
 use Rattle.meaning.specs.Effect.{Reply, Gives, Action, Round, ◌>>=◌, use_turn}
-use Rattle.meaning.specs.Laws.{UsesTurnsExactly}
-use Rattle.meaning.proofs.Loops.{UsesTurns, looped-rounds}
+use Rattle.meaning.specs.Laws.{GoesRoundByRound, UsesTurnsExactly}
 use Rattle.stack_machine.specs.declared.cell.Cell.{Cell}
 use Rattle.stack_machine.specs.declared.cell.Cell.TheVariants.{Number}
 use Rattle.stack_machine.specs.Machine.{State}
@@ -140,14 +139,14 @@ module _ (g : Setting) {A : Type 0} (fit : A → Type 0) (hold : A → List Cell
   RoundRuns round =
       (a : A) (base : List Cell) (s : effect.State) → fit a → Based g s base → Rounds 0 s.turns (on g (base ++ hold a) head s.output) (round a) s
 
-  module _ (round : Round A) (uses : UsesTurns round) (exact : (a : A) → UsesTurnsExactly (round a)) (runs : RoundRuns round) where
+  module _ (round : Round A) (goes : GoesRoundByRound round) (exact : (a : A) → UsesTurnsExactly (round a)) (runs : RoundRuns round) where
     loops_within : (bound : ℕ) (a : A) (base : List Cell) (s : effect.State) → s.turns ≤ bound → fit a → Based g s base
         → Executes g (on g (base ++ hold a) head s.output) held end (effect.looped round a) s
     loops_within zero a base s few fits based =
-        executes_same g _ held end (effect.looped round a) (round a >>= λ more. effect.another more (effect.looped round)) s (looped-rounds round uses a)
+        executes_same g _ held end (effect.looped round a) (round a >>= λ more. effect.another more (effect.looped round)) s (goes a)
         (round_then _ (round a) (effect.looped round) s (exact a) (runs a base s fits based) (λ b base2 t fewer fits2 based2. absurd (omega arith)))
     loops_within (suc bound) a base s few fits based =
-        executes_same g _ held end (effect.looped round a) (round a >>= λ more. effect.another more (effect.looped round)) s (looped-rounds round uses a)
+        executes_same g _ held end (effect.looped round a) (round a >>= λ more. effect.another more (effect.looped round)) s (goes a)
         (round_then _ (round a) (effect.looped round) s (exact a) (runs a base s fits based)
         (λ b base2 t fewer fits2 based2. loops_within bound b base2 t (omega arith) fits2 based2))
 

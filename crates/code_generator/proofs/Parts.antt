@@ -7,7 +7,7 @@ use Rattle.std.specs.Option.{option_map, option_and_then}
 use Rattle.std.specs.Ordering.{int_eq}
 use Rattle.std.proofs.lemmas.Bool.{and_parts, eqb-true}
 use Rattle.std.proofs.lemmas.Bool.Decides.{Decides-int_eq}
-use Rattle.std.proofs.lemmas.Option.{none-some, cond_some, slice_get_within}
+use Rattle.std.proofs.lemmas.Option.{none-some, cond_some, slice_get-get_or, slice_get_within}
 use Rattle.types.specs.declared.form.ArrayElement.{ArrayElement}
 use Rattle.types.specs.declared.form.OrdinalRange.{OrdinalRange}
 use Rattle.types.specs.declared.form.RecordField.{RecordField}
@@ -16,16 +16,14 @@ use Rattle.types.specs.declared.form.Step.TheVariants.{Element, Field}
 use Rattle.types.specs.Forms.{Form}
 use Rattle.types.specs.declared.form.TypeId.{TypeId}
 use Rattle.types.specs.Components.{Steps, components_of}
+use Rattle.types.specs.Laws.{HasElements, HasField}
 use Rattle.types.specs.Types.{cells_of, element_of, field_at, is_ordinal}
-use Rattle.types.proofs.Elements.{element_at, element_cells, element_within}
-use Rattle.types.proofs.Fields.{field_ends, field_rows}
-use Rattle.types.proofs.Laid.{length_components}
-use Rattle.types.proofs.Scalars.{ordinal_component}
 use Rattle.typed_tree.specs.declared.tree.RangeTest.{RangeTest}
 use Rattle.typed_tree.specs.declared.tree.Selector.{Selector}
 use Rattle.typed_tree.specs.declared.tree.Selector.TheVariants as selector
 use Rattle.typed_tree.specs.Accesses.{are_values_of, element_type, field_type, selected, led}
 use Rattle.meaning.specs.Store.{Place}
+use Rattle.code_generator.specs.Known.{Known}
 use Rattle.code_generator.proofs.Alike.{Activation, World, LiesIn}
 
 -- a place with more steps behind its own
@@ -121,31 +119,37 @@ module _ (types : List Form) (world : World) (end : ℕ) where
     pub few : cells_of types t ≤ 65536
 
   -- an ordinal is a scalar
-  pub ordinal_part : (p : Place) (t : TypeId) (cell : ℕ) → is_ordinal types t ≡ true → IsPart p t cell → LiesIn world p cell
-  ordinal_part p t cell ordinal part =
-      scalar_lies world p cell (subst (λ components. LiesFrom world p components cell) (ordinal_component types t ordinal) part.from)
+  pub ordinal_part : (known : Known) (p : Place) (t : TypeId) (cell : ℕ) → is_ordinal types t ≡ true → IsPart p t cell → LiesIn world p cell
+  ordinal_part known p t cell ordinal part =
+      scalar_lies world p cell (subst (λ components. LiesFrom world p components cell) (known.ordinals types t ordinal) part.from)
 
   -- the element at an index
-  module _ (p : Place) (t : TypeId) (cell : ℕ) (e : ArrayElement) (found : element_of types t ≡ Some e) (index : ℤ) (low : e.range.first ≤ℤ index)
-      (high : index ≤ℤ e.range.last) (n : ℕ) (counts : pos n ≡ index -ℤ e.range.first) (part : IsPart p t cell) where
-    -- it has as many cells as are told, and ends within the array
-    ends_inside : (cells : ℕ) → e.cells ≡ cells → n * e.cells + cells_of types e.type_id ≤ cells_of types t
-    ends_inside zero is =
-        let none : n * e.cells ≡ n * 0 = ap (λ c. n * c) is in
-        let same = element_cells types t e found in
-        omega arith
-    ends_inside (suc m) is =
-        let inside = element_within types t e found index low high n m counts (omega arith) in
-        let same = element_cells types t e found in
-        omega arith
+  module _ (known : Known) (p : Place) (t : TypeId) (cell : ℕ) (e : ArrayElement) (found : element_of types t ≡ Some e) (index : ℤ)
+      (low : e.range.first ≤ℤ index) (high : index ≤ℤ e.range.last) (n : ℕ) (counts : pos n ≡ index -ℤ e.range.first) (part : IsPart p t cell) where
+    own : HasElements types t e
+    own = known.elements types t e found
 
     among : (k : ℕ) (steps : Steps) → slice_get (components_of types e.type_id) k ≡ Some steps
         → slice_get (components_of types t) (n * e.cells + k) ≡ Some (Element index ∷ steps)
     among k steps at =
         let inside = slice_get_within (components_of types e.type_id) k steps at in
-        let many = length_components types e.type_id in
-        let same = element_cells types t e found in
-        element_at types t e found index low high n k counts (omega arith) ∙ ap (option_map (λ rest. Element index ∷ rest)) at
+        let many = known.cells types e.type_id in
+        let same = own.cells in
+        own.components index n k low high counts (omega arith) ∙ ap (option_map (λ rest. Element index ∷ rest)) at
+
+    -- it has as many cells as are told, and ends within the array
+    ends_inside : (cells : ℕ) → e.cells ≡ cells → n * e.cells + cells_of types e.type_id ≤ cells_of types t
+    ends_inside zero is =
+        let none : n * e.cells ≡ n * 0 = ap (λ c. n * c) is in
+        let same = own.cells in
+        omega arith
+    ends_inside (suc m) is =
+        let same = own.cells in
+        let many = known.cells types e.type_id in
+        let last = slice_get-get_or (components_of types e.type_id) m [] (omega arith) in
+        let inside = slice_get_within (components_of types t) (n * e.cells + m) _ (among m _ last) in
+        let all = known.cells types t in
+        omega arith
 
     pub element_part : IsPart (inner p (Element index ∷ [])) e.type_id (cell + n * e.cells)
     element_part = record {
@@ -155,19 +159,23 @@ module _ (types : List Form) (world : World) (end : ℕ) where
     }
 
   -- the field at a position
-  module _ (p : Place) (t : TypeId) (cell position : ℕ) (f : RecordField) (found : field_at types t position ≡ Some f) (part : IsPart p t cell) where
+  module _ (known : Known) (p : Place) (t : TypeId) (cell position : ℕ) (f : RecordField) (found : field_at types t position ≡ Some f)
+      (part : IsPart p t cell) where
+    own_field : HasField types t position f
+    own_field = known.fields types t position f found
+
     field_among : (k : ℕ) (steps : Steps) → slice_get (components_of types f.type_id) k ≡ Some steps
         → slice_get (components_of types t) (f.offset + k) ≡ Some (Field position ∷ steps)
     field_among k steps at =
         let inside = slice_get_within (components_of types f.type_id) k steps at in
-        let many = length_components types f.type_id in
-        field_rows types t position f found k (omega arith) ∙ ap (option_map (λ rest. Field position ∷ rest)) at
+        let many = known.cells types f.type_id in
+        own_field.components k (omega arith) ∙ ap (option_map (λ rest. Field position ∷ rest)) at
 
     pub field_part : IsPart (inner p (Field position ∷ [])) f.type_id (cell + f.offset)
     field_part = record {
       from = step_lies world p (components_of types t) (components_of types f.type_id) cell f.offset (Field position) field_among part.from;
-      within = (let inside = field_ends types t position f found in let all = part.within in omega arith);
-      few = (let inside = field_ends types t position f found in let all = part.few in omega arith);
+      within = (let inside = own_field.ends in let all = part.within in omega arith);
+      few = (let inside = own_field.ends in let all = part.few in omega arith);
     }
 
 -- a part of an older world lies in one with an activation more too, below a later end

@@ -22,7 +22,6 @@ use Rattle.meaning.specs.Effect.{Action, Reply, Gives}
 use Rattle.meaning.specs.Laws.{state_after}
 use Rattle.meaning.specs.Meaning as meant
 use Rattle.meaning.specs.Meaning.{Meaning, effect_of, ended, meaning}
-use Rattle.meaning.proofs.Depths.{deep_effect}
 use Rattle.stack_machine.specs.declared.cell.Cell.{Cell}
 use Rattle.stack_machine.specs.declared.cell.Cell.TheVariants.{Undefined, Number}
 use Rattle.stack_machine.specs.declared.stop.Stop.TheVariants as stop
@@ -30,7 +29,6 @@ use Rattle.stack_machine.specs.Frames.{entered}
 use Rattle.stack_machine.specs.Machine.{State, with_frame}
 use Rattle.stack_machine.specs.Run as runs
 use Rattle.stack_machine.specs.Run.{Outcome, machine, steps}
-use Rattle.stack_machine.proofs.Growing.{begins_itself}
 use Rattle.check_remover.specs.Strip.{check_site, is_among, stays, moved, moved_place, KeepsInstructions}
 use Rattle.code_scheme.specs.Code.{block_code, blocks_code, program_code, routines_of, stmt_code}
 use Rattle.code_scheme.specs.Depth.{block_depth}
@@ -38,6 +36,7 @@ use Rattle.code_scheme.specs.Need.{block_need, living_need}
 use Rattle.code_scheme.specs.Scopes.{Scope, block_scope, count, other_cells, parameter_cells}
 use Rattle.code_scheme.proofs.Depths.{block_within}
 use Rattle.code_generator.specs.Follows.{BeginsWith, StopsAs, DoesAll, DoesAsMuch, IsExplained, IsFullAtCall, Follows, most_cells}
+use Rattle.code_generator.specs.Known.{Known}
 use Rattle.code_generator.specs.Large.{is_too_large}
 use Rattle.code_generator.specs.Laws.{StrippedFollows}
 use Rattle.code_generator.specs.Tables.{site_table}
@@ -51,13 +50,15 @@ use Rattle.code_generator.proofs.Explained.{leads_to, stops_end}
 use Rattle.code_generator.proofs.Nesting.{well_block}
 use Rattle.code_generator.proofs.ProgramStart as started
 use Rattle.code_generator.proofs.Reach.{Target, StandsAt, Stands, stands_front, stands_back, Comes, IsOver, Stops, comes_by, comes_on, comes_less}
-use Rattle.code_generator.proofs.Reach.{stops_on, stops_by}
+use Rattle.code_generator.proofs.Reach.{WritesOn, begins_itself, stops_on, stops_by}
 use Rattle.code_generator.proofs.Repeats.{repeats}
 use Rattle.code_generator.proofs.Setting.{Setting, on, around, Halts, Ends, Executed, Executes, Starves}
 use Rattle.code_generator.proofs.Stmts.{stmt_runs}
 
 -- a program whose code stands in the machine's code, with the checks of some sites left out at which it never errs
-module _ (tree : Tree) (well : IsWellFormed tree) (short : is_too_large tree ≡ false) (target : Target)
+module _ (known : Known) (tree : Tree) (well : IsWellFormed tree) (short : is_too_large tree ≡ false) (target : Target)
+    (grown : (input : List ℕ) (cells budget more : ℕ)
+    → BeginsWith (runs.run_of target.sites target.code input cells (budget + more)).output (runs.run_of target.sites target.code input cells budget).output)
     (sites_are : target.sites ≡ site_table tree.sites.items) (stands : Stands target 0 (program_code tree)) (starts : target.to 0 ≡ 0)
     (comes_back : (place n routine : ℕ) → slice_get target.whole place ≡ Some (instr.CallProcedure n routine)
     → (target.to place + 1 < length target.code) × (target.to place + 1 ≤ 1000000))
@@ -131,10 +132,10 @@ module _ (tree : Tree) (well : IsWellFormed tree) (short : is_too_large tree ≡
 
       module _ (fits : needed_cells ≤ cells) (turns : ℕ) where
         abbrev setting : Setting
-        setting = started.setting tree well short target sites_are stands comes_back repeats_are_few input cells small block block_is fits turns
+        setting = started.setting known tree well short target sites_are stands comes_back repeats_are_few input cells small block block_is fits turns
 
         abbrev first_cells : List Cell
-        first_cells = started.cells tree well short target sites_are stands comes_back repeats_are_few input cells small block block_is fits turns
+        first_cells = started.cells known tree well short target sites_are stands comes_back repeats_are_few input cells small block block_is fits turns
 
         abbrev inside : State
         inside = on setting (first_cells ++ []) 1 []
@@ -163,7 +164,7 @@ module _ (tree : Tree) (well : IsWellFormed tree) (short : is_too_large tree ≡
         body_runs =
             stmt_runs block.body setting (calls_run (suc turns)) (omega arith) 1 first_cells [] first
             (stands_front target 1 body (instr.Stop ∷ []) own_stands.1) (well_block tree well 0 block block_is).body
-            (started.first_based tree well short target sites_are stands comes_back repeats_are_few input cells small block block_is fits turns) refl
+            (started.first_based known tree well short target sites_are stands comes_back repeats_are_few input cells small block block_is fits turns) refl
             (omega arith)
 
         means : meaning tree input turns ≡ ended (does first)
@@ -211,7 +212,7 @@ module _ (tree : Tree) (well : IsWellFormed tree) (short : is_too_large tree ≡
             let deeper : suc used + (turns - used) ≡ suc turns = omega (arith, le) in
             let shorter : meant.run tree input used ≡ effect.Stops ending.More there =
             ap (λ o. meant.run_of tree (suc used) o s) block_is
-            ∙ deep_effect tree (suc used) (turns - used) (around setting).visible block.body s (omega arith)
+            ∙ known.deeper tree (suc used) (turns - used) (around setting).visible block.body s (omega arith)
             ∙ ap (λ d. effect_of block.body (record { visible = (around setting).visible; calls = meant.calls_of tree d }) s) deeper
             ∙ x.2 in
             let u = stops_on target 1 start inside _ comes_in x.3 in
@@ -234,6 +235,21 @@ module _ (tree : Tree) (well : IsWellFormed tree) (short : is_too_large tree ≡
             (finishes (does first) e (λ site errs closed. never input turns site (ap (λ (m : Meaning). m.ending) means ∙ errs) closed)))
             body_runs
 
+      -- the run of so many instructions, by the number of cells
+      abbrev run : ℕ → Outcome
+      run budget = runs.run_of target.sites target.code input cells budget
+
+      run_small : (budget : ℕ) → cells < 4 → run budget ≡ record { output = []; stop = stop.StoreFull }
+      run_small budget h = ap (λ b. if b then record { output = []; stop = stop.StoreFull } else made budget) (lt-ltb cells 4 h)
+
+      run_large : (budget : ℕ) → 4 ≤ cells → run budget ≡ made budget
+      run_large budget h = ap (λ b. if b then record { output = []; stop = stop.StoreFull } else made budget) (le-ltb cells 4 h)
+
+      writes_on : 4 ≤ cells → WritesOn target.sites target.code start
+      writes_on h first more =
+          subst (λ (o : Outcome). BeginsWith o.output (made first).output) (run_large (first + more) h)
+          (subst (λ (o : Outcome). BeginsWith (run (first + more)).output o.output) (run_large first h) (grown input cells first more))
+
       -- more turns than it can use up
       abbrev enough : ℕ → ℕ
       enough budget = suc (target.rate * budget) + slack
@@ -247,57 +263,48 @@ module _ (tree : Tree) (well : IsWellFormed tree) (short : is_too_large tree ≡
           absurd (omega (arith, le, whole, mul-add target.rate n (budget - n))))
           (cases_lt budget n)
 
-      explained_large : (budget : ℕ) → Arrives (enough budget) (meaning tree input (enough budget))
+      explained_large : (budget : ℕ) → WritesOn target.sites target.code start → Arrives (enough budget) (meaning tree input (enough budget))
           → IsExplained tree input cells (made budget) (made budget).stop
-      explained_large budget (inl d) =
+      explained_large budget on (inl d) =
           explained_done tree input cells (enough budget) (made budget) (made d.0)
-          (leads_to target.sites target.code budget d.0 start (end_over _ (stops_end tree (meaning tree input (enough budget)).ending (made d.0).stop d.1.1)))
+          (leads_to target.sites target.code budget d.0 start on
+          (end_over _ (stops_end tree (meaning tree input (enough budget)).ending (made d.0).stop d.1.1)))
           d.1 (made budget).stop refl
-      explained_large budget (inr (inl more)) =
+      explained_large budget on (inr (inl more)) =
           let x = more.2.by 0 in
           let less = more_steps budget x.0 x.1 in
           let at_end : x.0 + 0 ≡ x.0 = omega arith in
           let there = ap made (sym at_end) ∙ x.2 in
-          explained_more tree input cells (made budget) (made x.0) (leads_before target.sites target.code budget x.0 start (omega (arith, less)))
+          explained_more tree input cells (made budget) (made x.0) (leads_before target.sites target.code budget x.0 start on (omega (arith, less)))
           (ap (λ (o : Outcome). o.stop) there) (
             enough budget,
             subst (BeginsWith (meaning tree input (enough budget)).output) (sym (ap (λ (o : Outcome). o.output) there ∙ more.3))
                 (begins_itself (meaning tree input (enough budget)).output),
           ) (made budget).stop refl
-      explained_large budget (inr (inr f)) =
+      explained_large budget on (inr (inr f)) =
           explained_full tree input cells (made budget) (made f.0)
-          (leads_to target.sites target.code budget f.0 start (subst IsOver (sym f.1) tt)) f.1 (inr (f.2, f.3))
+          (leads_to target.sites target.code budget f.0 start on (subst IsOver (sym f.1) tt)) f.1 (inr (f.2, f.3))
           (f.2, subst (BeginsWith (meaning tree input f.2).output) (sym f.3.writes) (begins_itself (meaning tree input f.2).output)) (made budget).stop refl
 
-      explained : (budget : ℕ) → IsExplained tree input cells (made budget) (made budget).stop
-      explained budget =
+      explained : (budget : ℕ) → WritesOn target.sites target.code start → IsExplained tree input cells (made budget) (made budget).stop
+      explained budget on =
           ⊎_elim
           (λ (less : cells < needed_cells).
           let f = refuses less in
           let none_out = ap (λ (o : Outcome). o.output) f.so in
           let is_full = ap (λ (o : Outcome). o.stop) f.so in
           explained_full tree input cells (made budget) (made f.budget)
-          (leads_to target.sites target.code budget f.budget start (subst IsOver (sym is_full) tt)) is_full (inl (none_out, needed less))
+          (leads_to target.sites target.code budget f.budget start on (subst IsOver (sym is_full) tt)) is_full (inl (none_out, needed less))
           (0, ((meaning tree input 0).output, ap (λ o. o ++ (meaning tree input 0).output) (sym none_out))) (made budget).stop refl)
-          (λ large. explained_large budget (arrives large (enough budget)))
+          (λ large. explained_large budget on (arrives large (enough budget)))
           (cases_lt cells needed_cells)
-
-      -- the run of so many instructions, by the number of cells
-      abbrev run : ℕ → Outcome
-      run budget = runs.run_of target.sites target.code input cells budget
-
-      run_small : (budget : ℕ) → cells < 4 → run budget ≡ record { output = []; stop = stop.StoreFull }
-      run_small budget h = ap (λ b. if b then record { output = []; stop = stop.StoreFull } else made budget) (lt-ltb cells 4 h)
-
-      run_large : (budget : ℕ) → 4 ≤ cells → run budget ≡ made budget
-      run_large budget h = ap (λ b. if b then record { output = []; stop = stop.StoreFull } else made budget) (le-ltb cells 4 h)
 
       sound : (budget : ℕ) → IsExplained tree input cells (run budget) (run budget).stop
       sound budget =
           ⊎_elim
           (λ (less : cells < 4). subst (λ r. IsExplained tree input cells r r.stop) (sym (run_small budget less))
           (inl (refl, needed (omega (arith, less)))))
-          (λ (large : 4 ≤ cells). subst (λ r. IsExplained tree input cells r r.stop) (sym (run_large budget large)) (explained budget))
+          (λ (large : 4 ≤ cells). subst (λ r. IsExplained tree input cells r r.stop) (sym (run_large budget large)) (explained budget (writes_on large)))
           (cases_lt cells 4)
 
       abbrev Completes : ℕ → Type 0
@@ -400,13 +407,23 @@ module _ (tree : Tree) (well : IsWellFormed tree) (short : is_too_large tree ≡
       let long = ap length m.2 ∙ length-append m.0 (m.1 ∷ []) in
       (omega (arith, m.4, long), omega (arith, m.4, long, whole_short))
 
+-- with more instructions code writes on
+grown_by : Known → (code : Code) (sites : List Plain) (is : List Instr) → code.sites.items ≡ sites → code.instructions.items ≡ is
+    → (input : List ℕ) (cells budget more : ℕ)
+    → BeginsWith (runs.run_of sites is input cells (budget + more)).output (runs.run_of sites is input cells budget).output
+grown_by known code sites is same_sites same input cells budget more =
+    subst (λ i. BeginsWith (runs.run_of sites i input cells (budget + more)).output (runs.run_of sites i input cells budget).output) same
+    (subst (λ s. BeginsWith (runs.run_of s code.instructions.items input cells (budget + more)).output
+    (runs.run_of s code.instructions.items input cells budget).output) same_sites (known.output code input cells budget more))
+
 -- the code of a well formed tree follows its program
-pub follows : (code : Code) (tree : Tree) → code.instructions.items ≡ program_code tree → code.sites.items ≡ site_table tree.sites.items
+pub follows : Known → (code : Code) (tree : Tree) → code.instructions.items ≡ program_code tree → code.sites.items ≡ site_table tree.sites.items
     → is_too_large tree ≡ false → IsWellFormed tree → Follows code tree
-follows code tree is sites_are short well =
+follows known code tree is sites_are short well =
     let most = most_repeats tree.blocks.items in
     let sites = site_table tree.sites.items in
-    follows_there tree well short (as_it_is most sites (program_code tree)) refl (stands_itself most sites (program_code tree) []) refl
+    follows_there known tree well short (as_it_is most sites (program_code tree)) (grown_by known code sites (program_code tree) sites_are is) refl
+    (stands_itself most sites (program_code tree) []) refl
     (call_within tree well short) (few_repeats tree well short) (λ input turns site errs closed. cc) code is sites_are
 
 -- the code as a remover of checks leaves it
@@ -479,12 +496,13 @@ is_false : (b : Bool) → b ≡ true → b ≡ false → ⊥
 is_false b is isnt = cc
 
 -- the code without the checks of sites at which the program never errs follows it too
-pub stripped_follows : StrippedFollows
-stripped_follows tree open_sites code well short sites_are keeps never =
+pub stripped_follows : Known → StrippedFollows
+stripped_follows known tree open_sites code well short sites_are keeps never =
     let whole = program_code tree in
     let sites = site_table tree.sites.items in
     let most = most_repeats tree.blocks.items in
-    follows_there tree well short (without most sites open_sites whole code.instructions.items) refl
+    follows_there known tree well short (without most sites open_sites whole code.instructions.items)
+    (grown_by known code sites code.instructions.items sites_are refl) refl
     (stands_without most sites open_sites whole code.instructions.items keeps whole [] refl) refl
     (λ place n routine at.
     let m = more_behind whole place n routine (closing tree well.a_block) at in

@@ -8,7 +8,6 @@ use Rattle.pcode_assembler.specs.declared.instr.Instr.TheVariants as instr
 use Rattle.types.specs.Components.{components_of}
 use Rattle.types.specs.Forms.{Form}
 use Rattle.types.specs.Types.{cells_of}
-use Rattle.types.proofs.Laid.{length_components}
 use Rattle.typed_tree.specs.declared.tree.Block.{Block}
 use Rattle.typed_tree.specs.declared.tree.Tree.{Tree}
 use Rattle.typed_tree.specs.declared.tree.Variable.{Variable}
@@ -25,6 +24,7 @@ use Rattle.code_scheme.specs.Code.{program_code, routines_of}
 use Rattle.code_scheme.specs.Depth.{block_depth}
 use Rattle.code_scheme.specs.Scopes.{Scope, block_level, block_scope, cells_where, home_of, is_parameter_of, level_of, links_to, offset}
 use Rattle.code_scheme.specs.Scopes.{other_cells, parameter_cells, slot_cells, start_of, variable_home}
+use Rattle.code_generator.specs.Known.{Known}
 use Rattle.code_generator.specs.Large.{is_too_large}
 use Rattle.code_generator.specs.Tables.{site_table}
 use Rattle.code_generator.proofs.Alike.{Activation, World, Fixed, Lies, LiesIn, IsApart, Leads}
@@ -79,7 +79,7 @@ module _ (tree : Tree) (well : IsWellFormed tree) (block : Block) (block_is : sl
   pub none_here : parameter_cells tree 0 ≡ 0
   none_here = no_cells tree.types (is_parameter_of 0) 0 tree.variables.items no_roots
 
-module _ (tree : Tree) (well : IsWellFormed tree) (short : is_too_large tree ≡ false) (target : Target)
+module _ (known : Known) (tree : Tree) (well : IsWellFormed tree) (short : is_too_large tree ≡ false) (target : Target)
     (sites_are : target.sites ≡ site_table tree.sites.items) (stands : Stands target 0 (program_code tree))
     (comes_back : (place n routine : ℕ) → slice_get target.whole place ≡ Some (instr.CallProcedure n routine)
     → (target.to place + 1 < length target.code) × (target.to place + 1 ≤ 1000000))
@@ -130,7 +130,7 @@ module _ (tree : Tree) (well : IsWellFormed tree) (short : is_too_large tree ≡
 
   inside : (p : Place) (c : ℕ) → LiesIn world p c → (4 ≤ c) × (c - 4 < others)
   inside p c l =
-      let at = lies_inside tree activation 0 p c refl (lies p c l) in
+      let at = lies_inside tree known activation 0 p c refl (lies p c l) in
       (omega (arith, at.0), omega (arith, at.0, at.1, none_here tree well block block_is))
 
   behind : {A : Type 0} (front : List A) (x : A) (p : Place) (c : ℕ) → length front ≡ 4 → LiesIn world p c
@@ -141,7 +141,7 @@ module _ (tree : Tree) (well : IsWellFormed tree) (short : is_too_large tree ≡
 
   pub apart : IsApart world fixed
   apart = record {
-    scalars = λ p q c d l m. own_scalars tree activation 0 refl p q c d (lies p c l) (lies q d m);
+    scalars = λ p q c d l m. own_scalars tree known activation 0 refl p q c d (lies p c l) (lies q d m);
     free = λ p c l. behind (map (λ cell. Some cell) first_links) None p c refl l;
   }
 
@@ -165,7 +165,7 @@ module _ (tree : Tree) (well : IsWellFormed tree) (short : is_too_large tree ≡
       let near' = start_near tree well short v.block b.0 b.1 root v at refl in
       let refers : is_variable_kind v.kind ≡ false = sym (ap (λ (h : Home). h.refers) (its_home root v at)) ∙ plain in
       let start : (variable_home scope root).start ≡ offset (start_of tree root v) = ap (λ (h : Home). h.start) (its_home root v at) in
-      omega (arith, near'.0, near'.1, start, slot_of tree v refers, length_components tree.types v.type_id)
+      omega (arith, near'.0, near'.1, start, slot_of tree known v refers, known.cells tree.types v.type_id)
 
   no_level : block_level tree 0 ≡ 0
   no_level = ap level_of block_is ∙ ap length (nothing_round_program tree well block block_is)
@@ -197,8 +197,8 @@ module _ (tree : Tree) (well : IsWellFormed tree) (short : is_too_large tree ≡
 
     own_part : IsPart tree.types world below (own_place 0 root) v.type_id (0 + (variable_home scope root).start)
     own_part =
-        let slot = slot_of tree v (plain_of root v at own) in
-        let many = length_components tree.types v.type_id in
+        let slot = slot_of tree known v (plain_of root v at own) in
+        let many = known.cells tree.types v.type_id in
         let is = none_of root v at own in
         let ends = other_ends tree root v at is in
         let front = ap (parameter_cells tree) own in
@@ -261,6 +261,7 @@ module _ (tree : Tree) (well : IsWellFormed tree) (short : is_too_large tree ≡
   abbrev pub setting : Setting
   setting =
       record {
+        known = known;
         tree = tree;
         well = well;
         short = short;

@@ -262,7 +262,7 @@ module _ (g : Setting) (number : ℕ) (block : Block) (block_is : slice_get g.tr
 
     lies : LiesIn its.world (own_place s.activations result.root) (its.frame + (variable_home its.scope result.root).start)
     lies =
-        ordinal_part g.tree.types its.world its.below (own_place s.activations result.root) variable.type_id
+        ordinal_part g.tree.types its.world its.below g.known (own_place s.activations result.root) variable.type_id
         (its.frame + (variable_home its.scope result.root).start) ordinal
         (own_part g number block block_is callable outer way held cells arguments s.activations return depth based.old room laid fits result.root variable
         declared own

@@ -18,9 +18,8 @@ use Rattle.meaning.specs.Store as meant
 use Rattle.meaning.specs.Store.{Environment, Place, stored}
 use Rattle.meaning.specs.Effect as effect
 use Rattle.meaning.specs.Effect.{Reply, Gives, Action, ◌>>=◌}
-use Rattle.meaning.specs.Laws.{UsesTurnsExactly}
+use Rattle.meaning.specs.Laws.{AllGoRoundByRound, AllUseTurnsExactly, UsesTurnsExactly}
 use Rattle.meaning.specs.Meaning.{Surroundings, calls_of}
-use Rattle.meaning.proofs.Used.{ExactCalls, exact_calls}
 use Rattle.stack_machine.specs.declared.stop.Stop.{Stop}
 use Rattle.stack_machine.specs.declared.stop.Stop.TheVariants as stop
 use Rattle.stack_machine.specs.declared.cell.Cell.{Cell}
@@ -34,6 +33,7 @@ use Rattle.code_scheme.specs.Depth.{block_depth}
 use Rattle.code_scheme.specs.Need.{living_need}
 use Rattle.code_scheme.specs.Scopes.{Scope, block_level, home_of, links_to, other_cells, parameter_cells, variable_home}
 use Rattle.code_generator.specs.Follows.{StopsAs}
+use Rattle.code_generator.specs.Known.{Known}
 use Rattle.code_generator.specs.Large.{is_too_large}
 use Rattle.code_generator.specs.Tables.{site_table, in_plain_numbers}
 use Rattle.code_generator.proofs.Reach.{Target, Stands, StandsAt, Comes, obeys, Stops, comes_on, comes_less, stays_here, comes_by, stops_on, stops_by}
@@ -66,6 +66,7 @@ pub record Shown (tree : Tree) (world : World) (fixed : Fixed) (end frame : ℕ)
 
 -- an activation of a block that runs on the machine
 pub record Setting : Type 0 where
+  pub known : Known
   pub tree : Tree
   pub well : IsWellFormed tree
   pub short : is_too_large tree ≡ false
@@ -140,8 +141,12 @@ module _ (g : Setting) where
   abbrev pub around : Surroundings
   around = record { visible = g.environment; calls = calls_of g.tree g.depth }
 
-  pub exact_around : ExactCalls (calls_of g.tree g.depth)
-  exact_around = exact_calls g.tree g.depth
+  -- what is known of the pieces and of the loops that stand there
+  pub exact_around : AllUseTurnsExactly around
+  exact_around = g.known.pieces g.tree g.depth g.environment
+
+  pub goes_around : AllGoRoundByRound around
+  goes_around = g.known.rounds g.tree g.depth g.environment
 
   -- the machine in the running frame, at an instruction of its code
   abbrev pub running_at : List Cell → ℕ → List ℕ → State

@@ -9,7 +9,6 @@ use Rattle.std.proofs.lemmas.List.{length-map}
 use Rattle.std.proofs.lemmas.Option.{none-some, same_Some}
 use Rattle.types.specs.Components.{components_of}
 use Rattle.types.specs.Forms.{Form}
-use Rattle.types.proofs.Laid.{length_components}
 use Rattle.typed_tree.specs.declared.tree.Block.{Block}
 use Rattle.typed_tree.specs.declared.tree.Variable.{Variable}
 use Rattle.typed_tree.specs.declared.tree.VariableKind.{VariableKind}
@@ -321,7 +320,7 @@ module _ (g : Setting) (number : ℕ) (block : Block) (block_is : slice_get g.tr
         → OneAssigned argument pre first post t
     one_assigned (OfValue (value.Number n)) pre first post t f long based' =
         let part = part_at f.0 (length pre) long in
-        let lies = ordinal_part types h.world h.below own_home v.type_id (length pre) f.1 part in
+        let lies = ordinal_part types h.world h.below g.known own_home v.type_id (length pre) f.1 part in
         let blank : map (blank_mark v) first ≡ Undefined ∷ [] =
         ap (map (blank_mark v)) f.3 ∙ ap (λ b. (if b then Number n else Undefined) ∷ []) (no_reference v.kind f.0) in
         let before = subst (λ l. Based h t (pre ++ (l ++ post))) blank based' in
@@ -334,7 +333,7 @@ module _ (g : Setting) (number : ℕ) (block : Block) (block_is : slice_get g.tr
     one_assigned (OfRow ns) pre first post t f long based' =
         let part = part_at f.0 (length pre) long in
         let components = components_of types v.type_id in
-        let many = length_components types v.type_id in
+        let many = g.known.cells types v.type_id in
         let blank_long : length (map (blank_mark v) first) ≡ length (number_cells ns) = length-map first (blank_mark v) ∙ ap length f.3 in
         let after = row_kept h own_home components (length pre) ns t (pre ++ (map (blank_mark v) first ++ post)) part.from.each (omega (arith, many, f.1)) f.2
         based' in (

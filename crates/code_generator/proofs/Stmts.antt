@@ -34,9 +34,7 @@ use Rattle.meaning.specs.declared.store.Value.TheVariants as value
 use Rattle.meaning.specs.Store.{kept, forgotten}
 use Rattle.meaning.specs.Counting.{has_values, next_value, value_behind}
 use Rattle.meaning.specs.Effect as effect
-use Rattle.meaning.specs.Laws.{UsesTurnsExactly}
-use Rattle.meaning.proofs.Loops.{UsesTurns, for_uses, repeat_uses, while_uses}
-use Rattle.meaning.proofs.Used.{exact_effect, exact_statements, exact_value}
+use Rattle.meaning.specs.Laws.{GoesRoundByRound, UsesTurnsExactly}
 use Rattle.meaning.specs.Effect.{Action, Round, ◌>>=◌, number_of, require, give}
 use Rattle.meaning.specs.Meaning.{Execution, is_so, turn_if, while_round, repeat_round, for_round, for_rounds, for_between, is_among, arm_of, whole_of}
 use Rattle.meaning.specs.Meaning.{alternative_of, value_of, width_of, effect_of, effect_step, parameter_of, all_of, line_ended}
@@ -59,6 +57,7 @@ use Rattle.typed_tree.specs.WellFormed.{all_hold, is_well_formed_expr, is_well_f
 use Rattle.typed_tree.specs.WellFormed.{stmt_is_well_formed, is_control, is_well_formed_call, is_well_formed_passed, is_well_formed_whole, length_of}
 use Rattle.typed_tree.specs.WellFormed.{whole_indexes}
 use Rattle.code_generator.proofs.Reach.{Stands, StandsAt, obeys, stands_front, stands_back, Comes, comes_less, comes_on, stays_here}
+use Rattle.code_generator.proofs.Setting.{goes_around}
 use Rattle.code_generator.proofs.Setting.{Setting, outline, around, exact_around, on, Based, later, linked, limit_far, Here, goes_on, jumps, branches_on}
 use Rattle.code_generator.proofs.Setting.{behind_executes, fails, Executes, done, executes_from, then_executes, after_value}
 use Rattle.code_generator.proofs.Loops.{Rounds, RoundsBehind, RoundRuns, rounds_later, then_rounds, value_rounds, turned, loops, reset, to_reset}
@@ -66,8 +65,7 @@ use Rattle.code_generator.proofs.Loops.{rounds_from_reset, executes_from_reset}
 use Rattle.code_generator.proofs.Accesses.{Indexes, expressions, wells, codes as index_codes}
 use Rattle.code_generator.proofs.Assigns.{told, told_back, assign_runs, copy_runs}
 use Rattle.code_generator.proofs.Evaluating.{sites, ExecutesAs, fetched_at, frames_of, one_held}
-use Rattle.code_generator.proofs.Exact.{exact_call, exact_for_round, exact_for_rounds, exact_parameter, exact_parameters, exact_repeat_round, exact_while_round}
-use Rattle.code_generator.proofs.Exact.{exact_whole, exact_width, whole_effect, whole_effects, whole_value}
+use Rattle.code_generator.proofs.Exact.{exact_for_round, exact_parameters, exact_repeat_round, exact_statements, exact_while_round}
 use Rattle.code_generator.proofs.Passing.{CallsAt, CallsRun, returns_executes}
 use Rattle.code_generator.proofs.Repeats.{repeats, repeats_step}
 use Rattle.code_generator.proofs.Wholes.{AllFit, few_components, fitting_bytes, row_executes, whole_runs}
@@ -181,7 +179,7 @@ module _ (g : Setting) (known : CallsAt g) where
       (omega (arith, length-cells_of row)) in
       subst (λ cells. Executes g (on g cells place s.output) held end (width_of width default (around g) >>= next) s)
       (sym (append_assoc base held (cells_of row)))
-      (after_value g _ more held (place + length wide) end (width_of width default (around g)) next s (exact_width (around g) (exact_around g) width default)
+      (after_value g _ more held (place + length wide) end (width_of width default (around g)) next s ((exact_around g).widths width default)
       runs
       (λ base2 w u based2 fit2.
       subst (λ cells. Executes g (on g (cells ++ Number w ∷ []) (place + length wide) u.output) held end (next (value.Number w)) u)
@@ -221,7 +219,7 @@ module _ (g : Setting) (known : CallsAt g) where
       let meant = whole_of v (map value_of (expressions g indexes)) (around g) in
       subst (λ q. Executes g (on g (base ++ held) place s.output) held q (meant >>= next) s) e
       (row_executes g _ held held (place + length c) (place + length c + length wide + 1) n meant next s
-      (exact_whole (around g) (exact_around g) v (expressions g indexes))
+      ((exact_around g).wholes v (expressions g indexes))
       (whole_runs g v indexes place base held s (stands_front g.target place c (wide ++ writing) stands) inside.0 inside.1 based (omega arith))
       (λ base2 row t based2 long fit.
       width_writes width (String v vec) (pos n) row (effect.row_text row) (place + length c) base2 held t (ap (λ m. instr.LoadConstant (pos m)) (sym same))
@@ -241,7 +239,7 @@ module _ (g : Setting) (known : CallsAt g) where
       let next : Value → Action (Unit {0}) = λ x. width_of width default (around g) >>= λ w. effect.write (effect.text_of r x w) in
       subst (λ q. Executes g (on g (base ++ held) place s.output) held q (value_of v (around g) >>= next) s) e
       (after_value g _ held held (place + length c) (place + length c + length wide + 1) (value_of v (around g)) next s
-      (exact_value (around g) (exact_around g) v)
+      ((exact_around g).values v)
       (expr_runs g known v place base held s (stands_front g.target place c (wide ++ writing) stands) parts.0 based (omega arith))
       (λ base2 n t based2 fit.
       width_writes width (Ordinal v r) default (n ∷ []) (effect.text_of r (value.Number n)) (place + length c) base2 held t (same_default r) (default_fits r)
@@ -307,7 +305,7 @@ module _ (g : Setting) (known : CallsAt g) where
       let same : c' ≡ c = placed_flat parameter_code g.scope ps place in
       let e : place + length c + length ending ≡ place + length (c ++ ending) = omega (arith, length-append c ending) in
       let values = all_run code_of parameter_depth (is_well_formed_parameter (outline g) g.number) parameter_of
-      (exact_parameter (around g) (exact_around g)) ps (each_parameter ps) 0 place base held s1
+      ((exact_around g).written) ps (each_parameter ps) 0 place base held s1
       (subst (Stands g.target place) (sym same) (stands_front g.target place c ending stands)) good based high deep in
       subst (λ p. Executes g (on g (base ++ held) place s.output) held p (all_of (map parameter_of ps) (around g) >>= (λ _. line_ended ends_line)) s1) e
       (then_executes g _ held held (place + length c) (place + length c + length ending) (all_of (map parameter_of ps) (around g)) (λ _. line_ended ends_line)
@@ -330,7 +328,7 @@ module _ (g : Setting) (known : CallsAt g) where
       let test = expr_code g.scope condition in
       let here = stands_back g.target place test (instr.JumpIfFalse target ∷ []) stands in
       after_value g _ held held (place + length test) end (value_of condition (around g)) (λ v. next (is_so v)) s
-      (exact_value (around g) (exact_around g) condition)
+      ((exact_around g).values condition)
       (expr_runs g known condition place base held s (stands_front g.target place test (instr.JumpIfFalse target ∷ []) stands) good based room)
       (λ base2 n t based2 fit.
       executes_from g 1 _ _ held end (next (frames.is_true n)) t
@@ -345,7 +343,7 @@ module _ (g : Setting) (known : CallsAt g) where
   calling_runs call actuals place base held s stands good based high deep =
       returns_executes g _ held (place + length (call_code g.scope call (map (passed_code g.scope) actuals)))
       (call_of call (map passing_of actuals) (around g)) s
-      (exact_call (around g) (exact_around g) call actuals) (call_runs g known false call actuals place base held s stands good based deep)
+      ((exact_around g).calls call actuals) (call_runs g known false call actuals place base held s stands good based deep)
 
 -- what is shown of a statement, in each setting
 abbrev pub StmtRuns : Stmt → Type 0
@@ -369,7 +367,7 @@ compound_runs : (g : Setting) (known : CallsRun g.depth) (number : ℕ) (ss : Li
     (λ e. effect.enter number e.visible >>= λ _. all_of (map effect_of (map (λ x. x.0) ss)) e)
 compound_runs g known number ss few place base held s stands good based high deep =
     let s1 : effect.State = record s { visited = s.visited ++ record { number = number; environment = g.environment; store = s.store } ∷ [] } in
-    all_run g (known g refl) stmt_code stmt_depth (is_well_formed_stmt (outline g) g.number) effect_of (exact_effect (around g) (exact_around g))
+    all_run g (known g refl) stmt_code stmt_depth (is_well_formed_stmt (outline g) g.number) effect_of ((exact_around g).statements)
     (map (λ x. x.0) ss)
     (each_statement g known ss 0 few) 0 place base held s1 stands good based high deep
 
@@ -482,7 +480,7 @@ while_runs g known number condition body few place base held s stands good based
           (effect_of body.0 (around g) >>= λ _. give (Some tt)) (record t { turns = left }) (omega (arith, is))
           (comes_less g.target (t.turns - left) 1 m _ (omega (arith, is)) came)
           (then_rounds g (λ _. Unit {0}) hold place end held 0 bound _ held (inside + length code) (effect_of body.0 (around g)) (λ _. give (Some tt))
-          (record t { turns = left }) (exact_effect (around g) (exact_around g) body.0)
+          (record t { turns = left }) ((exact_around g).statements body.0)
           (body.1 g known few inside base2 held (record t { turns = left }) (stands_front g.target inside code back within) parts.1
           (later g left t base2 (omega (arith, is)) based2) high (omega arith))
           (λ base3 u based3 fewer. inr (
@@ -499,15 +497,14 @@ while_runs g known number condition body few place base held s stands good based
     let runs : RoundRuns g (λ _. Unit {0}) hold place end held round =
     λ start base2 t fits based2.
     value_rounds g (λ _. Unit {0}) hold place end held 0 t.turns _ held (place + length test) (value_of condition (around g))
-    (λ v. turn_if (is_so v) (effect_of body.0 (around g))) t (exact_value (around g) (exact_around g) condition)
+    (λ v. turn_if (is_so v) (effect_of body.0 (around g))) t ((exact_around g).values condition)
     (expr_runs g (known g refl) condition place base2 held t front parts.0 based2 (omega arith))
     (λ base3 n u based3 fit fewer.
     turns_on t.turns (frames.is_true n) base3 u based3 fewer _ refl
     (branches_on g end (base3 ++ held) n (place + length test) u.output here.0 (linked g u base3 held based3))) in
-    let uses = while_uses (value_of condition) (effect_of body.0) (around g) (whole_value (around g) (exact_around g) condition).0
-    (whole_effect (around g) (exact_around g) body.0).0 in
+    let goes = (goes_around g).whiles condition body.0 in
     subst (λ p. Executes g (on g (base ++ held) place s.output) held p (effect.looped round tt) s1) e
-    (loops g (λ _. Unit {0}) hold place end held round uses (λ start. exact_while_round (around g) (exact_around g) condition body.0) runs tt base s1 tt based)
+    (loops g (λ _. Unit {0}) hold place end held round goes (λ start. exact_while_round (around g) (exact_around g) condition body.0) runs tt base s1 tt based)
 
 -- a repeat statement
 repeat_runs : (g : Setting) (known : CallsRun g.depth) (number : ℕ) (condition : Expr) (ss : List ((s : Stmt) × StmtRuns s))
@@ -550,12 +547,12 @@ repeat_runs g known number condition ss few place base held s stands good based 
     λ left base2 t is based2.
     then_rounds h (λ _. Unit {0}) hold place end held 1 (suc left) _ held last (statements (around g)) (λ _. value_of condition (around g) >>= until) t
     (exact_statements (around g) (exact_around g) (map (λ x. x.0) ss))
-    (all_run h known_there stmt_code stmt_depth (is_well_formed_stmt (outline g) g.number) effect_of (exact_effect (around g) (exact_around g))
+    (all_run h known_there stmt_code stmt_depth (is_well_formed_stmt (outline g) g.number) effect_of ((exact_around g).statements)
     (map (λ x. x.0) ss)
     (each_statement h known ss 0 (omega arith)) 0 place base2 held t (stands_front g.target place code (test ++ back) stands) parts.0 based2 high (omega arith))
     (λ base3 u based3 fewer.
     value_rounds h (λ _. Unit {0}) hold place end held 1 (suc left) _ held (last + length test) (value_of condition (around g)) until u
-    (exact_value (around g) (exact_around g) condition)
+    ((exact_around g).values condition)
     (expr_runs h known_there condition last base3 held u (stands_front g.target last test back behind) parts.1 based3 (omega arith))
     (λ base4 n w based4 fit fewest. decides (suc left) n base4 w based4 (omega (arith, is, fewer, fewest)))) in
     let runs : RoundRuns g (λ _. Unit {0}) hold place end held round =
@@ -566,10 +563,9 @@ repeat_runs g known number condition ss few place base held s stands good based 
     (rounds_from_reset g (g.slack - 1) g.scope.height (λ _. Unit {0}) hold place end held left _ rest (record t { turns = left }) (omega arith) refl
     (inside left base2 (record t { turns = left }) refl
     (to_reset g (g.slack - 1) g.scope.height (record t { turns = left }) base2 (later g left t base2 (omega (arith, is)) based2))))) in
-    let uses = repeat_uses statements (value_of condition) (around g) (whole_effects (around g) (exact_around g) (map (λ x. x.0) ss)).0
-    (whole_value (around g) (exact_around g) condition).0 in
+    let goes = (goes_around g).repeats (map (λ x. x.0) ss) condition in
     subst (λ p. Executes g (on g (base ++ held) place s.output) held p (effect.looped round tt) s1) e
-    (loops g (λ _. Unit {0}) hold place end held round uses (λ start. exact_repeat_round (around g) (exact_around g) (map (λ x. x.0) ss) condition) runs tt
+    (loops g (λ _. Unit {0}) hold place end held round goes (λ start. exact_repeat_round (around g) (exact_around g) (map (λ x. x.0) ss) condition) runs tt
     base s1 tt based)
 
 -- ---- a for statement
@@ -676,7 +672,7 @@ module _ (g : Setting) (known : CallsRun g.depth) (control : ℕ) (scalar : IsSc
       (body_action >>= λ _. give (value_behind way l n)) (record s1 { turns = left }) (omega (arith, is))
       (comes_less g.target (s.turns - left) 2 _ _ (omega (arith, is)) came)
       (then_rounds g fit hold head out (hold l) 0 s.turns _ (hold n) behind body_action (λ _. give (value_behind way l n)) (record s1 { turns = left })
-      (exact_effect (around g) (exact_around g) body.0)
+      ((exact_around g).statements body.0)
       (executes_from_reset g g.slack (count (g.scope.height + 2)) _ (hold n) behind body_action (record s1 { turns = left }) refl
       (body.1 inner known few (head + 2) base1 (hold n) (record s1 { turns = left }) inside good
       (to_reset g g.slack (count (g.scope.height + 2)) (record s1 { turns = left }) base1 (later g left s1 base1 (omega (arith, is)) based1))
@@ -686,8 +682,8 @@ module _ (g : Setting) (known : CallsRun g.depth) (control : ℕ) (scalar : IsSc
       (decides g u base2 held n l u.output based2 high enough instr.NotEqual (frames.of_two dyadic.NotEqual) (not (int_eq n l)) behind out
       next.0 next.1.0 next.1.1.0 next.1.1.1.0 (λ s. refl) refl))))
 
-  uses : UsesTurns round
-  uses = for_uses control way l (effect_of body.0) (around g) (whole_effect (around g) (exact_around g) body.0).0
+  goes : GoesRoundByRound round
+  goes = (goes_around g).fors control way l body.0
 
   exact_rounds : (n : ℤ) → UsesTurnsExactly (round n)
   exact_rounds n = exact_for_round (around g) (exact_around g) control way l body.0 n
@@ -728,7 +724,7 @@ module _ (g : Setting) (known : CallsRun g.depth) (control : ℕ) (scalar : IsSc
           ∙ sym (append_assoc base one (Number l ∷ [])) in
           let in_frame' = linked g s base one based in
           let loop = subst (λ m. Executes g (on g here m s.output) (hold l) out (effect.looped round n) s) (sym q)
-          (loops g fit hold head out (hold l) round uses exact_rounds (for_round_runs beginning inside next) n base s (fits, has) based) in
+          (loops g fit hold head out (hold l) round goes exact_rounds (for_round_runs beginning inside next) n base s (fits, has) based) in
           let last' = tests g last_fits (base ++ one) (hold l) l (place + 1 + 1 + 1 + 1 + 1 + 1 + 1) out s (effect.looped round n) fit_last rest.1.1.1.0
           site_last
           in_frame' (subst (λ cs. Executes g (on g cs (place + 1 + 1 + 1 + 1 + 1 + 1 + 1 + 1) s.output) (hold l) out (effect.looped round n) s) split
@@ -753,7 +749,7 @@ module _ (g : Setting) (known : CallsRun g.depth) (control : ℕ) (scalar : IsSc
           (g.environment.variables control))) s came
           (then_executes g _ (hold l) held out (out + 4) (for_rounds control first_fits way last_fits (effect_of body.0) (around g) n l)
           (λ _. effect.undefine (g.environment.variables control)) s
-          (exact_for_rounds (around g) (exact_around g) control first_fits way last_fits body.0 n l) (tested n base s fits has based)
+          ((exact_around g).counted control first_fits way last_fits body.0 n l) (tested n base s fits has based)
           (λ base2 t based2. leaves_it l base2 t fit_last based2))
       from_bounds n base s false has fits based came =
           executes_from g 4 _ _ held (out + 4) (effect.undefine (g.environment.variables control)) s came (leaves_it n base s fits based)
@@ -818,14 +814,14 @@ for_runs g known number control first first_fits way last last_fits body few pla
     effect.undefine (g.environment.variables control) in
     subst (λ q. Executes g (on g (base ++ held) place s.output) held q (value_of first (around g) >>= (λ v. value_of last (around g) >>= λ w. rest v w)) s1) e
     (after_value g _ held held (place + length a) (out' + 4) (value_of first (around g)) (λ v. value_of last (around g) >>= λ w. rest v w) s1
-    (exact_value (around g) (exact_around g) first)
+    ((exact_around g).values first)
     (expr_runs g (known g refl) first place base held s1 at_a p2.0 based (omega arith))
     (λ base2 n t based2 fit.
     let more : length (held ++ Number n ∷ []) ≡ length held + 1 = length_one held (Number n) in
     subst (λ cells. Executes g (on g cells (place + length a) t.output) held (out' + 4) (value_of last (around g) >>= (rest (value.Number n))) t)
     (one_held g base2 held n)
     (after_value g _ (held ++ Number n ∷ []) held test (out' + 4) (value_of last (around g)) (rest (value.Number n)) t
-    (exact_value (around g) (exact_around g) last)
+    ((exact_around g).values last)
     (expr_runs g (known g refl) last (place + length a) base2 (held ++ Number n ∷ []) t at_b p4.0 based2 (omega (arith, more)))
     (λ base3 l u based3 fit'.
     let two : (base3 ++ (held ++ Number n ∷ [])) ++ Number l ∷ [] ≡ base3 ++ (held ++ Number n ∷ Number l ∷ []) =
@@ -961,7 +957,7 @@ case_runs g known number site index rows arms well few place base held s stands 
     let within = ltb-true site (sites g) p1.0 in
     let next : Value → Action (Unit {0}) = λ v. arm_of site rows (map effect_of (map (λ x. x.0) arms)) (number_of v) (around g) in
     subst (λ q. Executes g (on g (base ++ held) place s.output) held q (value_of index (around g) >>= next) s1) e
-    (after_value g _ held held first (out + 1) (value_of index (around g)) next s1 (exact_value (around g) (exact_around g) index)
+    (after_value g _ held held first (out + 1) (value_of index (around g)) next s1 ((exact_around g).values index)
     (expr_runs g (known g refl) index place base held s1 at_test p2.0 based (omega arith))
     (λ base2 n t based2 fit.
     let here = held ++ Number n ∷ [] in

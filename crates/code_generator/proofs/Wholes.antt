@@ -18,7 +18,6 @@ use Rattle.types.specs.declared.form.TypeId.{TypeId}
 use Rattle.types.specs.Components.{Steps, components_of}
 use Rattle.types.specs.Forms.{Form}
 use Rattle.types.specs.Types.{cells_of, is_ordinal, is_same}
-use Rattle.types.proofs.Laid.{length_components}
 use Rattle.meaning.specs.declared.outcome.Ending.TheVariants as ending
 use Rattle.meaning.specs.declared.store.Value.{Value}
 use Rattle.meaning.specs.declared.store.Value.TheVariants as value
@@ -395,7 +394,7 @@ module _ (g : Setting) where
       let above = alike_above g.world s.store base held based.alike in
       let fits : (k : ℕ) (steps : Steps) → slice_get components k ≡ Some steps → HasFit (stored s.store (inner p steps)) =
       λ k steps at. above.fits (inner p steps) (d + k) (part.from.each k steps at) in
-      let all : length components ≡ count = length_components g.tree.types type_id ∙ many in
+      let all : length components ≡ count = g.known.cells g.tree.types type_id ∙ many in
       let row : take count (drop d cells) ≡ map (cell_at s.store p) components =
       ap (λ n. take n (drop d cells)) (sym all) ∙ row_at (cell_at s.store p) components cells d
       (λ k steps at. above.scalars (inner p steps) (d + k) (part.from.each k steps at)) in

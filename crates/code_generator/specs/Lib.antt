@@ -2,3 +2,4 @@ pub mod Follows
 pub mod Large
 pub mod Laws
 pub mod Tables
+pub mod Known

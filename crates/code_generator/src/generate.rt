@@ -8,6 +8,7 @@ ghost use Rattle.code_generator.specs.Tables.{point_table, site_table};
 ghost use Rattle.typed_tree.specs.WellFormed.{IsWellFormed};
 
 use crate::fault::GenFault;
+use crate::known::known;
 use crate::large::has_large_frame;
 use crate::tables::{points_of, sites_of};
 use code_emitter::program::instructions_of;
@@ -26,6 +27,7 @@ pub fn generate(alloc: Global, tree: &Tree) -> Result<Code, GenFault>
     ensures points { IfOk result (λ code. code.points.items ≡ point_table tree.now.points.items) }
     ensures follows { IfOk result (λ code. IsWellFormed tree.now → Follows code tree.now) }
 {
+    known();
     if has_large_frame(tree) {
         return Err(GenFault::TooLarge);
     }

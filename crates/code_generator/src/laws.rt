@@ -1,10 +1,15 @@
-//! What holds of the code of every program. Each law is the contract of a function that does nothing.
+//! What holds of the code of every program. Each law is the contract of a function that does nothing, or calls those
+//! on which it rests.
 ghost use Rattle.code_generator.specs.Laws.{ErrorsCome, FramesFit, StrippedFollows};
+
+use crate::known::known;
 
 /// The checks of sites at which a program never errs can be left out of its code: it follows the program then too.
 pub fn stripped_follows()
     ensures { StrippedFollows }
-{}
+{
+    known();
+}
 
 /// The first frame of code that follows a program, which calls no routine without a turn, takes no more cells than the
 /// program's block may need.

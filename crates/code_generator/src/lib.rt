@@ -3,6 +3,7 @@
 
 pub mod fault;
 pub mod generate;
+mod known;
 mod large;
 pub mod laws;
 mod tables;

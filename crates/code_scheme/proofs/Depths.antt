@@ -37,34 +37,12 @@ use Rattle.typed_tree.specs.declared.tree.Stmt.TheFolds.{map-Stmt, fold-roll-Stm
 use Rattle.typed_tree.specs.WellFormed.{is_parameter_kind, is_variable_kind, length_of, variables_of}
 use Rattle.code_scheme.specs.Scopes.{cells_where, is_other_of, is_parameter_of, other_cells, parameter_cells, slot_cells}
 use Rattle.code_scheme.specs.Depth.{PassedDepth, actuals_depth, block_depth, passed_depth, passed_depth_step, result_depth}
-use Rattle.code_scheme.specs.Need.{access_need, block_need, body_need, passed_need, passed_need_step, variable_need}
+use Rattle.code_scheme.specs.Need.{block_need, body_need, passed_need, passed_need_step, reached_need, variable_need}
 use Rattle.code_scheme.specs.Depth.{expr_depth, link_depth, expr_depth_step, link_depth_step, width_depth, parameter_depth, monadic_depth, access_depth}
 use Rattle.code_scheme.specs.Depth.{whole_depth, store_depth, index_depths, written_depth, written_cells, stmt_depth, stmt_depth_step, arms_depth}
 use Rattle.code_scheme.specs.Need.{expr_need, expr_need_step, link_need_step, whole_need, index_needs, width_need, written_need, parameter_need}
 use Rattle.code_scheme.specs.Need.{stmt_need, stmt_need_step}
 use Rattle.code_scheme.proofs.Pieces.{start_within}
-
--- the need of an operator and its right operand
-abbrev link_need : Link → ℕ
-link_need = fold-Link ℕ ℕ ℕ expr_need_step passed_need_step link_need_step
-
-abbrev ExprWithin : Expr → Type 0
-ExprWithin e = expr_depth e ≤ expr_need e
-
-abbrev LinkWithin : Link → Type 0
-LinkWithin l = link_depth l ≤ link_need l
-
-abbrev PassedWithin : Passed → Type 0
-PassedWithin p = ((passed_depth p).depth ≤ passed_need p) × ((passed_depth p).cells ≤ passed_need p)
-
-abbrev HereWithin : Type 0
-HereWithin = (e : Expr) × ExprWithin e
-
-abbrev PassedHereWithin : Type 0
-PassedHereWithin = (p : Passed) × PassedWithin p
-
-abbrev LinkHereWithin : Type 0
-LinkHereWithin = (l : Link) × LinkWithin l
 
 sum-cons : (n : ℕ) (ns : List ℕ) → sum (n ∷ ns) ≡ n + sum ns
 sum-cons n ns = sum_by-cons (λ x. x) n ns
@@ -87,27 +65,6 @@ indexes_within f g [] depth need least h = omega (arith, h)
 indexes_within f g (x ∷ xs) depth need least h =
     let r = indexes_within f g xs (max depth (f x.0 + 1)) (need + g x.0) (omega (arith, least)) (omega (arith, h, x.1, least)) in
     omega (arith, r, sum-cons (g x.0) (map g (map (λ y. y.0) xs)))
-
-access_within : (indexes : List HereWithin)
-    → access_depth (map expr_depth (map (λ e. e.0) indexes)) ≤ 2 + sum (map expr_need (map (λ e. e.0) indexes))
-access_within indexes = indexes_within expr_depth expr_need indexes 1 1 (omega arith) (omega arith)
-
-whole_within : (value : Whole) (indexes : List HereWithin)
-    → whole_depth value (map expr_depth (map (λ e. e.0) indexes)) + 6 ≤ whole_need value (map expr_need (map (λ e. e.0) indexes))
-whole_within (Text number characters) indexes = omega arith
-whole_within (VariableOf access type_id cells defined) indexes = omega (arith, access_within indexes)
-
-rolled_expr : (x : Expr-F Expr Passed Link) → expr_depth_step (map-Expr Expr Passed Link ℕ PassedDepth ℕ expr_depth passed_depth link_depth x) ≤ expr_need_step
-    (map-Expr Expr Passed Link ℕ ℕ ℕ expr_need passed_need link_need x) → ExprWithin (roll-Expr x)
-rolled_expr x =
-    same_within _ _ _ _ (fold-roll-Expr ℕ PassedDepth ℕ expr_depth_step passed_depth_step link_depth_step x)
-    (fold-roll-Expr ℕ ℕ ℕ expr_need_step passed_need_step link_need_step x)
-
-rolled_link : (x : Link-F Expr Passed Link) → link_depth_step (map-Link Expr Passed Link ℕ PassedDepth ℕ expr_depth passed_depth link_depth x) ≤ link_need_step
-    (map-Link Expr Passed Link ℕ ℕ ℕ expr_need passed_need link_need x) → LinkWithin (roll-Link x)
-rolled_link x =
-    same_within _ _ _ _ (fold-roll-Link ℕ PassedDepth ℕ expr_depth_step passed_depth_step link_depth_step x)
-    (fold-roll-Link ℕ ℕ ℕ expr_need_step passed_need_step link_need_step x)
 
 -- an operation on one operand needs two cells at most
 monadic_within : (operation : Monadic) → monadic_depth operation ≤ 2
@@ -178,185 +135,234 @@ needs_one =
     ind-Expr NeedsOne (λ p. Unit {0}) LinkNeedsOne (λ x y is. subst (λ z. NeedsOne (roll-Expr z)) is (one_layer y)) (λ x y is. tt)
     (λ x y is. subst (λ z. LinkNeedsOne (roll-Link z)) is (link_one y))
 
-abbrev bare_expr : Expr-F HereWithin PassedHereWithin LinkHereWithin → Expr-F Expr Passed Link
-bare_expr = map-Expr HereWithin PassedHereWithin LinkHereWithin Expr Passed Link (λ e. e.0) (λ p. p.0) (λ l. l.0)
-
-abbrev bare_passed : Passed-F HereWithin PassedHereWithin LinkHereWithin → Passed-F Expr Passed Link
-bare_passed = map-Passed HereWithin PassedHereWithin LinkHereWithin Expr Passed Link (λ e. e.0) (λ p. p.0) (λ l. l.0)
-
--- actual parameters, one after another
-actuals_within : (held : ℕ) (actuals : List PassedHereWithin)
-    → actuals_depth held (map passed_depth (map (λ p. p.0) actuals)) ≤ held + sum (map passed_need (map (λ p. p.0) actuals))
-actuals_within held [] = omega arith
-actuals_within held (p ∷ actuals) =
-    let rest = actuals_within (held + (passed_depth p.0).cells) actuals in
-    omega (arith, p.1.0, p.1.1, rest, sum-cons (passed_need p.0) (map passed_need (map (λ q. q.0) actuals)))
-
-rolled_passed : (x : Passed-F Expr Passed Link) (d : PassedDepth) (n : ℕ)
-    → passed_depth_step (map-Passed Expr Passed Link ℕ PassedDepth ℕ expr_depth passed_depth link_depth x) ≡ d
-    → passed_need_step (map-Passed Expr Passed Link ℕ ℕ ℕ expr_need passed_need link_need x) ≡ n → d.depth ≤ n → d.cells ≤ n → PassedWithin (roll-Passed x)
-rolled_passed x d n deep much depth cells =
-    let is = fold-roll-Passed ℕ PassedDepth ℕ expr_depth_step passed_depth_step link_depth_step x ∙ deep in
-    let needs = fold-roll-Passed ℕ ℕ ℕ expr_need_step passed_need_step link_need_step x ∙ much in (
-      omega (arith, ap (λ (e : PassedDepth). e.depth) is, needs, depth),
-      omega (arith, ap (λ (e : PassedDepth). e.cells) is, needs, cells),
-    )
-
-passed_layer : (y : Passed-F HereWithin PassedHereWithin LinkHereWithin) → PassedWithin (roll-Passed (bare_passed y))
-passed_layer (PassedValue value fits) =
-    rolled_passed (bare_passed (PassedValue value fits)) (record { depth = expr_depth value.0; cells = 1 }) (expr_need value.0) refl refl value.1
-    (omega (arith, value.1, needs_one value.0))
-passed_layer (PassedWhole type_id value indexes) =
-    let depths = map expr_depth (map (λ (e : HereWithin). e.0) indexes.items) in
-    let needs = map expr_need (map (λ (e : HereWithin). e.0) indexes.items) in
-    rolled_passed (bare_passed (PassedWhole type_id value indexes)) (record { depth = whole_depth value depths; cells = length_of value })
-    (whole_need value needs) refl refl (omega (arith, whole_within value indexes.items)) (omega arith)
-passed_layer (Reference type_id access indexes) =
-    let depths = map expr_depth (map (λ (e : HereWithin). e.0) indexes.items) in
-    let needs = map expr_need (map (λ (e : HereWithin). e.0) indexes.items) in
-    rolled_passed (bare_passed (Reference type_id access indexes)) (record { depth = access_depth depths; cells = 1 }) (access_need needs) refl refl
-    (omega (arith, access_within indexes.items)) (omega arith)
-
-expr_layer : (y : Expr-F HereWithin PassedHereWithin LinkHereWithin) → ExprWithin (roll-Expr (bare_expr y))
-expr_layer (Constant number n) = rolled_expr (Constant number n) (omega arith)
-expr_layer (Variable access indexes defined) =
-    rolled_expr (bare_expr (Variable access indexes defined)) (omega (arith, access_within indexes.items))
-expr_layer (MonadicOf number operation operand) =
-    rolled_expr (bare_expr (MonadicOf number operation operand)) (omega (arith, operand.value.1, monadic_within operation))
-expr_layer (Chain first rest) =
-    rolled_expr (bare_expr (Chain first rest))
-    (row_within link_depth link_need rest.items (expr_depth first.value.0) (expr_need first.value.0) first.value.1)
-expr_layer (Compare number r left left_indexes right right_indexes) =
-    rolled_expr (bare_expr (Compare number r left left_indexes right right_indexes))
-    (omega (arith, whole_within left left_indexes.items, whole_within right right_indexes.items))
-expr_layer (CallOf call actuals) =
-    rolled_expr (bare_expr (CallOf call actuals)) (omega (arith, actuals_within 4 actuals.items))
-
-link_layer : (y : Link-F HereWithin PassedHereWithin LinkHereWithin)
-    → LinkWithin (roll-Link (map-Link HereWithin PassedHereWithin LinkHereWithin Expr Passed Link (λ e. e.0) (λ p. p.0) (λ l. l.0) y))
-link_layer y =
-    rolled_link (map-Link HereWithin PassedHereWithin LinkHereWithin Expr Passed Link (λ e. e.0) (λ p. p.0) (λ l. l.0) y) (omega (arith, y.operand.1))
-
-pub expr_within : (e : Expr) → expr_depth e ≤ expr_need e
-expr_within =
-    ind-Expr ExprWithin PassedWithin LinkWithin (λ x y is. subst (λ z. ExprWithin (roll-Expr z)) is (expr_layer y))
-    (λ x y is. subst (λ z. PassedWithin (roll-Passed z)) is (passed_layer y)) (λ x y is. subst (λ z. LinkWithin (roll-Link z)) is (link_layer y))
-
-passed_within : (p : Passed) → PassedWithin p
-passed_within =
-    ind-Passed ExprWithin PassedWithin LinkWithin (λ x y is. subst (λ z. ExprWithin (roll-Expr z)) is (expr_layer y))
-    (λ x y is. subst (λ z. PassedWithin (roll-Passed z)) is (passed_layer y)) (λ x y is. subst (λ z. LinkWithin (roll-Link z)) is (link_layer y))
-
--- the actual parameters of a statement
-calling_within : (held : ℕ) (actuals : List Passed) → actuals_depth held (map passed_depth actuals) ≤ held + sum_by passed_need actuals
-calling_within held [] = omega arith
-calling_within held (p ∷ actuals) =
-    let rest = calling_within (held + (passed_depth p).cells) actuals in
-    omega (arith, (passed_within p).0, (passed_within p).1, rest, sum_by-cons passed_need p actuals)
-
--- index expressions, each of which is within
-abbrev with_proofs : List Expr → List HereWithin
-with_proofs [] = []
-with_proofs (e ∷ es) = (e, expr_within e) ∷ with_proofs es
-
-without : (es : List Expr) → map (λ (e : HereWithin). e.0) (with_proofs es) ≡ es
-without [] = refl
-without (e ∷ es) = ap (λ rest. e ∷ rest) (without es)
-
-address_within : (indexes : List Expr) → access_depth (index_depths indexes) ≤ 2 + sum (index_needs indexes)
-address_within indexes = subst (λ es. access_depth (index_depths es) ≤ 2 + sum (index_needs es)) (without indexes) (access_within (with_proofs indexes))
-
-value_within : (value : Whole) (indexes : List Expr) → whole_depth value (index_depths indexes) + 6 ≤ whole_need value (index_needs indexes)
-value_within value indexes =
-    subst (λ es. whole_depth value (index_depths es) + 6 ≤ whole_need value (index_needs es)) (without indexes) (whole_within value (with_proofs indexes))
-
 -- a whole value needs a cell for each component at least
 cells_within : (value : Whole) (depths : List ℕ) → length_of value ≤ whole_depth value depths
 cells_within (Text number characters) depths = omega arith
 cells_within (VariableOf access type_id cells defined) depths = omega arith
 
-store_within : (indexes : List Expr) (value : Expr)
-    → store_depth (index_depths indexes) (expr_depth value) ≤ 2 + sum (index_needs indexes) + expr_need value
-store_within indexes value = omega (arith, expr_within value, address_within indexes)
+module _ (types : List Form) where
+  -- the need of an operator and its right operand
+  abbrev link_need : Link → ℕ
+  link_need = fold-Link ℕ ℕ ℕ expr_need_step (passed_need_step types) link_need_step
 
--- a width, beside the value that is written in it
-width_within : (width : Option Width) → width_depth width ≤ width_need width + 1
-width_within None = omega arith
-width_within (Some width) = omega (arith, expr_within width.value)
+  abbrev ExprWithin : Expr → Type 0
+  ExprWithin e = expr_depth e ≤ expr_need types e
 
--- a value that is written, and its cells
-written_within : (value : Written) → (written_depth value ≤ written_need value) × (written_cells value ≤ written_depth value)
-written_within (Ordinal value representation) = (expr_within value, needs_one value)
-written_within (String value indexes) =
-    (omega (arith, value_within value indexes.items), cells_within value (index_depths indexes.items))
+  abbrev LinkWithin : Link → Type 0
+  LinkWithin l = link_depth l ≤ link_need l
 
--- both together
-parameter_within : (p : WriteParameter) → parameter_depth p ≤ parameter_need p + 1
-parameter_within p = omega (arith, (written_within p.value).0, (written_within p.value).1, width_within p.width)
+  abbrev PassedWithin : Passed → Type 0
+  PassedWithin p = ((passed_depth p).depth ≤ passed_need types p) × ((passed_depth p).cells ≤ passed_need types p)
 
--- the values of a write
-parameters_within : (ps : List WriteParameter) (depth need : ℕ) → 1 ≤ need → depth ≤ need
-    → fold max depth (map parameter_depth ps) ≤ need + sum_by parameter_need ps
-parameters_within [] depth need least h = omega (arith, h)
-parameters_within (p ∷ ps) depth need least h =
-    let r = parameters_within ps (max depth (parameter_depth p)) (need + parameter_need p) (omega (arith, least))
-    (omega (arith, h, least, parameter_within p)) in
-    omega (arith, r, sum_by-cons parameter_need p ps)
+  abbrev HereWithin : Type 0
+  HereWithin = (e : Expr) × ExprWithin e
 
-abbrev StmtWithin : Stmt → Type 0
-StmtWithin s = stmt_depth s ≤ stmt_need s
+  abbrev PassedHereWithin : Type 0
+  PassedHereWithin = (p : Passed) × PassedWithin p
 
-abbrev StmtHere : Type 0
-StmtHere = (s : Stmt) × StmtWithin s
+  abbrev LinkHereWithin : Type 0
+  LinkHereWithin = (l : Link) × LinkWithin l
 
-abbrev bare_stmt : Stmt-F StmtHere → Stmt-F Stmt
-bare_stmt = map-Stmt StmtHere Stmt (λ s. s.0)
+  access_within : (indexes : List HereWithin)
+      → access_depth (map expr_depth (map (λ e. e.0) indexes)) ≤ 2 + sum (map (expr_need types) (map (λ e. e.0) indexes))
+  access_within indexes = indexes_within expr_depth (expr_need types) indexes 1 1 (omega arith) (omega arith)
 
-rolled_stmt : (x : Stmt-F Stmt) → stmt_depth_step (map-Stmt Stmt ℕ stmt_depth x) ≤ stmt_need_step (map-Stmt Stmt ℕ stmt_need x)
-    → StmtWithin (roll-Stmt x)
-rolled_stmt x = same_within _ _ _ _ (fold-roll-Stmt ℕ stmt_depth_step x) (fold-roll-Stmt ℕ stmt_need_step x)
+  whole_within : (value : Whole) (indexes : List HereWithin)
+      → whole_depth value (map expr_depth (map (λ e. e.0) indexes)) + 6 ≤ whole_need value (map (expr_need types) (map (λ e. e.0) indexes))
+  whole_within (Text number characters) indexes = omega arith
+  whole_within (VariableOf access type_id cells defined) indexes = omega (arith, access_within indexes)
 
--- the arms of a case statement
-arms_within : (rows : List (Vec ℤ)) (arms : List StmtHere)
-    → arms_depth rows (map stmt_depth (map (λ x. x.0) arms)) ≤ sum (map stmt_need (map (λ x. x.0) arms))
-arms_within [] arms = omega arith
-arms_within (row ∷ rows) [] = omega arith
-arms_within (row ∷ rows) (arm ∷ arms) =
-    omega (arith, arm.1, arms_within rows arms, sum-cons (stmt_need arm.0) (map stmt_need (map (λ x. x.0) arms)))
+  rolled_expr : (x : Expr-F Expr Passed Link)
+      → expr_depth_step (map-Expr Expr Passed Link ℕ PassedDepth ℕ expr_depth passed_depth link_depth x)
+      ≤ expr_need_step (map-Expr Expr Passed Link ℕ ℕ ℕ (expr_need types) (passed_need types) link_need x) → ExprWithin (roll-Expr x)
+  rolled_expr x =
+      same_within _ _ _ _ (fold-roll-Expr ℕ PassedDepth ℕ expr_depth_step passed_depth_step link_depth_step x)
+      (fold-roll-Expr ℕ ℕ ℕ expr_need_step (passed_need_step types) link_need_step x)
 
-stmt_layer : (y : Stmt-F StmtHere) → StmtWithin (roll-Stmt (bare_stmt y))
-stmt_layer (Empty number) = rolled_stmt (Empty number) (omega arith)
-stmt_layer (Assign number becomes target indexes fits value) =
-    rolled_stmt (Assign number becomes target indexes fits value)
-    (omega (arith, store_within indexes.items value))
-stmt_layer (Copy number becomes target indexes type_id value value_indexes) =
-    rolled_stmt (Copy number becomes target indexes type_id value value_indexes)
-    (omega (arith, address_within indexes.items, value_within value value_indexes.items))
-stmt_layer (Write number name parameters ends_line) =
-    rolled_stmt (Write number name parameters ends_line) (parameters_within parameters.items 0 8 (omega arith) (omega arith))
-stmt_layer (Calling call actuals) = rolled_stmt (Calling call actuals) (omega (arith, calling_within 4 actuals.items))
-stmt_layer (Compound number statements) =
-    rolled_stmt (bare_stmt (Compound number statements)) (row_within stmt_depth stmt_need statements.items 0 8 (omega arith))
-stmt_layer (If number condition consequence None) =
-    rolled_stmt (bare_stmt (If number condition consequence None)) (omega (arith, expr_within condition, consequence.value.1))
-stmt_layer (If number condition consequence (Some alternative)) =
-    rolled_stmt (bare_stmt (If number condition consequence (Some alternative)))
-    (omega (arith, expr_within condition, consequence.value.1, alternative.value.1))
-stmt_layer (While number loop_number word condition body) =
-    rolled_stmt (bare_stmt (While number loop_number word condition body)) (omega (arith, expr_within condition, body.value.1))
-stmt_layer (Repeat number loop_number word statements condition) =
-    rolled_stmt (bare_stmt (Repeat number loop_number word statements condition))
-    (omega (arith, expr_within condition, row_within stmt_depth stmt_need statements.items 0 8 (omega arith)))
-stmt_layer (For number loop_number word control first first_fits way last last_fits body) =
-    rolled_stmt (bare_stmt (For number loop_number word control first first_fits way last last_fits body))
-    (omega (arith, expr_within first, expr_within last, body.value.1))
-stmt_layer (Case number site index constants arms) =
-    rolled_stmt (bare_stmt (Case number site index constants arms))
-    (omega (arith, expr_within index, arms_within constants.items arms.items))
+  rolled_link : (x : Link-F Expr Passed Link)
+      → link_depth_step (map-Link Expr Passed Link ℕ PassedDepth ℕ expr_depth passed_depth link_depth x)
+      ≤ link_need_step (map-Link Expr Passed Link ℕ ℕ ℕ (expr_need types) (passed_need types) link_need x) → LinkWithin (roll-Link x)
+  rolled_link x =
+      same_within _ _ _ _ (fold-roll-Link ℕ PassedDepth ℕ expr_depth_step passed_depth_step link_depth_step x)
+      (fold-roll-Link ℕ ℕ ℕ expr_need_step (passed_need_step types) link_need_step x)
 
--- the same of a statement
-pub stmt_within : (s : Stmt) → stmt_depth s ≤ stmt_need s
-stmt_within = ind-Stmt StmtWithin (λ x y is. subst (λ z. StmtWithin (roll-Stmt z)) is (stmt_layer y))
+  abbrev bare_expr : Expr-F HereWithin PassedHereWithin LinkHereWithin → Expr-F Expr Passed Link
+  bare_expr = map-Expr HereWithin PassedHereWithin LinkHereWithin Expr Passed Link (λ e. e.0) (λ p. p.0) (λ l. l.0)
+
+  abbrev bare_passed : Passed-F HereWithin PassedHereWithin LinkHereWithin → Passed-F Expr Passed Link
+  bare_passed = map-Passed HereWithin PassedHereWithin LinkHereWithin Expr Passed Link (λ e. e.0) (λ p. p.0) (λ l. l.0)
+
+  -- actual parameters, one after another
+  actuals_within : (held : ℕ) (actuals : List PassedHereWithin)
+      → actuals_depth held (map passed_depth (map (λ p. p.0) actuals)) ≤ held + sum (map (passed_need types) (map (λ p. p.0) actuals))
+  actuals_within held [] = omega arith
+  actuals_within held (p ∷ actuals) =
+      let rest = actuals_within (held + (passed_depth p.0).cells) actuals in
+      omega (arith, p.1.0, p.1.1, rest, sum-cons (passed_need types p.0) (map (passed_need types) (map (λ q. q.0) actuals)))
+
+  rolled_passed : (x : Passed-F Expr Passed Link) (d : PassedDepth) (n : ℕ)
+      → passed_depth_step (map-Passed Expr Passed Link ℕ PassedDepth ℕ expr_depth passed_depth link_depth x) ≡ d
+      → passed_need_step types (map-Passed Expr Passed Link ℕ ℕ ℕ (expr_need types) (passed_need types) link_need x) ≡ n → d.depth ≤ n → d.cells ≤ n
+      → PassedWithin (roll-Passed x)
+  rolled_passed x d n deep much depth cells =
+      let is = fold-roll-Passed ℕ PassedDepth ℕ expr_depth_step passed_depth_step link_depth_step x ∙ deep in
+      let needs = fold-roll-Passed ℕ ℕ ℕ expr_need_step (passed_need_step types) link_need_step x ∙ much in (
+        omega (arith, ap (λ (e : PassedDepth). e.depth) is, needs, depth),
+        omega (arith, ap (λ (e : PassedDepth). e.cells) is, needs, cells),
+      )
+
+  passed_layer : (y : Passed-F HereWithin PassedHereWithin LinkHereWithin) → PassedWithin (roll-Passed (bare_passed y))
+  passed_layer (PassedValue value fits) =
+      rolled_passed (bare_passed (PassedValue value fits)) (record { depth = expr_depth value.0; cells = 1 }) (expr_need types value.0) refl refl value.1
+      (omega (arith, value.1, needs_one value.0))
+  passed_layer (PassedWhole type_id value indexes) =
+      let depths = map expr_depth (map (λ (e : HereWithin). e.0) indexes.items) in
+      let needs = map (expr_need types) (map (λ (e : HereWithin). e.0) indexes.items) in
+      rolled_passed (bare_passed (PassedWhole type_id value indexes)) (record { depth = whole_depth value depths; cells = length_of value })
+      (whole_need value needs) refl refl (omega (arith, whole_within value indexes.items)) (omega arith)
+  passed_layer (Reference type_id access indexes) =
+      let depths = map expr_depth (map (λ (e : HereWithin). e.0) indexes.items) in
+      let needs = map (expr_need types) (map (λ (e : HereWithin). e.0) indexes.items) in
+      rolled_passed (bare_passed (Reference type_id access indexes)) (record { depth = access_depth depths; cells = 1 })
+      (reached_need types type_id needs) refl refl
+      (omega (arith, access_within indexes.items)) (omega arith)
+
+  expr_layer : (y : Expr-F HereWithin PassedHereWithin LinkHereWithin) → ExprWithin (roll-Expr (bare_expr y))
+  expr_layer (Constant number n) = rolled_expr (Constant number n) (omega arith)
+  expr_layer (Variable access indexes defined) =
+      rolled_expr (bare_expr (Variable access indexes defined)) (omega (arith, access_within indexes.items))
+  expr_layer (MonadicOf number operation operand) =
+      rolled_expr (bare_expr (MonadicOf number operation operand)) (omega (arith, operand.value.1, monadic_within operation))
+  expr_layer (Chain first rest) =
+      rolled_expr (bare_expr (Chain first rest))
+      (row_within link_depth link_need rest.items (expr_depth first.value.0) (expr_need types first.value.0) first.value.1)
+  expr_layer (Compare number r left left_indexes right right_indexes) =
+      rolled_expr (bare_expr (Compare number r left left_indexes right right_indexes))
+      (omega (arith, whole_within left left_indexes.items, whole_within right right_indexes.items))
+  expr_layer (CallOf call actuals) =
+      rolled_expr (bare_expr (CallOf call actuals)) (omega (arith, actuals_within 4 actuals.items))
+
+  link_layer : (y : Link-F HereWithin PassedHereWithin LinkHereWithin)
+      → LinkWithin (roll-Link (map-Link HereWithin PassedHereWithin LinkHereWithin Expr Passed Link (λ e. e.0) (λ p. p.0) (λ l. l.0) y))
+  link_layer y =
+      rolled_link (map-Link HereWithin PassedHereWithin LinkHereWithin Expr Passed Link (λ e. e.0) (λ p. p.0) (λ l. l.0) y) (omega (arith, y.operand.1))
+
+  pub expr_within : (e : Expr) → expr_depth e ≤ expr_need types e
+  expr_within =
+      ind-Expr ExprWithin PassedWithin LinkWithin (λ x y is. subst (λ z. ExprWithin (roll-Expr z)) is (expr_layer y))
+      (λ x y is. subst (λ z. PassedWithin (roll-Passed z)) is (passed_layer y)) (λ x y is. subst (λ z. LinkWithin (roll-Link z)) is (link_layer y))
+
+  passed_within : (p : Passed) → PassedWithin p
+  passed_within =
+      ind-Passed ExprWithin PassedWithin LinkWithin (λ x y is. subst (λ z. ExprWithin (roll-Expr z)) is (expr_layer y))
+      (λ x y is. subst (λ z. PassedWithin (roll-Passed z)) is (passed_layer y)) (λ x y is. subst (λ z. LinkWithin (roll-Link z)) is (link_layer y))
+
+  -- the actual parameters of a statement
+  calling_within : (held : ℕ) (actuals : List Passed) → actuals_depth held (map passed_depth actuals) ≤ held + sum_by (passed_need types) actuals
+  calling_within held [] = omega arith
+  calling_within held (p ∷ actuals) =
+      let rest = calling_within (held + (passed_depth p).cells) actuals in
+      omega (arith, (passed_within p).0, (passed_within p).1, rest, sum_by-cons (passed_need types) p actuals)
+
+  -- index expressions, each of which is within
+  abbrev with_proofs : List Expr → List HereWithin
+  with_proofs [] = []
+  with_proofs (e ∷ es) = (e, expr_within e) ∷ with_proofs es
+
+  without : (es : List Expr) → map (λ (e : HereWithin). e.0) (with_proofs es) ≡ es
+  without [] = refl
+  without (e ∷ es) = ap (λ rest. e ∷ rest) (without es)
+
+  address_within : (indexes : List Expr) → access_depth (index_depths indexes) ≤ 2 + sum (index_needs types indexes)
+  address_within indexes = subst (λ es. access_depth (index_depths es) ≤ 2 + sum (index_needs types es)) (without indexes) (access_within (with_proofs indexes))
+
+  value_within : (value : Whole) (indexes : List Expr) → whole_depth value (index_depths indexes) + 6 ≤ whole_need value (index_needs types indexes)
+  value_within value indexes =
+      subst (λ es. whole_depth value (index_depths es) + 6 ≤ whole_need value (index_needs types es)) (without indexes)
+      (whole_within value (with_proofs indexes))
+
+  store_within : (indexes : List Expr) (value : Expr)
+      → store_depth (index_depths indexes) (expr_depth value) ≤ 2 + sum (index_needs types indexes) + expr_need types value
+  store_within indexes value = omega (arith, expr_within value, address_within indexes)
+
+  -- a width, beside the value that is written in it
+  width_within : (width : Option Width) → width_depth width ≤ width_need types width + 1
+  width_within None = omega arith
+  width_within (Some width) = omega (arith, expr_within width.value)
+
+  -- a value that is written, and its cells
+  written_within : (value : Written) → (written_depth value ≤ written_need types value) × (written_cells value ≤ written_depth value)
+  written_within (Ordinal value representation) = (expr_within value, needs_one value)
+  written_within (String value indexes) =
+      (omega (arith, value_within value indexes.items), cells_within value (index_depths indexes.items))
+
+  -- both together
+  parameter_within : (p : WriteParameter) → parameter_depth p ≤ parameter_need types p + 1
+  parameter_within p = omega (arith, (written_within p.value).0, (written_within p.value).1, width_within p.width)
+
+  -- the values of a write
+  parameters_within : (ps : List WriteParameter) (depth need : ℕ) → 1 ≤ need → depth ≤ need
+      → fold max depth (map parameter_depth ps) ≤ need + sum_by (parameter_need types) ps
+  parameters_within [] depth need least h = omega (arith, h)
+  parameters_within (p ∷ ps) depth need least h =
+      let r = parameters_within ps (max depth (parameter_depth p)) (need + parameter_need types p) (omega (arith, least))
+      (omega (arith, h, least, parameter_within p)) in
+      omega (arith, r, sum_by-cons (parameter_need types) p ps)
+
+  abbrev StmtWithin : Stmt → Type 0
+  StmtWithin s = stmt_depth s ≤ stmt_need types s
+
+  abbrev StmtHere : Type 0
+  StmtHere = (s : Stmt) × StmtWithin s
+
+  abbrev bare_stmt : Stmt-F StmtHere → Stmt-F Stmt
+  bare_stmt = map-Stmt StmtHere Stmt (λ s. s.0)
+
+  rolled_stmt : (x : Stmt-F Stmt) → stmt_depth_step (map-Stmt Stmt ℕ stmt_depth x) ≤ stmt_need_step types (map-Stmt Stmt ℕ (stmt_need types) x)
+      → StmtWithin (roll-Stmt x)
+  rolled_stmt x = same_within _ _ _ _ (fold-roll-Stmt ℕ stmt_depth_step x) (fold-roll-Stmt ℕ (stmt_need_step types) x)
+
+  -- the arms of a case statement
+  arms_within : (rows : List (Vec ℤ)) (arms : List StmtHere)
+      → arms_depth rows (map stmt_depth (map (λ x. x.0) arms)) ≤ sum (map (stmt_need types) (map (λ x. x.0) arms))
+  arms_within [] arms = omega arith
+  arms_within (row ∷ rows) [] = omega arith
+  arms_within (row ∷ rows) (arm ∷ arms) =
+      omega (arith, arm.1, arms_within rows arms, sum-cons (stmt_need types arm.0) (map (stmt_need types) (map (λ x. x.0) arms)))
+
+  stmt_layer : (y : Stmt-F StmtHere) → StmtWithin (roll-Stmt (bare_stmt y))
+  stmt_layer (Empty number) = rolled_stmt (Empty number) (omega arith)
+  stmt_layer (Assign number becomes target indexes fits value) =
+      rolled_stmt (Assign number becomes target indexes fits value)
+      (omega (arith, store_within indexes.items value))
+  stmt_layer (Copy number becomes target indexes type_id value value_indexes) =
+      rolled_stmt (Copy number becomes target indexes type_id value value_indexes)
+      (omega (arith, address_within indexes.items, value_within value value_indexes.items))
+  stmt_layer (Write number name parameters ends_line) =
+      rolled_stmt (Write number name parameters ends_line) (parameters_within parameters.items 0 8 (omega arith) (omega arith))
+  stmt_layer (Calling call actuals) = rolled_stmt (Calling call actuals) (omega (arith, calling_within 4 actuals.items))
+  stmt_layer (Compound number statements) =
+      rolled_stmt (bare_stmt (Compound number statements)) (row_within stmt_depth (stmt_need types) statements.items 0 8 (omega arith))
+  stmt_layer (If number condition consequence None) =
+      rolled_stmt (bare_stmt (If number condition consequence None)) (omega (arith, expr_within condition, consequence.value.1))
+  stmt_layer (If number condition consequence (Some alternative)) =
+      rolled_stmt (bare_stmt (If number condition consequence (Some alternative)))
+      (omega (arith, expr_within condition, consequence.value.1, alternative.value.1))
+  stmt_layer (While number loop_number word condition body) =
+      rolled_stmt (bare_stmt (While number loop_number word condition body)) (omega (arith, expr_within condition, body.value.1))
+  stmt_layer (Repeat number loop_number word statements condition) =
+      rolled_stmt (bare_stmt (Repeat number loop_number word statements condition))
+      (omega (arith, expr_within condition, row_within stmt_depth (stmt_need types) statements.items 0 8 (omega arith)))
+  stmt_layer (For number loop_number word control first first_fits way last last_fits body) =
+      rolled_stmt (bare_stmt (For number loop_number word control first first_fits way last last_fits body))
+      (omega (arith, expr_within first, expr_within last, body.value.1))
+  stmt_layer (Case number site index constants arms) =
+      rolled_stmt (bare_stmt (Case number site index constants arms))
+      (omega (arith, expr_within index, arms_within constants.items arms.items))
+
+  -- the same of a statement
+  pub stmt_within : (s : Stmt) → stmt_depth s ≤ stmt_need types s
+  stmt_within = ind-Stmt StmtWithin (λ x y is. subst (λ z. StmtWithin (roll-Stmt z)) is (stmt_layer y))
 
 sum_if : {X : Type 0} (f : X → ℕ) (b : Bool) (x : X) (xs : List X) → sum_by f (if b then x ∷ xs else xs) ≡ (if b then f x else 0) + sum_by f xs
 sum_if f true x xs = sum_by-cons f x xs
@@ -406,8 +412,8 @@ pub block_within : (tree : Tree) (number : ℕ) (block : Block) → slice_get tr
 block_within tree number block is =
     omega (
       arith,
-      ap body_need is,
-      stmt_within block.body,
+      ap (body_need tree.types) is,
+      stmt_within tree.types block.body,
       result_within block.heading.result,
       frame_within tree.types number tree.variables.items,
     )

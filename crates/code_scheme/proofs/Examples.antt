@@ -3,7 +3,9 @@ use Rattle.std.proofs.Common.{◌≡◌, ℕ, ◌+◌, ◌<◌, ◌^◌, true, f
 use Rattle.std.proofs.Common.{refl, ap, ◌∙◌}
 use Rattle.pcode_assembler.specs.declared.instr.Instr.{Instr}
 use Rattle.pcode_assembler.specs.declared.instr.Instr.TheVariants as instr
-use Rattle.types.specs.Types.{integer, required_forms}
+use Rattle.types.specs.Forms.{Form, Array, Record}
+use Rattle.types.specs.declared.form.TypeId.{TypeId}
+use Rattle.types.specs.Types.{boolean, cells_of, integer, required_forms}
 use Rattle.typed_tree.specs.declared.tree.Tree.{Tree}
 use Rattle.typed_tree.specs.declared.tree.Block.{Block}
 use Rattle.typed_tree.specs.declared.tree.Heading.{Heading}
@@ -20,7 +22,7 @@ use Rattle.typed_tree.specs.declared.tree.Representation.TheVariants as represen
 use Rattle.typed_tree.specs.declared.tree.WriteParameter.{WriteParameter}
 use Rattle.typed_tree.specs.declared.tree.Written.TheVariants.{Ordinal, String}
 use Rattle.typed_tree.specs.declared.tree.Whole.{Whole}
-use Rattle.typed_tree.specs.declared.tree.Whole.TheVariants.{Text}
+use Rattle.typed_tree.specs.declared.tree.Whole.TheVariants.{Text, Variable as VariableOf}
 use Rattle.typed_tree.specs.declared.tree.Expr.{Expr}
 use Rattle.typed_tree.specs.declared.tree.Passed.{Passed}
 use Rattle.typed_tree.specs.declared.tree.Link.{Link}
@@ -31,7 +33,7 @@ use Rattle.typed_tree.specs.declared.tree.Expr.TheOpen.Passed-F.{Value as Passed
 use Rattle.typed_tree.specs.declared.tree.Expr.TheViews.{roll-Expr, roll-Passed}
 use Rattle.typed_tree.specs.declared.tree.Expr.TheFolds.{fold-Link, map-Expr, map-Passed, fold-roll-Expr, fold-roll-Passed}
 use Rattle.typed_tree.specs.declared.tree.Stmt.TheOpen.{Stmt-F}
-use Rattle.typed_tree.specs.declared.tree.Stmt.TheOpen.Stmt-F.{Assign, Write, Compound, Call as Calling}
+use Rattle.typed_tree.specs.declared.tree.Stmt.TheOpen.Stmt-F.{Assign, Copy, Write, Compound, Call as Calling}
 use Rattle.typed_tree.specs.declared.tree.Stmt.TheViews.{roll-Stmt}
 use Rattle.typed_tree.specs.declared.tree.Stmt.TheFolds.{map-Stmt, fold-roll-Stmt}
 use Rattle.code_scheme.specs.Scopes.{Scope, homes_of}
@@ -43,6 +45,10 @@ use Rattle.code_scheme.specs.Need.{block_need, expr_need, expr_need_step, link_n
 use Rattle.code_scheme.specs.Need.{stmt_need, stmt_need_step}
 use Rattle.typed_tree.specs.WellFormed.{Outline, expr_is_well_formed, is_well_formed_expr, is_well_formed_link, is_well_formed_passed, link_is_well_formed}
 use Rattle.typed_tree.specs.WellFormed.{passed_is_well_formed}
+
+-- a type by its number
+abbrev numbered : ℕ → TypeId
+numbered n = record { index = n }
 
 -- an instruction that tells its place
 abbrev here : ℕ → Instr
@@ -78,19 +84,20 @@ passed_deep x = fold-roll-Passed ℕ PassedDepth ℕ expr_depth_step passed_dept
 stmt_deep : (x : Stmt-F Stmt) → stmt_depth (roll-Stmt x) ≡ stmt_depth_step (map-Stmt Stmt ℕ stmt_depth x)
 stmt_deep x = fold-roll-Stmt ℕ stmt_depth_step x
 
-abbrev link_need : Link → ℕ
-link_need = fold-Link ℕ ℕ ℕ expr_need_step passed_need_step link_need_step
+abbrev link_need : List Form → Link → ℕ
+link_need types = fold-Link ℕ ℕ ℕ expr_need_step (passed_need_step types) link_need_step
 
-expr_needs : (x : Expr-F Expr Passed Link)
-    → expr_need (roll-Expr x) ≡ expr_need_step (map-Expr Expr Passed Link ℕ ℕ ℕ expr_need passed_need link_need x)
-expr_needs x = fold-roll-Expr ℕ ℕ ℕ expr_need_step passed_need_step link_need_step x
+expr_needs : (types : List Form) (x : Expr-F Expr Passed Link)
+    → expr_need types (roll-Expr x) ≡ expr_need_step (map-Expr Expr Passed Link ℕ ℕ ℕ (expr_need types) (passed_need types) (link_need types) x)
+expr_needs types x = fold-roll-Expr ℕ ℕ ℕ expr_need_step (passed_need_step types) link_need_step x
 
-passed_needs : (x : Passed-F Expr Passed Link)
-    → passed_need (roll-Passed x) ≡ passed_need_step (map-Passed Expr Passed Link ℕ ℕ ℕ expr_need passed_need link_need x)
-passed_needs x = fold-roll-Passed ℕ ℕ ℕ expr_need_step passed_need_step link_need_step x
+passed_needs : (types : List Form) (x : Passed-F Expr Passed Link)
+    → passed_need types (roll-Passed x)
+    ≡ passed_need_step types (map-Passed Expr Passed Link ℕ ℕ ℕ (expr_need types) (passed_need types) (link_need types) x)
+passed_needs types x = fold-roll-Passed ℕ ℕ ℕ expr_need_step (passed_need_step types) link_need_step x
 
-stmt_needs : (x : Stmt-F Stmt) → stmt_need (roll-Stmt x) ≡ stmt_need_step (map-Stmt Stmt ℕ stmt_need x)
-stmt_needs x = fold-roll-Stmt ℕ stmt_need_step x
+stmt_needs : (types : List Form) (x : Stmt-F Stmt) → stmt_need types (roll-Stmt x) ≡ stmt_need_step types (map-Stmt Stmt ℕ (stmt_need types) x)
+stmt_needs types x = fold-roll-Stmt ℕ (stmt_need_step types) x
 
 ruleset makes = (expr_makes, passed_makes, stmt_makes, expr_deep, passed_deep, stmt_deep)
 
@@ -277,6 +284,37 @@ module _ (heap : Vec ℕ Global) (some_call : Call) where
   plain_need : block_need plain 0 ≡ 70
   plain_need = simp needs
 
+  -- a record without fields, an array of two such records, and an array of two integers
+  abbrev bare_forms : List Form
+  bare_forms = required_forms ++ Record false [] ∷ Array false boolean (numbered 3) ∷ Array false boolean integer ∷ []
+
+  their_cells : (cells_of bare_forms (numbered 3) ≡ 0) × (cells_of bare_forms (numbered 4) ≡ 0) × (cells_of bare_forms (numbered 5) ≡ 2)
+  their_cells = (refl, refl, refl)
+
+  -- a variable that is passed as such counts 8, and one cell if it has any
+  abbrev passes : TypeId → Passed
+  passes type_id = roll-Passed (Reference type_id (access 1 0) (vec [] (omega arith)))
+
+  record_needs : passed_need bare_forms (passes (numbered 3)) ≡ 8
+  record_needs = simp needs
+
+  records_need : passed_need bare_forms (passes (numbered 4)) ≡ 8
+  records_need = simp needs
+
+  row_needs : passed_need bare_forms (passes (numbered 5)) ≡ 9
+  row_needs = simp needs
+
+  -- a statement, the variable to which it copies, and the value with its cells
+  abbrev copies : TypeId → ℕ → Stmt
+  copies type_id cells =
+      roll-Stmt (Copy 1 some_call.name (access 2 0) (vec [] (omega arith)) type_id (VariableOf (access 3 1) type_id cells 0) (vec [] (omega arith)))
+
+  copied_record_needs : stmt_need bare_forms (copies (numbered 3) 0) ≡ 8 + 8 + 8
+  copied_record_needs = simp needs
+
+  copied_row_needs : stmt_need bare_forms (copies (numbered 5) 2) ≡ 8 + 9 + 10
+  copied_row_needs = simp needs
+
   -- b.f[7].g, where two cells lie before f and one before g
   abbrev part_layer : Expr-F Expr Passed Link
   part_layer =
@@ -322,7 +360,7 @@ module _ (heap : Vec ℕ Global) (some_call : Call) where
   part_depth : expr_depth part ≡ 2
   part_depth = simp makes
 
-  part_need : expr_need part ≡ 18
+  part_need : expr_need required_forms part ≡ 18
   part_need = simp needs
 
   -- the strings 'ab' and 'b!'
@@ -340,7 +378,7 @@ module _ (heap : Vec ℕ Global) (some_call : Call) where
   less_depth : expr_depth less ≡ 4
   less_depth = simp makes
 
-  less_need : expr_need less ≡ 29
+  less_need : expr_need required_forms less ≡ 29
   less_need = simp needs
 
   -- written without a width
@@ -353,5 +391,5 @@ module _ (heap : Vec ℕ Global) (some_call : Call) where
   ab_depth : parameter_depth ab_alone ≡ 3
   ab_depth = refl
 
-  ab_need : parameter_need ab_alone ≡ 10
+  ab_need : parameter_need required_forms ab_alone ≡ 10
   ab_need = refl

@@ -3,6 +3,7 @@ mod Examples
 pub mod Expressions
 mod LeftToRight
 pub mod Loops
+pub mod Pieces
 pub mod Replies
 pub mod Returns
 mod Routines

@@ -1,21 +1,33 @@
 -- What holds of the meaning of every program (ISO 7185:1990, 6.7.2.1, 6.8): a run with more turns goes on from where
 -- the shorter one was, how deep activations may stand in one another never matters, a call that returns ends what it
--- began, and a chain of operators is calculated from left to right. It says nothing of what the single steps are.
-use Rattle.std.specs.Prelude.{◌≡◌, ◌≢◌, ◌⊎◌, ℕ, ◌+◌, ◌<◌, List, ◌++◌}
+-- began, each piece uses its turns exactly, a loop goes round by round, and a chain of operators is calculated from
+-- left to right. It says nothing of what the single steps are.
+use Rattle.std.specs.Prelude.{◌≡◌, ◌≢◌, ◌⊎◌, ℕ, ◌+◌, ◌<◌, ℤ, Bool, List, ◌++◌, Option, map}
 use Rattle.std.specs.declared.alloc.Global.{Global}
 use Rattle.std.specs.declared.boxed.Box.{Box}
 use Rattle.std.specs.declared.vec.Vec.{Vec}
 use Rattle.typed_tree.specs.declared.tree.Tree.{Tree}
+use Rattle.typed_tree.specs.declared.tree.Call.{Call}
+use Rattle.typed_tree.specs.declared.tree.Direction.{Direction}
+use Rattle.typed_tree.specs.declared.tree.Dyadic.{Dyadic}
 use Rattle.typed_tree.specs.declared.tree.Expr.{Expr}
 use Rattle.typed_tree.specs.declared.tree.Link.{Link}
+use Rattle.typed_tree.specs.declared.tree.Passed.{Passed}
+use Rattle.typed_tree.specs.declared.tree.RangeTest.{RangeTest}
 use Rattle.typed_tree.specs.declared.tree.Stmt.{Stmt}
+use Rattle.typed_tree.specs.declared.tree.Whole.{Whole}
+use Rattle.typed_tree.specs.declared.tree.Width.{Width}
+use Rattle.typed_tree.specs.declared.tree.WriteParameter.{WriteParameter}
 use Rattle.typed_tree.specs.declared.tree.Expr.TheVariants.{Chain}
 use Rattle.meaning.specs.declared.outcome.Ending.{Ending}
 use Rattle.meaning.specs.declared.outcome.Ending.TheVariants as ending
 use Rattle.meaning.specs.declared.store.Value.{Value}
-use Rattle.meaning.specs.Store.{Environment}
-use Rattle.meaning.specs.Effect.{State, Reply, Gives, Stops, Action}
-use Rattle.meaning.specs.Meaning.{Argument, Surroundings, calls_of, effect_of, meaning, run, value_of}
+use Rattle.meaning.specs.Store.{Environment, Place}
+use Rattle.meaning.specs.Effect.{State, Reply, Gives, Stops, Action, Round, and_then, another, enter, looped, require}
+use Rattle.meaning.specs.Effect.{store, use_turn}
+use Rattle.meaning.specs.Meaning.{Argument, Surroundings, all_of, assign_all, call_of, calls_of, combined, effect_of}
+use Rattle.meaning.specs.Meaning.{for_round, for_rounds, meaning, parameter_of, passing_of, repeat_round, run, value_of}
+use Rattle.meaning.specs.Meaning.{while_round, whole_of, width_of}
 
 -- the same state with more turns left
 abbrev pub with_turns : ℕ → State → State
@@ -89,6 +101,64 @@ abbrev pub StatementsUseTurnsExactly : Type 0
 StatementsUseTurnsExactly =
     (tree : Tree) (depth : ℕ) (visible : Environment) (statement : Stmt) →
     UsesTurnsExactly (effect_of statement (record { visible = visible; calls = calls_of tree depth }))
+
+-- where so much is visible, and calls may stand so deep in one another
+abbrev pub standing : Tree → ℕ → Environment → Surroundings
+standing tree depth visible = record { visible = visible; calls = calls_of tree depth }
+
+-- all pieces do so that stand here
+pub record AllUseTurnsExactly (env : Surroundings) : Type 0 where
+  -- a turn, an entry, a test, an assignment, and an operator between two values
+  pub turn : UsesTurnsExactly use_turn
+  pub entries : (number : ℕ) → UsesTurnsExactly (enter number env.visible)
+  pub tests : (holds : Bool) (site : ℕ) → UsesTurnsExactly (require holds site)
+  pub stores : (place : Option Place) (v : Value) → UsesTurnsExactly (store place v)
+  pub operators : (operation : Dyadic) (left right : Value) → UsesTurnsExactly (combined operation left right)
+  -- expressions, whole values, actual parameters and how they are assigned, and calls
+  pub values : (e : Expr) → UsesTurnsExactly (value_of e env)
+  pub wholes : (value : Whole) (indexes : List Expr) → UsesTurnsExactly (whole_of value (map value_of indexes) env)
+  pub actuals : (actual : Passed) → UsesTurnsExactly (passing_of actual env)
+  pub assigned : (tree : Tree) (roots : List ℕ) (arguments : List Argument)
+      → UsesTurnsExactly (assign_all tree env.visible roots arguments)
+  pub calls : (call : Call) (actuals : List Passed) → UsesTurnsExactly (call_of call (map passing_of actuals) env)
+  -- what is written, statements, and the rounds of a for statement
+  pub widths : (width : Option Width) (default : ℤ) → UsesTurnsExactly (width_of width default env)
+  pub written : (parameter : WriteParameter) → UsesTurnsExactly (parameter_of parameter env)
+  pub statements : (statement : Stmt) → UsesTurnsExactly (effect_of statement env)
+  pub counted : (control : ℕ) (first_fits : RangeTest) (direction : Direction) (last_fits : RangeTest) (body : Stmt)
+      (first last : ℤ)
+      → UsesTurnsExactly (for_rounds control first_fits direction last_fits (effect_of body) env first last)
+
+-- each piece does so, wherever it stands
+abbrev pub PiecesUseTurnsExactly : Type 0
+PiecesUseTurnsExactly =
+    (tree : Tree) (depth : ℕ) (visible : Environment) → AllUseTurnsExactly (standing tree depth visible)
+
+-- a loop is its first round, and then the loop again, if another round follows
+abbrev pub GoesRoundByRound : {A : Type 0} → Round A → Type 0
+GoesRoundByRound {A} round =
+    (a : A) (s : State) → looped round a s ≡ and_then (round a s) (λ more. another more (looped round))
+
+-- all loops are that stand here
+pub record AllGoRoundByRound (env : Surroundings) : Type 0 where
+  pub whiles : (condition : Expr) (body : Stmt)
+      → GoesRoundByRound (while_round (value_of condition) (effect_of body) env)
+  pub repeats : (statements : List Stmt) (condition : Expr)
+      → GoesRoundByRound (repeat_round (all_of (map effect_of statements)) (value_of condition) env)
+  pub fors : (control : ℕ) (direction : Direction) (last : ℤ) (body : Stmt)
+      → GoesRoundByRound (for_round control direction last (effect_of body) env)
+
+-- each loop is, wherever it stands
+abbrev pub LoopsGoRoundByRound : Type 0
+LoopsGoRoundByRound =
+    (tree : Tree) (depth : ℕ) (visible : Environment) → AllGoRoundByRound (standing tree depth visible)
+
+-- where the bound on how deep activations stand in one another is greater than the turns that are left, a statement
+-- does the same under a greater bound
+abbrev pub DeeperCallsChangeNothing : Type 0
+DeeperCallsChangeNothing =
+    (tree : Tree) (depth more : ℕ) (visible : Environment) (statement : Stmt) (s : State) → s.turns < depth →
+    effect_of statement (standing tree depth visible) s ≡ effect_of statement (standing tree (depth + more) visible) s
 
 -- where the beginning of a chain stops, the chain stops there, whatever stands to the right
 abbrev pub ChainsGoLeftToRight : Type 0

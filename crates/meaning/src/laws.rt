@@ -1,6 +1,7 @@
 //! What holds of the meaning of every program. Each law is the contract of a function that does nothing.
 ghost use Rattle.meaning.specs.Laws.{TurnsGoOn, TurnsExtendTheOutput, EndingsStay, DepthsAreEnough, CallsReturn};
-ghost use Rattle.meaning.specs.Laws.{StatementsUseTurnsExactly, ChainsGoLeftToRight};
+ghost use Rattle.meaning.specs.Laws.{StatementsUseTurnsExactly, ChainsGoLeftToRight, DeeperCallsChangeNothing};
+ghost use Rattle.meaning.specs.Laws.{PiecesUseTurnsExactly, LoopsGoRoundByRound};
 
 /// A run with more turns goes on from where the run with fewer was: they are the same but for the turns that are left,
 /// or the one with fewer stopped for want of turns, with an output that begins the other's.
@@ -38,4 +39,21 @@ pub fn statements_use_turns_exactly()
 /// Where the beginning of a chain of operators stops, the chain stops there, whatever stands to the right.
 pub fn chains_go_left_to_right()
     ensures { ChainsGoLeftToRight }
+{}
+
+/// Where the bound on how deep activations stand in one another is greater than the turns that are left, a statement
+/// does the same under a greater bound.
+pub fn deeper_calls_change_nothing()
+    ensures { DeeperCallsChangeNothing }
+{}
+
+/// Where a piece of a program, as an expression or what is passed or written, gives a value, as many turns as it used
+/// are enough, and none that are left change what it does.
+pub fn pieces_use_turns_exactly()
+    ensures { PiecesUseTurnsExactly }
+{}
+
+/// A loop is its first round, and then the loop again, if another round follows.
+pub fn loops_go_round_by_round()
+    ensures { LoopsGoRoundByRound }
 {}

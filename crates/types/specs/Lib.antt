@@ -3,3 +3,4 @@ pub mod Types
 pub mod Components
 pub mod Kept
 pub mod Parts
+pub mod Laws

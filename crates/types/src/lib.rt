@@ -3,6 +3,7 @@
 
 mod component;
 mod form;
+pub mod laws;
 mod refusal;
 mod table;
 

@@ -11,4 +11,4 @@ returns-clause-follows c =
     let whole : c.in-Some.instructions.items ≡ program_code c.args.tree.now = search rules in
     let sites : c.in_ok-sites_of.field-0.items ≡ site_table c.args.tree.now.sites.items = search rules in
     let short : is_too_large c.args.tree.now ≡ false = search rules in
-    follows _ c.args.tree.now whole sites short
+    follows c.known.ensures _ c.args.tree.now whole sites short
