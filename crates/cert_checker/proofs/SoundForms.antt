@@ -633,7 +633,7 @@ module _ (world : World) (limits_are : world.limits ≡ all_limits world.tree) (
         variable_is = variable.1;
         own = variable.2;
       } in
-      let of_text = λ (context : Context) (all : all_control control context.rounds ≡ true). record {
+      let of_text : (context : Context) → all_control control context.rounds ≡ true → IsControl world block env execution context control = λ context all. record {
         seen = control-seen world.tree block control one.0;
         ordinal = ordinal-values world.tree control (leads-type outline block (is_ordinal (types_in world)) control [] 0 leads_there);
         hidden = λ alias among. hidden control alias one.0 among;

@@ -176,7 +176,7 @@ sound-choice controls world block env condition one_action other_action conseque
       stands = then.so.stands;
       kept = keeps-then visible context.rounds s.store t.store u.store told.so.kept then.so.kept;
     })
-    (chosen-good world block visible one_action other_action condition consequence alternative first.value (is_so v) context first.after t one other held
+    (chosen-good controls world block visible one_action other_action condition consequence alternative first.value (is_so v) context first.after t one other held
     (unbroken-right first.broken second.broken unbroken) (part-right world first second part)
     (chosen-here world block env condition first.value v s t context first.after is told.so.tie
     (here-behind world block visible IsValue context state first s t v here told))))
