@@ -320,9 +320,11 @@ module _ (world : World) (certificate : Certificate) (blocks_are : world.blocks 
       let first_is : pair.0.first ≡ first = ap (λ (one : ℕ × ℕ). one.0) pair.2 in
       let second_is : pair.0.second ≡ second = ap (λ (one : ℕ × ℕ). one.1) pair.2 in
       subst (λ (a : ℕ). IsKnownPair tree a second) first_is
-      (subst (λ (b : ℕ). IsKnownPair tree pair.0.first b) second_is
-      (own.0.block, ⊎_elim (λ one. inl one) (λ other. inr other)
-      (or_cases (has_parameter tree own.0.block pair.0.first pair.0.second) (has_parameter tree own.0.block pair.0.second pair.0.first) known)))
+      (subst (λ (b : ℕ). IsKnownPair tree pair.0.first b) second_is (
+        own.0.block,
+        ⊎_elim (λ one. inl one) (λ other. inr other)
+            (or_cases (has_parameter tree own.0.block pair.0.first pair.0.second) (has_parameter tree own.0.block pair.0.second pair.0.first) known),
+      ))
 
   -- the claims of a certificate that names what the program has are such
   pub are-claims : AreClaims world

@@ -225,8 +225,8 @@ seen-own activation root variable own =
     (eq-eqb variable.block activation.block own)
 
 -- what a block declares is placed so in an activation of it, whose own places may be written
-pub home-placed : (at : Standing) (activation : Activation) → ((root : ℕ) → IsOwn at (Some (own_place activation.number root))) → (root : ℕ) (one : VariableKind)
-    → IsPlaced at (home_of activation root one) (place_for root activation.heading.parameters.items activation.arguments)
+pub home-placed : (at : Standing) (activation : Activation) → ((root : ℕ) → IsOwn at (Some (own_place activation.number root)))
+    → (root : ℕ) (one : VariableKind) → IsPlaced at (home_of activation root one) (place_for root activation.heading.parameters.items activation.arguments)
 home-placed at activation own root kind.VariableParameter = inr refl
 home-placed at activation own root kind.Local = inl (own root)
 home-placed at activation own root kind.ValueParameter = inl (own root)

@@ -1,6 +1,6 @@
 -- The walk over statements is sound, form by form.
-use Rattle.std.proofs.Common.{◌≡◌, ◌∙◌, ap, refl, sym, subst, ℕ, ◌<◌, Bool, true, false, cond, not, ◌&&◌, ◌||◌, ℤ, length, nat_eq, nat_lt, List, [], ◌∷◌, ◌++◌, map}
-use Rattle.std.proofs.Common.{Option, Some, None}
+use Rattle.std.proofs.Common.{◌≡◌, ◌∙◌, ap, refl, sym, subst, ℕ, ◌<◌, Bool, true, false, cond, not, ◌&&◌, ◌||◌, ℤ, length, nat_eq, nat_lt}
+use Rattle.std.proofs.Common.{List, [], ◌∷◌, ◌++◌, map, Option, Some, None}
 use Rattle.std.specs.declared.alloc.Global.{Global}
 use Rattle.std.specs.declared.vec.Vec.{Vec}
 use Rattle.std.specs.List.{list_all, list_any}
@@ -363,9 +363,9 @@ module _ (world : World) (limits_are : world.limits ≡ all_limits world.tree) (
         kept = keeps-then visible context.rounds s.store t.store w.store first_told.so.kept
             (keeps-then visible context.rounds t.store u.store w.store last_told.so.kept then.so.kept);
       })
-      (bounds-good number place control first first_fits direction last last_fits execution walking among inside_are one controls_are stands first_site last_site
-      from.value to.value a b
-      context to.after u (text context own_held) inside_held (unbroken-right to.broken rest.broken more_unbroken) (part-right world to rest more_part) here_last form
+      (bounds-good number place control first first_fits direction last last_fits execution walking among inside_are one controls_are stands first_site
+      last_site from.value to.value a b context to.after u (text context own_held) inside_held
+      (unbroken-right to.broken rest.broken more_unbroken) (part-right world to rest more_part) here_last form
       (form-known last env t u b last_is) first_told.so.tie last_told.so.tie)))
 
   -- ---- case statements
@@ -411,7 +411,8 @@ module _ (world : World) (limits_are : world.limits ≡ all_limits world.tree) (
             (join-holds.from_other (parts_in world) (variables_in world) visible behind first.after u.store told.so.stands.known));
         kept = told.so.kept;
       })
-      (arm.1 parts.0 text_parts.0 context start t (λ root is. held root (among-left root first_inside.controls others_inside.controls is)) (unbroken-left first.broken rest.broken unbroken) first_part
+      (arm.1 parts.0 text_parts.0 context start t (λ root is. held root (among-left root first_inside.controls others_inside.controls is))
+      (unbroken-left first.broken rest.broken unbroken) first_part
       (here-as world block visible context base start t here
       (over-known (parts_in world) (variables_in world) visible base (at_constants index row.items) t.store here.stands.known
       (at-constants_known (variables_in world) visible t.store index row.items base.variables n has is here.stands.known.variables)))))
@@ -429,7 +430,8 @@ module _ (world : World) (limits_are : world.limits ≡ all_limits world.tree) (
   case-good : (site : ℕ) (index : Expr) (rows : List (Vec ℤ Global)) (arms : List ProvedStmt) (known : Known) (v : Value) (context : Context) (state : State)
       (t : effect.State) → site < sites_in world → all_hold (map well_stmt (bodies arms)) ≡ true
       → Text (all_inside (map inside_of (bodies arms))) (all_spare (map spares (bodies arms)))
-      → AreControlled (all_inside (map inside_of (bodies arms))).controls context → (walk.case_walk site index rows (map statement_walk (bodies arms)) known context state).broken ≡ []
+      → AreControlled (all_inside (map inside_of (bodies arms))).controls context
+      → (walk.case_walk site index rows (map statement_walk (bodies arms)) known context state).broken ≡ []
       → IsPartOf world (walk.case_walk site index rows (map statement_walk (bodies arms)) known context state) → Here world block visible context state t
       → IsOfForm (moment visible t.store) (bound_form index) v → IsKnown known v
       → Good world (Foretold world visible context (walk.case_walk site index rows (map statement_walk (bodies arms)) known context state) t.store) t
@@ -499,7 +501,8 @@ module _ (world : World) (limits_are : world.limits ≡ all_limits world.tree) (
   abbrev StmtLayer : Stmt-F Stmt → Type 0
   StmtLayer x =
       SoundStatement (stmt_is_well_formed outline block (map-Stmt Stmt Bool well_stmt x))
-      (statement_inside (map-Stmt Stmt Inside inside_of x)) (statement_spares (map-Stmt Stmt Spares spares x)) (meaning.effect_step (map-Stmt Stmt Execution effect_of x))
+      (statement_inside (map-Stmt Stmt Inside inside_of x)) (statement_spares (map-Stmt Stmt Spares spares x))
+      (meaning.effect_step (map-Stmt Stmt Execution effect_of x))
       (walk.statement_step (map-Stmt Stmt (Walking (Unit {0})) statement_walk x))
 
   statement-layer : (y : Stmt-F ProvedStmt) → StmtLayer (map-Stmt ProvedStmt Stmt (λ s. s.0) y)
@@ -633,7 +636,8 @@ module _ (world : World) (limits_are : world.limits ≡ all_limits world.tree) (
         variable_is = variable.1;
         own = variable.2;
       } in
-      let of_text = λ (context : Context) (all : all_control control context.rounds ≡ true). record {
+      let of_text : (context : Context) → all_control control context.rounds ≡ true → IsControl world block env execution context control =
+      λ context all. record {
         seen = control-seen world.tree block control one.0;
         ordinal = ordinal-values world.tree control (leads-type outline block (is_ordinal (types_in world)) control [] 0 leads_there);
         hidden = λ alias among. hidden control alias one.0 among;

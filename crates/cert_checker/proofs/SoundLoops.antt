@@ -176,8 +176,8 @@ sound-choice controls world block env condition one_action other_action conseque
       stands = then.so.stands;
       kept = keeps-then visible context.rounds s.store t.store u.store told.so.kept then.so.kept;
     })
-    (chosen-good world block visible one_action other_action condition consequence alternative first.value (is_so v) context first.after t one other held
-    (unbroken-right first.broken second.broken unbroken) (part-right world first second part)
+    (chosen-good controls world block visible one_action other_action condition consequence alternative first.value (is_so v) context first.after t one other
+    held (unbroken-right first.broken second.broken unbroken) (part-right world first second part)
     (chosen-here world block env condition first.value v s t context first.after is told.so.tie
     (here-behind world block visible IsValue context state first s t v here told))))
 
@@ -226,8 +226,8 @@ EndsHold world env context again out start =
 
 abbrev pub SoundRound : {A : Type 0} → List ℕ → World → ℕ → Environment → Action (Option A) → Walking State → Type 0
 SoundRound {A} controls world block env round walking =
-    (context : Context) (state : State) (s : effect.State) → AreControlled controls context → (walking context state).broken ≡ [] → IsPartOf world (walking context state)
-    → Here world block env context state s
+    (context : Context) (state : State) (s : effect.State) → AreControlled controls context → (walking context state).broken ≡ []
+    → IsPartOf world (walking context state) → Here world block env context state s
     → Good world (EndsHold world env context (walking context state).after (walking context state).value s.store {A = A}) s (round s)
 
 -- the same of a round that begins with a change of the store, by the loops round it: where another follows, the state at its end holds behind the change
@@ -488,7 +488,8 @@ module _ (controls : List ℕ) (world : World) (block : ℕ) (env : Surroundings
             (subst (λ (x : Store). Keeps visible context.rounds x w.store) same told.so.kept),
       )))
 
-pub sound-while : (controls : List ℕ) (world : World) (block : ℕ) (env : Surroundings) (condition : Expr) (execution : meaning.Execution) (body : Walking (Unit {0}))
+pub sound-while : (controls : List ℕ) (world : World) (block : ℕ) (env : Surroundings) (condition : Expr) (execution : meaning.Execution)
+    (body : Walking (Unit {0}))
     → Sound world block env.visible IsValue (value_of condition env) (value_walk condition)
     → SoundAmong {A = Unit {0}} {B = Unit {0}} controls world block env.visible Any_value (execution env) body
     → SoundRound controls world block env.visible (meaning.while_round (value_of condition) execution env tt) (walk.while_round condition body)
@@ -517,7 +518,8 @@ repeat-ends : (world : World) (env : Environment) (condition : Expr) (known : Kn
 repeat-ends world env condition known context start tested true t kept stands = (stands, kept)
 repeat-ends world env condition known context start tested false t kept stands = (stands, kept)
 
-pub sound-repeat : (controls : List ℕ) (world : World) (block : ℕ) (env : Surroundings) (condition : Expr) (execution : meaning.Execution) (body : Walking (Unit {0}))
+pub sound-repeat : (controls : List ℕ) (world : World) (block : ℕ) (env : Surroundings) (condition : Expr) (execution : meaning.Execution)
+    (body : Walking (Unit {0}))
     → SoundAmong {A = Unit {0}} {B = Unit {0}} controls world block env.visible Any_value (execution env) body
     → Sound world block env.visible IsValue (value_of condition env) (value_walk condition)
     → SoundRound controls world block env.visible (meaning.repeat_round execution (value_of condition) env tt) (walk.repeat_round body condition)
