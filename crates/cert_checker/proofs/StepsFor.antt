@@ -10,6 +10,7 @@ use Rattle.typed_tree.specs.declared.tree.Stmt.{Stmt}
 use Rattle.typed_tree.specs.declared.tree.Stmt.TheVariants as stmt
 use Rattle.typed_tree.specs.declared.tree.Stmt.TheFolds.{the_lemmas as stmt_lemmas}
 use Rattle.expression_checker.specs.declared.fault.CheckFault.{CheckFault}
+use Rattle.expression_checker.specs.declared.fault.CheckFault.TheVariants.{Memory}
 use Rattle.expression_checker.specs.Visits.{Visits, all_counted}
 use Rattle.cert_checker.specs.declared.walk.Walk.{Walk}
 use Rattle.abstract_state.specs.declared.known.Known.{Known}

@@ -64,8 +64,8 @@ pub record Walks {A : Type 0} (walking : Walking A) (old : Walk) (before : Visit
   pub visits_are : after ≡ all_counted (numbers_of (walking (context_of old) (state_of old.flow)).linked) before
   pub unbroken : (walking (context_of old) (state_of old.flow)).broken ≡ []
 
--- the checker went over a piece of a program: it walked over it, or it gave up, for the first rule that the piece breaks
--- or for want of memory, and counted a beginning of the piece's entries
+-- the checker went over a piece of a program: it walked over it, or it gave up, for the first rule that the piece
+-- breaks or for want of memory, and counted a beginning of the piece's entries
 abbrev pub Went : {A : Type 0} → Walking A → Walk → Visits → Result A CheckFault → Walk → Visits → Type 0
 Went walking old before (Ok value) new after = Walks walking old before new after value
 Went walking old before (Err fault) new after = IsLeft (walking (context_of old) (state_of old.flow)) before after fault

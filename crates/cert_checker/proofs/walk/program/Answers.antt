@@ -129,4 +129,5 @@ returns-in_err-declared-clause-entries c =
 
 pub returns-in_err-all_block_claims-clause-entries : goal.returns-in_err-all_block_claims-clause-entries
 returns-in_err-all_block_claims-clause-entries c =
-    begun-nothing _ c.from_residual-in_err-all_block_claims.result Memory (entries_of c.args.rows.now) c.args.visits.now c.from_residual-in_err-all_block_claims.ensures
+    begun-nothing _ c.from_residual-in_err-all_block_claims.result Memory (entries_of c.args.rows.now) c.args.visits.now
+    c.from_residual-in_err-all_block_claims.ensures

@@ -55,7 +55,8 @@ statement-returns-in_err-statement-in-If t c =
     let left = c.from_residual-in_err-statement-in-If in
     given-up (statement_walk c.args.statement.now) c.args.self.now new c.args.visits.now after fault left.result left.ensures
     (if-begun c.args.statement.now it.number it.condition it.consequence it.alternative c.deref-in-If.result.now c.args.self.now c.args.self.now
-    valued new c.args.visits.now c.tick-in-If.new.self between after known (Err fault) it.is c.deref-in-If.ensures (goes-entered _ c.args.self.now _ _ c.tick-in-If.ensures)
+    valued new c.args.visits.now c.tick-in-If.new.self between after known (Err fault) it.is c.deref-in-If.ensures
+    (goes-entered _ c.args.self.now _ _ c.tick-in-If.ensures)
     c.in_ok-known-in-If.ensures
     (branches-stopped (where_so true it.condition known) (where_so false it.condition known) (statement_walk c.deref-in-If.result.now)
     (else_walk it.alternative) valued c.part.new.self new between after
@@ -109,7 +110,8 @@ statement-returns-in_ok-behind-in-While t c =
     let between = c.tick-in-While.new.self in
     while-begun c.args.statement.now it.number it.loop_number it.place it.condition it.body c.deref-in-While.result.now c.args.self.now entered
     c.leave_loop.new.self
-    c.args.visits.now between c.while_round.new.visits c.leave_loop.result it.is c.deref-in-While.ensures (goes-entered _ c.args.self.now _ _ c.tick-in-While.ensures)
+    c.args.visits.now between c.while_round.new.visits c.leave_loop.result it.is c.deref-in-While.ensures
+    (goes-entered _ c.args.self.now _ _ c.tick-in-While.ensures)
     (loop-done it.loop_number it.place None walking entered c.enter_loop.new.self c.in_ok-enter_loop-in-While.ensures c.while_round.new.self between
     c.while_round.new.visits c.in_ok-behind-in-While.behind c.in_ok-behind-in-While.ensures c.leave_loop.result c.leave_loop.new.self c.leave_loop.ensures)
 
@@ -151,7 +153,8 @@ statement-returns-in_ok-behind-in-Repeat t c =
     let between = c.tick-in-Repeat.new.self in
     repeat-begun c.args.statement.now it.number it.loop_number it.place it.statements it.condition c.deref-in-Repeat.result.now c.args.self.now entered
     c.leave_loop-in-Repeat.new.self
-    c.args.visits.now between c.repeat_round.new.visits c.leave_loop-in-Repeat.result it.is c.deref-in-Repeat.ensures.value (goes-entered _ c.args.self.now _ _ c.tick-in-Repeat.ensures)
+    c.args.visits.now between c.repeat_round.new.visits c.leave_loop-in-Repeat.result it.is c.deref-in-Repeat.ensures.value
+    (goes-entered _ c.args.self.now _ _ c.tick-in-Repeat.ensures)
     (loop-done it.loop_number it.place None walking entered c.enter_loop-in-Repeat.new.self c.in_ok-enter_loop-in-Repeat.ensures c.repeat_round.new.self between
     c.repeat_round.new.visits c.in_ok-behind-in-Repeat.behind c.in_ok-behind-in-Repeat.ensures c.leave_loop-in-Repeat.result c.leave_loop-in-Repeat.new.self
     c.leave_loop-in-Repeat.ensures)
@@ -265,7 +268,8 @@ statement-returns-in_err-to-in-For t c =
     left.result left.ensures
     (for-last_stopped c.args.statement.now it.number it.loop_number it.place it.control it.first it.first_fits it.direction it.last it.last_fits it.body
     c.in_ok-from-in-For.from c.args.self.now c.args.self.now c.expression-in-For.new.self c.expression-in-For-2.new.self c.args.visits.now
-    c.tick-in-For.new.self c.expression-in-For.new.visits c.expression-in-For-2.new.visits fault it.is (goes-entered _ c.args.self.now _ _ c.tick-in-For.ensures)
+    c.tick-in-For.new.self c.expression-in-For.new.visits c.expression-in-For-2.new.visits fault it.is
+    (goes-entered _ c.args.self.now _ _ c.tick-in-For.ensures)
     c.in_ok-from-in-For.ensures c.in_err-to-in-For.ensures)
 
 pub statement-returns-in_ok-to-in-For : goal.statement-returns-in_ok-to-in-For
@@ -321,7 +325,8 @@ statement-returns-in_ok-known-in-Case t c =
     case-begun c.args.statement.now it.number it.site it.index it.constants it.arms c.deref-in-Case-2.result.now c.deref-in-Case.result.now
     c.in_ok-known-in-Case.known c.range-range.result c.args.self.now c.args.self.now c.expression-in-Case.new.self c.case_statement.new.self
     c.args.visits.now c.tick-in-Case.new.self c.expression-in-Case.new.visits c.case_statement.new.visits c.case_statement.result it.is
-    c.deref-in-Case-2.ensures.value c.deref-in-Case.ensures.value c.range-range.ensures (goes-entered _ c.args.self.now _ _ c.tick-in-Case.ensures) c.in_ok-known-in-Case.ensures
+    c.deref-in-Case-2.ensures.value c.deref-in-Case.ensures.value c.range-range.ensures
+    (goes-entered _ c.args.self.now _ _ c.tick-in-Case.ensures) c.in_ok-known-in-Case.ensures
     c.case_statement.ensures
 
 pub arms-returns-in_err-arm : goal.arms-returns-in_err-arm
