@@ -1,6 +1,6 @@
 -- Pieces of a program use their turns exactly: where one gave a value, the turns that it used are enough for that. Of most
 -- pieces a law of the meaning says so; the others are made of those.
-use Rattle.std.proofs.Common.{◌≡◌, ℕ, ◌+◌, List, [], ◌∷◌, Option, Some, None, map, Bool, true, false, ℤ, if◌then◌else◌, refl, sym, ap, ◌∙◌, arith}
+use Rattle.std.proofs.Common.{◌≡◌, ℕ, ◌+◌, List, [], ◌∷◌, Option, Some, None, map, Bool, true, false, ℤ, if◌then◌else◌, refl, ap, ◌∙◌, arith}
 use Rattle.types.specs.declared.form.Step.TheVariants as step
 use Rattle.typed_tree.specs.declared.tree.Direction.{Direction}
 use Rattle.typed_tree.specs.declared.tree.Dyadic.{Dyadic}
@@ -14,9 +14,9 @@ use Rattle.meaning.specs.declared.store.Value.{Value}
 use Rattle.meaning.specs.declared.store.Value.TheVariants.{Number}
 use Rattle.meaning.specs.Counting.{value_behind}
 use Rattle.meaning.specs.Store.{Place, part}
-use Rattle.meaning.specs.Effect.{State, Reply, Gives, Stops, Action, ◌>>=◌, and_then, enter, give, is_in, number_of, require, store, use_turn}
+use Rattle.meaning.specs.Effect.{Reply, Gives, Stops, Action, ◌>>=◌, and_then, enter, give, is_in, number_of, require, store, use_turn}
 use Rattle.meaning.specs.Laws.{AllUseTurnsExactly, UsedTurns, UsesTurnsExactly, state_after}
-use Rattle.meaning.specs.Meaning.{Evaluation, Surroundings, all_of, all_passed, combined, effect_of, link_step, parameter_of, passing_of, selected, value_of}
+use Rattle.meaning.specs.Meaning.{Evaluation, Surroundings, all_of, all_passed, effect_of, link_step, parameter_of, passing_of, selected, value_of}
 use Rattle.meaning.specs.Meaning.{for_round, is_so, repeat_round, turn_if, while_round}
 
 pub exact_give : {A : Type 0} (a : A) → UsesTurnsExactly (give a)

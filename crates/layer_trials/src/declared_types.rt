@@ -3,6 +3,7 @@ use std::process::Abort;
 use std::test::Fail;
 use types::{
     ArrayElement, Field, OrdinalRange, RecordField, Step, TypeForm, TypeId, TypeRefusal, TypeTable,
+    laws,
 };
 
 /// A subrange of integer.
@@ -164,5 +165,15 @@ fn declared_types_are_as_they_should_be(rt: HostRuntime) -> Result<(), Fail> {
     assert!(rt; matches!(records_hold(rt.alloc(), &mut table), Ok(true)));
     assert!(rt; matches!(elements_hold(rt.alloc(), &mut table), Ok(true)));
     assert!(rt; matches!(empty_fields_hold(rt.alloc(), &mut table), Ok(true)));
+    Ok(())
+}
+
+#[test]
+fn laws_of_types_are_called(_rt: HostRuntime) -> Result<(), Fail> {
+    laws::components_are_cells();
+    laws::components_stand_once();
+    laws::ordinals_have_one_component();
+    laws::elements_lie_in_order();
+    laws::fields_lie_in_order();
     Ok(())
 }

@@ -1,4 +1,4 @@
-use crate::sources::tree_of;
+use crate::sources::{resolved, tree_of};
 use code_generator::fault::GenFault;
 use code_generator::generate::generate;
 use code_generator::laws;
@@ -7,14 +7,21 @@ use std::alloc::Global;
 use std::test::Fail;
 use test_words::machines::run_told;
 use test_words::rows::all_hold;
+use typed_tree::fault::TypeFault;
+use typed_tree::tree::Tree;
 
-/// The code of a program with two variables. Each program of a test has a typed tree: one without would count as one
-/// for which there is no memory.
-fn code_of(alloc: Global, statements: &str) -> Result<Code, GenFault> {
-    match tree_of(alloc, "a, b: integer", statements) {
+/// The code of a program. Each program of a test has a typed tree: one without would count as one for which there is no
+/// memory.
+fn generated(alloc: Global, tree: Result<Tree, TypeFault>) -> Result<Code, GenFault> {
+    match tree {
         Ok(tree) => generate(alloc, &tree),
         Err(_) => Err(GenFault::Memory),
     }
+}
+
+/// The code of a program with two variables.
+fn code_of(alloc: Global, statements: &str) -> Result<Code, GenFault> {
+    generated(alloc, tree_of(alloc, "a, b: integer", statements))
 }
 
 /// What the run of a program writes in a store of so many cells, and behind it how it stops.
@@ -42,6 +49,32 @@ static RUNS: [((&str, u32), &str); 8] = [
 #[test]
 fn code_runs(rt: HostRuntime) -> Result<(), Fail> {
     all_hold(rt.alloc(), &RUNS, code_run_told)
+}
+
+/// The same of a program that passes a variable of this type to a procedure which does nothing.
+fn passing_run_told(alloc: Global, row: &(&str, u32)) -> Result<String, Fail> {
+    let denoter = row.0;
+    let source = format!(in alloc;
+        "program p; type t = {denoter}; var r: t; procedure q(var x: t); begin end; begin q(r) end."
+    )?;
+    let code = generated(alloc, resolved(alloc, source.as_str()))?;
+    run_told(alloc, &code, row.1.max(1).min(11), 1000)
+}
+
+/// Types and the cells of the store: four for the program's frame, those of the variable, four for the procedure's
+/// frame and one for the address, which a variable without cells has too.
+static PASSINGS: [((&str, u32), &str); 6] = [
+    (("record end", 9), ""),
+    (("record end", 8), "full"),
+    (("array [Boolean] of record end", 9), ""),
+    (("array [Boolean] of record end", 8), "full"),
+    (("array [Boolean] of char", 11), ""),
+    (("array [Boolean] of char", 10), "full"),
+];
+
+#[test]
+fn variables_without_cells_are_passed(rt: HostRuntime) -> Result<(), Fail> {
+    all_hold(rt.alloc(), &PASSINGS, passing_run_told)
 }
 
 #[test]

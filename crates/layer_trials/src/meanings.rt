@@ -247,5 +247,8 @@ fn laws_are_called(_rt: HostRuntime) -> Result<(), Fail> {
     laws::calls_return();
     laws::statements_use_turns_exactly();
     laws::chains_go_left_to_right();
+    laws::deeper_calls_change_nothing();
+    laws::pieces_use_turns_exactly();
+    laws::loops_go_round_by_round();
     Ok(())
 }

@@ -1,5 +1,5 @@
 -- Laws of every piece of a program, wherever it stands.
-use Rattle.meaning.specs.Laws.{AllUseTurnsExactly, AllGoRoundByRound, PiecesUseTurnsExactly, LoopsGoRoundByRound, standing}
+use Rattle.meaning.specs.Laws.{PiecesUseTurnsExactly, LoopsGoRoundByRound, standing}
 use Rattle.meaning.specs.Meaning.{effect_of, value_of, all_of}
 use Rattle.meaning.proofs.Loops.{looped-rounds, for_uses, repeat_uses, while_uses}
 use Rattle.meaning.proofs.Used.{Exact, exact_calls, exact_closed, exact_turn}
