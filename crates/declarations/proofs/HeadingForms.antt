@@ -24,7 +24,7 @@ use Rattle.declarations.proofs.Kept.{parameters_keep, result_keeps, stays}
 -- ---- types
 
 abbrev pub type_of_group : FormalGroup → Passing TypeId
-type_of_group g = type_of_name [] g.type_name
+type_of_group g = type_of_name g.type_name
 
 module _ (groups : List FormalGroup) (old : Passed) where
   abbrev pub TypesFrom : ℕ → List TypeId → Passed → Type 0

@@ -32,12 +32,12 @@ use Rattle.typing.specs.Names.{folded, group_names, type_names}
 use Rattle.typing.specs.Passing.{Passed, Checked, Passing, after, and_then, fail, given, pure, ◌>>=◌, ◌>>◌}
 use Rattle.typing.specs.Steps.{fits, value_of, pass, declare, add_type, latest, give_output}
 use Rattle.typing.specs.Denoters.{named_type, type_of_name, constants_from, enumeration, between, subrange, denoted_type}
-use Rattle.typing.specs.Denoters.{WrittenDenoter, written_denoter, denoter_step, index_type, index_types, arrays, array}
+use Rattle.typing.specs.Denoters.{WrittenDenoter, denoter_step, index_type, index_types, arrays, array}
 use Rattle.typing.specs.Denoters.{named_fields, grouped_fields, record_type}
 use Rattle.typing.specs.Outcomes.{Takes}
 use Rattle.typing.specs.Routines.{declared, definition, type_definition, group, local, parameter_kind, parameters, parameters_named, result, waiting_for}
 use Rattle.typing.specs.Typing.{parameter_of_program}
-use Rattle.typing.proofs.Stays.{Leaves, keeps_then, keeps_test, pure_keeps, fail_keeps, given_keeps, quiet}
+use Rattle.typing.proofs.Stays.{Leaves, keeps_then, keeps_test, pure_keeps, fail_keeps, given_keeps, by_types_keeps, quiet}
 use Rattle.typing.proofs.Stays.{enclosing_now_keeps, give_output_keeps, latest_keeps, next_root_keeps, reserve_keeps}
 pub use Rattle.typing.proofs.Stays.{Stays, Keeps, each_keeps, pass_keeps, add_type_keeps, declare_keeps}
 use Rattle.typing.proofs.StayingForms.{ordinal_constant_keeps}
@@ -74,9 +74,9 @@ local_keeps type_id name =
     keeps_then (declared_keeps enclosing.block variable.Local type_id name) λ _.
     pure_keeps tt
 
-pub type_of_name_keeps : (names : List Name) (name : Name) → Keeps (type_of_name names name)
+pub type_of_name_keeps : (name : Name) → Keeps (type_of_name name)
 unfolding type_of_name
-type_of_name_keeps names name = record { keeps = λ old. by old (named_type names name (found old.regions (folded name.text.now))) }
+type_of_name_keeps name = record { keeps = λ old. by old (named_type name (found old.regions (folded name.text.now))) }
   where
     by : (old : Passed) (outcome : Checked TypeId)
         → Leaves old (and_then outcome (λ type_id. Ok (after type_id [] (record old { latest = name.place }))))
@@ -119,7 +119,7 @@ subrange_keeps first place last =
 -- ---- denoters, by induction over their form
 
 abbrev DenoterKeeps : TypeDenoter → Type 0
-DenoterKeeps d = (names : List Name) → Keeps (written_denoter d names)
+DenoterKeeps d = Keeps (denoted_type d)
 
 abbrev KeptDenoter : Type 0
 KeptDenoter = (d : TypeDenoter) × DenoterKeeps d
@@ -128,18 +128,21 @@ abbrev bare : TypeDenoter-F KeptDenoter → TypeDenoter-F TypeDenoter
 bare = map-TypeDenoter KeptDenoter TypeDenoter (λ d. d.0)
 
 abbrev all_written : List KeptDenoter → List WrittenDenoter
-all_written ds = map written_denoter (map (λ (d : KeptDenoter). d.0) ds)
+all_written ds = map denoted_type (map (λ (d : KeptDenoter). d.0) ds)
 
-index_type_keeps : (names : List Name) (place : Place) (d : KeptDenoter) → Keeps (index_type names place (written_denoter d.0))
+index_type_keeps : (d : KeptDenoter) → Keeps (index_type (denoted_type d.0))
 unfolding index_type
-index_type_keeps names place d = keeps_test (λ types id. fits (is_ordinal types id) place id) (d.1 names)
+index_type_keeps d =
+    keeps_then d.1 λ id.
+    keeps_then latest_keeps λ place.
+    by_types_keeps (λ types. fits (is_ordinal types id) place id)
 
-index_types_keep : (names : List Name) (place : Place) (ds : List KeptDenoter) → Keeps (index_types names place (all_written ds))
-index_types_keep names place [] = pure_keeps []
-index_types_keep names place (d ∷ ds) =
-    then_keeps (index_type names place (written_denoter d.0)) (λ id. index_types names place (all_written ds) >>= (λ ids. pure (id ∷ ids)))
-    (index_type_keeps names place d) λ id.
-    then_keeps (index_types names place (all_written ds)) (λ ids. pure (id ∷ ids)) (index_types_keep names place ds) (λ ids. pure_keeps (id ∷ ids))
+index_types_keep : (ds : List KeptDenoter) → Keeps (index_types (all_written ds))
+index_types_keep [] = pure_keeps []
+index_types_keep (d ∷ ds) =
+    then_keeps (index_type (denoted_type d.0)) (λ id. index_types (all_written ds) >>= (λ ids. pure (id ∷ ids)))
+    (index_type_keeps d) λ id.
+    then_keeps (index_types (all_written ds)) (λ ids. pure (id ∷ ids)) (index_types_keep ds) (λ ids. pure_keeps (id ∷ ids))
 
 arrays_keep : (packed : Bool) (place : Place) (ids : List TypeId) (element : TypeId) → Keeps (arrays packed place ids element)
 arrays_keep packed place [] element = pure_keeps element
@@ -147,79 +150,78 @@ arrays_keep packed place (id ∷ ids) element =
     then_keeps (arrays packed place ids element) (λ inner. add_type place (Array packed id inner)) (arrays_keep packed place ids element)
     (λ inner. add_type_keeps place (Array packed id inner))
 
-array_keeps : (names : List Name) (packed : Bool) (place : Place) (indexes : List KeptDenoter) (element : KeptDenoter)
-    → Keeps (array names packed place (all_written indexes) (written_denoter element.0))
+array_keeps : (packed : Bool) (place : Place) (indexes : List KeptDenoter) (element : KeptDenoter)
+    → Keeps (array packed place (all_written indexes) (denoted_type element.0))
 unfolding array
-array_keeps names packed place indexes element =
+array_keeps packed place indexes element =
     then_keeps (pass place)
-    (λ _. index_types names place (all_written indexes) >>= (λ ids. written_denoter element.0 names >>= (λ inner. arrays packed place ids inner)))
+    (λ _. index_types (all_written indexes) >>= (λ ids. denoted_type element.0 >>= (λ inner. arrays packed place ids inner)))
     (pass_keeps place) λ _.
-    then_keeps (index_types names place (all_written indexes)) (λ ids. written_denoter element.0 names >>= (λ inner. arrays packed place ids inner))
-    (index_types_keep names place indexes) λ ids.
-    then_keeps (written_denoter element.0 names) (λ inner. arrays packed place ids inner) (element.1 names) (λ inner. arrays_keep packed place ids inner)
+    then_keeps (index_types (all_written indexes)) (λ ids. denoted_type element.0 >>= (λ inner. arrays packed place ids inner))
+    (index_types_keep indexes) λ ids.
+    then_keeps (denoted_type element.0) (λ inner. arrays packed place ids inner) element.1 (λ inner. arrays_keep packed place ids inner)
 
-groups_keep : (names : List Name) (fields : List FieldForm) (rows : List (Vec Name Global)) (ds : List KeptDenoter)
-    → Keeps (grouped_fields names fields (fields_of rows (all_written ds)))
-groups_keep names fields [] ds = pure_keeps fields
-groups_keep names fields (row ∷ rows) [] = pure_keeps fields
-groups_keep names fields (row ∷ rows) (d ∷ ds) =
-    then_keeps (written_denoter d.0 names)
-    (λ id. given (named_fields fields id row.items) >>= (λ more. grouped_fields names more (fields_of rows (all_written ds)))) (d.1 names) λ id.
-    then_keeps (given (named_fields fields id row.items)) (λ more. grouped_fields names more (fields_of rows (all_written ds)))
-    (given_keeps (named_fields fields id row.items)) (λ more. groups_keep names more rows ds)
+groups_keep : (fields : List FieldForm) (rows : List (Vec Name Global)) (ds : List KeptDenoter)
+    → Keeps (grouped_fields fields (fields_of rows (all_written ds)))
+groups_keep fields [] ds = pure_keeps fields
+groups_keep fields (row ∷ rows) [] = pure_keeps fields
+groups_keep fields (row ∷ rows) (d ∷ ds) =
+    then_keeps (denoted_type d.0)
+    (λ id. given (named_fields fields id row.items) >>= (λ more. grouped_fields more (fields_of rows (all_written ds)))) d.1 λ id.
+    then_keeps (given (named_fields fields id row.items)) (λ more. grouped_fields more (fields_of rows (all_written ds)))
+    (given_keeps (named_fields fields id row.items)) (λ more. groups_keep more rows ds)
 
-record_keeps : (names : List Name) (packed : Bool) (place : Place) (rows : List (Vec Name Global)) (ds : List KeptDenoter)
-    → Keeps (record_type names packed place (fields_of rows (all_written ds)))
+record_keeps : (packed : Bool) (place : Place) (rows : List (Vec Name Global)) (ds : List KeptDenoter)
+    → Keeps (record_type packed place (fields_of rows (all_written ds)))
 unfolding record_type
-record_keeps names packed place rows ds =
-    then_keeps (pass place) (λ _. grouped_fields names [] (fields_of rows (all_written ds)) >>= (λ fields. add_type place (Record packed fields)))
+record_keeps packed place rows ds =
+    then_keeps (pass place) (λ _. grouped_fields [] (fields_of rows (all_written ds)) >>= (λ fields. add_type place (Record packed fields)))
     (pass_keeps place) λ _.
-    then_keeps (grouped_fields names [] (fields_of rows (all_written ds))) (λ fields. add_type place (Record packed fields))
-    (groups_keep names [] rows ds) (λ fields. add_type_keeps place (Record packed fields))
+    then_keeps (grouped_fields [] (fields_of rows (all_written ds))) (λ fields. add_type place (Record packed fields))
+    (groups_keep [] rows ds) (λ fields. add_type_keeps place (Record packed fields))
 
-rolled : (l : TypeDenoter-F TypeDenoter)
-    → ((names : List Name) → Keeps (denoter_step (map-TypeDenoter TypeDenoter WrittenDenoter written_denoter l) names)) → DenoterKeeps (roll-TypeDenoter l)
-rolled l keeps names = subst (λ (w : WrittenDenoter). Keeps (w names)) (sym (fold-roll-TypeDenoter WrittenDenoter denoter_step l)) (keeps names)
+rolled : (l : TypeDenoter-F TypeDenoter) → Keeps (denoter_step (map-TypeDenoter TypeDenoter WrittenDenoter denoted_type l)) → DenoterKeeps (roll-TypeDenoter l)
+rolled l keeps = subst (λ (w : WrittenDenoter). Keeps w) (sym (fold-roll-TypeDenoter WrittenDenoter denoter_step l)) keeps
 
 layer_keeps : (l : TypeDenoter-F KeptDenoter) → DenoterKeeps (roll-TypeDenoter (bare l))
-layer_keeps (layer.Name name) = rolled (layer.Name name) (λ names. type_of_name_keeps names name)
-layer_keeps (layer.Enumerated constants) = rolled (layer.Enumerated constants) (λ names. enumeration_keeps constants.items)
-layer_keeps (layer.Subrange first place last) = rolled (layer.Subrange first place last) (λ names. subrange_keeps first place last)
+layer_keeps (layer.Name name) = rolled (layer.Name name) (type_of_name_keeps name)
+layer_keeps (layer.Enumerated constants) = rolled (layer.Enumerated constants) (enumeration_keeps constants.items)
+layer_keeps (layer.Subrange first place last) = rolled (layer.Subrange first place last) (subrange_keeps first place last)
 layer_keeps (layer.Array packed place indexes element) =
-    rolled (bare (layer.Array packed place indexes element)) (λ names. array_keeps names packed place indexes.items element.value)
+    rolled (bare (layer.Array packed place indexes element)) (array_keeps packed place indexes.items element.value)
 layer_keeps (layer.Record packed place rows ds semicolon) =
-    rolled (bare (layer.Record packed place rows ds semicolon)) (λ names. record_keeps names packed place rows.items ds.items)
+    rolled (bare (layer.Record packed place rows ds semicolon)) (record_keeps packed place rows.items ds.items)
 
-pub denoted_type_keeps : (names : List Name) (denoter : TypeDenoter) → Keeps (denoted_type names denoter)
-denoted_type_keeps names denoter =
-    ind-TypeDenoter DenoterKeeps (λ x l is. subst (λ z. DenoterKeeps (roll-TypeDenoter z)) is (layer_keeps l)) denoter names
+pub denoted_type_keeps : (denoter : TypeDenoter) → Keeps (denoted_type denoter)
+denoted_type_keeps denoter =
+    ind-TypeDenoter DenoterKeeps (λ x l is. subst (λ z. DenoterKeeps (roll-TypeDenoter z)) is (layer_keeps l)) denoter
 
-pub index_keeps : (names : List Name) (place : Place) (d : TypeDenoter) → Keeps (index_type names place (written_denoter d))
-index_keeps names place d = index_type_keeps names place (d, λ ns. denoted_type_keeps ns d)
+pub index_keeps : (d : TypeDenoter) → Keeps (index_type (denoted_type d))
+index_keeps d = index_type_keeps (d, denoted_type_keeps d)
 
 -- those of denoters one after another
 kept : List TypeDenoter → List KeptDenoter
 kept [] = []
-kept (d ∷ ds) = (d, λ names. denoted_type_keeps names d) ∷ kept ds
+kept (d ∷ ds) = (d, denoted_type_keeps d) ∷ kept ds
 
 kept_are : (ds : List TypeDenoter) → map (λ (d : KeptDenoter). d.0) (kept ds) ≡ ds
 unfolding kept
 kept_are [] = refl
 kept_are (d ∷ ds) = ap (λ l. d ∷ l) (kept_are ds)
 
-pub types_keep : (names : List Name) (place : Place) (ds : List TypeDenoter) → Keeps (index_types names place (map written_denoter ds))
-types_keep names place ds = subst (λ l. Keeps (index_types names place (map written_denoter l))) (kept_are ds) (index_types_keep names place (kept ds))
+pub types_keep : (ds : List TypeDenoter) → Keeps (index_types (map denoted_type ds))
+types_keep ds = subst (λ l. Keeps (index_types (map denoted_type l))) (kept_are ds) (index_types_keep (kept ds))
 
 pub type_definition_keeps : (d : TypeDefinition) → Keeps (type_definition d)
 unfolding type_definition
 type_definition_keeps d =
-    then_keeps (denoted_type [] d.denoter) (λ type_id. declare d.name (denotes.TypeName type_id)) (denoted_type_keeps [] d.denoter)
+    then_keeps (denoted_type d.denoter) (λ type_id. declare d.name (denotes.TypeName type_id)) (denoted_type_keeps d.denoter)
     (λ type_id. declare_keeps d.name (denotes.TypeName type_id))
 
 pub group_keeps : (g : VariableGroup) → Keeps (group g)
 unfolding group
 group_keeps g =
-    keeps_then (denoted_type_keeps g.names.items g.denoter) (λ type_id. each_keeps (local type_id) g.names.items (local_keeps type_id))
+    keeps_then (denoted_type_keeps g.denoter) (λ type_id. each_keeps (local type_id) g.names.items (local_keeps type_id))
 
 pub result_keeps : (block : ℕ) (place : Place) (type_id : Option TypeId) → Keeps (result block place type_id)
 unfolding result

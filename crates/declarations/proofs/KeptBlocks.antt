@@ -150,13 +150,13 @@ close_closes = record { does = λ old. refl }
 types_keep : (groups : List FormalGroup) → Keeps (group_types groups)
 types_keep [] = pure_keeps []
 types_keep (g ∷ groups) =
-    keeps_then (type_of_name_keeps [] g.type_name) (λ id. keeps_then (types_keep groups) (λ ids. pure_keeps (id ∷ ids)))
+    keeps_then (type_of_name_keeps g.type_name) (λ id. keeps_then (types_keep groups) (λ ids. pure_keeps (id ∷ ids)))
 
 of_result_keeps : (of_result : Option Name) → Keeps (type_of_result of_result)
 unfolding result_type
 of_result_keeps None = pure_keeps None
 of_result_keeps (Some name) =
-    keeps_then (keeps_test (λ types id. fits (is_ordinal types id) name.place id) (type_of_name_keeps [] name)) (λ id. pure_keeps (Some id))
+    keeps_then (keeps_test (λ types id. fits (is_ordinal types id) name.place id) (type_of_name_keeps name)) (λ id. pure_keeps (Some id))
 
 heading_deep : (number : ℕ) (name : Name) (groups : List FormalGroup) (of_result : Option Name) → Does Deep (heading number name groups of_result)
 unfolding heading

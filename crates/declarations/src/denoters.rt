@@ -13,19 +13,15 @@ use typed_tree::fault::TypeFault;
 use types::{Field, TypeForm, TypeId};
 use typing::{Typer, add_fields, value_of};
 
-/// The type that a denoter denotes, where variables of these names get it (6.4.1).
+/// The type that a denoter denotes (6.4.1).
 #[cycle(denoters)]
 #[tactic(auto, using(typing::proofs::Written::written_denoters))]
-pub(crate) fn denoted_type(
-    typer: &mut Typer,
-    names: &[Name],
-    denoter: &TypeDenoter,
-) -> Result<TypeId, TypeFault>
+pub(crate) fn denoted_type(typer: &mut Typer, denoter: &TypeDenoter) -> Result<TypeId, TypeFault>
     requires known { AreKnown (denoter_names denoter.now) typer.old.regions }
-    ensures { Takes (spec.denoted_type names.now denoter.now typer.old) result typer.new }
+    ensures { Takes (spec.denoted_type denoter.now typer.old) result typer.new }
 {
     match denoter {
-        TypeDenoter::Name(name) => typer.type_of_name(names, name),
+        TypeDenoter::Name(name) => typer.type_of_name(name),
         TypeDenoter::Enumerated { constants } => enumeration(typer, constants),
         TypeDenoter::Subrange {
             first,
@@ -39,8 +35,8 @@ pub(crate) fn denoted_type(
             element,
         } => {
             typer.pass(*place);
-            let indexes = index_types(typer, names, *place, indexes)?;
-            let element = denoted_type(typer, names, element)?;
+            let indexes = index_types(typer, indexes)?;
+            let element = denoted_type(typer, element)?;
             typer.arrays(*packed, *place, &indexes, element)
         }
         TypeDenoter::Record {
@@ -51,7 +47,7 @@ pub(crate) fn denoted_type(
             ..
         } => {
             typer.pass(*place);
-            let fields = grouped_fields(typer, names, rows, denoters)?;
+            let fields = grouped_fields(typer, rows, denoters)?;
             let packed = *packed;
             typer.add_type(*place, TypeForm::Record { packed, fields })
         }
@@ -60,38 +56,28 @@ pub(crate) fn denoted_type(
 
 // The index types of an array, in their order.
 #[cycle(denoters)]
-fn index_types(
-    typer: &mut Typer,
-    names: &[Name],
-    place: Place,
-    denoters: &[TypeDenoter],
-) -> Result<Vec<TypeId>, TypeFault>
+fn index_types(typer: &mut Typer, denoters: &[TypeDenoter]) -> Result<Vec<TypeId>, TypeFault>
     requires known { AreKnown (names_in denoters.now) typer.old.regions }
     ensures { Makes (λ ids. ids.items) (λ ids. [])
-        (spec.index_types names.now place (map spec.written_denoter denoters.now) typer.old) result typer.new }
+        (spec.index_types (map spec.denoted_type denoters.now) typer.old) result typer.new }
 {
     let mut ids = Vec::with_capacity(typer.alloc, denoters.len())?;
     for denoter in denoters {
-        ids.push(index_type(typer, names, place, denoter)?)?;
+        ids.push(index_type(typer, denoter)?)?;
     }
     Ok(ids)
 }
 
-// An index type: K1 at the array's word where it is not ordinal.
+// An index type: K1 at the latest token of it where it is not ordinal.
 #[cycle(denoters)]
-#[tactic(auto, unfolding(typing::specs::Denoters::index_type))]
-fn index_type(
-    typer: &mut Typer,
-    names: &[Name],
-    place: Place,
-    denoter: &TypeDenoter,
-) -> Result<TypeId, TypeFault>
+#[tactic(auto, unfolding(typing::specs::Denoters::index_type, typing::specs::Steps::latest))]
+fn index_type(typer: &mut Typer, denoter: &TypeDenoter) -> Result<TypeId, TypeFault>
     requires known { AreKnown (denoter_names denoter.now) typer.old.regions }
-    ensures { Takes (spec.index_type names.now place (spec.written_denoter denoter.now) typer.old) result typer.new }
+    ensures { Takes (spec.index_type (spec.denoted_type denoter.now) typer.old) result typer.new }
 {
-    let id = denoted_type(typer, names, denoter)?;
+    let id = denoted_type(typer, denoter)?;
     if !typer.tests_ordinal(id) {
-        return Err(TypeFault::Mismatch(place));
+        return Err(TypeFault::Mismatch(typer.latest()));
     }
     Ok(id)
 }
@@ -100,18 +86,16 @@ fn index_type(
 #[cycle(denoters)]
 fn grouped_fields(
     typer: &mut Typer,
-    names: &[Name],
     rows: &[Vec<Name>],
     denoters: &[TypeDenoter],
 ) -> Result<Vec<Field>, TypeFault>
     requires known { AreKnown (names_in_groups rows.now denoters.now) typer.old.regions }
     ensures { Makes (λ fields. map field_form fields.items) (λ fields. [])
-        (spec.grouped_fields names.now [] (fields_of rows.now (map spec.written_denoter denoters.now)) typer.old) result
-        typer.new }
+        (spec.grouped_fields [] (fields_of rows.now (map spec.denoted_type denoters.now)) typer.old) result typer.new }
 {
     let mut fields = Vec::new(typer.alloc);
     for (row, denoter) in rows.iter().zip(denoters) {
-        let type_id = denoted_type(typer, names, denoter)?;
+        let type_id = denoted_type(typer, denoter)?;
         add_fields(typer.alloc, &mut fields, type_id, row)?;
     }
     Ok(fields)

@@ -124,7 +124,7 @@ fn group_types(typer: &mut Typer, groups: &[FormalGroup]) -> Result<Vec<TypeId>,
 {
     let mut types = Vec::with_capacity(typer.alloc, groups.len())?;
     for group in groups {
-        types.push(typer.type_of_name(&[], &group.type_name)?)?;
+        types.push(typer.type_of_name(&group.type_name)?)?;
     }
     Ok(types)
 }
@@ -144,7 +144,7 @@ fn type_of_result(typer: &mut Typer, of_result: Option<&Name>) -> Result<Option<
 fn result_type(typer: &mut Typer, name: &Name) -> Result<TypeId, TypeFault>
     ensures { Takes (spec.result_type name.now typer.old) result typer.new }
 {
-    let id = typer.type_of_name(&[], name)?;
+    let id = typer.type_of_name(name)?;
     if !typer.tests_ordinal(id) {
         return Err(TypeFault::Mismatch(name.place));
     }

@@ -30,6 +30,6 @@ fn declare_type(typer: &mut Typer, definition: &TypeDefinition) -> Result<(), Ty
     requires known { AreKnown (type_names definition.now) typer.old.regions }
     ensures { Takes (spec.type_definition definition.now typer.old) result typer.new }
 {
-    let type_id = denoted_type(typer, &[], &definition.denoter)?;
+    let type_id = denoted_type(typer, &definition.denoter)?;
     typer.declare(&definition.name, Denotation::TypeName(type_id))
 }

@@ -28,7 +28,7 @@ fn declare_group(typer: &mut Typer, group: &VariableGroup) -> Result<(), TypeFau
     requires known { AreKnown (group_names group.now) typer.old.regions }
     ensures { Takes (spec.group group.now typer.old) result typer.new }
 {
-    let type_id = denoted_type(typer, &group.names, &group.denoter)?;
+    let type_id = denoted_type(typer, &group.denoter)?;
     declare_variables(typer, type_id, &group.names)
 }
 

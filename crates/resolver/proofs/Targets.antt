@@ -79,10 +79,10 @@ module _ (name : Name) (selectors : List Selector) (indexes : List Written) wher
   behind_variable variable = may_change name.place variable.0 >> (enter_as Access >> behind_entry variable)
 
   abbrev behind_name : Denotation → Passing TypeId
-  behind_name d = target_of (as_routine d) name.place d >>= behind_variable
+  behind_name d = target_of (as_routine d) selectors name.place d >>= behind_variable
 
   module _ (d : Denotation) (variable : ℕ × TypeId) (number : ℕ) (old first now second third : Passed) where
-    behind_steps : find name old ≡ Ok (after d [] first) → target_of (as_routine d) name.place d first ≡ Ok (after variable [] now)
+    behind_steps : find name old ≡ Ok (after d [] first) → target_of (as_routine d) selectors name.place d first ≡ Ok (after variable [] now)
         → may_change name.place variable.0 now ≡ Ok (after tt [] second) → enter second ≡ Ok (after number [] third)
         → target name selectors indexes old
         ≡ behind_marks [] (behind_marks [] (behind_marks [] (behind_marks (Access number ∷ []) (behind_entry variable third))))
@@ -96,7 +96,7 @@ module _ (name : Name) (selectors : List Selector) (indexes : List Written) wher
         (λ a. behind_marks a.look (mark (Access a.answer) a.passed))) (λ a. behind_marks a.look (behind_entry variable a.passed)))))) enters
 
     -- a component is selected
-    pub target_is : find name old ≡ Ok (after d [] first) → target_of (as_routine d) name.place d first ≡ Ok (after variable [] now)
+    pub target_is : find name old ≡ Ok (after d [] first) → target_of (as_routine d) selectors name.place d first ≡ Ok (after variable [] now)
         → may_change name.place variable.0 now ≡ Ok (after tt [] second) → enter second ≡ Ok (after number [] third)
         → (component : List TreeSelector × TypeId) → (look : Look) → (last : Passed)
         → selected [] variable.1 selectors indexes third ≡ Ok (after component look last)

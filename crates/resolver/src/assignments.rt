@@ -50,7 +50,7 @@ fn target(
     ensures { MakesTarget (spec.target name.now selectors.now (map expression indexes.now) typer.old) result typer.new }
 {
     let denotation = typer.find(name)?;
-    let (root, type_id) = target_of(typer, name.place, denotation)?;
+    let (root, type_id) = target_of(typer, selectors, name.place, denotation)?;
     typer.may_change(name.place, root)?;
     let number = typer.enter()?;
     let component = selected(typer, type_id, selectors, indexes)?;
@@ -66,18 +66,22 @@ fn target(
     })
 }
 
-// The variable left of `:=` that a name at a place denotes, by its root and its type: the result of a function by the
-// function's name.
+// The variable left of `:=` that a name at a place denotes, with these selectors behind it, by its root and its type:
+// the result of a function by the function's name alone.
 fn target_of(
     typer: &mut Typer,
+    selectors: &[syntax::Selector],
     place: Place,
     denotation: Denotation,
 ) -> Result<(u32, TypeId), TypeFault>
-    ensures { Takes (spec.target_of (as_routine denotation) place denotation typer.old) result typer.new }
+    ensures { Takes (spec.target_of (as_routine denotation) selectors.now place denotation typer.old) result typer.new }
 {
-    match as_routine(denotation) {
-        None => as_variable(place, denotation),
-        Some((block, _)) => typer.function_target(place, block),
+    let Some((block, _)) = as_routine(denotation) else {
+        return as_variable(place, denotation);
+    };
+    match selectors {
+        [] => typer.function_target(place, block),
+        [_, ..] => as_variable(place, denotation),
     }
 }
 

@@ -1,6 +1,6 @@
 -- A table as the region that it is: what it says of a name, and what it is after an insert.
 use Rattle.std.proofs.Common.{◌≡◌, ℕ, ◌+◌, ◌-◌, ◌<◌, Bool, true, false, cond, if◌then◌else◌, List, [], ◌∷◌, ◌++◌, Option, Some, None, Vec, nat_eq, map, take}
-use Rattle.std.proofs.Common.{length, slice_index_or, slice_set, get_or, reverse, Ok, Err, is_some, refl, sym, ap, ap₂, ◌∙◌, arith}
+use Rattle.std.proofs.Common.{length, slice_index_or, slice_set, get_or, reverse, Ok, Err, is_ok, is_some, refl, sym, ap, ap₂, ◌∙◌, arith}
 use Rattle.std.specs.List.{AllZip}
 use Rattle.std.specs.Map.{lookup}
 use Rattle.std.specs.HashMap.{HashMap, get, get_by}
@@ -192,6 +192,14 @@ module _ {S : Type 0} where
         (ap is_defined (said_of before key.items) ∙ new)
         ∙ ap (λ r. Ok (r ∷ outer)) (sym (ap (map entry_of) entries ∙ put_is_insert key (Some d) before.entries))
         ∙ ap Ok (sym (written_last region_of tables n after len some))
+
+    -- what the innermost region hasn't defined may be defined
+    pub may_define_last : is_defined (get key_eq before key) ≡ false → is_ok (define key.items d (reverse (map region_of tables))) ≡ true
+    unfolding outer
+    may_define_last new =
+        ap (λ regions. is_ok (define key.items d regions)) (last_is_first region_of tables n before len some is)
+        ∙ ap (λ b. is_ok (if b then Err fault.DeclaredTwice else Ok (put (region_of before) key.items (Some d) ∷ outer)))
+        (ap is_defined (said_of before key.items) ∙ new)
 
     -- the innermost region is written again, with the same entries
     pub written_again : (after : Table S) → after.entries ≡ before.entries

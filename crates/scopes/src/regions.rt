@@ -1,5 +1,5 @@
-ghost use Rattle.std.specs.Prelude.{◌≡◌, ◌⊎◌, ◌∷◌, List, [], Ok, Err, OnOk, OnErr, IfOk, IfErr, MatchResult, drop, map};
-ghost use Rattle.std.specs.Prelude.{nat_eq, reverse};
+ghost use Rattle.std.specs.Prelude.{◌≡◌, ◌⊎◌, ◌∷◌, List, [], Ok, Err, OnOk, OnErr, IfOk, IfErr, IsOk, MatchResult, drop};
+ghost use Rattle.std.specs.Prelude.{map, nat_eq, reverse};
 ghost use Rattle.std.specs.Cmp.Lexicographic.{pointwise};
 ghost use Rattle.std.specs.HashMap.{get_by};
 ghost use Rattle.scopes.specs.Scopes.{Region, innermost, is_defined, listing, opened, opened_beside, opened_with};
@@ -99,12 +99,13 @@ impl Scopes {
     }
 
     /// Passes the definition of a name that the innermost region lists: once, or it is `DeclaredTwice`. A refusal
-    /// leaves all regions as they were.
+    /// leaves all regions as they were, and want of memory is told of a first definition alone.
     pub fn declare(&mut self, name: Vec<u8>, denotation: Denotation) -> Result<(), ScopeFault>
         requires known { Knows self.old name.items }
         ensures defined { OnOk result (define name.items denotation self.old ≡ Ok self.new) }
         ensures refused { IfErr result
             (λ fault. (fault ≡ Memory) ⊎ (define name.items denotation self.old ≡ Err fault)) }
+        ensures memory { result ≡ Err Memory → IsOk (define name.items denotation self.old) }
         ensures unchanged { OnErr result (self.new ≡ self.old) }
     {
         let Some(region) = self.blocks.last_mut() else {

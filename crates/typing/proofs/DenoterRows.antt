@@ -13,7 +13,7 @@ use Rattle.types.specs.Forms.{FieldForm, Array, Record}
 use Rattle.types.specs.declared.form.TypeId.{TypeId}
 use Rattle.typed_tree.specs.declared.fault.TypeFault.{TypeFault}
 use Rattle.typed_tree.specs.declared.fault.TypeFault.TheVariants.{Memory}
-use Rattle.typing.specs.Denoters.{WrittenDenoter, written_denoter, denoted_type, array, arrays, index_type, index_types, named_fields, grouped_fields}
+use Rattle.typing.specs.Denoters.{WrittenDenoter, denoted_type, array, arrays, index_type, index_types, named_fields, grouped_fields}
 use Rattle.typing.specs.Denoters.{record_type}
 use Rattle.typing.specs.Outcomes.{IsFault}
 use Rattle.typing.specs.Passing.{Passed, Checked, After, after, and_then, behind_marks, given, ◌>>=◌}
@@ -69,17 +69,17 @@ one_before : (done : List TypeId) (id : TypeId) (outcome : Checked (After (List 
 one_before done id (Ok a) = ap₂ (λ ids look. Ok (after ids look a.passed)) (sym (append_assoc done (id ∷ []) a.answer)) (append-nil a.look)
 one_before done id (Err why) = refl
 
-module _ {A : Type 0} (written : A → WrittenDenoter) (names : List Name) (place : Place) (forms : List A) (old : Passed) where
+module _ {A : Type 0} (written : A → WrittenDenoter) (forms : List A) (old : Passed) where
   abbrev types_from : ℕ → Passed → Checked (After (List TypeId))
-  types_from i now = index_types names place (map written (drop i forms)) now
+  types_from i now = index_types (map written (drop i forms)) now
 
   -- what is left, once some are passed
   abbrev pub AreTypesFrom : ℕ → List TypeId → Passed → Type 0
-  AreTypesFrom i done now = index_types names place (map written forms) old ≡ before_types done (types_from i now)
+  AreTypesFrom i done now = index_types (map written forms) old ≡ before_types done (types_from i now)
 
   -- none is passed yet
   pub types_begin : AreTypesFrom 0 [] old
-  types_begin = no_types (index_types names place (map written forms) old)
+  types_begin = no_types (index_types (map written forms) old)
 
   module _ (i : ℕ) (form : A) (done : List TypeId) (now : Passed) (within : i < length forms) (is : form ≡ get_or forms i form)
       (left : AreTypesFrom i done now) where
@@ -88,28 +88,28 @@ module _ {A : Type 0} (written : A → WrittenDenoter) (names : List Name) (plac
         before_types done (and_then outcome (λ a. behind_marks a.look (and_then (types_from (i + 1) a.passed)
         (λ b. behind_marks b.look (Ok (after (a.answer ∷ b.answer) [] b.passed))))))
 
-    types_go : index_types names place (map written forms) old ≡ behind_type (index_type names place (written form) now)
+    types_go : index_types (map written forms) old ≡ behind_type (index_type (written form) now)
     types_go =
         left
-        ∙ ap (λ fs. before_types done (index_types names place (map written fs) now)) (drop_more forms i form within)
-        ∙ ap (λ f. before_types done (index_types names place (map written (f ∷ drop (i + 1) forms)) now)) (sym is)
+        ∙ ap (λ fs. before_types done (index_types (map written fs) now)) (drop_more forms i form within)
+        ∙ ap (λ f. before_types done (index_types (map written (f ∷ drop (i + 1) forms)) now)) (sym is)
 
     -- the next one is passed
-    pub types_next : (id : TypeId) (new : Passed) → index_type names place (written form) now ≡ Ok (after id [] new)
+    pub types_next : (id : TypeId) (new : Passed) → index_type (written form) now ≡ Ok (after id [] new)
         → AreTypesFrom (i + 1) (done ++ id ∷ []) new
     types_next id new passes = types_go ∙ ap behind_type passes ∙ one_before done id (types_from (i + 1) new)
 
     -- it stops
-    pub types_stop : (why : TypeFault) → IsFault (index_type names place (written form) now) why
-        → IsFault (index_types names place (map written forms) old) why
+    pub types_stop : (why : TypeFault) → IsFault (index_type (written form) now) why
+        → IsFault (index_types (map written forms) old) why
     types_stop why (inl memory) = inl memory
     types_stop why (inr stops) = inr (types_go ∙ ap behind_type stops)
 
   -- all are passed
   pub types_end : (i : ℕ) (done : List TypeId) (now : Passed) → length forms ≤ i → AreTypesFrom i done now
-      → index_types names place (map written forms) old ≡ Ok (after done [] now)
+      → index_types (map written forms) old ≡ Ok (after done [] now)
   types_end i done now all left =
-      left ∙ at_drop_all (λ fs. before_types done (index_types names place (map written fs) now)) forms i all
+      left ∙ at_drop_all (λ fs. before_types done (index_types (map written fs) now)) forms i all
       ∙ ap (λ ids. Ok (after ids [] now)) (append-nil done)
 
 -- ---- groups of fields
@@ -126,14 +126,14 @@ no_denoters : {A : Type 0} (rows : List (Vec Name Global)) → fields_of {A = A}
 no_denoters [] = refl
 no_denoters (row ∷ rows) = refl
 
-module _ {A : Type 0} (written : A → WrittenDenoter) (names : List Name) (rows : List (Vec Name Global)) (forms : List A) (old : Passed) where
+module _ {A : Type 0} (written : A → WrittenDenoter) (rows : List (Vec Name Global)) (forms : List A) (old : Passed) where
   abbrev groups_from : ℕ → List (List Name × WrittenDenoter)
   groups_from i = fields_of (drop i rows) (map written (drop i forms))
 
   -- what is left, once some are passed
   abbrev pub AreGroupsFrom : ℕ → List FieldForm → Passed → Type 0
   AreGroupsFrom i fields now =
-      grouped_fields names [] (fields_of rows (map written forms)) old ≡ grouped_fields names fields (groups_from i) now
+      grouped_fields [] (fields_of rows (map written forms)) old ≡ grouped_fields fields (groups_from i) now
 
   module _ (i : ℕ) (row : Vec Name Global) (form : A) (fields : List FieldForm) (now : Passed)
       (row_within : i < length rows) (row_is : row ≡ get_or rows i row) (within : i < length forms) (is : form ≡ get_or forms i form)
@@ -141,25 +141,25 @@ module _ {A : Type 0} (written : A → WrittenDenoter) (names : List Name) (rows
     abbrev behind_group : Checked (After TypeId) → Checked (After (List FieldForm))
     behind_group outcome =
         and_then outcome (λ a. behind_marks a.look ((given (named_fields fields a.answer row.items)
-        >>= (λ more. grouped_fields names more (groups_from (i + 1)))) a.passed))
+        >>= (λ more. grouped_fields more (groups_from (i + 1)))) a.passed))
 
-    group_goes : grouped_fields names [] (fields_of rows (map written forms)) old ≡ behind_group (written form names now)
+    group_goes : grouped_fields [] (fields_of rows (map written forms)) old ≡ behind_group (written form now)
     group_goes =
         left
-        ∙ ap (λ rs. grouped_fields names fields (fields_of rs (map written (drop i forms))) now) (drop_more rows i row row_within)
-        ∙ ap (λ fs. grouped_fields names fields (fields_of (get_or rows i row ∷ drop (i + 1) rows) (map written fs)) now) (drop_more forms i form within)
-        ∙ ap₂ (λ r f. grouped_fields names fields ((r.items, written f) ∷ groups_from (i + 1)) now) (sym row_is) (sym is)
+        ∙ ap (λ rs. grouped_fields fields (fields_of rs (map written (drop i forms))) now) (drop_more rows i row row_within)
+        ∙ ap (λ fs. grouped_fields fields (fields_of (get_or rows i row ∷ drop (i + 1) rows) (map written fs)) now) (drop_more forms i form within)
+        ∙ ap₂ (λ r f. grouped_fields fields ((r.items, written f) ∷ groups_from (i + 1)) now) (sym row_is) (sym is)
 
     -- the type of the next one is refused
-    pub group_stops : (why : TypeFault) → IsFault (written form names now) why
-        → IsFault (grouped_fields names [] (fields_of rows (map written forms)) old) why
+    pub group_stops : (why : TypeFault) → IsFault (written form now) why
+        → IsFault (grouped_fields [] (fields_of rows (map written forms)) old) why
     group_stops why (inl memory) = inl memory
     group_stops why (inr stops) = inr (group_goes ∙ ap behind_group stops)
 
-    module _ (id : TypeId) (new : Passed) (passes : written form names now ≡ Ok (after id [] new)) where
-      names_go : grouped_fields names [] (fields_of rows (map written forms)) old
+    module _ (id : TypeId) (new : Passed) (passes : written form now ≡ Ok (after id [] new)) where
+      names_go : grouped_fields [] (fields_of rows (map written forms)) old
           ≡ behind_marks [] (and_then (and_then (named_fields fields id row.items) (λ more. Ok (after more [] new)))
-          (λ a. behind_marks a.look (grouped_fields names a.answer (groups_from (i + 1)) a.passed)))
+          (λ a. behind_marks a.look (grouped_fields a.answer (groups_from (i + 1)) a.passed)))
       names_go = group_goes ∙ ap behind_group passes
 
       -- the next one is passed
@@ -167,100 +167,100 @@ module _ {A : Type 0} (written : A → WrittenDenoter) (names : List Name) (rows
       group_next more named =
           names_go
           ∙ ap (λ c. behind_marks [] (and_then (and_then c (λ more. Ok (after more [] new)))
-          (λ a. behind_marks a.look (grouped_fields names a.answer (groups_from (i + 1)) a.passed)))) named
-          ∙ behind_nothing (behind_marks [] (grouped_fields names more (groups_from (i + 1)) new))
-          ∙ behind_nothing (grouped_fields names more (groups_from (i + 1)) new)
+          (λ a. behind_marks a.look (grouped_fields a.answer (groups_from (i + 1)) a.passed)))) named
+          ∙ behind_nothing (behind_marks [] (grouped_fields more (groups_from (i + 1)) new))
+          ∙ behind_nothing (grouped_fields more (groups_from (i + 1)) new)
 
       -- its names are refused
       pub group_names_stop : (why : TypeFault) → (why ≡ Memory) ⊎ (named_fields fields id row.items ≡ Err why)
-          → IsFault (grouped_fields names [] (fields_of rows (map written forms)) old) why
+          → IsFault (grouped_fields [] (fields_of rows (map written forms)) old) why
       group_names_stop why (inl memory) = inl memory
       group_names_stop why (inr twice) = inr (
           names_go
           ∙ ap (λ c. behind_marks [] (and_then (and_then c (λ more. Ok (after more [] new)))
-          (λ a. behind_marks a.look (grouped_fields names a.answer (groups_from (i + 1)) a.passed)))) twice)
+          (λ a. behind_marks a.look (grouped_fields a.answer (groups_from (i + 1)) a.passed)))) twice)
 
   -- all are passed
   pub groups_end : (i : ℕ) (fields : List FieldForm) (now : Passed) → i ≡ min (length rows) (length forms) → AreGroupsFrom i fields now
-      → grouped_fields names [] (fields_of rows (map written forms)) old ≡ Ok (after fields [] now)
+      → grouped_fields [] (fields_of rows (map written forms)) old ≡ Ok (after fields [] now)
   groups_end i fields now all left = by (past_one i (length rows) (length forms) all)
     where
-      by : (length rows ≤ i) ⊎ (length forms ≤ i) → grouped_fields names [] (fields_of rows (map written forms)) old ≡ Ok (after fields [] now)
-      by (inl past) = left ∙ at_drop_all (λ rs. grouped_fields names fields (fields_of rs (map written (drop i forms))) now) rows i past
+      by : (length rows ≤ i) ⊎ (length forms ≤ i) → grouped_fields [] (fields_of rows (map written forms)) old ≡ Ok (after fields [] now)
+      by (inl past) = left ∙ at_drop_all (λ rs. grouped_fields fields (fields_of rs (map written (drop i forms))) now) rows i past
       by (inr past) =
-          left ∙ at_drop_all (λ fs. grouped_fields names fields (fields_of (drop i rows) (map written fs)) now) forms i past
-          ∙ ap (λ groups. grouped_fields names fields groups now) (no_denoters (drop i rows))
+          left ∙ at_drop_all (λ fs. grouped_fields fields (fields_of (drop i rows) (map written fs)) now) forms i past
+          ∙ ap (λ groups. grouped_fields fields groups now) (no_denoters (drop i rows))
 
 -- ---- an array, as it is written
 
-module _ (names : List Name) (d : TypeDenoter) (packed : Bool) (place : Place) (indexes : Vec TypeDenoter Global) (element : Box TypeDenoter Global)
+module _ (d : TypeDenoter) (packed : Bool) (place : Place) (indexes : Vec TypeDenoter Global) (element : Box TypeDenoter Global)
     (is : d ≡ denoter.Array packed place indexes element) (row : List TypeDenoter) (row_is : row ≡ indexes.items) (old now : Passed)
     (passes : pass place old ≡ Ok (after tt [] now)) where
   abbrev behind_indexes : Checked (After (List TypeId)) → Checked (After TypeId)
   behind_indexes outcome =
       behind_marks [] (and_then outcome (λ a. behind_marks a.look
-      ((written_denoter element.value names >>= (λ inner. arrays packed place a.answer inner)) a.passed)))
+      ((denoted_type element.value >>= (λ inner. arrays packed place a.answer inner)) a.passed)))
 
-  array_goes : denoted_type names d old ≡ behind_indexes (index_types names place (map written_denoter row) now)
+  array_goes : denoted_type d old ≡ behind_indexes (index_types (map denoted_type row) now)
   unfolding array
   array_goes =
-      ap (λ w. written_denoter w names old) is ∙ ap (λ w. w names old) (typing_array packed place indexes element)
-      ∙ ap (λ r. and_then r (λ a. behind_marks a.look ((index_types names place (map written_denoter indexes.items)
-      >>= (λ ids. written_denoter element.value names >>= (λ inner. arrays packed place ids inner))) a.passed))) passes
-      ∙ ap (λ l. behind_indexes (index_types names place (map written_denoter l) now)) (sym row_is)
+      ap (λ w. denoted_type w old) is ∙ ap (λ w. w old) (typing_array packed place indexes element)
+      ∙ ap (λ r. and_then r (λ a. behind_marks a.look ((index_types (map denoted_type indexes.items)
+      >>= (λ ids. denoted_type element.value >>= (λ inner. arrays packed place ids inner))) a.passed))) passes
+      ∙ ap (λ l. behind_indexes (index_types (map denoted_type l) now)) (sym row_is)
 
   -- its index types stop
-  pub indexes_stop : (why : TypeFault) → IsFault (index_types names place (map written_denoter row) now) why → IsFault (denoted_type names d old) why
+  pub indexes_stop : (why : TypeFault) → IsFault (index_types (map denoted_type row) now) why → IsFault (denoted_type d old) why
   indexes_stop why (inl memory) = inl memory
   indexes_stop why (inr stops) = inr (array_goes ∙ ap behind_indexes stops)
 
-  module _ (ids : List TypeId) (there : Passed) (types : index_types names place (map written_denoter row) now ≡ Ok (after ids [] there))
+  module _ (ids : List TypeId) (there : Passed) (types : index_types (map denoted_type row) now ≡ Ok (after ids [] there))
       (inner : TypeDenoter) (inner_is : inner ≡ element.value) where
     abbrev behind_element : Checked (After TypeId) → Checked (After TypeId)
     behind_element outcome = and_then outcome (λ a. behind_marks a.look (arrays packed place ids a.answer a.passed))
 
-    element_goes : denoted_type names d old ≡ behind_element (denoted_type names inner there)
+    element_goes : denoted_type d old ≡ behind_element (denoted_type inner there)
     element_goes =
-        array_goes ∙ ap behind_indexes types ∙ behind_nothing (behind_marks [] (behind_element (denoted_type names element.value there)))
-        ∙ behind_nothing (behind_element (denoted_type names element.value there))
-        ∙ ap (λ e. behind_element (denoted_type names e there)) (sym inner_is)
+        array_goes ∙ ap behind_indexes types ∙ behind_nothing (behind_marks [] (behind_element (denoted_type element.value there)))
+        ∙ behind_nothing (behind_element (denoted_type element.value there))
+        ∙ ap (λ e. behind_element (denoted_type e there)) (sym inner_is)
 
     -- the type of its elements stops
-    pub element_stops : (why : TypeFault) → IsFault (denoted_type names inner there) why → IsFault (denoted_type names d old) why
+    pub element_stops : (why : TypeFault) → IsFault (denoted_type inner there) why → IsFault (denoted_type d old) why
     element_stops why (inl memory) = inl memory
     element_stops why (inr stops) = inr (element_goes ∙ ap behind_element stops)
 
     -- it goes on behind them
-    pub array_goes_on : (id : TypeId) (new : Passed) → denoted_type names inner there ≡ Ok (after id [] new)
-        → denoted_type names d old ≡ arrays packed place ids id new
+    pub array_goes_on : (id : TypeId) (new : Passed) → denoted_type inner there ≡ Ok (after id [] new)
+        → denoted_type d old ≡ arrays packed place ids id new
     array_goes_on id new goes = element_goes ∙ ap behind_element goes ∙ behind_nothing (arrays packed place ids id new)
 
 -- ---- a record, as it is written
 
-module _ (names : List Name) (d : TypeDenoter) (packed : Bool) (place : Place) (rows : Vec (Vec Name Global) Global) (denoters : Vec TypeDenoter Global)
+module _ (d : TypeDenoter) (packed : Bool) (place : Place) (rows : Vec (Vec Name Global) Global) (denoters : Vec TypeDenoter Global)
     (semicolon : Bool) (is : d ≡ denoter.Record packed place rows denoters semicolon) (kept : List (Vec Name Global)) (kept_is : kept ≡ rows.items)
     (row : List TypeDenoter) (row_is : row ≡ denoters.items) (old now : Passed) (passes : pass place old ≡ Ok (after tt [] now)) where
   abbrev behind_fields : Checked (After (List FieldForm)) → Checked (After TypeId)
   behind_fields outcome = behind_marks [] (and_then outcome (λ a. behind_marks a.look (add_type place (Record packed a.answer) a.passed)))
 
-  record_goes : denoted_type names d old ≡ behind_fields (grouped_fields names [] (fields_of kept (map written_denoter row)) now)
+  record_goes : denoted_type d old ≡ behind_fields (grouped_fields [] (fields_of kept (map denoted_type row)) now)
   unfolding record_type
   record_goes =
-      ap (λ w. written_denoter w names old) is ∙ ap (λ w. w names old) (typing_record packed place rows denoters semicolon)
-      ∙ ap (λ r. and_then r (λ a. behind_marks a.look ((grouped_fields names [] (fields_of rows.items (map written_denoter denoters.items))
+      ap (λ w. denoted_type w old) is ∙ ap (λ w. w old) (typing_record packed place rows denoters semicolon)
+      ∙ ap (λ r. and_then r (λ a. behind_marks a.look ((grouped_fields [] (fields_of rows.items (map denoted_type denoters.items))
       >>= (λ fields. add_type place (Record packed fields))) a.passed))) passes
-      ∙ ap₂ (λ rs ds. behind_fields (grouped_fields names [] (fields_of rs (map written_denoter ds)) now)) (sym kept_is) (sym row_is)
+      ∙ ap₂ (λ rs ds. behind_fields (grouped_fields [] (fields_of rs (map denoted_type ds)) now)) (sym kept_is) (sym row_is)
 
   -- its fields stop
-  pub fields_stop : (why : TypeFault) → IsFault (grouped_fields names [] (fields_of kept (map written_denoter row)) now) why
-      → IsFault (denoted_type names d old) why
+  pub fields_stop : (why : TypeFault) → IsFault (grouped_fields [] (fields_of kept (map denoted_type row)) now) why
+      → IsFault (denoted_type d old) why
   fields_stop why (inl memory) = inl memory
   fields_stop why (inr stops) = inr (record_goes ∙ ap behind_fields stops)
 
   -- it goes on behind them
   pub record_goes_on : (fields : List FieldForm) (new : Passed)
-      → grouped_fields names [] (fields_of kept (map written_denoter row)) now ≡ Ok (after fields [] new)
-      → denoted_type names d old ≡ add_type place (Record packed fields) new
+      → grouped_fields [] (fields_of kept (map denoted_type row)) now ≡ Ok (after fields [] new)
+      → denoted_type d old ≡ add_type place (Record packed fields) new
   record_goes_on fields new goes =
       record_goes ∙ ap behind_fields goes ∙ behind_nothing (behind_marks [] (add_type place (Record packed fields) new))
       ∙ behind_nothing (add_type place (Record packed fields) new)

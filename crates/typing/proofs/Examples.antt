@@ -113,17 +113,17 @@ second = record { index = 6 }
 abbrev third : TypeId
 third = record { index = 8 }
 
-module _ (names : List Name) (name : Name) where
+module _ (name : Name) where
   -- a name of a type denotes that type
-  pub integer_is_type : named_type names name (Ok (denotes.TypeName integer)) ≡ Ok integer
+  pub integer_is_type : named_type name (Ok (denotes.TypeName integer)) ≡ Ok integer
   integer_is_type = refl
 
   -- a constant is no type
-  pub maxint_is_no_type : named_type names name (Ok (denotes.Constant (pos 2147483647) integer)) ≡ Err (fault.Mismatch name.place)
+  pub maxint_is_no_type : named_type name (Ok (denotes.Constant (pos 2147483647) integer)) ≡ Err (fault.Mismatch name.place)
   maxint_is_no_type = refl
 
   -- a type that is defined nowhere
-  pub unknown_type : named_type names name (Err scope.NotDeclared) ≡ Err (fault.NotDeclared name.place)
+  pub unknown_type : named_type name (Err scope.NotDeclared) ≡ Err (fault.NotDeclared name.place)
   unknown_type = refl
 
 module _ (place behind : Place) where

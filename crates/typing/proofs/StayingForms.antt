@@ -571,15 +571,17 @@ function_target_keeps place block =
     keeps_then (given_keeps (Statements.or_no_variable place found)) λ type_id.
     pure_keeps (root, type_id)
 
-target_of_keeps : (routine : Option (ℕ × Bool)) (place : Place) (d : Denotation) → Keeps (Statements.target_of routine place d)
-target_of_keeps None place d = given_keeps (Expressions.as_variable place d)
-target_of_keeps (Some routine) place d = function_target_keeps place routine.0
+target_of_keeps : (routine : Option (ℕ × Bool)) (selectors : List Selector) (place : Place) (d : Denotation)
+    → Keeps (Statements.target_of routine selectors place d)
+target_of_keeps None selectors place d = given_keeps (Expressions.as_variable place d)
+target_of_keeps (Some routine) [] place d = function_target_keeps place routine.0
+target_of_keeps (Some routine) (selector ∷ others) place d = given_keeps (Expressions.as_variable place d)
 
 target_keeps : (name : Name) (selectors : List Selector) (ws : List Written) → AllKeep ws → Keeps (Statements.target name selectors ws)
 unfolding Statements.target
 target_keeps name selectors ws laws =
     keeps_then (find_keeps name) λ d.
-    keeps_then (target_of_keeps (Expressions.as_routine d) name.place d) λ variable.
+    keeps_then (target_of_keeps (Expressions.as_routine d) selectors name.place d) λ variable.
     keeps_then (may_change_keeps name.place variable.0) λ _.
     keeps_then (enter_as_keeps _) λ _.
     keeps_then (selected_keeps [] variable.1 selectors ws laws) λ component.

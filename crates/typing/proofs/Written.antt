@@ -36,7 +36,7 @@ use Rattle.typing.specs.Expressions.{Written, WrittenActual, WrittenLink, writte
 use Rattle.typing.specs.Expressions.{written_link}
 use Rattle.typing.specs.Expressions.{written_actual, number, string, named, component, call, parenthesized, negation, signed, chain, link}
 use Rattle.typing.specs.Statements.{statement, statement_step, assignment, procedure_call, compound, choice, while_loop, repeat_loop, for_loop, case_statement}
-use Rattle.typing.specs.Denoters.{WrittenDenoter, written_denoter, denoter_step, type_of_name, enumeration, subrange, array, record_type}
+use Rattle.typing.specs.Denoters.{WrittenDenoter, denoted_type, denoter_step, type_of_name, enumeration, subrange, array, record_type}
 use Rattle.typing.specs.Names.{denoter_names, denoter_step as defined_step}
 use Rattle.typing.specs.Steps.{enter_as}
 use Rattle.typed_tree.specs.Look as Look
@@ -169,30 +169,30 @@ pub ruleset written_statements =
 -- ---- denoters
 
 denoted : (d : TypeDenoter) (l : denoter_layer.TypeDenoter-F TypeDenoter) → roll-TypeDenoter l ≡ d
-    → written_denoter d ≡ denoter_step (map-TypeDenoter TypeDenoter WrittenDenoter written_denoter l)
-denoted d l is = ap written_denoter (sym is) ∙ fold-roll-TypeDenoter WrittenDenoter denoter_step l
+    → denoted_type d ≡ denoter_step (map-TypeDenoter TypeDenoter WrittenDenoter denoted_type l)
+denoted d l is = ap denoted_type (sym is) ∙ fold-roll-TypeDenoter WrittenDenoter denoter_step l
 
-pub typing_named_type : (name : Name) → written_denoter (denoter.Name name) ≡ (λ names. type_of_name names name)
+pub typing_named_type : (name : Name) → denoted_type (denoter.Name name) ≡ type_of_name name
 typing_named_type name = denoted (denoter.Name name) (denoter_layer.Name name) (denoter.rolls-Name name)
 
-pub typing_enumerated : (constants : Vec Name Global) → written_denoter (denoter.Enumerated constants) ≡ (λ names. enumeration constants.items)
+pub typing_enumerated : (constants : Vec Name Global) → denoted_type (denoter.Enumerated constants) ≡ enumeration constants.items
 typing_enumerated constants = denoted (denoter.Enumerated constants) (denoter_layer.Enumerated constants) (denoter.rolls-Enumerated constants)
 
 pub typing_subrange : (first : Constant) (place : Place) (last : Constant)
-    → written_denoter (denoter.Subrange first place last) ≡ (λ names. subrange first place last)
+    → denoted_type (denoter.Subrange first place last) ≡ subrange first place last
 typing_subrange first place last =
     denoted (denoter.Subrange first place last) (denoter_layer.Subrange first place last) (denoter.rolls-Subrange first place last)
 
 pub typing_array : (packed : Bool) (place : Place) (indexes : Vec TypeDenoter Global) (element : Box TypeDenoter Global)
-    → written_denoter (denoter.Array packed place indexes element)
-    ≡ (λ names. array names packed place (map written_denoter indexes.items) (written_denoter element.value))
+    → denoted_type (denoter.Array packed place indexes element)
+    ≡ array packed place (map denoted_type indexes.items) (denoted_type element.value)
 typing_array packed place indexes element =
     denoted (denoter.Array packed place indexes element) (denoter_layer.Array packed place indexes element)
     (denoter.rolls-Array packed place indexes element)
 
 pub typing_record : (packed : Bool) (place : Place) (rows : Vec (Vec Name Global) Global) (denoters : Vec TypeDenoter Global) (semicolon : Bool)
-    → written_denoter (denoter.Record packed place rows denoters semicolon)
-    ≡ (λ names. record_type names packed place (fields_of rows.items (map written_denoter denoters.items)))
+    → denoted_type (denoter.Record packed place rows denoters semicolon)
+    ≡ record_type packed place (fields_of rows.items (map denoted_type denoters.items))
 typing_record packed place rows denoters semicolon =
     denoted (denoter.Record packed place rows denoters semicolon) (denoter_layer.Record packed place rows denoters semicolon)
     (denoter.rolls-Record packed place rows denoters semicolon)

@@ -27,30 +27,29 @@ use Rattle.scopes.specs.declared.fault.ScopeFault.{ScopeFault}
 use Rattle.scopes.specs.declared.fault.ScopeFault.TheVariants as scope
 use Rattle.typed_tree.specs.declared.fault.TypeFault.TheVariants as fault
 use Rattle.typing.specs.Constants.{ordinal_constant}
-use Rattle.typing.specs.Names.{folded, is_among}
-use Rattle.typing.specs.Passing.{Checked, Passing, and_then, after, pure, given, ◌>>=◌, ◌>>◌, ◌>>?◌}
+use Rattle.typing.specs.Names.{folded}
+use Rattle.typing.specs.Passing.{Checked, Passing, and_then, after, pure, given, by_types, ◌>>=◌, ◌>>◌, ◌>>?◌}
 use Rattle.typing.specs.Steps.{fits, pass, value_of, add_type, declare, latest}
 
--- the type that a name denotes, where variables of these names get it; one of them is no type, wherever it stands
-abbrev pub named_type : List Name → Name → Result Denotation ScopeFault → Checked TypeId
-named_type names name (Ok (denotes.TypeName type_id)) = Ok type_id
-named_type names name (Ok (denotes.Constant value type_id)) = Err (fault.Mismatch name.place)
-named_type names name (Ok (denotes.Text number type_id)) = Err (fault.Mismatch name.place)
-named_type names name (Ok (denotes.Variable root type_id)) = Err (fault.Mismatch name.place)
-named_type names name (Ok (denotes.Procedure procedure)) = Err (fault.Mismatch name.place)
-named_type names name (Ok (denotes.Function function)) = Err (fault.Mismatch name.place)
-named_type names name (Ok (denotes.Routine block is_function)) = Err (fault.Mismatch name.place)
-named_type names name (Ok denotes.Output) = Err (fault.Mismatch name.place)
-named_type names name (Err scope.UsedBeforeDeclared) =
-    Err (if is_among names name then fault.Mismatch name.place else fault.UsedBeforeDeclared name.place)
-named_type names name (Err scope.NotDeclared) = Err (fault.NotDeclared name.place)
-named_type names name (Err scope.DeclaredTwice) = Err (fault.DeclaredTwice name.place)
-named_type names name (Err scope.Memory) = Err fault.Memory
+-- the type that a name denotes; K1 at the name where it denotes anything else
+abbrev pub named_type : Name → Result Denotation ScopeFault → Checked TypeId
+named_type name (Ok (denotes.TypeName type_id)) = Ok type_id
+named_type name (Ok (denotes.Constant value type_id)) = Err (fault.Mismatch name.place)
+named_type name (Ok (denotes.Text number type_id)) = Err (fault.Mismatch name.place)
+named_type name (Ok (denotes.Variable root type_id)) = Err (fault.Mismatch name.place)
+named_type name (Ok (denotes.Procedure procedure)) = Err (fault.Mismatch name.place)
+named_type name (Ok (denotes.Function function)) = Err (fault.Mismatch name.place)
+named_type name (Ok (denotes.Routine block is_function)) = Err (fault.Mismatch name.place)
+named_type name (Ok denotes.Output) = Err (fault.Mismatch name.place)
+named_type name (Err scope.UsedBeforeDeclared) = Err (fault.UsedBeforeDeclared name.place)
+named_type name (Err scope.NotDeclared) = Err (fault.NotDeclared name.place)
+named_type name (Err scope.DeclaredTwice) = Err (fault.DeclaredTwice name.place)
+named_type name (Err scope.Memory) = Err fault.Memory
 
 -- the type that a name denotes
-unfoldable pub type_of_name : List Name → Name → Passing TypeId
-type_of_name names name = λ s.
-    and_then (named_type names name (found s.regions (folded name.text.now)))
+unfoldable pub type_of_name : Name → Passing TypeId
+type_of_name name = λ s.
+    and_then (named_type name (found s.regions (folded name.text.now)))
     (λ type_id. Ok (after type_id [] (record s { latest = name.place })))
 
 -- the constants of an enumerated type, of which the first has this number
@@ -84,19 +83,22 @@ subrange first place last = do
   form ← ordinal_constant last >>? (λ types l. between types place f l)
   add_type place form
 
--- a denoter as it is typed, where variables of these names get its type
+-- a denoter as it is typed
 abbrev pub WrittenDenoter : Type 0
-WrittenDenoter = List Name → Passing TypeId
+WrittenDenoter = Passing TypeId
 
--- an index type is ordinal; K1 at the array's word where it isn't
-unfoldable pub index_type : List Name → Place → WrittenDenoter → Passing TypeId
-index_type names place denoter = denoter names >>? (λ types id. fits (is_ordinal types id) place id)
+-- an index type is ordinal; K1 where it isn't, at its latest token that the tree tells
+unfoldable pub index_type : WrittenDenoter → Passing TypeId
+index_type denoter = do
+  id ← denoter
+  place ← latest
+  by_types (λ types. fits (is_ordinal types id) place id)
 
-abbrev pub index_types : List Name → Place → List WrittenDenoter → Passing (List TypeId)
-index_types names place [] = pure []
-index_types names place (denoter ∷ denoters) = do
-  id ← index_type names place denoter
-  ids ← index_types names place denoters
+abbrev pub index_types : List WrittenDenoter → Passing (List TypeId)
+index_types [] = pure []
+index_types (denoter ∷ denoters) = do
+  id ← index_type denoter
+  ids ← index_types denoters
   pure (id ∷ ids)
 
 -- an array with several indexes is one of arrays with the indexes behind the first, packed as it is (6.4.3.2)
@@ -105,11 +107,11 @@ arrays packed place [] element = pure element
 arrays packed place (index ∷ indexes) element =
     arrays packed place indexes element >>= (λ inner. add_type place (Array packed index inner))
 
-unfoldable pub array : List Name → Bool → Place → List WrittenDenoter → WrittenDenoter → Passing TypeId
-array names packed place indexes element = do
+unfoldable pub array : Bool → Place → List WrittenDenoter → WrittenDenoter → Passing TypeId
+array packed place indexes element = do
   pass place
-  ids ← index_types names place indexes
-  inner ← element names
+  ids ← index_types indexes
+  inner ← element
   arrays packed place ids inner
 
 -- fields of a type, behind other fields: S1 at a name that one before it has
@@ -121,30 +123,27 @@ named_fields before type_id (name ∷ names) =
     else named_fields (before ++ record { name = folded name.text.now; type_id = type_id } ∷ []) type_id names
 
 -- groups of fields, behind other fields: of each its type, and then its names
-abbrev pub grouped_fields : List Name → List FieldForm → List (List Name × WrittenDenoter) → Passing (List FieldForm)
-grouped_fields names before [] = pure before
-grouped_fields names before (group ∷ groups) = do
-  type_id ← group.1 names
+abbrev pub grouped_fields : List FieldForm → List (List Name × WrittenDenoter) → Passing (List FieldForm)
+grouped_fields before [] = pure before
+grouped_fields before (group ∷ groups) = do
+  type_id ← group.1
   fields ← given (named_fields before type_id group.0)
-  grouped_fields names fields groups
+  grouped_fields fields groups
 
-unfoldable pub record_type : List Name → Bool → Place → List (List Name × WrittenDenoter) → Passing TypeId
-record_type names packed place groups = do
+unfoldable pub record_type : Bool → Place → List (List Name × WrittenDenoter) → Passing TypeId
+record_type packed place groups = do
   pass place
-  fields ← grouped_fields names [] groups
+  fields ← grouped_fields [] groups
   add_type place (Record packed fields)
 
 abbrev pub denoter_step : TypeDenoter-F WrittenDenoter → WrittenDenoter
-denoter_step (NamedType name) names = type_of_name names name
-denoter_step (Enumerated constants) names = enumeration constants.items
-denoter_step (SubrangeOf first place last) names = subrange first place last
-denoter_step (ArrayOf packed place indexes element) names = array names packed place indexes.items element.value
-denoter_step (RecordOf packed place rows denoters semicolon) names =
-    record_type names packed place (fields_of rows.items denoters.items)
+denoter_step (NamedType name) = type_of_name name
+denoter_step (Enumerated constants) = enumeration constants.items
+denoter_step (SubrangeOf first place last) = subrange first place last
+denoter_step (ArrayOf packed place indexes element) = array packed place indexes.items element.value
+denoter_step (RecordOf packed place rows denoters semicolon) =
+    record_type packed place (fields_of rows.items denoters.items)
 
-abbrev pub written_denoter : TypeDenoter → WrittenDenoter
-written_denoter = fold-TypeDenoter WrittenDenoter denoter_step
-
--- the type that a denoter denotes, where variables of these names get it
-abbrev pub denoted_type : List Name → TypeDenoter → Passing TypeId
-denoted_type names denoter = written_denoter denoter names
+-- the type that a denoter denotes
+abbrev pub denoted_type : TypeDenoter → WrittenDenoter
+denoted_type = fold-TypeDenoter WrittenDenoter denoter_step

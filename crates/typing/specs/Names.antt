@@ -2,10 +2,8 @@
 -- identifiers stand in a region round the program, and its block defines its parameters, its constants, its types, the
 -- constants of enumerated types, and its variables.
 -- It says nothing of the order in which definitions are passed.
-use Rattle.std.specs.Prelude.{ℕ, pos, ◌+◌, ◌&&◌, ◌++◌, Bool, List, [], ◌∷◌, Some, if◌then◌else◌, nat_le, nat_eq, map}
+use Rattle.std.specs.Prelude.{ℕ, pos, ◌+◌, ◌&&◌, ◌++◌, Bool, List, [], ◌∷◌, Some, if◌then◌else◌, nat_le, map}
 use Rattle.std.specs.Prelude.{codes, flat_map}
-use Rattle.std.specs.List.{list_any}
-use Rattle.std.specs.Cmp.Lexicographic.{pointwise}
 use Rattle.syntax_tree.specs.declared.Name.{Name}
 use Rattle.syntax_tree.specs.declared.ConstantDefinition.{ConstantDefinition}
 use Rattle.syntax_tree.specs.declared.TypeDefinition.{TypeDefinition}
@@ -38,10 +36,6 @@ folded name = map small name
 -- names in small letters
 abbrev pub all_folded : List Name → List (List ℕ)
 all_folded names = map (λ name. folded name.text.now) names
-
--- whether a name is among others
-abbrev pub is_among : List Name → Name → Bool
-is_among names name = list_any (λ other. pointwise nat_eq (folded other.text.now) (folded name.text.now)) names
 
 -- the required identifiers
 abbrev pub required : List (List ℕ × Denotation)

@@ -48,7 +48,7 @@ definition d = constant d.value >>= declare d.name
 
 -- a type definition: its denoter, and then its name
 unfoldable pub type_definition : TypeDefinition → Passing (Unit {0})
-type_definition d = denoted_type [] d.denoter >>= (λ type_id. declare d.name (denotes.TypeName type_id))
+type_definition d = denoted_type d.denoter >>= (λ type_id. declare d.name (denotes.TypeName type_id))
 
 -- a variable of a block: its definition, and then its cells
 unfoldable pub declared : ℕ → VariableKind → TypeId → Name → Passing ℕ
@@ -67,7 +67,7 @@ local type_id name = do
 
 -- variables that are declared together; their type is looked up first
 unfoldable pub group : VariableGroup → Passing (Unit {0})
-group g = denoted_type g.names.items g.denoter >>= (λ type_id. each (local type_id) g.names.items)
+group g = denoted_type g.denoter >>= (λ type_id. each (local type_id) g.names.items)
 
 -- ---- headings
 
@@ -80,13 +80,13 @@ parameter_kind formal.Variable = variable.VariableParameter
 abbrev pub group_types : List FormalGroup → Passing (List TypeId)
 group_types [] = pure []
 group_types (g ∷ groups) = do
-  type_id ← type_of_name [] g.type_name
+  type_id ← type_of_name g.type_name
   types ← group_types groups
   pure (type_id ∷ types)
 
 -- the type of a result is ordinal; K1 at its name where it isn't
 unfoldable pub result_type : Name → Passing TypeId
-result_type name = type_of_name [] name >>? (λ types id. fits (is_ordinal types id) name.place id)
+result_type name = type_of_name name >>? (λ types id. fits (is_ordinal types id) name.place id)
 
 -- the result of a block's function, if it is one: it has no name of its own
 unfoldable pub result : ℕ → Place → Option TypeId → Passing (Option ℕ)

@@ -80,16 +80,18 @@ function_target place block = do
   type_id ← given (or_no_variable place found)
   pure (root, type_id)
 
--- the variable left of `:=` that a name denotes: its root and its type
-abbrev pub target_of : Option (ℕ × Bool) → Place → Denotation → Passing (ℕ × TypeId)
-target_of None place d = given (as_variable place d)
-target_of (Some routine) place d = function_target place routine.0
+-- the variable left of `:=` that a name denotes, with these selectors behind it: its root and its type. A function's
+-- name denotes its result alone, and with selectors no variable
+abbrev pub target_of : Option (ℕ × Bool) → List Selector → Place → Denotation → Passing (ℕ × TypeId)
+target_of None selectors place d = given (as_variable place d)
+target_of (Some routine) [] place d = function_target place routine.0
+target_of (Some routine) (selector ∷ others) place d = given (as_variable place d)
 
 -- what is accessed left of `:=`, by its type
 unfoldable pub target : Name → List Selector → List Written → Passing TypeId
 target name selectors indexes = do
   d ← find name
-  variable ← target_of (as_routine d) name.place d
+  variable ← target_of (as_routine d) selectors name.place d
   may_change name.place variable.0
   enter_as Access
   component ← selected [] variable.1 selectors indexes

@@ -114,10 +114,11 @@ pub struct Callee {
 }
 
 impl Typer {
-    ghost use Rattle.std.specs.Prelude.{length, get_or};
+    ghost use Rattle.std.specs.Prelude.{Err, IsOk, length, get_or};
     ghost use Rattle.scopes.specs.Scopes.{region_of};
     ghost use Rattle.typing.specs.Blocks.{heading_ends, block_begins, block_ends, BeginsBlock, FindsCallee};
     ghost use Rattle.typing.specs.Names.{folded};
+    ghost use Rattle.typing.specs.Expressions.{are_as_many};
     ghost use Rattle.typing.specs.Outcomes.{Takes, Tells};
     ghost use Rattle.typing.specs.Passing.{after};
     ghost use Rattle.typing.specs.Routines as spec;
@@ -259,7 +260,9 @@ impl Typer {
     /// What is called by the number of its block, with so many actual parameters: K3 at the place where it has not as
     /// many formal ones.
     pub fn callee(&self, number: u32, count: usize, place: Place) -> Result<Callee, TypeFault>
-        ensures { FindsCallee (get_or self.now.headings number step.program_heading) place count result }
+        ensures found { FindsCallee (get_or self.now.headings number step.program_heading) place count result }
+        ensures memory { result ≡ Err Memory → IsOk (are_as_many place count
+            (length (get_or self.now.headings number step.program_heading).parameters)) }
     {
         let heading = self.headings.get(number as usize);
         let formals = heading.map_or(0, |heading| heading.parameters.len());

@@ -1,9 +1,10 @@
-ghost use Rattle.std.specs.Prelude.{◌≡◌, Ok, Err, MatchResult};
+ghost use Rattle.std.specs.Prelude.{◌≡◌, Ok, Err, IsOk, MatchResult};
 ghost use Rattle.types.specs.Forms.{form_of};
 ghost use Rattle.typing.specs.Steps.{refused, value_of};
+ghost use Rattle.typed_tree.specs.declared.fault.TypeFault.TheVariants.{Memory};
 ghost use Rattle.typing.specs.Denoters.{named_type};
 
-use crate::names::{fold_into, is_among};
+use crate::names::fold_into;
 use crate::typer::Typer;
 use place::Place;
 use scopes::{Denotation, ScopeFault};
@@ -17,14 +18,13 @@ impl Typer {
     ghost use Rattle.typing.specs.Steps as step;
     ghost use Rattle.typing.specs.Denoters as spec;
 
-    /// The type that a name denotes, where variables of these names get it. One of them is no type (K1), wherever it
-    /// stands.
+    /// The type that a name denotes: K1 at the name where it denotes anything else.
     #[tactic(auto, unfolding(crate::specs::Denoters::type_of_name))]
-    pub fn type_of_name(&mut self, names: &[Name], name: &Name) -> Result<TypeId, TypeFault>
-        ensures { Takes (spec.type_of_name names.now name.now self.old) result self.new }
+    pub fn type_of_name(&mut self, name: &Name) -> Result<TypeId, TypeFault>
+        ensures { Takes (spec.type_of_name name.now self.old) result self.new }
     {
         fold_into(&mut self.key, name.text)?;
-        let type_id = named_type(names, name, self.scopes.find(&self.key))?;
+        let type_id = named_type(name, self.scopes.find(&self.key))?;
         self.latest = name.place;
         Ok(type_id)
     }
@@ -32,7 +32,8 @@ impl Typer {
     /// A type of its own, by its form; the rule that the form breaks is told at the place (Y1, Y2).
     #[tactic(auto, unfolding(crate::specs::Steps::add_type))]
     pub fn add_type(&mut self, place: Place, form: TypeForm) -> Result<TypeId, TypeFault>
-        ensures { Takes (step.add_type place (form_of form) self.old) result self.new }
+        ensures taken { Takes (step.add_type place (form_of form) self.old) result self.new }
+        ensures memory { result ≡ Err Memory → IsOk (step.add_type place (form_of form) self.old) }
     {
         self.types.add(form).map_err(|rule| refused(rule, place))
     }
@@ -124,20 +125,12 @@ fn refused(rule: TypeRefusal, place: Place) -> TypeFault
 }
 
 // The type that a name denotes, by what the scopes answer of it.
-fn named_type(
-    names: &[Name],
-    name: &Name,
-    answer: Result<Denotation, ScopeFault>,
-) -> Result<TypeId, TypeFault>
-    ensures { result ≡ named_type names.now name.now answer }
+fn named_type(name: &Name, answer: Result<Denotation, ScopeFault>) -> Result<TypeId, TypeFault>
+    ensures { result ≡ named_type name.now answer }
 {
     match answer {
         Ok(Denotation::TypeName(type_id)) => Ok(type_id),
         Ok(_) => Err(TypeFault::Mismatch(name.place)),
-        // One of the variables has this name.
-        Err(ScopeFault::UsedBeforeDeclared) if is_among(names, name) => {
-            Err(TypeFault::Mismatch(name.place))
-        }
         Err(ScopeFault::UsedBeforeDeclared) => Err(TypeFault::UsedBeforeDeclared(name.place)),
         Err(ScopeFault::NotDeclared) => Err(TypeFault::NotDeclared(name.place)),
         Err(ScopeFault::DeclaredTwice) => Err(TypeFault::DeclaredTwice(name.place)),

@@ -1,5 +1,5 @@
 ghost use Rattle.std.specs.Prelude.{◌≡◌, IfOk, OnOk};
-ghost use Rattle.typing.specs.Names.{folded, is_among};
+ghost use Rattle.typing.specs.Names.{folded};
 ghost use Rattle.typing.specs.Routines.{heading_name};
 
 use scopes::{Denotation, RequiredFunction, RequiredProcedure};
@@ -35,15 +35,6 @@ pub fn heading_name<'a>(heading: &Heading<'a>) -> Name<'a>
         | Heading::Function { name, .. }
         | Heading::Resumed { name } => *name,
     }
-}
-
-// Whether a name is among others.
-pub(crate) fn is_among(names: &[Name], name: &Name) -> bool
-    ensures { result ≡ is_among names.now name.now }
-{
-    names
-        .iter()
-        .any(|other| other.text.eq_ignore_ascii_case(name.text))
 }
 
 /// The required identifiers (6.2.2.10).

@@ -1,4 +1,4 @@
-ghost use Rattle.std.specs.Prelude.{◌≡◌, [], Ok, IfErr, MatchResult, map, nat_eq, slice_get};
+ghost use Rattle.std.specs.Prelude.{◌≡◌, [], Ok, Err, IfErr, IsOk, MatchResult, map, nat_eq, slice_get};
 ghost use Rattle.std.specs.List.{list_any};
 ghost use Rattle.scopes.specs.Scopes.{Knows, region_of};
 ghost use Rattle.typing.specs.Names.{folded};
@@ -54,7 +54,8 @@ impl Typer {
     /// The id of a new site. Sites come in the order of their tokens.
     #[tactic(auto, using(crate::proofs::Rows::one_site_more), unfolding(crate::specs::Steps::site))]
     pub fn site(&mut self, kind: SiteKind, place: Place) -> Result<u32, TypeFault>
-        ensures { Takes (spec.site kind place self.old) result self.new }
+        ensures taken { Takes (spec.site kind place self.old) result self.new }
+        ensures memory { result ≡ Err Memory → IsOk (spec.site kind place self.old) }
     {
         if self.sites.len() >= MOST_SITES {
             return Err(TypeFault::TooMany(place));
@@ -80,7 +81,8 @@ impl Typer {
     /// it is K5 at its name. One of a block round this block is no control variable from here on.
     #[tactic(auto, unfolding(crate::specs::Steps::may_change))]
     pub fn may_change(&mut self, place: Place, root: u32) -> Result<(), TypeFault>
-        ensures { Takes (spec.may_change place root self.old) result self.new }
+        ensures taken { Takes (spec.may_change place root self.old) result self.new }
+        ensures memory { result ≡ Err Memory → IsOk (spec.may_change place root self.old) }
     {
         if self.is_control(root) {
             return Err(TypeFault::Threatened(place));

@@ -1,4 +1,5 @@
 ghost use Rattle.scopes.specs.Scopes.{Knows};
+ghost use Rattle.typed_tree.specs.declared.fault.TypeFault.TheVariants.{Memory};
 ghost use Rattle.typing.specs.Names.{folded};
 
 use crate::typer::{MOST_VARIABLES, Typer};
@@ -10,7 +11,7 @@ use typed_tree::tree::{Variable, VariableKind};
 use types::{MOST_CELLS, TypeId};
 
 impl Typer {
-    ghost use Rattle.std.specs.Prelude.{◌≡◌, slice_get};
+    ghost use Rattle.std.specs.Prelude.{◌≡◌, Err, IsOk, slice_get};
     ghost use Rattle.typing.specs.Outcomes.{Takes, Tells};
     ghost use Rattle.typing.specs.Steps as step;
     ghost use Rattle.typing.specs.Routines as spec;
@@ -90,7 +91,8 @@ impl Typer {
         kind: VariableKind,
         type_id: TypeId,
     ) -> Result<(), TypeFault>
-        ensures { Takes (step.reserve place block kind type_id self.old) result self.new }
+        ensures taken { Takes (step.reserve place block kind type_id self.old) result self.new }
+        ensures memory { result ≡ Err Memory → IsOk (step.reserve place block kind type_id self.old) }
     {
         let cells = self.types.cells(type_id);
         if cells > MOST_CELLS - self.enclosing.cells {

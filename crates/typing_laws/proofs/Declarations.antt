@@ -35,11 +35,11 @@ use Rattle.typed_tree.specs.declared.tree.VariableKind.TheVariants as variable
 use Rattle.typed_tree.specs.WellFormed.{is_character, are_characters, is_local_kind, is_parameter_kind, is_result_kind, most_variables, roots_where}
 use Rattle.typing.specs.Names.{folded}
 use Rattle.typing.specs.Passing.{Passed, Checked, After, Passing, after, behind_marks, pure, fail, given, ◌>>=◌, ◌>>◌, ◌>>?◌}
-use Rattle.typing.specs.Steps.{told, value_of, pass, find, declare, add_type, keep_text, latest, give_output, next_root, enclosing_now, reserve}
+use Rattle.typing.specs.Steps.{fits, told, value_of, pass, find, declare, add_type, keep_text, latest, give_output, next_root, enclosing_now, reserve}
 use Rattle.typing.specs.Strings.{string_characters, string_type, string_constant}
 use Rattle.typing.specs.Constants.{as_ordinal, unsigned_constant, constant, ordinal_constant}
 use Rattle.typing.specs.Denoters.{WrittenDenoter, named_type, type_of_name, constants_from, enumeration, between, subrange, index_type, index_types, arrays}
-use Rattle.typing.specs.Denoters.{array, named_fields, grouped_fields, record_type, denoter_step, written_denoter, denoted_type}
+use Rattle.typing.specs.Denoters.{array, named_fields, grouped_fields, record_type, denoter_step, denoted_type}
 use Rattle.typing.specs.Routines.{definition, type_definition, declared, local, group}
 use Rattle.typing.specs.Typing.{parameter_of_program}
 use Rattle.typing_laws.proofs.WholeRanges.{IfWhole}
@@ -72,20 +72,20 @@ define_under name denotation (region ∷ under) new is = by (is_defined (said re
 at_most : (a b : ℕ) → nat_lt a b ≡ false → b ≤ a
 at_most a b h = grind (arith, nat_tests)
 
-pub named_is : (names : List Name) (name : Name) (r : Result Denotation ScopeFault) (type_id : TypeId) → named_type names name r ≡ Ok type_id
+pub named_is : (name : Name) (r : Result Denotation ScopeFault) (type_id : TypeId) → named_type name r ≡ Ok type_id
     → r ≡ Ok (denotes.TypeName type_id)
-named_is names name (Ok (denotes.TypeName id)) type_id is = cc
-named_is names name (Ok (denotes.Constant value id)) type_id is = absurd cc
-named_is names name (Ok (denotes.Text number id)) type_id is = absurd cc
-named_is names name (Ok (denotes.Variable root id)) type_id is = absurd cc
-named_is names name (Ok (denotes.Procedure procedure)) type_id is = absurd cc
-named_is names name (Ok (denotes.Function function)) type_id is = absurd cc
-named_is names name (Ok (denotes.Routine block is_function)) type_id is = absurd cc
-named_is names name (Ok denotes.Output) type_id is = absurd cc
-named_is names name (Err scope.Memory) type_id is = absurd cc
-named_is names name (Err scope.DeclaredTwice) type_id is = absurd cc
-named_is names name (Err scope.UsedBeforeDeclared) type_id is = absurd cc
-named_is names name (Err scope.NotDeclared) type_id is = absurd cc
+named_is name (Ok (denotes.TypeName id)) type_id is = cc
+named_is name (Ok (denotes.Constant value id)) type_id is = absurd cc
+named_is name (Ok (denotes.Text number id)) type_id is = absurd cc
+named_is name (Ok (denotes.Variable root id)) type_id is = absurd cc
+named_is name (Ok (denotes.Procedure procedure)) type_id is = absurd cc
+named_is name (Ok (denotes.Function function)) type_id is = absurd cc
+named_is name (Ok (denotes.Routine block is_function)) type_id is = absurd cc
+named_is name (Ok denotes.Output) type_id is = absurd cc
+named_is name (Err scope.Memory) type_id is = absurd cc
+named_is name (Err scope.DeclaredTwice) type_id is = absurd cc
+named_is name (Err scope.UsedBeforeDeclared) type_id is = absurd cc
+named_is name (Err scope.NotDeclared) type_id is = absurd cc
 
 -- a form whose values are whole
 abbrev IsWholeForm : Form → Type 0
@@ -429,16 +429,16 @@ module _ (here : Here) (under : List Region) (counted : ℕ) (heads : List Head)
 
   -- ---- types
 
-  type_of_name_keeps : (names : List Name) (name : Name) → Keeps counted IsReady (type_of_name names name) IsTyped
+  type_of_name_keeps : (name : Name) → Keeps counted IsReady (type_of_name name) IsTyped
   unfolding type_of_name
-  type_of_name_keeps names name = record {
+  type_of_name_keeps name = record {
     keeps = λ s a is r.
         let denoted = found s.regions (folded name.text.now) in
-        let x = split (named_type names name denoted) (λ type_id. Ok (after type_id [] (record s { latest = name.place }))) a is in
+        let x = split (named_type name denoted) (λ type_id. Ok (after type_id [] (record s { latest = name.place }))) a is in
         let same : after x.0 [] (record s { latest = name.place }) ≡ a = cc in
         let one : x.0.index < length s.types =
         found_holds (IsSound here s.variables s.types heads) s.regions (folded name.text.now) (denotes.TypeName x.0) r.sound
-        (named_is names name denoted x.0 x.1) in
+        (named_is name denoted x.0 x.1) in
         subst (Kept counted s IsTyped) same (refl, silent_latest name.place, (ready_latest name.place r, one));
   }
 
@@ -520,22 +520,26 @@ module _ (here : Here) (under : List Region) (counted : ℕ) (heads : List Head)
 
   -- a denoter denotes a type of the table
   abbrev KeepsDenoter : WrittenDenoter → Type 0
-  KeepsDenoter w = (names : List Name) → Keeps counted IsReady (w names) IsTyped
+  KeepsDenoter w = Keeps counted IsReady w IsTyped
 
   abbrev KeepDenoters : List WrittenDenoter → Type 0
   KeepDenoters [] = Unit {0}
   KeepDenoters (w ∷ ws) = KeepsDenoter w × KeepDenoters ws
 
-  index_type_keeps : (names : List Name) (place : Place) (w : WrittenDenoter) → KeepsDenoter w → Keeps counted IsReady (index_type names place w) Readied
+  index_type_keeps : (w : WrittenDenoter) → KeepsDenoter w → Keeps counted IsReady (index_type w) Readied
   unfolding index_type
-  index_type_keeps names place w law = keeps_checks (law names) λ types id b s same is k. k.0
+  index_type_keeps w law =
+      keeps_then law λ id.
+      keeps_then (before (λ s is. is.0) latest_keeps) λ place.
+      keeps_checks {p = pure (tt {0})} {test = λ types _. fits (is_ordinal types id) place id} {Between = λ _ s. IsReady s}
+      (pure_keeps tt (λ s r. r)) λ types _ b s same is r. r
 
-  index_types_keep : (names : List Name) (place : Place) (ws : List WrittenDenoter) → KeepDenoters ws
-      → Keeps counted IsReady (index_types names place ws) Readied
-  index_types_keep names place [] laws = pure_keeps [] (λ s r. r)
-  index_types_keep names place (w ∷ ws) laws =
-      keeps_then (index_type_keeps names place w laws.0) λ id.
-      keeps_then (index_types_keep names place ws laws.1) λ ids.
+  index_types_keep : (ws : List WrittenDenoter) → KeepDenoters ws
+      → Keeps counted IsReady (index_types ws) Readied
+  index_types_keep [] laws = pure_keeps [] (λ s r. r)
+  index_types_keep (w ∷ ws) laws =
+      keeps_then (index_type_keeps w laws.0) λ id.
+      keeps_then (index_types_keep ws laws.1) λ ids.
       pure_keeps (id ∷ ids) (λ s r. r)
 
   arrays_keep : (packed : Bool) (place : Place) (indexes : List TypeId) (element : TypeId)
@@ -544,36 +548,36 @@ module _ (here : Here) (under : List Region) (counted : ℕ) (heads : List Head)
   arrays_keep packed place (index ∷ indexes) element =
       keeps_then (arrays_keep packed place indexes element) λ inner. before (λ s is. (is.0, tt)) (add_type_keeps place (Array packed index inner))
 
-  array_keeps : (names : List Name) (packed : Bool) (place : Place) (indexes : List WrittenDenoter) (element : WrittenDenoter) → KeepDenoters indexes
-      → KeepsDenoter element → Keeps counted IsReady (array names packed place indexes element) IsTyped
+  array_keeps : (packed : Bool) (place : Place) (indexes : List WrittenDenoter) (element : WrittenDenoter) → KeepDenoters indexes
+      → KeepsDenoter element → Keeps counted IsReady (array packed place indexes element) IsTyped
   unfolding array
-  array_keeps names packed place indexes element laws law =
+  array_keeps packed place indexes element laws law =
       keeps_then (pass_keeps place) λ _.
-      keeps_then (index_types_keep names place indexes laws) λ ids.
-      keeps_then (law names) λ inner.
+      keeps_then (index_types_keep indexes laws) λ ids.
+      keeps_then law λ inner.
       arrays_keep packed place ids inner
 
-  grouped_fields_keep : (names : List Name) (fields : List FieldForm) (rows : List (Vec Name Global)) (ws : List WrittenDenoter) → KeepDenoters ws
-      → Keeps counted IsReady (grouped_fields names fields (fields_of rows ws)) Readied
-  grouped_fields_keep names fields [] ws laws = pure_keeps fields (λ s r. r)
-  grouped_fields_keep names fields (row ∷ rows) [] laws = pure_keeps fields (λ s r. r)
-  grouped_fields_keep names fields (row ∷ rows) (w ∷ ws) laws =
-      keeps_then (laws.0 names) λ type_id.
+  grouped_fields_keep : (fields : List FieldForm) (rows : List (Vec Name Global)) (ws : List WrittenDenoter) → KeepDenoters ws
+      → Keeps counted IsReady (grouped_fields fields (fields_of rows ws)) Readied
+  grouped_fields_keep fields [] ws laws = pure_keeps fields (λ s r. r)
+  grouped_fields_keep fields (row ∷ rows) [] laws = pure_keeps fields (λ s r. r)
+  grouped_fields_keep fields (row ∷ rows) (w ∷ ws) laws =
+      keeps_then laws.0 λ type_id.
       keeps_then (before (λ s is. is.0) (given_keeps (named_fields fields type_id row.items) (λ more. Unit {0}) (λ more is. tt))) λ more.
-      before (λ s is. is.0) (grouped_fields_keep names more rows ws laws.1)
+      before (λ s is. is.0) (grouped_fields_keep more rows ws laws.1)
 
-  record_keeps : (names : List Name) (packed : Bool) (place : Place) (rows : List (Vec Name Global)) (ws : List WrittenDenoter) → KeepDenoters ws
-      → Keeps counted IsReady (record_type names packed place (fields_of rows ws)) IsTyped
+  record_keeps : (packed : Bool) (place : Place) (rows : List (Vec Name Global)) (ws : List WrittenDenoter) → KeepDenoters ws
+      → Keeps counted IsReady (record_type packed place (fields_of rows ws)) IsTyped
   unfolding record_type
-  record_keeps names packed place rows ws laws =
+  record_keeps packed place rows ws laws =
       keeps_then (pass_keeps place) λ _.
-      keeps_then (grouped_fields_keep names [] rows ws laws) λ fields.
+      keeps_then (grouped_fields_keep [] rows ws laws) λ fields.
       before (λ s r. (r, tt)) (add_type_keeps place (Record packed fields))
 
   -- ---- every denoter
 
   abbrev KeepsTypeDenoter : TypeDenoter → Type 0
-  KeepsTypeDenoter d = KeepsDenoter (written_denoter d)
+  KeepsTypeDenoter d = KeepsDenoter (denoted_type d)
 
   abbrev WithDenoter : Type 0
   WithDenoter = (d : TypeDenoter) × KeepsTypeDenoter d
@@ -581,32 +585,32 @@ module _ (here : Here) (under : List Region) (counted : ℕ) (heads : List Head)
   abbrev bare : layer.TypeDenoter-F WithDenoter → layer.TypeDenoter-F TypeDenoter
   bare y = map-TypeDenoter WithDenoter TypeDenoter (λ d. d.0) y
 
-  from_layer : (d : layer.TypeDenoter-F TypeDenoter) → KeepsDenoter (denoter_step (map-TypeDenoter TypeDenoter WrittenDenoter written_denoter d))
+  from_layer : (d : layer.TypeDenoter-F TypeDenoter) → KeepsDenoter (denoter_step (map-TypeDenoter TypeDenoter WrittenDenoter denoted_type d))
       → KeepsTypeDenoter (roll-TypeDenoter d)
   from_layer d law = subst KeepsDenoter (sym (fold-roll-TypeDenoter WrittenDenoter denoter_step d)) law
 
-  rows_keep : (ys : List WithDenoter) → KeepDenoters (map written_denoter (map (λ (y : WithDenoter). y.0) ys))
+  rows_keep : (ys : List WithDenoter) → KeepDenoters (map denoted_type (map (λ (y : WithDenoter). y.0) ys))
   rows_keep [] = tt
   rows_keep (y ∷ ys) = (y.1, rows_keep ys)
 
   denoter_layer : (y : layer.TypeDenoter-F WithDenoter) → KeepsTypeDenoter (roll-TypeDenoter (bare y))
-  denoter_layer (layer.Name name) = from_layer (layer.Name name) (λ names. type_of_name_keeps names name)
-  denoter_layer (layer.Enumerated constants) = from_layer (layer.Enumerated constants) (λ names. enumeration_keeps constants.items)
-  denoter_layer (layer.Subrange first place last) = from_layer (layer.Subrange first place last) (λ names. subrange_keeps first place last)
+  denoter_layer (layer.Name name) = from_layer (layer.Name name) (type_of_name_keeps name)
+  denoter_layer (layer.Enumerated constants) = from_layer (layer.Enumerated constants) (enumeration_keeps constants.items)
+  denoter_layer (layer.Subrange first place last) = from_layer (layer.Subrange first place last) (subrange_keeps first place last)
   denoter_layer (layer.Array packed place indexes element) =
       from_layer (bare (layer.Array packed place indexes element))
-      (λ names. array_keeps names packed place _ _ (rows_keep indexes.items) element.value.1)
+      (array_keeps packed place _ _ (rows_keep indexes.items) element.value.1)
   denoter_layer (layer.Record packed place rows denoters semicolon) =
       from_layer (bare (layer.Record packed place rows denoters semicolon))
-      (λ names. record_keeps names packed place rows.items _ (rows_keep denoters.items))
+      (record_keeps packed place rows.items _ (rows_keep denoters.items))
 
-  denoted_type_keeps : (names : List Name) (d : TypeDenoter) → Keeps counted IsReady (denoted_type names d) IsTyped
-  denoted_type_keeps names d =
-      ind-TypeDenoter KeepsTypeDenoter (λ x y is. subst (λ z. KeepsTypeDenoter (roll-TypeDenoter z)) is (denoter_layer y)) d names
+  denoted_type_keeps : (d : TypeDenoter) → Keeps counted IsReady (denoted_type d) IsTyped
+  denoted_type_keeps d =
+      ind-TypeDenoter KeepsTypeDenoter (λ x y is. subst (λ z. KeepsTypeDenoter (roll-TypeDenoter z)) is (denoter_layer y)) d
 
   pub type_definition_keeps : (d : TypeDefinition) → Keeps counted IsReady (type_definition d) Readied
   unfolding type_definition
-  type_definition_keeps d = keeps_then (denoted_type_keeps [] d.denoter) λ type_id. define_keeps d.name (denotes.TypeName type_id)
+  type_definition_keeps d = keeps_then (denoted_type_keeps d.denoter) λ type_id. define_keeps d.name (denotes.TypeName type_id)
 
   -- ---- groups of variables
 
@@ -644,7 +648,7 @@ module _ (here : Here) (under : List Region) (counted : ℕ) (heads : List Head)
     pub group_keeps : (g : VariableGroup) → Keeps counted (λ s. IsReady s × IsCounted s) (group g) (λ _ s. IsReady s × IsCounted s)
     unfolding group
     group_keeps g =
-        keeps_then (aside counted_stays (denoted_type_keeps g.names.items g.denoter)) λ type_id.
+        keeps_then (aside counted_stays (denoted_type_keeps g.denoter)) λ type_id.
         behind (λ x s is. (is.0.0, is.1)) (each_keeps (local_keeps type_id) g.names.items)
       where
         counted_stays : (s new : Passed) → Silent counted s new → IsCounted s → IsCounted new

@@ -89,16 +89,16 @@ module _ (here : Here) (heads : List Head) where
   abbrev AreSoundIn : Passed → Type 0
   AreSoundIn s = AreSound here s.variables s.types heads s.regions
 
-  type_looks : (names : List Name) (name : Name) (s : Passed) (a : After TypeId) → AreSoundIn s → type_of_name names name s ≡ Ok a
+  type_looks : (name : Name) (s : Passed) (a : After TypeId) → AreSoundIn s → type_of_name name s ≡ Ok a
       → Looks s a × (a.answer.index < length s.types)
   unfolding type_of_name
-  type_looks names name s a sound is =
+  type_looks name s a sound is =
       let denoted = found s.regions (folded name.text.now) in
-      let x = split (named_type names name denoted) (λ type_id. Ok (after type_id [] (record s { latest = name.place }))) a is in
+      let x = split (named_type name denoted) (λ type_id. Ok (after type_id [] (record s { latest = name.place }))) a is in
       let same : after x.0 [] (record s { latest = name.place }) ≡ a = cc in
       let one : x.0.index < length s.types =
       found_holds (IsSound here s.variables s.types heads) s.regions (folded name.text.now) (denotes.TypeName x.0) sound
-      (named_is names name denoted x.0 x.1) in
+      (named_is name denoted x.0 x.1) in
       subst (λ (b : After TypeId). Looks s b × (b.answer.index < length s.types)) same ((name.place, refl), one)
 
   groups_look : (groups : List FormalGroup) (s : Passed) (a : After (List TypeId)) → AreSoundIn s → group_types groups s ≡ Ok a
@@ -106,8 +106,8 @@ module _ (here : Here) (heads : List Head) where
   groups_look [] s a sound is =
       let same : after [] [] s ≡ a = cc in subst (λ (b : After (List TypeId)). Looks s b × AllStand s.types b.answer) same ((s.latest, refl), tt)
   groups_look (g ∷ groups) s a sound is =
-      let x = parts_of (type_of_name [] g.type_name) (λ id. group_types groups >>= (λ ids. pure (id ∷ ids))) s a is in
-      let one = type_looks [] g.type_name s x.first sound x.goes in
+      let x = parts_of (type_of_name g.type_name) (λ id. group_types groups >>= (λ ids. pure (id ∷ ids))) s a is in
+      let one = type_looks g.type_name s x.first sound x.goes in
       let n : Passed = record s { latest = one.0.0 } in
       let first_is : after x.first.answer [] n ≡ x.first = one.0.1 in
       let on : (group_types groups >>= (λ ids. pure (x.first.answer ∷ ids))) n ≡ Ok x.second =
@@ -134,10 +134,10 @@ module _ (here : Here) (heads : List Head) where
       subst (λ (b : After (Option TypeId)). Looks s b × IsOutcomeType s.types b.answer × (is_none b.answer ≡ true)) same ((s.latest, refl), tt, refl)
   result_looks (Some name) s a sound is =
       let test : List Form → TypeId → Checked TypeId = λ types id. fits (is_ordinal types id) name.place id in
-      let x = parts_of (type_of_name [] name >>? test) (λ id. pure (Some id)) s a is in
-      let y = split (type_of_name [] name s) (λ b. and_then (test b.passed.types b.answer) (λ id. Ok (after id b.look b.passed))) x.first x.goes in
+      let x = parts_of (type_of_name name >>? test) (λ id. pure (Some id)) s a is in
+      let y = split (type_of_name name s) (λ b. and_then (test b.passed.types b.answer) (λ id. Ok (after id b.look b.passed))) x.first x.goes in
       let z = split (test y.0.passed.types y.0.answer) (λ id. Ok (after id y.0.look y.0.passed)) x.first y.2 in
-      let one = type_looks [] name s y.0 sound y.1 in
+      let one = type_looks name s y.0 sound y.1 in
       let fit = fit_is (is_ordinal y.0.passed.types y.0.answer) name.place y.0.answer z.0 z.1 in
       let ordinal : is_ordinal s.types y.0.answer ≡ true = ap (λ (b : After TypeId). is_ordinal b.passed.types y.0.answer) one.0.1 ∙ fit.0 in
       let n : Passed = record s { latest = one.0.0 } in

@@ -112,13 +112,17 @@ module _ (here : Here) where
       some_same : (a b : Variable) → Some a ≡ Some b → a ≡ b
       some_same a b is = cc
 
-  target_of_does : {least : Reached} (found : Option (ℕ × Bool)) (place : Place) (d : Denotation) → as_routine d ≡ found → IsFound here d least
-      → here.owing ≡ true → Does here least Nothing (target_of found place d) IsTarget
-  target_of_does {least} None place d same sound owing =
+  variable_does : {least : Reached} (place : Place) (d : Denotation) → IsFound here d least → Does here least Nothing (given (as_variable place d)) IsTarget
+  variable_does {least} place d sound =
       further_answered (given_does (as_variable place d)) (λ variable now more is.
       (variable_later here least now variable.0 variable.1 more (variable_is here least place d variable is sound.0), stands_later here least now more sound.1))
-  target_of_does {least} (Some routine) place d same sound owing =
+
+  target_of_does : {least : Reached} (found : Option (ℕ × Bool)) (selectors : List Selector) (place : Place) (d : Denotation) → as_routine d ≡ found
+      → IsFound here d least → here.owing ≡ true → Does here least Nothing (target_of found selectors place d) IsTarget
+  target_of_does None selectors place d same sound owing = variable_does place d sound
+  target_of_does {least} (Some routine) [] place d same sound owing =
       function_target_does place routine.0 routine.1 (routine_is here least d routine same sound.0) sound.1 owing
+  target_of_does (Some routine) (selector ∷ others) place d same sound owing = variable_does place d sound
 
   -- what comes behind the variable
   abbrev access_typing : Name → List Selector → List Written → ℕ × TypeId → Passing TypeId
@@ -151,7 +155,7 @@ module _ (here : Here) where
   unfolding target
   found_does name selectors rows ws laws owing =
       quietly (find_does name) λ d _ _ sound.
-      quietly (target_of_does (as_routine d) name.place d refl sound owing) λ variable now _ found.
+      quietly (target_of_does (as_routine d) selectors name.place d refl sound owing) λ variable now _ found.
       access_does name selectors rows ws laws variable found
 
 -- ---- what is assigned
@@ -230,13 +234,18 @@ function_assigned place block s a is =
             (ap (λ (z : After (ℕ × TypeId)). z.answer.0) (sym same), ap (λ (z : After (ℕ × TypeId)). z.passed.assigned) (sym same))
         by (Err why) g = absurd cc
 
-target_of_assigned : (found : Option (ℕ × Bool)) (place : Place) (d : Denotation) (s : Passed) (a : After (ℕ × TypeId)) → target_of found place d s ≡ Ok a
+variable_assigned : (place : Place) (d : Denotation) (s : Passed) (a : After (ℕ × TypeId)) → given (as_variable place d) s ≡ Ok a
     → IsAllAssigned s.assigned a.answer.0 a.passed.assigned
-target_of_assigned None place d s a is =
+variable_assigned place d s a is =
     let x = split (as_variable place d) (λ v. Ok (after v [] s)) a is in
     let same : after x.0 [] s ≡ a = cc in
     subst (λ (b : After (ℕ × TypeId)). IsAllAssigned s.assigned b.answer.0 b.passed.assigned) same (λ other there. inl there)
-target_of_assigned (Some routine) place d s a is = function_assigned place routine.0 s a is
+
+target_of_assigned : (found : Option (ℕ × Bool)) (selectors : List Selector) (place : Place) (d : Denotation) (s : Passed) (a : After (ℕ × TypeId))
+    → target_of found selectors place d s ≡ Ok a → IsAllAssigned s.assigned a.answer.0 a.passed.assigned
+target_of_assigned None selectors place d s a is = variable_assigned place d s a is
+target_of_assigned (Some routine) [] place d s a is = function_assigned place routine.0 s a is
+target_of_assigned (Some routine) (selector ∷ others) place d s a is = variable_assigned place d s a is
 
 -- ---- targets
 
@@ -356,17 +365,17 @@ module _ (here : Here) where
         let o = owing_here here in
         let known = fine_owing here s fine in
         let k = (found_does o {least = least} name selectors rows ws (laws o) refl).does s a is known h in
-        let behind_name : Denotation → Passing TypeId = λ d. target_of (as_routine d) name.place d >>= access_typing here name selectors ws in
+        let behind_name : Denotation → Passing TypeId = λ d. target_of (as_routine d) selectors name.place d >>= access_typing here name selectors ws in
         let x = split (find name s) (λ b. behind_marks b.look (behind_name b.answer b.passed)) a is in
         let y = split_behind x.0.look (behind_name x.0.answer x.0.passed) a x.2 in
         let one = (find_does {here = o} {least = least} name).does s x.0 x.1 known h in
         let d = x.0.answer in
         let now = reached x.0.passed in
         let fine1 = fine_later one.0 known in
-        let u = split (target_of (as_routine d) name.place d x.0.passed)
+        let u = split (target_of (as_routine d) selectors name.place d x.0.passed)
         (λ b. behind_marks b.look (access_typing here name selectors ws b.answer b.passed)) y.0 y.1 in
         let v = split_behind u.0.look (access_typing here name selectors ws u.0.answer u.0.passed) y.0 u.2 in
-        let two = (target_of_does o {least = now} (as_routine d) name.place d refl one.1 refl).does x.0.passed u.0 u.1 fine1 as_far in
+        let two = (target_of_does o {least = now} (as_routine d) selectors name.place d refl one.1 refl).does x.0.passed u.0 u.1 fine1 as_far in
         let fine2 = fine_settled here u.0.passed (fine_later two.0 fine1) in
         let three =
         (access_does here {least = reached u.0.passed} name selectors rows ws (laws here) u.0.answer (
@@ -381,7 +390,7 @@ module _ (here : Here) where
         )).does u.0.passed v.0 v.1 fine2 as_far in
         let told = access_told here name selectors ws u.0.answer u.0.passed v.0 v.1 in
         let from_name = find_assigned name s x.0 x.1 in
-        let from_target = target_of_assigned (as_routine d) name.place d x.0.passed u.0 u.1 in
+        let from_target = target_of_assigned (as_routine d) selectors name.place d x.0.passed u.0 u.1 in
         let look : a.look ≡ x.0.look ++ (u.0.look ++ v.0.look) =
         ap (λ (z : After TypeId). z.look) (sym y.2) ∙ ap (λ (z : After TypeId). x.0.look ++ z.look) (sym v.2) in
         let passed : a.passed ≡ v.0.passed =

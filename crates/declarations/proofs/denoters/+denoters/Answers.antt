@@ -4,7 +4,7 @@ use denote.Param.Weighed.{most, at_most}
 use Rattle.syntax_tree.specs.declared.TypeDenoter.{size-TypeDenoter, the_lemmas}
 use Rattle.types.specs.Forms.{field_form}
 use Rattle.typed_tree.specs.declared.fault.TypeFault.TheVariants.{Memory}
-use Rattle.typing.specs.Denoters.{arrays, denoted_type, index_type, index_types, named_fields, written_denoter}
+use Rattle.typing.specs.Denoters.{arrays, denoted_type, index_type, index_types, named_fields}
 use Rattle.typing.specs.Names.{denoter_names}
 use Rattle.typing.specs.Outcomes.{Takes}
 use Rattle.typing.specs.Steps.{pass}
@@ -39,13 +39,12 @@ denoted_type-denoted_type-requires t c =
     let old = c.args.typer.now in
     let between = c.pass.new.self in
     let new = c.index_types.new.typer in
-    let names = c.args.names.now in
     let indexes = c.deref-in-Array.result.now in
     let element = denoter_names it.element.value in
     let parts = ap denoter_names it.is ∙ names_of_array it.packed it.place it.indexes it.element in
     let known = others_known old.regions (names_in it.indexes.items) element (subst (λ names. AreKnown names old.regions) parts c.requires.known) in
     let still = names_stay (pass it.place) (pass_keeps it.place) tt [] old between c.pass.ensures element known in
-    let last = names_stay (index_types names it.place (map written_denoter indexes)) (types_keep names it.place indexes)
+    let last = names_stay (index_types (map denoted_type indexes)) (types_keep indexes)
     c.in_ok-indexes-in-Array.indexes.items [] between new c.in_ok-indexes-in-Array.ensures element still in
     (search (rules, the_lemmas), subst (λ d. AreKnown (denoter_names d) new.regions) (sym c.deref-in-Array-2.ensures) last)
 
@@ -53,7 +52,7 @@ denoted_type-denoted_type-requires t c =
 pub denoted_type-returns-in_err-indexes-in-Array : goal.denoted_type-returns-in_err-indexes-in-Array
 denoted_type-returns-in_err-indexes-in-Array t c =
     let it = c.in-Array in
-    let stops = indexes_stop c.args.names.now c.args.denoter.now it.packed it.place it.indexes it.element it.is c.deref-in-Array.result.now
+    let stops = indexes_stop c.args.denoter.now it.packed it.place it.indexes it.element it.is c.deref-in-Array.result.now
     c.deref-in-Array.ensures.value c.args.typer.now c.pass.new.self c.pass.ensures c.in_err-indexes-in-Array.field-0.0 c.in_err-indexes-in-Array.ensures in
     search (rules, stops)
 
@@ -61,7 +60,7 @@ denoted_type-returns-in_err-indexes-in-Array t c =
 pub denoted_type-returns-in_err-element-in-Array : goal.denoted_type-returns-in_err-element-in-Array
 denoted_type-returns-in_err-element-in-Array t c =
     let it = c.in-Array in
-    let stops = element_stops c.args.names.now c.args.denoter.now it.packed it.place it.indexes it.element it.is c.deref-in-Array.result.now
+    let stops = element_stops c.args.denoter.now it.packed it.place it.indexes it.element it.is c.deref-in-Array.result.now
     c.deref-in-Array.ensures.value c.args.typer.now c.pass.new.self c.pass.ensures c.in_ok-indexes-in-Array.indexes.items c.index_types.new.typer
     c.in_ok-indexes-in-Array.ensures c.deref-in-Array-2.result.now c.deref-in-Array-2.ensures c.in_err-element-in-Array.field-0.0
     c.in_err-element-in-Array.ensures in
@@ -73,7 +72,7 @@ denoted_type-returns-in_ok-element-in-Array t c =
     let it = c.in-Array in
     let ids = c.in_ok-indexes-in-Array.indexes.items in
     let id = c.in_ok-element-in-Array.element in
-    let goes = array_goes_on c.args.names.now c.args.denoter.now it.packed it.place it.indexes it.element it.is c.deref-in-Array.result.now
+    let goes = array_goes_on c.args.denoter.now it.packed it.place it.indexes it.element it.is c.deref-in-Array.result.now
     c.deref-in-Array.ensures.value c.args.typer.now c.pass.new.self c.pass.ensures ids c.index_types.new.typer
     c.in_ok-indexes-in-Array.ensures c.deref-in-Array-2.result.now c.deref-in-Array-2.ensures id c.denoted_type.new.typer c.in_ok-element-in-Array.ensures in
     subst (λ o. Takes o c.arrays.result c.arrays.new.self)
@@ -98,20 +97,18 @@ index_types-loop-denoter-preserved t c =
     let denoters = c.args.denoters.now in
     let i = here.denoter-index in
     let denoter = c.denoter-item.result in
-    let names = c.args.names.now in
-    let place = c.args.place in
     let old = c.args.typer.now in
     let new = c.index_type.new.typer in
     let rest = names_in (drop (i + 1) denoters) in
     let known = subst (λ names. AreKnown names here.typer.regions) (next_names denoters i denoter c.loop-denoter-test.true c.denoter-item.is)
     here.invariant.known in
     let passes = c.in_ok-index_type.ensures in
-    let next = types_next written_denoter names place denoters old i denoter here.ids.items here.typer c.loop-denoter-test.true c.denoter-item.is
+    let next = types_next denoted_type denoters old i denoter here.ids.items here.typer c.loop-denoter-test.true c.denoter-item.is
     here.invariant.left c.in_ok-index_type.field-0 new passes in
     let ids : here.ids.items ++ c.in_ok-index_type.field-0 ∷ [] ≡ c.push.new.self.items = search (rules, c.in_ok-push.ensures.items) in
     record {
-      left = subst (λ ids. AreTypesFrom written_denoter names place denoters old (i + 1) ids new) ids next;
-      known = names_stay (index_type names place (written_denoter denoter)) (index_keeps names place denoter) c.in_ok-index_type.field-0 [] here.typer new
+      left = subst (λ ids. AreTypesFrom denoted_type denoters old (i + 1) ids new) ids next;
+      known = names_stay (index_type (denoted_type denoter)) (index_keeps denoter) c.in_ok-index_type.field-0 [] here.typer new
           passes rest (others_known here.typer.regions (denoter_names denoter) rest known);
     }
 
@@ -134,7 +131,7 @@ denoted_type-grouped_fields-requires t c =
 pub denoted_type-returns-in_err-fields-in-Record : goal.denoted_type-returns-in_err-fields-in-Record
 denoted_type-returns-in_err-fields-in-Record t c =
     let it = c.in-Record in
-    let stops = fields_stop c.args.names.now c.args.denoter.now it.packed it.place it.rows it.denoters it.semicolon it.is c.deref-in-Record.result.now
+    let stops = fields_stop c.args.denoter.now it.packed it.place it.rows it.denoters it.semicolon it.is c.deref-in-Record.result.now
     c.deref-in-Record.ensures.value c.deref-in-Record-2.result.now c.deref-in-Record-2.ensures.value c.args.typer.now c.pass-in-Record.new.self
     c.pass-in-Record.ensures c.in_err-fields-in-Record.field-0.0 c.in_err-fields-in-Record.ensures in
     search (rules, stops)
@@ -144,10 +141,10 @@ pub denoted_type-returns-in_ok-fields-in-Record : goal.denoted_type-returns-in_o
 denoted_type-returns-in_ok-fields-in-Record t c =
     let it = c.in-Record in
     let fields = c.in_ok-fields-in-Record.fields.items in
-    let goes = record_goes_on c.args.names.now c.args.denoter.now it.packed it.place it.rows it.denoters it.semicolon it.is c.deref-in-Record.result.now
+    let goes = record_goes_on c.args.denoter.now it.packed it.place it.rows it.denoters it.semicolon it.is c.deref-in-Record.result.now
     c.deref-in-Record.ensures.value c.deref-in-Record-2.result.now c.deref-in-Record-2.ensures.value c.args.typer.now c.pass-in-Record.new.self
     c.pass-in-Record.ensures (map field_form fields) c.grouped_fields.new.typer c.in_ok-fields-in-Record.ensures in
-    subst (λ o. Takes o c.add_type.result c.add_type.new.self) (sym goes) c.add_type.ensures
+    subst (λ o. Takes o c.add_type.result c.add_type.new.self) (sym goes) c.add_type.ensures.taken
 
 -- ---- its fields
 
@@ -181,7 +178,7 @@ grouped_fields-returns-in_err-type_id t c =
     let second : begins.b.rest.now ≡ denoters = search rules in
     let turn = zip_turn rows denoters here.yielded begins here.row-iterator c.next.new.self c.next.result first second here.yielded_by
     (c.in-Some.row, c.in-Some.denoter) c.in-Some.is c.next.ensures.steps in
-    let stops = group_stops written_denoter c.args.names.now rows denoters c.args.typer.now (length here.yielded) c.in-Some.row.now c.in-Some.denoter.now
+    let stops = group_stops denoted_type rows denoters c.args.typer.now (length here.yielded) c.in-Some.row.now c.in-Some.denoter.now
     (map field_form here.fields.items) here.typer turn.0 (turn.2 c.in-Some.row.now) turn.1 (turn.3 c.in-Some.denoter.now) here.invariant.left
     c.in_err-type_id.field-0.0 c.in_err-type_id.ensures in
     search (rules, stops)
@@ -189,7 +186,6 @@ grouped_fields-returns-in_err-type_id t c =
 -- its names are
 pub grouped_fields-returns-in_err-add_fields : goal.grouped_fields-returns-in_err-add_fields
 grouped_fields-returns-in_err-add_fields t c =
-    let names = c.args.names.now in
     let rows = c.args.rows.now in
     let denoters = c.args.denoters.now in
     let here = c.loop-row in
@@ -205,14 +201,13 @@ grouped_fields-returns-in_err-add_fields t c =
     let why = c.in_err-add_fields.field-0.0 in
     let id = c.in_ok-type_id.type_id in
     let twice = subst (λ l. (why ≡ Memory) ⊎ (named_fields fields id l ≡ Err why)) c.deref.ensures.value c.in_err-add_fields.ensures in
-    let stops = group_names_stop written_denoter names rows denoters c.args.typer.now i row denoter fields here.typer turn.0 (turn.2 row) turn.1
+    let stops = group_names_stop denoted_type rows denoters c.args.typer.now i row denoter fields here.typer turn.0 (turn.2 row) turn.1
     (turn.3 denoter) here.invariant.left id c.denoted_type.new.typer c.in_ok-type_id.ensures why twice in
     search (rules, stops)
 
 -- one group more
 pub grouped_fields-loop-row-preserved : goal.grouped_fields-loop-row-preserved
 grouped_fields-loop-row-preserved t c =
-    let names = c.args.names.now in
     let rows = c.args.rows.now in
     let denoters = c.args.denoters.now in
     let here = c.loop-row in
@@ -233,14 +228,14 @@ grouped_fields-loop-row-preserved t c =
     let known = subst (λ l. AreKnown l here.typer.regions) (next_group rows denoters i row denoter turn.0 (turn.2 row) turn.1 (turn.3 denoter))
     here.invariant.known in
     let named = ap (named_fields fields id) (sym c.deref.ensures.value) ∙ c.in_ok-add_fields.ensures in
-    let next = group_next written_denoter names rows denoters old i row denoter fields here.typer turn.0 (turn.2 row) turn.1 (turn.3 denoter)
+    let next = group_next denoted_type rows denoters old i row denoter fields here.typer turn.0 (turn.2 row) turn.1 (turn.3 denoter)
     here.invariant.left id new c.in_ok-type_id.ensures more named in
-    let stay = names_stay (denoted_type names denoter) (denoted_type_keeps names denoter) id [] here.typer new c.in_ok-type_id.ensures rest
+    let stay = names_stay (denoted_type denoter) (denoted_type_keeps denoter) id [] here.typer new c.in_ok-type_id.ensures rest
     (others_known here.typer.regions (denoter_names denoter) rest known) in
     let one : i + 1 ≡ length (here.yielded ++ (c.in-Some.row, c.in-Some.denoter) ∷ []) =
     omega (arith, length-append here.yielded ((c.in-Some.row, c.in-Some.denoter) ∷ [])) in
     record {
-      left = subst (λ n. AreGroupsFrom written_denoter names rows denoters old n more new) one next;
+      left = subst (λ n. AreGroupsFrom denoted_type rows denoters old n more new) one next;
       known = subst (λ n. AreKnown (groups_from rows denoters n) new.regions) one stay;
     }
 
@@ -256,5 +251,5 @@ grouped_fields-returns t c =
     let all : length here.yielded ≡ min (length rows) (length denoters) =
     zip_end rows denoters here.yielded begins here.row-iterator c.next.new.self c.next.result first second here.yielded_by c.in-None.is
     c.next.ensures.steps in
-    groups_end written_denoter c.args.names.now rows denoters c.args.typer.now (length here.yielded) (map field_form here.fields.items) here.typer all
+    groups_end denoted_type rows denoters c.args.typer.now (length here.yielded) (map field_form here.fields.items) here.typer all
     here.invariant.left

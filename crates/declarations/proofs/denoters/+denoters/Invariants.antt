@@ -1,6 +1,6 @@
 use Rattle.std.proofs.Common.{drop, length, map}
 use Rattle.types.specs.Forms.{field_form}
-use Rattle.typing.specs.Denoters.{written_denoter}
+use Rattle.typing.specs.Denoters.{denoted_type}
 use Rattle.typing.proofs.DenoterRows.{AreTypesFrom, AreGroupsFrom}
 use Rattle.declarations.specs.Known.{AreKnown, names_in}
 use Rattle.declarations.proofs.Defined.{groups_from}
@@ -9,12 +9,12 @@ use Rattle.declarations.proofs.denoters.+denoters.Given as goal
 -- what is left, and that the names are known which it defines
 abbrev pub invariant-index_types-loop-denoter : goal.invariant-index_types-loop-denoter
 invariant-index_types-loop-denoter l = record {
-  left : AreTypesFrom written_denoter l.names l.place l.denoters l.initial.typer l.denoter-index l.ids.items l.typer;
+  left : AreTypesFrom denoted_type l.denoters l.initial.typer l.denoter-index l.ids.items l.typer;
   known : AreKnown (names_in (drop l.denoter-index l.denoters)) l.typer.regions;
 }
 
 abbrev pub invariant-grouped_fields-loop-row : goal.invariant-grouped_fields-loop-row
 invariant-grouped_fields-loop-row l = record {
-  left : AreGroupsFrom written_denoter l.names l.rows l.denoters l.initial.typer (length l.yielded) (map field_form l.fields.items) l.typer;
+  left : AreGroupsFrom denoted_type l.rows l.denoters l.initial.typer (length l.yielded) (map field_form l.fields.items) l.typer;
   known : AreKnown (groups_from l.rows l.denoters (length l.yielded)) l.typer.regions;
 }

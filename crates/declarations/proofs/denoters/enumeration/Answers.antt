@@ -7,5 +7,5 @@ pub declare_constants-requires : goal.declare_constants-requires
 declare_constants-requires c =
     record {
       known = names_stay _ (add_type_keeps c.latest-place.result _) c.in_ok-type_id.type_id [] c.args.typer.now c.add_type.new.self
-          c.in_ok-type_id.ensures c.args.names.now c.requires.known;
+          c.in_ok-type_id.ensures.taken c.args.names.now c.requires.known;
     }

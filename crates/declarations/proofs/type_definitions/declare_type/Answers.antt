@@ -17,6 +17,6 @@ declare-requires c =
     let d = c.args.definition.now in
     let new = c.denoted_type.new.typer in
     record {
-      known = still_known (denoted_type [] d.denoter) (denoted_type_keeps [] d.denoter) c.in_ok-type_id.type_id [] c.args.typer.now new
+      known = still_known (denoted_type d.denoter) (denoted_type_keeps d.denoter) c.in_ok-type_id.type_id [] c.args.typer.now new
           c.in_ok-type_id.ensures (folded d.name.text.now) (last_known c.args.typer.now.regions (denoter_names d.denoter) d.name c.requires.known);
     }

@@ -18,6 +18,6 @@ declare_variables-requires c =
     let group = c.args.group.now in
     let new = c.denoted_type.new.typer in
     let known = others_known c.args.typer.now.regions (denoter_names group.denoter) group.names.items c.requires.known in
-    let stay = names_stay (denoted_type c.deref.result.now group.denoter) (denoted_type_keeps c.deref.result.now group.denoter)
+    let stay = names_stay (denoted_type group.denoter) (denoted_type_keeps group.denoter)
     c.in_ok-type_id.type_id [] c.args.typer.now new c.in_ok-type_id.ensures group.names.items known in
-    record { known = subst (λ names. AreKnown names new.regions) (sym c.deref-2.ensures.value) stay }
+    record { known = subst (λ names. AreKnown names new.regions) (sym c.deref.ensures.value) stay }

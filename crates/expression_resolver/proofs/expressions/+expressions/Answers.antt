@@ -328,7 +328,7 @@ routine_call-returns-in_err-found t c =
     let formals = (get_or c.enter.new.self.headings c.args.block program_heading).parameters in
     let refused : (why ≡ fault.Memory) ⊎ (spec.are_as_many c.args.place (length (map written_actual actuals)) (length formals) ≡ Err why) =
     subst (λ n. (why ≡ fault.Memory) ⊎ (spec.are_as_many c.args.place n (length formals) ≡ Err why)) (sym (length-map actuals written_actual))
-    c.in_err-found.ensures in
+    c.in_err-found.ensures.found in
     let stops : IsFault (spec.routine_call c.args.is_function c.args.block c.args.place (map written_actual actuals) c.args.typer.now) why =
     count_stops c.args.is_function c.args.block c.args.place (map written_actual actuals) c.args.typer.now c.enter.new.self c.in_ok-number.number
     c.in_ok-number.ensures why refused in
@@ -341,10 +341,10 @@ routine_call-returns-in_err-passed t c =
     let there = c.enter.new.self in
     let formals = (get_or there.headings c.args.block program_heading).parameters in
     let many : spec.are_as_many c.args.place (length (map written_actual actuals)) (length formals) ≡ Ok tt =
-    ap (λ n. spec.are_as_many c.args.place n (length formals)) (length-map actuals written_actual) ∙ c.in_ok-found.ensures.fits in
+    ap (λ n. spec.are_as_many c.args.place n (length formals)) (length-map actuals written_actual) ∙ c.in_ok-found.ensures.found.fits in
     let refused : IsFault (spec.actuals_for formals (map written_actual actuals) c.args.block 0 there) why =
     subst (λ roots. IsFault (spec.actuals_for roots (map written_actual actuals) c.args.block 0 there) why)
-    (c.deref.ensures.value ∙ sym c.in_ok-found.ensures.parameters) (c.in_err-passed.ensures.made c.args.block) in
+    (c.deref.ensures.value ∙ sym c.in_ok-found.ensures.found.parameters) (c.in_err-passed.ensures.made c.args.block) in
     let stops : IsFault (spec.routine_call c.args.is_function c.args.block c.args.place (map written_actual actuals) c.args.typer.now) why =
     actual_stops c.args.is_function c.args.block c.args.place (map written_actual actuals) c.args.typer.now there c.in_ok-number.number
     c.in_ok-number.ensures many why refused in
@@ -356,7 +356,7 @@ routine_call-returns t c =
     let there = c.enter.new.self in
     let passed = c.in_ok-passed.passed in
     let now = c.actuals_for.new.typer in
-    let found = c.in_ok-found.ensures in
+    let found = c.in_ok-found.ensures.found in
     let formals = (get_or there.headings c.args.block program_heading).parameters in
     let many : spec.are_as_many c.args.place (length (map written_actual actuals)) (length formals) ≡ Ok tt =
     ap (λ n. spec.are_as_many c.args.place n (length formals)) (length-map actuals written_actual) ∙ found.fits in

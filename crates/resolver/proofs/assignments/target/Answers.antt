@@ -17,7 +17,7 @@ returns c =
     let access : Access = record { number = c.in_ok-number.number; root = root; selectors = made.selectors } in (
       target_is c.args.name.now c.args.selectors.now (map expression c.args.indexes.now) c.in_ok-denotation.denotation (root, c.in_ok-root.type_id)
           c.in_ok-number.number c.args.typer.now c.find.new.self c.target_of.new.typer c.may_change.new.self c.enter.new.self
-          c.in_ok-denotation.ensures c.in_ok-root.ensures c.in_ok-may_change.ensures c.in_ok-number.ensures (made.selectors.items, made.type_id)
+          c.in_ok-denotation.ensures c.in_ok-root.ensures c.in_ok-may_change.ensures.taken c.in_ok-number.ensures (made.selectors.items, made.type_id)
           (look_selection made) now c.in_ok-component.ensures.made
           ∙ ap (λ look. Ok (after made.type_id look now))
           (sym (look_reached access made.indexes (target_mark (is_ordinal now.types made.type_id) root made.selectors.items made.type_id))),
