@@ -35,9 +35,9 @@ impl Compiled {
     }
 }
 
-/// Compiles a source, with the text of a certificate or with the plain one, and runs the code without the checks of the
-/// sites that aren't open, on 1 to 16,777,216 cells and for at most `budget` instructions. Answers the checker's verdict
-/// and how the run stopped.
+/// Compiles a source, with the text of a certificate or with the plain one, and runs the code without the checks of
+/// the sites that aren't open, on 1 to 16,777,216 cells and for at most `budget` instructions. Answers the checker's
+/// verdict and how the run stopped.
 ///
 /// # Errors
 /// Those of `compile`, and want of memory; then nothing is written.
