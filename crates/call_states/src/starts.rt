@@ -1,4 +1,5 @@
-ghost use Rattle.std.specs.Prelude.{◌≡◌, ◌<◌, [], IfOk, length, map, replicate, slice_get, suc};
+ghost use Rattle.std.specs.Prelude.{◌≡◌, ◌<◌, ◌≤◌, ◌^◌, [], IfOk, IsOk, MatchResult, length, map, replicate, slice_get, suc};
+ghost use Rattle.typed_tree.specs.WellFormed.{IsWellFormed};
 ghost use Rattle.certificate.specs.Contents.{said_fact};
 ghost use Rattle.component_states.specs.Components.{with_touched};
 ghost use Rattle.component_states.specs.States.{over_components};
@@ -31,9 +32,11 @@ pub fn all_declared(alloc: Global, tree: &Tree) -> Result<Vec<Vec<u32>>, AllocEr
     Ok(found)
 }
 
-/// How many variables there are, if 32 bits hold their number: more fit no memory.
+/// How many variables there are, if 32 bits hold their number, as of each well formed tree: more fit no memory.
 fn root_count(tree: &Tree) -> Result<u32, AllocError>
-    ensures { IfOk result (λ count. count ≡ length tree.now.variables.items) }
+    ensures count { MatchResult result (λ count. count ≡ length tree.now.variables.items)
+        (λ _. 2 ^ 32 ≤ length tree.now.variables.items) }
+    ensures few { IsWellFormed tree.now → IsOk result }
 {
     let count = tree.variables.len();
     if count > u32::MAX as usize {

@@ -1,4 +1,4 @@
-ghost use Rattle.std.specs.Prelude.{◌≡◌, ◌<◌, ◌^◌, ◌++◌, [], IfOk, OnOk, length, slice_get};
+ghost use Rattle.std.specs.Prelude.{◌≡◌, ◌<◌, ◌≤◌, ◌^◌, ◌++◌, [], IfOk, OnErr, OnOk, length, slice_get};
 ghost use Rattle.typed_tree.specs.declared.tree.Tree.{Tree};
 ghost use Rattle.certificate.specs.Contents.{said_path};
 ghost use Rattle.leaf_rows.specs.Leaves.{Elements, FieldAt};
@@ -294,6 +294,7 @@ fn variable_part(types: &TypeTable, variable: Option<Variable>, first: Option<u3
 fn row_number(rows: usize) -> Result<u32, AllocError>
     ensures number { IfOk result (λ number. number ≡ rows) }
     ensures few { OnOk result (rows < 2 ^ 32) }
+    ensures many { OnErr result (2 ^ 32 ≤ rows) }
 {
     if rows > u32::MAX as usize {
         return Err(AllocError);

@@ -8,7 +8,8 @@ use Rattle.component_states.specs.Components.{Entire, Reach}
 use Rattle.component_states.specs.View.{said_reach}
 use Rattle.expression_checker.specs.View.{said_ranges, seen}
 use Rattle.domain.specs.Interval.{truth_values}
-use Rattle.expression_checker.proofs.Steps.{chain-begun, given-up, goes-as, goes-entered, goes-give, goes-nowhere, goes-stopped, goes-then, link-done, link-walks}
+use Rattle.expression_checker.proofs.Steps.{chain-begun, given-up, goes-as, goes-entered, goes-give}
+use Rattle.expression_checker.proofs.Steps.{goes-nowhere, goes-stopped, goes-then, link-done, link-walks}
 use Rattle.expression_checker.proofs.Steps.{monadic-begun}
 use Rattle.expression_checker.specs.declared.fault.CheckFault.TheVariants.{Memory}
 use Rattle.expression_checker.proofs.Steps.{index-end, index_at, index-step, index-stopped, seen-fault, test-stopped}
@@ -85,7 +86,8 @@ expression-returns-after-loop-link t c =
 pub link-returns : goal.link-returns
 link-returns t c =
     link-done c.args.link.now c.args.left c.in_ok-right.right c.args.self.now c.args.self.now c.expression.new.self c.combined.new.self
-    c.args.visits.now c.tick.new.self c.expression.new.visits c.expression.new.visits tt c.combined.result (goes-entered _ c.args.self.now _ _ c.tick.ensures) c.in_ok-right.ensures
+    c.args.visits.now c.tick.new.self c.expression.new.visits c.expression.new.visits tt c.combined.result
+    (goes-entered _ c.args.self.now _ _ c.tick.ensures) c.in_ok-right.ensures
     (c.combined.ensures c.expression.new.visits)
 
 pub expression-returns-in-Constant : goal.expression-returns-in-Constant
