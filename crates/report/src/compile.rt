@@ -17,6 +17,7 @@ use cert_checker::{Verdict, check};
 use certificate::Certificate;
 use check_remover::remove::remove;
 use code_generator::generate::generate;
+use code_generator::laws::stripped_follows;
 use lexer::tokens;
 use parser::parse;
 use pcode_assembler::code::{Code, Site};
@@ -136,6 +137,7 @@ fn coded(alloc: Global, tree: &Tree, verdict: &Verdict) -> Result<(Code, Code), 
     let full = generate(alloc, tree)?;
     let open_sites = code_sites(alloc, verdict)?;
     let stripped = remove(alloc, &full, &open_sites)?;
+    stripped_follows();
     Ok((full, stripped))
 }
 

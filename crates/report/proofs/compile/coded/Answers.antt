@@ -5,7 +5,6 @@ use Rattle.check_remover.specs.Strip.{strip, KeepsInstructions}
 use Rattle.code_scheme.specs.Code.{program_code}
 use Rattle.code_generator.specs.Large.{is_too_large}
 use Rattle.code_generator.specs.Tables.{site_table}
-use Rattle.code_generator.proofs.Program.{stripped_follows}
 use Rattle.report.proofs.OpenSites.{errs_at_open}
 use Rattle.report.proofs.RefusalLemmas.{refused_by, generation-refusal}
 use Rattle.report.proofs.compile.coded.Goals as goal
@@ -36,7 +35,7 @@ returns c = λ source text certificate sound judged.
       };
       headline = record {
         closed_never_err = judged.closed_never_err;
-        follows = stripped_follows tree (site_table open_sites) stripped sound.well_formed few sites keeps
+        follows = c.stripped_follows.ensures tree (site_table open_sites) stripped sound.well_formed few sites keeps
             (errs_at_open tree open_sites judged.closed_never_err);
       };
     }
