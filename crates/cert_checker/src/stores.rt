@@ -8,9 +8,9 @@ ghost use Rattle.abstract_state.specs.View.{said_form};
 ghost use Rattle.leaf_rows.specs.Limits.{limits_at};
 ghost use Rattle.leaf_rows.specs.Rows.{rows_of, values_at};
 ghost use Rattle.leaf_rows.specs.View.{numbers};
-ghost use Rattle.component_states.specs.Components.{all_stored};
+ghost use Rattle.component_states.specs.Components.{At, all_stored};
 ghost use Rattle.component_states.specs.States.{over_components};
-ghost use Rattle.component_states.specs.View.{said_reach, viewed};
+ghost use Rattle.component_states.specs.View.{said_index, said_reach, viewed};
 ghost use Rattle.call_states.specs.Actuals.{lies_among};
 ghost use Rattle.call_states.specs.View.{said_stored};
 ghost use Rattle.expression_checker.specs.Visits.{Visits};
@@ -25,7 +25,7 @@ use abstract_state::{Known, bound_form, limits};
 use call_states::actuals::{lies_among, unknown_reach};
 use call_states::aliases;
 use call_states::aliases::{Stored, form_unless_alias, reach_unless_alias, variable_values};
-use component_states::{Reach, State};
+use component_states::{Index, Reach, State};
 use domain::Domain;
 use domain::facts::Bound;
 use domain::interval::Interval;
@@ -274,8 +274,19 @@ fn reach_of_store(selectors: &[Selector], reach: Reach) -> Reach
     ensures { said_reach result ≡ reach_of_store selectors.now (said_reach reach) }
 {
     match reach {
-        Reach::At(index) if !ends_at_index(selectors) => Reach::Inside(index),
-        _ => reach,
+        Reach::Entire => Reach::Entire,
+        Reach::At(index) => reach_of_index(selectors, index),
+        Reach::Inside(index) => Reach::Inside(index),
+    }
+}
+
+fn reach_of_index(selectors: &[Selector], index: Index) -> Reach
+    ensures { said_reach result ≡ reach_of_store selectors.now (At (said_index index)) }
+{
+    if ends_at_index(selectors) {
+        Reach::At(index)
+    } else {
+        Reach::Inside(index)
     }
 }
 
