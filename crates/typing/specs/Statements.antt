@@ -47,7 +47,8 @@ use Rattle.typed_tree.specs.Accesses.{index_count}
 use Rattle.typed_tree.specs.WellFormed.{is_one_of}
 use Rattle.typed_tree.specs.Look.{Mark, Access, Assign, Target, WholeTarget, Copied, Fits, Write}
 use Rattle.typed_tree.specs.Look.{Written as WrittenMark, WrittenString, Width}
-use Rattle.typed_tree.specs.Look.{Empty, Compound, If, Then, Else, While, Do, Repeat, Until, For, Controls, ForEnds, Case, Arm, Ends}
+use Rattle.typed_tree.specs.Look.{Empty, Compound, If, Then, Else, While, Do, Repeat, Until, For, Controls, ForEnds}
+use Rattle.typed_tree.specs.Look.{Case, Arm, Ends}
 use Rattle.typing.specs.Passing.{Checked, Passing, and_then, pure, fail, given, by_types, mark, each, ◌>>=◌, ◌>>◌}
 use Rattle.typing.specs.Passing.{◌>>?◌}
 use Rattle.typing.specs.Steps.{assign_result, fits, or_mismatch, pass, enter_as, enter_loop, site, find, heading_at}
