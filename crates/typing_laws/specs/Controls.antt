@@ -48,8 +48,8 @@ is_bracket (Controls control) = true
 is_bracket ForEnds = true
 is_bracket other = false
 
--- the control variables of the for statements in whose statements a form stands that comes behind another, the innermost
--- first, by those in whose statements that stands; none, if it changes one of these
+-- the control variables of the for statements in whose statements a form stands that comes behind another, the
+-- innermost first, by those in whose statements that stands; none, if it changes one of these
 abbrev pub mark_behind : Mark → List ℕ → Option (List ℕ)
 mark_behind (Controls control) roots = Some (control ∷ roots)
 mark_behind ForEnds [] = None
