@@ -96,7 +96,7 @@ module _ (tree : Tree) (certificate : Certificate) (unbroken : (program_walk tre
   world = program_world tree certificate
 
   laws : CallLaws world
-  laws = call-laws world well refl (are-claims world certificate refl known)
+  laws = call-laws world well (are-claims world certificate refl known)
 
   block-foretold : (block : Block) → slice_get tree.blocks.items 0 ≡ Some block
       → Foretold world (run_of tree (suc turns) (Some block) (first_state input turns))
