@@ -26,7 +26,7 @@ use Rattle.abstract_state.proofs.Changed.{unless-if}
 use Rattle.abstract_state.proofs.Knows.{ranged-known}
 use Rattle.abstract_state.proofs.Knows as knowing
 use Rattle.abstract_state.proofs.Like as like
-use Rattle.leaf_rows.specs.Rows.{Parts, all_parts, no_parts, rows_of, rows_under, values_at}
+use Rattle.leaf_rows.specs.Rows.{Parts, all_parts, no_parts, rows_of, rows_under, type_at}
 use Rattle.leaf_rows.proofs.Accessed.{row-is}
 use Rattle.leaf_rows.proofs.Numbered.{number-under}
 use Rattle.component_states.specs.Components as components
@@ -39,8 +39,8 @@ use Rattle.component_states.proofs.Joins.{in-left, in-right}
 use Rattle.component_states.proofs.Listed as listed
 use Rattle.component_states.proofs.Looped.{between-some, unchanged}
 use Rattle.component_states.proofs.Rows.{of_row-within, set-at, set-same, with_range-holds}
-use Rattle.call_states.specs.Aliases.{Stored, alias_joined, aliases_joined, all_dropped, all_joined_to, rows_joined, same_values, variable_joined}
-use Rattle.call_states.specs.Aliases.{variable_values, with_aliases_stored}
+use Rattle.call_states.specs.Aliases.{Stored, alias_joined, aliases_joined, all_dropped, all_joined_to, rows_joined, same_types, variable_joined}
+use Rattle.call_states.specs.Aliases.{variable_type, with_aliases_stored}
 
 -- ---- facts that rest on aliases are known no longer
 
@@ -211,13 +211,13 @@ module _ (tree : Tree) (P : State → Type 0) (grows : Grows P) where
   rows-grow stored [] state is = is
   rows-grow stored (row ∷ rows) state is =
       rows-grow stored rows _
-      (either-state (same_values stored.values (values_at (rows_of tree) row)) (over_components (λ known. with_joined row stored.range) state) state
+      (either-state (same_types stored.type_id (type_at (rows_of tree) row)) (over_components (λ known. with_joined row stored.range) state) state
       (grows.by_row row stored.range state is) is)
 
   alias-grows : (stored : Stored) (alias : ℕ) (state : State) → P state → P (alias_joined tree stored alias state)
   alias-grows stored alias state is =
       rows-grow stored (rows_under (rows_of tree) alias []) _
-      (either-state (same_values stored.values (variable_values tree alias)) (over_variables (variable_joined alias stored.range) state) state
+      (either-state (same_types stored.type_id (variable_type tree alias)) (over_variables (variable_joined alias stored.range) state) state
       (grows.by_variable alias stored.range state is) is)
 
   aliases-grow : (stored : Stored) (aliases : List ℕ) (state : State) → P state → P (aliases_joined tree stored aliases state)
@@ -292,7 +292,7 @@ in-grows root v = record {
   by_row = λ row range state inside. inside;
 }
 
-variable-joins : (tree : Tree) (one : Stored) (alias : ℕ) (v : Value) → same_values one.values (variable_values tree alias) ≡ true → IsIn one.range v
+variable-joins : (tree : Tree) (one : Stored) (alias : ℕ) (v : Value) → same_types one.type_id (variable_type tree alias) ≡ true → IsIn one.range v
     → (state : State) → HasRange alias state.variables → IsIn (variables.range_of (alias_joined tree one alias state).variables alias) v
 variable-joins tree one alias v same inside state has =
     let P = λ (s : State). IsIn (variables.range_of s.variables alias) v in
@@ -340,41 +340,40 @@ in-row_grows row v = record {
   by_row = λ other range state inside. row-joined_in row other range v state.components inside;
 }
 
-row-joins : (tree : Tree) (one : Stored) (row : ℕ) (v : Value) → same_values one.values (values_at (rows_of tree) row) ≡ true → IsIn one.range v
+row-joins : (tree : Tree) (one : Stored) (row : ℕ) (v : Value) → same_types one.type_id (type_at (rows_of tree) row) ≡ true → IsIn one.range v
     → (rows : List ℕ) (state : State) → Contains rows row → IsRowOf row state → InRow row v (rows_joined tree one rows state)
 row-joins tree one row v same inside [] state (k, within, is) of_row = absurd (omega (arith, within))
 row-joins tree one row v same inside (first ∷ rows) state (zero, within, is) of_row =
     let grown = λ (r : ℕ). over_components (λ known. with_joined r one.range) state in
-    let after = λ (r : ℕ). cond (same_values one.values (values_at (rows_of tree) r)) (grown r) state in
+    let after = λ (r : ℕ). cond (same_types one.type_id (type_at (rows_of tree) r)) (grown r) state in
     rows-grow tree (InRow row v) (in-row_grows row v) one rows (after first)
     (subst (λ (r : ℕ). InRow row v (after r)) (sym is)
     (subst (λ (b : Bool). InRow row v (cond b (grown row) state)) (sym same) (row-joined_own row one.range v state.components of_row inside)))
 row-joins tree one row v same inside (first ∷ rows) state (suc k, within, is) of_row =
     let grown = over_components (λ known. with_joined first one.range) state in
     row-joins tree one row v same inside rows _ (k, omega (arith, within), is)
-    (either-state tree (IsRowOf row) (row-of-grows row) (same_values one.values (values_at (rows_of tree) first)) grown state
+    (either-state tree (IsRowOf row) (row-of-grows row) (same_types one.type_id (type_at (rows_of tree) first)) grown state
     ((row-of-grows row).by_row first one.range state of_row) of_row)
 
 alias-row_joins : (tree : Tree) (one : Stored) (alias row : ℕ) (v : Value) → Contains (rows_under (rows_of tree) alias []) row
-    → same_values one.values (values_at (rows_of tree) row) ≡ true → IsIn one.range v → (state : State) → IsRowOf row state
+    → same_types one.type_id (type_at (rows_of tree) row) ≡ true → IsIn one.range v → (state : State) → IsRowOf row state
     → InRow row v (alias_joined tree one alias state)
 alias-row_joins tree one alias row v under same inside state of_row =
     row-joins tree one row v same inside (rows_under (rows_of tree) alias []) _ under
-    (either-state tree (IsRowOf row) (row-of-grows row) (same_values one.values (variable_values tree alias))
+    (either-state tree (IsRowOf row) (row-of-grows row) (same_types one.type_id (variable_type tree alias))
     (over_variables (variable_joined alias one.range) state) state ((row-of-grows row).by_variable alias one.range state of_row) of_row)
 
 -- ---- what is known
 
--- in a later store each value of an alias, and of a component of one, was there before, or it is one of those that are stored to a place whose type has the
--- values of its type
+-- in a later store each value of an alias, and of a component of one, was there before, or it is one of those that are stored to a place of its type
 pub record AreAliased (tree : Tree) (env : Environment) (aliases : List ℕ) (stored : List Stored) (before after : Store) : Type 0 where
   pub entire : (alias : ℕ) (v : Value) → is_among alias aliases ≡ true → value_at (moment env after) alias [] ≡ Some v
       → (value_at (moment env before) alias [] ≡ Some v)
-      ⊎ ((one : Stored) × Contains stored one × (same_values one.values (variable_values tree alias) ≡ true) × IsIn one.range v)
+      ⊎ ((one : Stored) × Contains stored one × (same_types one.type_id (variable_type tree alias) ≡ true) × IsIn one.range v)
   pub components : (row : ℕ) (steps : List Step) (v : Value) → is_among (slice_index_or (all_parts tree) row no_parts).root aliases ≡ true
       → IsOfRow (all_parts tree) row steps → component_at (all_parts tree) (moment env after) row steps ≡ Some v
       → (component_at (all_parts tree) (moment env before) row steps ≡ Some v)
-      ⊎ ((one : Stored) × Contains stored one × (same_values one.values (values_at (rows_of tree) row) ≡ true) × IsIn one.range v)
+      ⊎ ((one : Stored) × Contains stored one × (same_types one.type_id (type_at (rows_of tree) row) ≡ true) × IsIn one.range v)
 
 -- a state holds before a store through one variable, and what it says of the aliases holds after it too
 pub record IsReady (tree : Tree) (roots : ℕ) (env : Environment) (aliases : List ℕ) (state : State) (before after : Store) : Type 0 where
@@ -476,7 +475,7 @@ aliases-ready tree roots env shows aliases stored state before after aliased kno
           ⊎_elim
           (λ (was : value_at (moment env before) alias [] ≡ Some v).
           all-grow tree P (in-grows alias v) stored aliases left (known-in roots env left.variables before alias v left_knows.variables was))
-          (λ (found : (one : Stored) × Contains stored one × (same_values one.values (variable_values tree alias) ≡ true) × IsIn one.range v).
+          (λ (found : (one : Stored) × Contains stored one × (same_types one.type_id (variable_type tree alias) ≡ true) × IsIn one.range v).
           ⊎_elim
           (λ (within : alias < roots).
           all-join tree (λ s. HasRange alias s.variables) P (has-grows alias) (in-grows alias v) found.0 alias
@@ -492,7 +491,7 @@ aliases-ready tree roots env shows aliases stored state before after aliased kno
             ⊎_elim
             (λ (was : component_at parts (moment env before) row steps ≡ Some v).
             all-grow tree (InRow row v) (in-row_grows row v) stored aliases left (left_knows.components.ranges row steps v of_row was))
-            (λ (found : (one : Stored) × Contains stored one × (same_values one.values (values_at (rows_of tree) row) ≡ true) × IsIn one.range v).
+            (λ (found : (one : Stored) × Contains stored one × (same_types one.type_id (type_at (rows_of tree) row) ≡ true) × IsIn one.range v).
             all-join tree (IsRowOf row) (InRow row v) (row-of-grows row) (in-row_grows row v) found.0 alias
             (alias-row_joins tree found.0 alias row v (under-alias tree row steps of_row) found.2 found.3) stored aliases left found.1 among
             (omega (arith, of_row-within parts row steps of_row, left_knows.components.count)))

@@ -2,17 +2,15 @@
 -- by them is what is stored to places of their types.
 use Rattle.std.proofs.Common.{arith, ◌≡◌, ⊎_elim, inl, inr, ◌∙◌, sym, ap, refl, subst, ℕ, ◌+◌, ◌<◌, ℤ, Bool, true, false, ◌&&◌, ◌||◌}
 use Rattle.std.proofs.Common.{nat_eq, List, [], ◌∷◌, ◌++◌, Option, Some, None, length}
-use Rattle.std.specs.Cmp.{int_eq_equiv}
-use Rattle.std.specs.Ordering.{int_eq}
 use Rattle.std.specs.List.{Contains}
-use Rattle.std.specs.Option.{option_and_then}
-use Rattle.std.specs.Prelude.{slice_get, slice_index_or}
-use Rattle.std.proofs.lemmas.Bool.{both_ways, cases_Bool, eqb-true, false_from_ne_true}
+use Rattle.std.specs.Option.{option_and_then, option_map}
+use Rattle.std.specs.Prelude.{is_some, slice_get, slice_index_or}
+use Rattle.std.proofs.lemmas.Bool.{both_ways, cases_Bool, eq-eqb, eqb-true, false_from_ne_true}
 use Rattle.std.proofs.lemmas.List.{get_or-map}
 use Rattle.std.proofs.lemmas.List.Folds.{list_any-append}
-use Rattle.std.proofs.lemmas.Option.{get_or_from_slice_get, same_Some, slice_get_within, slice_get_past}
+use Rattle.std.proofs.lemmas.Option.{get_or_from_slice_get, none-some, same_Some, slice_get_within, slice_get_past}
 use Rattle.types.specs.Forms.{Form}
-use Rattle.types.specs.Types.{range_of}
+use Rattle.types.specs.Types.{is_ordinal, range_of}
 use Rattle.types.specs.declared.form.OrdinalRange.{OrdinalRange}
 use Rattle.types.specs.declared.form.Step.{Step}
 use Rattle.types.specs.declared.form.TypeId.{TypeId}
@@ -31,18 +29,18 @@ use Rattle.abstract_state.specs.Loops.{is_among}
 use Rattle.abstract_state.specs.State.{integer}
 use Rattle.abstract_state.proofs.Apart.{part}
 use Rattle.leaf_rows.specs.Limits.{all_limits, limits_at, limits_or_integer, row_limits, type_limits}
-use Rattle.leaf_rows.specs.Rows.{Parts, Row, all_parts, no_parts, rows_of, values_at}
+use Rattle.leaf_rows.specs.Rows.{Parts, Row, all_parts, no_parts, rows_of, type_at, values_at}
 use Rattle.leaf_rows.proofs.Accessed.{row-is}
 use Rattle.component_states.specs.Holds.{IsOfRow, component_at}
 use Rattle.structured_states.proofs.Touched.{all_control}
 use Rattle.structured_states.specs.Loops.{Round, all_list, touched}
 use Rattle.structured_states.specs.Pairs.{aliases_of}
-use Rattle.call_states.specs.Aliases.{Stored, same_values, variable_values}
+use Rattle.call_states.specs.Aliases.{Stored, same_types, variable_type, variable_values}
 use Rattle.call_states.specs.Environments.{Begun, LiesIn, Proper, Typed, place_type, type_led}
 use Rattle.call_states.proofs.Aliased.{AreAliased}
 use Rattle.call_states.proofs.AliasedStores.{AreWritten, Pairs, all-pass, or-true, value-came}
 pub use Rattle.call_states.proofs.AliasedStores.{stored-of}
-use Rattle.call_states.proofs.PlaceTypes.{leaf-typed, part-typed}
+use Rattle.call_states.proofs.PlaceTypes.{IsTypeOf, leaf-typed, part-typed}
 
 -- ---- what is visible
 
@@ -93,25 +91,49 @@ module _ (tree : Tree) (pairs : List (ℕ × ℕ)) (block activations : ℕ) (en
 
   -- that of an entire variable is the variable's
   pub whole-type : (root : ℕ) (home : Place) (own : TypeId) → env.variables root ≡ Some home → place_type tree (part home []) ≡ Some own
-      → variable_values tree root ≡ range_of tree.types own
+      → variable_type tree root ≡ Some own
   whole-type root home own at typed =
       let variable = declared root (seen root home at) in
-      let same : variable.0.type_id ≡ own = same_Some variable.0.type_id own (sym (part-type root home variable.0 [] at variable.1) ∙ typed) in
-      ap (option_and_then (λ (v : Variable). range_of tree.types v.type_id)) variable.1 ∙ ap (range_of tree.types) same
+      ap (option_map (λ (v : Variable). v.type_id)) variable.1 ∙ sym (part-type root home variable.0 [] at variable.1) ∙ typed
 
-  -- that of a component of a row has the values of the row
-  pub row-type : (row : ℕ) (steps : List Step) (home : Place) (own : TypeId) → IsOfRow (all_parts tree) row steps
+  whole-values : (root : ℕ) (home : Place) (own : TypeId) → env.variables root ≡ Some home → place_type tree (part home []) ≡ Some own
+      → variable_values tree root ≡ range_of tree.types own
+  whole-values root home own at typed = values-by (slice_get tree.variables.items root) own (whole-type root home own at typed)
+    where
+      values-by : (found : Option Variable) (own : TypeId) → option_map (λ (v : Variable). v.type_id) found ≡ Some own
+          → option_and_then (λ (v : Variable). range_of tree.types v.type_id) found ≡ range_of tree.types own
+      values-by None own is = absurd (none-some own is)
+      values-by (Some v) own is = ap (range_of tree.types) (same_Some v.type_id own is)
+
+  -- that of a component of a row is the row's
+  row-typed : (row : ℕ) (steps : List Step) (home : Place) (own : TypeId) → IsOfRow (all_parts tree) row steps
       → env.variables (slice_index_or (all_parts tree) row no_parts).root ≡ Some home → place_type tree (part home steps) ≡ Some own
-      → values_at (rows_of tree) row ≡ range_of tree.types own
-  row-type row steps home own of_row at typed =
+      → (found : Row) × (slice_get (rows_of tree) row ≡ Some found) × IsTypeOf tree.types own found.leaf
+  row-typed row steps home own of_row at typed =
       let root = (slice_index_or (all_parts tree) row no_parts).root in
       let is = row-is tree row steps of_row in
       let e : 0 + is.leaf.root ≡ is.leaf.root = omega arith in
       let root_is : root ≡ is.leaf.root = ap (λ (p : Parts). p.root) is.parts_are ∙ is.leaf.root_is ∙ e in
-      let declared_is : slice_get tree.variables.items root ≡ Some is.leaf.variable = ap (slice_get tree.variables.items) root_is ∙ is.leaf.variable_is in
-      ap (option_and_then (λ (r : Row). r.leaf.values)) is.is
-      ∙ sym (leaf-typed tree.types steps is.leaf.variable.type_id own is.row.leaf (is.leaf.j, is.leaf.leaf_is) is.named
-      (sym (part-type root home is.leaf.variable steps at declared_is) ∙ typed))
+      let declared_is : slice_get tree.variables.items root ≡ Some is.leaf.variable = ap (slice_get tree.variables.items) root_is ∙ is.leaf.variable_is in (
+        is.row,
+        is.is,
+        leaf-typed tree.types steps is.leaf.variable.type_id own is.row.leaf (is.leaf.j, is.leaf.leaf_is) is.named
+            (sym (part-type root home is.leaf.variable steps at declared_is) ∙ typed),
+      )
+
+  row-values : (row : ℕ) (steps : List Step) (home : Place) (own : TypeId) → IsOfRow (all_parts tree) row steps
+      → env.variables (slice_index_or (all_parts tree) row no_parts).root ≡ Some home → place_type tree (part home steps) ≡ Some own
+      → values_at (rows_of tree) row ≡ range_of tree.types own
+  row-values row steps home own of_row at typed =
+      let found = row-typed row steps home own of_row at typed in
+      ap (option_and_then (λ (r : Row). r.leaf.values)) found.1 ∙ sym found.2.values_are
+
+  pub row-type : (row : ℕ) (steps : List Step) (home : Place) (own : TypeId) → IsOfRow (all_parts tree) row steps
+      → env.variables (slice_index_or (all_parts tree) row no_parts).root ≡ Some home → place_type tree (part home steps) ≡ Some own
+      → is_ordinal tree.types own ≡ true → type_at (rows_of tree) row ≡ Some own
+  row-type row steps home own of_row at typed ordinal =
+      let found = row-typed row steps home own of_row at typed in
+      ap (option_and_then (λ (r : Row). r.leaf.type_id)) found.1 ∙ found.2.type_is ordinal
 
 -- ---- values
 
@@ -152,12 +174,13 @@ in-types tree pairs block activations env store proper typed = record {
       let own = typed (part at.0 []) v at.2 in
       let variable = declared tree pairs block activations env proper root (seen tree pairs block activations env proper root at.0 at.1) in
       subst (λ (range : Interval). IsIn range v) (sym (values-limits tree root variable.0 variable.1))
-      (lies-in tree.types own.0 (variable_values tree root) v (whole-type tree pairs block activations env proper root at.0 own.0 at.1 own.1) own.2);
+      (lies-in tree.types own.0 (variable_values tree root) v (whole-values tree pairs block activations env proper root at.0 own.0 at.1 own.1) own.2);
   components = λ row steps v of_row is.
       let root = (slice_index_or (all_parts tree) row no_parts).root in
       let at = stored-of store (env.variables root) steps v is in
       let own = typed (part at.0 steps) v at.2 in
-      lies-in tree.types own.0 (values_at (rows_of tree) row) v (row-type tree pairs block activations env proper row steps at.0 own.0 of_row at.1 own.1) own.2;
+      lies-in tree.types own.0 (values_at (rows_of tree) row) v
+      (row-values tree pairs block activations env proper row steps at.0 own.0 of_row at.1 own.1) own.2;
   integers = λ root steps v is.
       let at = stored-of store (env.variables root) steps v is in
       let own = typed (part at.0 steps) v at.2 in
@@ -193,19 +216,17 @@ module _ (tree : Tree) (env : Environment) (aliases : List ℕ) (root : ℕ) (st
 
 -- ---- what aliases get
 
-same-refl : (values : Option OrdinalRange) → same_values values values ≡ true
-same-refl None = refl
-same-refl (Some range) =
-    let first = int_eq_equiv.refl range.first in
-    let last = int_eq_equiv.refl range.last in
-    ap (λ (b : Bool). b && int_eq range.last range.last) first ∙ last
+-- types that are one are the same
+pub both-same : (one other : Option TypeId) (own : TypeId) → one ≡ Some own → other ≡ Some own → same_types one other ≡ true
+both-same one other own first second =
+    ap (λ (t : Option TypeId). same_types t other) first ∙ ap (same_types (Some own)) second ∙ eq-eqb own.index own.index refl
 
 -- each number that is stored is one of these, for its place
 abbrev pub AreStoredAs : Tree → Environment → ℕ → Pairs → List Stored → Type 0
 AreStoredAs tree env root pairs stored =
     (pair : List Step × ℤ) (place : Place) (own : TypeId) → Contains pairs pair → store.part (env.variables root) pair.0 ≡ Some place
-    → place_type tree place ≡ Some own
-    → (one : Stored) × Contains stored one × (one.values ≡ range_of tree.types own) × IsIn one.range (Number pair.1)
+    → place_type tree place ≡ Some own → is_ordinal tree.types own ≡ true
+    → (one : Stored) × Contains stored one × (one.type_id ≡ Some own) × IsIn one.range (Number pair.1)
 
 module _ (tree : Tree) (pairs : List (ℕ × ℕ)) (block activations : ℕ) (env : Environment) (proper : Proper tree pairs block activations env)
     (aliases : List ℕ) (root : ℕ) (stores : Pairs) (before after : Store) (written : AreWritten env aliases root stores before after)
@@ -214,17 +235,17 @@ module _ (tree : Tree) (pairs : List (ℕ × ℕ)) (block activations : ℕ) (en
   Came other steps v =
       (pair : List Step × ℤ) × Contains stores pair × (store.part (env.variables root) pair.0 ≡ store.part (env.variables other) steps) × (v ≡ Number pair.1)
 
-  came-as : (other : ℕ) (steps : List Step) (home : Place) (v : Value) (values : Option OrdinalRange) → env.variables other ≡ Some home
-      → ((own : TypeId) → place_type tree (part home steps) ≡ Some own → values ≡ range_of tree.types own) → Came other steps v
-      → (one : Stored) × Contains stored one × (same_values one.values values ≡ true) × IsIn one.range v
-  came-as other steps home v values at values_are (pair, inside, same, is) =
+  came-as : (other : ℕ) (steps : List Step) (home : Place) (v : Value) (type_id : Option TypeId) → env.variables other ≡ Some home
+      → ((own : TypeId) → place_type tree (part home steps) ≡ Some own → is_ordinal tree.types own ≡ true → type_id ≡ Some own) → Came other steps v
+      → (one : Stored) × Contains stored one × (same_types one.type_id type_id ≡ true) × IsIn one.range v
+  came-as other steps home v type_id at type_is (pair, inside, same, is) =
       let place_is : store.part (env.variables root) pair.0 ≡ Some (part home steps) = same ∙ ap (λ (found : Option Place). store.part found steps) at in
       let own = typed pair (part home steps) inside place_is in
-      let found = each pair (part home steps) own.0 inside place_is own.1 in
-      let equal : found.0.values ≡ values = found.2 ∙ sym (values_are own.0 own.1) in (
+      let ordinal : is_ordinal tree.types own.0 ≡ true = ap is_some own.2.1 in
+      let found = each pair (part home steps) own.0 inside place_is own.1 ordinal in (
         found.0,
         found.1,
-        subst (λ (r : Option OrdinalRange). same_values found.0.values r ≡ true) equal (same-refl found.0.values),
+        both-same found.0.type_id type_id own.0 found.2 (type_is own.0 own.1 ordinal),
         subst (IsIn found.0.range) (sym is) found.3,
       )
 
@@ -233,16 +254,16 @@ module _ (tree : Tree) (pairs : List (ℕ × ℕ)) (block activations : ℕ) (en
     entire = λ alias v among is. ⊎_elim (λ was. inl was)
         (λ (own : Came alias [] v).
         let at = stored-of after (env.variables alias) [] v is in
-        inr (came-as alias [] at.0 v (variable_values tree alias) at.1
-        (λ type_id typed_so. whole-type tree pairs block activations env proper alias at.0 type_id at.1 typed_so) own))
+        inr (came-as alias [] at.0 v (variable_type tree alias) at.1
+        (λ type_id typed_so ordinal. whole-type tree pairs block activations env proper alias at.0 type_id at.1 typed_so) own))
         (value-came env aliases root stores before after written alias [] v is);
     components = λ row steps v among of_row is.
         let alias = (slice_index_or (all_parts tree) row no_parts).root in
         ⊎_elim (λ was. inl was)
         (λ (own : Came alias steps v).
         let at = stored-of after (env.variables alias) steps v is in
-        inr (came-as alias steps at.0 v (values_at (rows_of tree) row) at.1
-        (λ type_id typed_so. row-type tree pairs block activations env proper row steps at.0 type_id of_row at.1 typed_so) own))
+        inr (came-as alias steps at.0 v (type_at (rows_of tree) row) at.1
+        (λ type_id typed_so ordinal. row-type tree pairs block activations env proper row steps at.0 type_id of_row at.1 typed_so ordinal) own))
         (value-came env aliases root stores before after written alias steps v is);
   }
 

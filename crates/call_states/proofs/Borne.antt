@@ -25,7 +25,6 @@ use Rattle.abstract_state.specs.Holds.{IsIn, Moment, part_of, value_at}
 use Rattle.abstract_state.specs.Knows.{moment}
 use Rattle.abstract_state.specs.State.{is_entire}
 use Rattle.leaf_rows.specs.Leaves.{leaves_of}
-use Rattle.leaf_rows.specs.Limits.{all_limits}
 use Rattle.leaf_rows.specs.Rows.{all_parts, is_structured, no_parts, rows_accessed, rows_of, rows_under}
 use Rattle.abstract_state.specs.Loops.{is_among}
 use Rattle.leaf_rows.proofs.Accessed.{IsOf, contains-has, has-contains, row-leaf, rows-are, rows-count}
@@ -82,7 +81,7 @@ copy-count tree root ranges variable is copy =
 module _ (tree : Tree) (pairs : List (ℕ × ℕ)) (number : ℕ) (block : Block) (arguments : List Argument) (caller : Environment) (activations from : ℕ)
     (call : IsCalled tree pairs number block arguments caller activations from) (store : Store) (begun : Begun activations store) (actuals : List Actual)
     (are : AreArguments tree caller store block.heading.parameters.items actuals arguments)
-    (typed : are_of_types tree (all_limits tree) (bound_to block.heading.parameters.items actuals) ≡ true) where
+    (typed : are_of_types tree (bound_to block.heading.parameters.items actuals) ≡ true) where
   abbrev pub callee : Environment
   callee = environment_of tree (activation_of number block arguments caller activations)
 
@@ -177,7 +176,7 @@ module _ (tree : Tree) (pairs : List (ℕ × ℕ)) (number : ℕ) (block : Block
       → IsOf tree row steps → (slice_index_or (all_parts tree) row no_parts).root ≡ path.root → is_among row (rows_named tree path) ≡ true → (j : ℕ)
       → slice_get (own_rows path.root) j ≡ Some row → (p : ParameterHere path.root variable) → (actual : Actual) (argument : Argument)
       → p.argument ≡ argument → IsArgument tree caller store variable actual argument → Fits tree activations argument variable
-      → is_of_type tree (all_limits tree) path.root actual ≡ true → place_for path.root block.heading.parameters.items arguments ≡ place_passed argument
+      → is_of_type tree path.root actual ≡ true → place_for path.root block.heading.parameters.items arguments ≡ place_passed argument
       → IsBorneBy (bearers_at (rows_named tree path) (own_rows path.root) (bearers_of tree actual)) path.root steps
   row-borne path variable is row steps of_row root_is among j at p (OfValue range form) (meaning.OfValue v) argument_is known fits of_type place_is =
       let ordinal : is_ordinal tree.types variable.type_id ≡ true = ap is_some fits.1.1 in
@@ -282,7 +281,7 @@ module _ (tree : Tree) (pairs : List (ℕ × ℕ)) (number : ℕ) (block : Block
 
   whole-borne : (root : ℕ) (variable : DeclaredVariable) → slice_get tree.variables.items root ≡ Some variable → is_ordinal tree.types variable.type_id ≡ true
       → (p : ParameterHere root variable) → (actual : Actual) (argument : Argument) → p.argument ≡ argument
-      → IsArgument tree caller store variable actual argument → Fits tree activations argument variable → is_of_type tree (all_limits tree) root actual ≡ true
+      → IsArgument tree caller store variable actual argument → Fits tree activations argument variable → is_of_type tree root actual ≡ true
       → place_for root block.heading.parameters.items arguments ≡ place_passed argument → IsBorneBy (bearers_of tree actual) root []
   whole-borne root variable is ordinal p (OfValue range form) (meaning.OfValue v) argument_is known fits of_type place_is =
       let got = subst (λ (a : Argument). Received tree activations activations callee root variable a behind) argument_is

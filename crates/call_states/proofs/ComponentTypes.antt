@@ -23,8 +23,8 @@ use Rattle.leaf_rows.proofs.Leafed.{leafed_before, leaves_before, leaves_not_bef
 use Rattle.call_states.specs.Environments.{element_behind, field_behind, type_behind, type_led}
 use Rattle.call_states.proofs.PlaceTypes.{leaf-typed}
 
-none-of_scalar : (leaf : Leaf) (range : OrdinalRange) → Has (scalar None ∷ []) leaf → leaf.values ≡ Some range → ⊥
-none-of_scalar leaf range has is = none-some range (ap (λ (l : Leaf). l.values) (only (scalar None) leaf has) ∙ is)
+none-of_scalar : (leaf : Leaf) (range : OrdinalRange) → Has (scalar None None ∷ []) leaf → leaf.values ≡ Some range → ⊥
+none-of_scalar leaf range has is = none-some range (ap (λ (l : Leaf). l.values) (only (scalar None None) leaf has) ∙ is)
 
 no-element : (index : ℤ) (steps : Steps) → [] ≡ step.Element index ∷ steps → ⊥
 no-element index steps is = cc
@@ -209,4 +209,4 @@ module _ (types : List Form) where
       → (own : TypeId) × (type_led types steps id ≡ Some own) × (range_of types own ≡ Some range)
   component-typed steps id leaf range has_component has_leaf named values =
       let found = there steps id leaf range has_component has_leaf named values in
-      (found.0, found.1, leaf-typed types steps id found.0 leaf has_leaf named found.1 ∙ values)
+      (found.0, found.1, (leaf-typed types steps id found.0 leaf has_leaf named found.1).values_are ∙ values)

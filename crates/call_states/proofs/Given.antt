@@ -36,7 +36,6 @@ use Rattle.abstract_state.specs.State as variables
 use Rattle.abstract_state.specs.State.{at_most, bound_range, is_below, is_defined, is_entire, moved, raised_bound}
 use Rattle.abstract_state.proofs.Given.{bound-in, defined-number, entire-steps, named-entire}
 use Rattle.abstract_state.proofs.Ranged.{included-in}
-use Rattle.leaf_rows.specs.Limits.{all_limits}
 use Rattle.leaf_rows.specs.Rows.{all_parts, first_index, index_at, no_parts, rows_accessed, rows_of, rows_under}
 use Rattle.leaf_rows.proofs.Accessed.{IsOf}
 use Rattle.component_states.specs.Components as components
@@ -147,7 +146,7 @@ all-some P (Some x) items own all = All-cons P x items (own x refl) all
 module _ (tree : Tree) (pairs : List (ℕ × ℕ)) (number : ℕ) (block : Block) (arguments : List Argument) (caller : Environment) (activations from : ℕ)
     (call : IsCalled tree pairs number block arguments caller activations from) (store : Store) (begun : Begun activations store) (actuals : List Actual)
     (are : AreArguments tree caller store block.heading.parameters.items actuals arguments)
-    (typed : are_of_types tree (all_limits tree) (bound_to block.heading.parameters.items actuals) ≡ true) (state : State)
+    (typed : are_of_types tree (bound_to block.heading.parameters.items actuals) ≡ true) (state : State)
     (knows : Knows (all_parts tree) (length tree.variables.items) caller state store) where
   abbrev callee : Environment
   callee = environment_of tree (activation_of number block arguments caller activations)

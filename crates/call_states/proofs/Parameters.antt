@@ -13,7 +13,6 @@ use Rattle.typed_tree.specs.declared.tree.VariableKind.{VariableKind}
 use Rattle.typed_tree.specs.declared.tree.VariableKind.TheVariants as kind
 use Rattle.meaning.specs.Meaning.{Argument, environment_of, home_of, place_for, place_passed, seen_from}
 use Rattle.meaning.specs.Store.{Environment, Store}
-use Rattle.leaf_rows.specs.Limits.{all_limits}
 use Rattle.call_states.specs.Actuals.{Actual, Binding, actual_of, are_of_types, bound_to, is_of_type}
 use Rattle.call_states.specs.Starts.{is_own}
 use Rattle.call_states.proofs.Callee.{IsCalled, activation_of, parameter-listed}
@@ -33,11 +32,11 @@ pub record IsParameter (tree : Tree) (env : Environment) (store : Store) (activa
   pub place_is : place_for root roots arguments ≡ place_passed argument
   pub known : IsArgument tree env store variable actual argument
   pub fits : Fits tree activations argument variable
-  pub of_type : is_of_type tree (all_limits tree) root actual ≡ true
+  pub of_type : is_of_type tree root actual ≡ true
 
 module _ (tree : Tree) (env : Environment) (store : Store) (activations : ℕ) where
   abbrev of_types : List Binding → Bool
-  of_types bindings = are_of_types tree (all_limits tree) bindings
+  of_types bindings = are_of_types tree bindings
 
   pub parameter-at : (roots : List ℕ) (actuals : List Actual) (arguments : List Argument) → AreArguments tree env store roots actuals arguments
       → AllFit tree activations roots arguments → of_types (bound_to roots actuals) ≡ true → (root : ℕ) (variable : Variable)
@@ -52,10 +51,10 @@ module _ (tree : Tree) (env : Environment) (store : Store) (activations : ℕ) w
       by (nat_eq first root) refl inside
       (λ later.
       parameter-at roots actuals arguments others fit
-      (and_parts (is_of_type tree (all_limits tree) first actual) (of_types (bound_to roots actuals)) typed).1 root variable is later)
+      (and_parts (is_of_type tree first actual) (of_types (bound_to roots actuals)) typed).1 root variable is later)
     where
-      tested : is_of_type tree (all_limits tree) first actual ≡ true
-      tested = (and_parts (is_of_type tree (all_limits tree) first actual) (of_types (bound_to roots actuals)) typed).0
+      tested : is_of_type tree first actual ≡ true
+      tested = (and_parts (is_of_type tree first actual) (of_types (bound_to roots actuals)) typed).0
 
       more : nat_eq first root ≡ false → IsParameter tree env store activations roots actuals arguments root variable
           → IsParameter tree env store activations (first ∷ roots) (actual ∷ actuals) (argument ∷ arguments) root variable
@@ -89,7 +88,7 @@ module _ (tree : Tree) (env : Environment) (store : Store) (activations : ℕ) w
             place_is = ap (λ (b : Bool). cond b (place_passed argument) (place_for root roots arguments)) same;
             known = subst (λ (x : Variable). IsArgument tree env store x actual argument) v own;
             fits = subst (λ (x : Variable). Fits tree activations argument x) w fits;
-            of_type = subst (λ (r : ℕ). is_of_type tree (all_limits tree) r actual ≡ true) one tested;
+            of_type = subst (λ (r : ℕ). is_of_type tree r actual ≡ true) one tested;
           }
       by false same (zero, within, at) rest = absurd (eqb-false first root same at)
       by false same (suc k, within, at) rest = more same (rest (k, omega (arith, within), at))
@@ -128,7 +127,7 @@ other-kind kind.VariableParameter is = refl
 module _ (tree : Tree) (pairs : List (ℕ × ℕ)) (number : ℕ) (block : Block) (arguments : List Argument) (caller : Environment) (activations from : ℕ)
     (call : IsCalled tree pairs number block arguments caller activations from) (store : Store) (actuals : List Actual)
     (are : AreArguments tree caller store block.heading.parameters.items actuals arguments)
-    (typed : are_of_types tree (all_limits tree) (bound_to block.heading.parameters.items actuals) ≡ true) where
+    (typed : are_of_types tree (bound_to block.heading.parameters.items actuals) ≡ true) where
   abbrev pub callee : Environment
   callee = environment_of tree (activation_of number block arguments caller activations)
 

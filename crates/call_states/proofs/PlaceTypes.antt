@@ -1,13 +1,14 @@
 -- The types of places: those of parts of a place, of what is accessed, and of the components that leaves name.
 use Rattle.std.proofs.Common.{arith, ◌≡◌, ◌∙◌, sym, ap, refl, subst, ℕ, ◌+◌, ℤ, ◌≤ℤ◌, Bool, true, false, cond, nat_eq, List, [], ◌∷◌, ◌++◌, Option, Some, None}
+use Rattle.std.proofs.Common.{length}
 use Rattle.std.proofs.lemmas.Bool.{and_parts, eqb-true, false≢true}
 use Rattle.std.proofs.lemmas.Int.{ints}
 use Rattle.std.proofs.lemmas.Option.{cond_some, none-some, same_Some}
 use Rattle.std.specs.Option.{option_and_then}
-use Rattle.std.specs.Prelude.{int_le, slice_get}
+use Rattle.std.specs.Prelude.{int_le, is_some, slice_get}
 use Rattle.types.specs.Components.{Steps}
 use Rattle.types.specs.Forms.{Array, Boolean, Char, Enumeration, FieldForm, Form, Integer, Record, Subrange}
-use Rattle.types.specs.Types.{before, element_of, field_at, form_at, form_range, range_of}
+use Rattle.types.specs.Types.{before, element_of, field_at, form_at, form_range, is_ordinal, range_of}
 use Rattle.types.specs.declared.form.ArrayElement.{ArrayElement}
 use Rattle.types.specs.declared.form.OrdinalRange.{OrdinalRange}
 use Rattle.types.specs.declared.form.RecordField.{RecordField}
@@ -24,8 +25,9 @@ use Rattle.typed_tree.specs.declared.tree.Variable.{Variable}
 use Rattle.meaning.specs.Integers.{is_within}
 use Rattle.meaning.specs.Store.{Place}
 use Rattle.leaf_rows.specs.Leaves.{Elements, FieldAt, Leaf, LeafStep, behind_elements, form_leaves, is_named, leaves_at, leaves_of, range_at, scalar}
+use Rattle.leaf_rows.specs.Leaves.{Leafed, scalar_leaves}
 use Rattle.leaf_rows.proofs.Components.{Has, in-field_leaf, mapped-at, only}
-use Rattle.leaf_rows.proofs.Leafed.{leafed_before, leaves_before, leaves_of_form, leaves_of_none}
+use Rattle.leaf_rows.proofs.Leafed.{leafed_before, leafed_many, leaves_before, leaves_of_form, leaves_of_none}
 use Rattle.leaf_rows.proofs.Selected.{IsElement, Matches, is-element, led-on, placed-field}
 use Rattle.call_states.specs.Environments.{element_behind, field_behind, place_type, type_behind, type_led}
 
@@ -52,6 +54,11 @@ part-typed tree place steps = by (slice_get tree.variables.items place.variable)
         ≡ option_and_then (type_led tree.types steps) (option_and_then (λ variable. type_led tree.types place.steps variable.type_id) found)
     by None = refl
     by (Some variable) = led-then tree.types place.steps steps variable.type_id
+
+-- what a leaf says of the type of a component: its values, and which it is, if it is ordinal
+pub record IsTypeOf (types : List Form) (part : TypeId) (leaf : Leaf) : Type 0 where
+  pub values_are : range_of types part ≡ leaf.values
+  pub type_is : is_ordinal types part ≡ true → leaf.type_id ≡ Some part
 
 -- ---- what a step leads to
 
@@ -97,29 +104,47 @@ module _ (types : List Form) where
   no-step steps Elements rest is named = false≢true (ap (λ (s : List LeafStep). is_named s []) (sym is) ∙ named)
   no-step steps (FieldAt position) rest is named = false≢true (ap (λ (s : List LeafStep). is_named s []) (sym is) ∙ named)
 
-  scalar-typed : (form : Form) (leaf : Leaf) → Has (scalar (form_range form) ∷ []) leaf → form_range form ≡ leaf.values
-  scalar-typed form leaf has = ap (λ (l : Leaf). l.values) (only (scalar (form_range form)) leaf has)
+  abbrev numbered : ℕ → TypeId
+  numbered n = record { index = n }
+
+  scalar-typed : (id : TypeId) (leaf : Leaf) (form : Form) → form_at types id ≡ Some form → Has (scalar_leaves (leafed_before types id) form) leaf
+      → IsTypeOf types id leaf
+  scalar-typed id leaf form is has =
+      let one = only (scalar (Some (numbered (length (leafed_before types id)))) (form_range form)) leaf has in
+      record {
+        values_are = ap (option_and_then form_range) is ∙ ap (λ (l : Leaf). l.values) one;
+        type_is = λ ordinal. ap (λ (l : Leaf). l.type_id) (sym one) ∙ ap (λ (n : ℕ). Some (numbered n)) (leafed_many types id form is);
+      }
 
   whole-typed : (id : TypeId) (leaf : Leaf) (form : Option Form) → form_at types id ≡ form → Has (leaves_of types id) leaf → is_named leaf.steps [] ≡ true
-      → range_of types id ≡ leaf.values
-  whole-typed id leaf None is has named =
-      ap (option_and_then form_range) is
-      ∙ ap (λ (l : Leaf). l.values) (only (scalar None) leaf (subst (λ (all : List Leaf). Has all leaf) (leaves_of_none types id is) has))
-  whole-typed id leaf (Some form) is has named =
-      ap (option_and_then form_range) is ∙ by form (subst (λ (all : List Leaf). Has all leaf) (leaves_of_form types id form is) has)
+      → IsTypeOf types id leaf
+  whole-typed id leaf None is has named = record {
+    values_are = ap (option_and_then form_range) is
+        ∙ ap (λ (l : Leaf). l.values) (only (scalar None None) leaf (subst (λ (all : List Leaf). Has all leaf) (leaves_of_none types id is) has));
+    type_is = λ ordinal. absurd (false≢true (sym (ap (λ (f : Option Form). is_some (option_and_then form_range f)) is) ∙ ordinal));
+  }
+  whole-typed id leaf (Some form) is has named = by form is (subst (λ (all : List Leaf). Has all leaf) (leaves_of_form types id form is) has)
     where
-      by : (form : Form) → Has (form_leaves (leafed_before types id) form) leaf → form_range form ≡ leaf.values
-      by Integer has = scalar-typed Integer leaf has
-      by Boolean has = scalar-typed Boolean leaf has
-      by Char has = scalar-typed Char leaf has
-      by (Enumeration last) has = scalar-typed (Enumeration last) leaf has
-      by (Subrange host first last) has = scalar-typed (Subrange host first last) leaf has
-      by (Array packed index element) has =
+      by : (form : Form) → form_at types id ≡ Some form → Has (form_leaves (leafed_before types id) form) leaf → IsTypeOf types id leaf
+      by Integer is has = scalar-typed id leaf Integer is has
+      by Boolean is has = scalar-typed id leaf Boolean is has
+      by Char is has = scalar-typed id leaf Char is has
+      by (Enumeration last) is has = scalar-typed id leaf (Enumeration last) is has
+      by (Subrange host first last) is has = scalar-typed id leaf (Subrange host first last) is has
+      by (Array packed index element) is has =
           let found = mapped-at (behind_elements (range_at (leafed_before types id) index)) (leaves_at (leafed_before types id) element) has.0 leaf has.1 in
           absurd (no-step leaf.steps Elements found.0.steps (ap (λ (l : Leaf). l.steps) (sym found.2)) named)
-      by (Record packed fields) has =
+      by (Record packed fields) is has =
           let found = in-field_leaf (leafed_before types id) 0 fields has.0 leaf has.1 in
           absurd (no-step leaf.steps (FieldAt (0 + found.0)) found.2.steps (ap (λ (l : Leaf). l.steps) (sym found.4)) named)
+
+  -- a leaf of a part says the same behind it
+  still-typed : (part : TypeId) (own leaf : Leaf) → own.values ≡ leaf.values → own.type_id ≡ leaf.type_id → IsTypeOf types part own
+      → IsTypeOf types part leaf
+  still-typed part own leaf values type_id is = record {
+    values_are = is.values_are ∙ values;
+    type_is = λ ordinal. sym type_id ∙ is.type_is ordinal;
+  }
 
   behind-name : (position place : ℕ) (path : List LeafStep) (steps : Steps) → is_named (FieldAt position ∷ path) (step.Field place ∷ steps) ≡ true
       → (position ≡ place) × (is_named path steps ≡ true)
@@ -127,11 +152,11 @@ module _ (types : List Form) where
       let both = and_parts (nat_eq position place) (is_named path steps) named in
       (eqb-true position place both.0, both.1)
 
-  -- a component that a leaf of a type names has a type of the leaf's values
+  -- a component that a leaf of a type names has the leaf's type
   pub leaf-typed : (steps : Steps) (id part : TypeId) (leaf : Leaf) → Has (leaves_of types id) leaf → is_named leaf.steps steps ≡ true
-      → type_led types steps id ≡ Some part → range_of types part ≡ leaf.values
+      → type_led types steps id ≡ Some part → IsTypeOf types part leaf
   leaf-typed [] id part leaf has named leads =
-      ap (range_of types) (sym (same_Some id part leads)) ∙ whole-typed id leaf (form_at types id) refl has named
+      subst (λ (t : TypeId). IsTypeOf types t leaf) (same_Some id part leads) (whole-typed id leaf (form_at types id) refl has named)
   leaf-typed (step.Element index ∷ steps) id part leaf has named leads =
       let first = first-led (step.Element index) steps id part leads in
       let element = element-led index id first.0 first.1 in
@@ -142,9 +167,9 @@ module _ (types : List Form) where
       let own : Has (leaves_of types first.0) found.0 =
       subst (λ (t : TypeId). Has (leaves_of types t) found.0) element.2
       (subst (λ (all : List Leaf). Has all found.0) (leaves_before types id element.0.type_id is.type_before) (of_form.0, found.1)) in
-      leaf-typed steps first.0 part found.0 own
-      (subst (λ (l : Leaf). is_named l.steps (step.Element index ∷ steps) ≡ true) (sym found.2) named) first.2
-      ∙ ap (λ (l : Leaf). l.values) found.2
+      still-typed part found.0 leaf (ap (λ (l : Leaf). l.values) found.2) (ap (λ (l : Leaf). l.type_id) found.2)
+      (leaf-typed steps first.0 part found.0 own
+      (subst (λ (l : Leaf). is_named l.steps (step.Element index ∷ steps) ≡ true) (sym found.2) named) first.2)
   leaf-typed (step.Field position ∷ steps) id part leaf has named leads =
       let first = first-led (step.Field position) steps id part leads in
       let field = field-led position id first.0 first.1 in
@@ -161,7 +186,8 @@ module _ (types : List Form) where
       subst (λ (t : TypeId). Has (leaves_of types t) found.2) field.2
       (subst (λ (all : List Leaf). Has all found.2) (leaves_before types id field.0.type_id is.type_before)
       (subst (λ (t : TypeId). Has (leaves_at (leafed_before types id) t) found.2) same found.5)) in
-      leaf-typed steps first.0 part found.2 own both.1 first.2 ∙ ap (λ (l : Leaf). l.values) found.4
+      still-typed part found.2 leaf (ap (λ (l : Leaf). l.values) found.4) (ap (λ (l : Leaf). l.type_id) found.4)
+      (leaf-typed steps first.0 part found.2 own both.1 first.2)
 
   -- ---- the type of what is accessed
 

@@ -6,7 +6,7 @@ use Rattle.std.proofs.lemmas.Bool.{eq-eqb, eqb-true}
 use Rattle.std.proofs.lemmas.List.{drop_all, drop_more}
 use Rattle.typed_tree.specs.declared.tree.Tree.{Tree}
 use Rattle.abstract_state.specs.Loops.{is_among}
-use Rattle.leaf_rows.specs.Rows.{rows_of, values_at}
+use Rattle.leaf_rows.specs.Rows.{rows_of, type_at}
 use Rattle.component_states.specs.Components as components
 use Rattle.component_states.specs.Components.{Components, Reach, row_at, with_range}
 use Rattle.component_states.specs.States.{State, over_components}
@@ -14,7 +14,7 @@ use Rattle.structured_states.proofs.Rowed.{rows-next, rows_to}
 use Rattle.call_states.specs.declared.actuals.Bearer.{Bearer as KeptBearer}
 use Rattle.call_states.specs.Actuals as actuals
 use Rattle.call_states.specs.Actuals.{Bearer, bearers_at}
-use Rattle.call_states.specs.Aliases.{Stored, rows_joined, same_values}
+use Rattle.call_states.specs.Aliases.{Stored, rows_joined, same_types}
 use Rattle.call_states.specs.View.{said_bearer}
 
 -- ---- rows of a span
@@ -59,7 +59,7 @@ among-past (suc count) first row behind =
 -- an alias may have what is stored in a row more
 pub join-next : (tree : Tree) (stored : Stored) (row last : ℕ) (old new whole : State) → row < last
     → new
-    ≡ cond (same_values stored.values (values_at (rows_of tree) row)) (over_components (λ known. components.with_joined row stored.range) old) old
+    ≡ cond (same_types stored.type_id (type_at (rows_of tree) row)) (over_components (λ known. components.with_joined row stored.range) old) old
     → rows_joined tree stored (rows_to row last) old ≡ whole → rows_joined tree stored (rows_to (row + 1) last) new ≡ whole
 join-next tree stored row last old new whole before new_is is =
     ap (rows_joined tree stored (rows_to (row + 1) last)) new_is

@@ -11,7 +11,6 @@ use Rattle.domain.specs.Interval.{Interval, is_included}
 use Rattle.domain.specs.Facts.{Bound, Path}
 use Rattle.abstract_state.specs.Loops.{is_among}
 use Rattle.abstract_state.specs.State.{integer, limits_of}
-use Rattle.leaf_rows.specs.Limits.{limits_at}
 use Rattle.leaf_rows.specs.Rows.{is_structured, rows_accessed, rows_of, rows_under, values_at}
 use Rattle.component_states.specs.Components.{At, Entire, Index, Inside, Reach}
 use Rattle.structured_states.specs.Loops.{is_ordinal_variable, names_entire, rows_named}
@@ -104,15 +103,14 @@ is_copy_for tree root ranges None = false
 is_copy_for tree root ranges (Some variable) =
     is_structured tree.types variable.type_id && are_of_rows tree (rows_under (rows_of tree) root []) ranges
 
--- what is passed as a value lies in the type of a formal parameter, by the values of all variables' types
-abbrev pub is_of_type : Tree → List Interval → ℕ → Actual → Bool
-is_of_type tree limits root (OfValue range form) = is_included range (limits_at limits root)
-is_of_type tree limits root (OfRows ranges) =
-    is_copy_for tree root ranges (slice_get tree.variables.items root)
-is_of_type tree limits root (OfVariable other selectors reach) = true
+-- what is passed as a copy lies in the type of a formal parameter
+abbrev pub is_of_type : Tree → ℕ → Actual → Bool
+is_of_type tree root (OfValue range form) = true
+is_of_type tree root (OfRows ranges) = is_copy_for tree root ranges (slice_get tree.variables.items root)
+is_of_type tree root (OfVariable other selectors reach) = true
 
-abbrev pub are_of_types : Tree → List Interval → List Binding → Bool
-are_of_types tree limits bindings = list_all (λ binding. is_of_type tree limits binding.root binding.actual) bindings
+abbrev pub are_of_types : Tree → List Binding → Bool
+are_of_types tree bindings = list_all (λ binding. is_of_type tree binding.root binding.actual) bindings
 
 -- ---- where an actual parameter holds a call
 

@@ -1,31 +1,36 @@
 -- What is known after a store through one variable, of the others that may share places with it, its aliases
 -- (ISO 7185:1990, 6.6.3.3). It says nothing of the variable itself.
 use Rattle.std.specs.Prelude.{ℕ, Bool, true, false, List, [], ◌∷◌, Option, Some, None, if◌then◌else◌, slice_get}
-use Rattle.std.specs.Option.{option_and_then}
-use Rattle.types.specs.Types.{range_of}
+use Rattle.std.specs.Option.{option_and_then, option_map}
+use Rattle.types.specs.Types.{is_same, range_of}
 use Rattle.types.specs.declared.form.OrdinalRange.{OrdinalRange}
-use Rattle.typed_tree.specs.Accesses.{are_values_of}
+use Rattle.types.specs.declared.form.TypeId.{TypeId}
 use Rattle.typed_tree.specs.declared.tree.Tree.{Tree}
 use Rattle.domain.specs.Interval.{Interval, joined}
 use Rattle.domain.specs.Facts.{Bound, Plus}
 use Rattle.abstract_state.specs.State as variables
 use Rattle.abstract_state.specs.Changes.{with_change}
 use Rattle.abstract_state.specs.Loops.{is_among}
-use Rattle.leaf_rows.specs.Rows.{rows_of, rows_under, values_at}
+use Rattle.leaf_rows.specs.Rows.{rows_of, rows_under, type_at}
 use Rattle.component_states.specs.Components as components
 use Rattle.component_states.specs.Components.{At, Entire, Index, Inside, Reach}
 use Rattle.component_states.specs.States.{State, over_components, over_variables}
 
--- an ordinal that is stored: the values of the type of its place, and where it lies
+-- an ordinal that is stored: the type of its place, if that is there, and where it lies
 pub record Stored : Type 0 where
-  pub values : Option OrdinalRange
+  pub type_id : Option TypeId
   pub range : Interval
 
--- the values of two types are the same
-abbrev pub same_values : Option OrdinalRange → Option OrdinalRange → Bool
-same_values None None = true
-same_values (Some one) (Some other) = are_values_of one other
-same_values one other = false
+-- two types are there and the same. A place has one type, by whichever variable it is reached, since what is passed to
+-- a variable parameter has its type (6.6.3.3); so places of two types are never one, though a subrange may have the
+-- values of another
+abbrev pub same_types : Option TypeId → Option TypeId → Bool
+same_types (Some one) (Some other) = is_same one other
+same_types one other = false
+
+-- the type of a variable
+abbrev pub variable_type : Tree → ℕ → Option TypeId
+variable_type tree root = option_map (λ variable. variable.type_id) (slice_get tree.variables.items root)
 
 -- the values of the type of a variable
 abbrev pub variable_values : Tree → ℕ → Option OrdinalRange
@@ -37,19 +42,19 @@ abbrev pub variable_joined : ℕ → Interval → variables.State → variables.
 variable_joined root range state =
     variables.with_range root (joined (variables.range_of state root) range) state
 
--- so may components of some rows whose types have the same values
+-- so may components of some rows of the same type
 abbrev pub rows_joined : Tree → Stored → List ℕ → State → State
 rows_joined tree stored [] state = state
 rows_joined tree stored (row ∷ rows) state =
     rows_joined tree stored rows
-    (if same_values stored.values (values_at (rows_of tree) row)
+    (if same_types stored.type_id (type_at (rows_of tree) row)
     then over_components (λ known. components.with_joined row stored.range) state else state)
 
 -- an alias may have it, as a whole or in its components
 abbrev pub alias_joined : Tree → Stored → ℕ → State → State
 alias_joined tree stored alias state =
     rows_joined tree stored (rows_under (rows_of tree) alias [])
-    (if same_values stored.values (variable_values tree alias)
+    (if same_types stored.type_id (variable_type tree alias)
     then over_variables (variable_joined alias stored.range) state else state)
 
 abbrev pub aliases_joined : Tree → Stored → List ℕ → State → State

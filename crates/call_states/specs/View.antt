@@ -145,7 +145,7 @@ said_bindings bindings = bound_to bindings.roots.now (map said_actual bindings.a
 -- ---- what is stored, and what calls change
 
 abbrev pub said_stored : KeptStored → Stored
-said_stored stored = record { values = stored.values; range = stored.range }
+said_stored stored = record { type_id = stored.type_id; range = stored.range }
 
 -- ---- bounds
 

@@ -17,7 +17,7 @@ use component_states::{Index, Reach};
 use domain::Domain;
 use domain::facts::Bound;
 use domain::interval::Interval;
-use leaf_rows::{Rows, Span, limits_at};
+use leaf_rows::{Rows, Span};
 use std::alloc::{AllocError, Global};
 use structured_states::kept_claims::{is_ordinal_variable, names_entire, rows_named};
 use typed_tree::tree::{Selector, Tree};
@@ -277,9 +277,9 @@ pub fn lies_among(values: Option<OrdinalRange>, range: Interval) -> bool
     }
 }
 
-/// Whether what is passed as values lies in the types of the formal parameters, by the values of all variables' types.
-pub fn are_of_types(rows: &Rows, limits: &[Interval], bindings: Bindings) -> bool
-    ensures { result ≡ are_of_types rows.now limits.now (said_bindings bindings.entry) }
+/// Whether what is passed as copies lies in the types of the formal parameters.
+pub fn are_of_types(rows: &Rows, bindings: Bindings) -> bool
+    ensures { result ≡ are_of_types rows.now (said_bindings bindings.entry) }
 {
     let roots = bindings.roots;
     let actuals = bindings.actuals;
@@ -287,7 +287,7 @@ pub fn are_of_types(rows: &Rows, limits: &[Interval], bindings: Bindings) -> boo
         match actuals.get(i) {
             None => return true,
             Some(actual) => {
-                if !is_of_type(rows, limits, roots[i], actual) {
+                if !is_of_type(rows, roots[i], actual) {
                     return false;
                 }
             }
@@ -296,12 +296,12 @@ pub fn are_of_types(rows: &Rows, limits: &[Interval], bindings: Bindings) -> boo
     true
 }
 
-/// Whether what is passed as a value lies in the type of a formal parameter.
-fn is_of_type(rows: &Rows, limits: &[Interval], root: u32, actual: &Actual) -> bool
-    ensures { result ≡ is_of_type rows.now limits.now root (said_actual actual.now) }
+/// Whether what is passed as a copy lies in the type of a formal parameter.
+fn is_of_type(rows: &Rows, root: u32, actual: &Actual) -> bool
+    ensures { result ≡ is_of_type rows.now root (said_actual actual.now) }
 {
     match actual {
-        Actual::Value { range, .. } => range.leq(&limits_at(limits, root)),
+        Actual::Value { .. } => true,
         Actual::Rows(ranges) => is_copy_for(rows, root, ranges),
         Actual::Variable { .. } => true,
     }

@@ -5,8 +5,8 @@ ghost use Rattle.component_states.specs.View.{said_index, said_reach, viewed};
 ghost use Rattle.leaf_rows.specs.View.{numbers};
 ghost use Rattle.call_states.specs.Aliases.{alias_joined, aliases_joined, all_dropped, all_joined_to};
 ghost use Rattle.call_states.specs.Aliases.{index_unless_alias};
-ghost use Rattle.call_states.specs.Aliases.{reach_unless_alias, rows_joined, same_values, unless_alias};
-ghost use Rattle.call_states.specs.Aliases.{variable_values};
+ghost use Rattle.call_states.specs.Aliases.{reach_unless_alias, rows_joined, same_types, unless_alias};
+ghost use Rattle.call_states.specs.Aliases.{variable_type, variable_values};
 ghost use Rattle.call_states.specs.Aliases.{with_aliases_stored};
 ghost use Rattle.call_states.specs.View.{said_stored};
 ghost use Rattle.typed_tree.specs.declared.tree.Tree.{Tree};
@@ -18,13 +18,13 @@ use domain::interval::Interval;
 use leaf_rows::{Rows, Span};
 use std::alloc::AllocError;
 use typed_tree::tree::Tree;
-use types::OrdinalRange;
+use types::{OrdinalRange, TypeId};
 
 /// An ordinal that is stored.
 #[derive(Clone, Copy)]
 pub struct Stored {
-    /// The values of the type of its place, if that is ordinal.
-    pub values: Option<OrdinalRange>,
+    /// The type of its place, if that is there.
+    pub type_id: Option<TypeId>,
     /// Where it lies.
     pub range: Interval,
 }
@@ -82,7 +82,7 @@ fn join_alias(state: &mut State, rows: &Rows, stored: &Stored, alias: u32) -> Re
         (λ _. viewed rows.now state.new
         ≡ alias_joined rows.now (said_stored stored.now) alias (viewed rows.now state.old)) }
 {
-    if is_same(stored.values, variable_values(rows.tree(), alias)) {
+    if is_same(stored.type_id, variable_type(rows.tree(), alias)) {
         let range = state
             .variables
             .range(rows.limits(), alias)
@@ -99,21 +99,30 @@ fn join_rows(state: &mut State, rows: &Rows, stored: &Stored, span: Span) -> Res
         ≡ rows_joined rows.now (said_stored stored.now) (numbers span) (viewed rows.now state.old)) }
 {
     for row in span.first..span.end() {
-        if is_same(stored.values, rows.values(row)) {
+        if is_same(stored.type_id, rows.type_id(row)) {
             state.touch_row(rows, row, state.row_range(rows, row).join(&stored.range))?;
         }
     }
     Ok(())
 }
 
-/// Whether the values of two types are the same.
-pub fn is_same(one: Option<OrdinalRange>, other: Option<OrdinalRange>) -> bool
-    ensures { result ≡ same_values one other }
+/// Whether two types are there and the same (ISO 7185:1990, 6.4.1).
+pub fn is_same(one: Option<TypeId>, other: Option<TypeId>) -> bool
+    ensures { result ≡ same_types one other }
 {
     match (one, other) {
-        (None, None) => true,
-        (Some(one), Some(other)) => one.first == other.first && one.last == other.last,
+        (Some(one), Some(other)) => one.same(other),
         _ => false,
+    }
+}
+
+/// The type of a variable, if it is there.
+pub fn variable_type(tree: &Tree, root: u32) -> Option<TypeId>
+    ensures { result ≡ variable_type tree.now root }
+{
+    match tree.variables.get(root as usize) {
+        None => None,
+        Some(variable) => Some(variable.type_id),
     }
 }
 

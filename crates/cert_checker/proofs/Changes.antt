@@ -37,7 +37,7 @@ use Rattle.component_states.proofs.Changed.{bounds-hold, changes-hold, none-loos
 use Rattle.structured_states.specs.Pairs.{aliases_in}
 use Rattle.structured_states.specs.Ways.{Way, next, turn_ended}
 use Rattle.structured_states.proofs.OnWay.{Between, MayBe, ended-known, next-of_form}
-use Rattle.call_states.specs.Aliases.{Stored, unless_alias, variable_values, with_aliases_stored}
+use Rattle.call_states.specs.Aliases.{Stored, unless_alias, variable_type, variable_values, with_aliases_stored}
 use Rattle.call_states.specs.Environments.{LiesIn, Proper, place_type}
 use Rattle.call_states.proofs.Aliased.{IsReady, aliases-ready}
 use Rattle.call_states.proofs.AliasedStores.{AreWritten, IsApart, Pairs, at-head, head-or_tail, one-kept, one-written, whole-changes}
@@ -137,21 +137,21 @@ module _ (tree : Tree) (pairs : List (ℕ × ℕ)) (block activations : ℕ) (en
 
   -- what an assignment tells of the aliases
   abbrev told : Interval → List Stored
-  told range = record { values = variable_values tree root; range = range } ∷ []
+  told range = record { type_id = variable_type tree root; range = range } ∷ []
 
   module _ (n : ℤ) (before after : Store) (are : AreWritten env aliases root (whole n) before after) (typed : AreTyped tree env root (whole n)) where
     stored-as : (range : Interval) → HasMember range n → AreStoredAs tree env root (whole n) (told range)
-    stored-as range inside pair place own listed place_is type_is =
+    stored-as range inside pair place own listed place_is type_is ordinal =
         let same = whole-only n pair listed in
         let there : part home [] ≡ place =
         same_Some (part home []) place
         (sym (ap (λ (found : Option Place). store.part found []) at)
         ∙ ap (λ (p : List Step × ℤ). store.part (env.variables root) p.0) same ∙ place_is) in
-        let values : variable_values tree root ≡ range_of tree.types own =
+        let same_type : variable_type tree root ≡ Some own =
         whole-type tree pairs block activations env proper root home own at (ap (place_type tree) there ∙ type_is) in (
-          record { values = variable_values tree root; range = range },
-          at-head (record { values = variable_values tree root; range = range }) [],
-          values,
+          record { type_id = variable_type tree root; range = range },
+          at-head (record { type_id = variable_type tree root; range = range }) [],
+          same_type,
           subst (λ (p : List Step × ℤ). IsIn range (Number p.1)) same inside,
         )
 

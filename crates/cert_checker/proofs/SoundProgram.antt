@@ -98,7 +98,7 @@ module _ (tree : Tree) (certificate : Certificate) (unbroken : (program_walk tre
   world = program_world tree certificate
 
   laws : CallLaws world
-  laws = call-laws world well refl (are-claims world certificate refl known)
+  laws = call-laws world well (are-claims world certificate refl known)
 
   known_pairs : (first second : ℕ) → Contains (all_pairs certificate) (first, second) → IsKnownPair tree first second
   known_pairs = pairs-known world certificate refl known

@@ -26,7 +26,7 @@ use Rattle.abstract_state.proofs.Apart.{part}
 use Rattle.abstract_state.proofs.Looped as looped
 use Rattle.abstract_state.proofs.Ranged.{included-in}
 use Rattle.leaf_rows.specs.Limits.{all_limits, limits_at}
-use Rattle.leaf_rows.specs.Rows.{Parts, Row, all_parts, no_parts, rows_of, values_at}
+use Rattle.leaf_rows.specs.Rows.{Parts, Row, all_parts, no_parts, rows_of, type_at, values_at}
 use Rattle.leaf_rows.proofs.Accessed.{components-inner, row-is, rows-apart}
 use Rattle.component_states.specs.Components.{At, Components, Entire, Index, Inside, Reach, all_stored}
 use Rattle.component_states.specs.Holds.{ComponentsHold, IsOfRow, Knows, component_at}
@@ -224,17 +224,17 @@ module _ (tree : Tree) (pairs : List (ℕ × ℕ)) (block activations : ℕ) (en
 
   -- what stores to rows tell of the aliases
   abbrev pub told : List Stored
-  told = map (λ (one : ℕ × Interval). record { values = values_at (rows_of tree) one.0; range = one.1 }) stores
+  told = map (λ (one : ℕ × Interval). record { type_id = type_at (rows_of tree) one.0; range = one.1 }) stores
 
   pub targets-told : AreStoredAs tree env root numbers told
-  targets-told pair place own listed place_is type_is =
+  targets-told pair place own listed place_is type_is ordinal =
       let row = targets.in_rows pair listed in
       let one = row.0 in
-      let values = row-type tree pairs block activations env proper one.0 pair.0 home own row.2 (home-at one row.1)
-      (ap (place_type tree) (place-is pair.0 place place_is) ∙ type_is) in (
-        record { values = values_at (rows_of tree) one.0; range = one.1 },
-        mapped (λ (o : ℕ × Interval). record { values = values_at (rows_of tree) o.0; range = o.1 }) stores one row.1,
-        values,
+      let same = row-type tree pairs block activations env proper one.0 pair.0 home own row.2 (home-at one row.1)
+      (ap (place_type tree) (place-is pair.0 place place_is) ∙ type_is) ordinal in (
+        record { type_id = type_at (rows_of tree) one.0; range = one.1 },
+        mapped (λ (o : ℕ × Interval). record { type_id = type_at (rows_of tree) o.0; range = o.1 }) stores one row.1,
+        same,
         targets.in_ranges pair one listed row.1 row.2,
       )
     where
@@ -259,13 +259,13 @@ pub made-knows : (tree : Tree) (pairs : List (ℕ × ℕ)) (block activations : 
     (record {
       variables = with_touched (limits_at (all_limits tree)) root
           (with_aliases_stored tree (aliases_in (listed_pairs tree pairs) block root)
-          (map (λ (one : ℕ × Interval). record { values = values_at (rows_of tree) one.0; range = one.1 }) stores) state).variables;
+          (map (λ (one : ℕ × Interval). record { type_id = type_at (rows_of tree) one.0; range = one.1 }) stores) state).variables;
       components = all_stored
           (with_aliases_stored tree (aliases_in (listed_pairs tree pairs) block root)
-          (map (λ (one : ℕ × Interval). record { values = values_at (rows_of tree) one.0; range = one.1 }) stores) state).variables
+          (map (λ (one : ℕ × Interval). record { type_id = type_at (rows_of tree) one.0; range = one.1 }) stores) state).variables
           (reach_unless_alias (aliases_in (listed_pairs tree pairs) block root) reach) stores
           (with_aliases_stored tree (aliases_in (listed_pairs tree pairs) block root)
-          (map (λ (one : ℕ × Interval). record { values = values_at (rows_of tree) one.0; range = one.1 }) stores) state).components;
+          (map (λ (one : ℕ × Interval). record { type_id = type_at (rows_of tree) one.0; range = one.1 }) stores) state).components;
     }) after
 made-knows tree pairs block activations env proper root home at numbers stores targets before after written typed typed_store reach is_reach reached state
     known =

@@ -22,7 +22,7 @@ use Rattle.abstract_state.specs.Loops.{with_touched}
 use Rattle.abstract_state.specs.Knows.{IsKept, IsOfForm, moment}
 use Rattle.abstract_state.proofs.Apart.{part as part_at}
 use Rattle.leaf_rows.specs.Limits.{all_limits, limits_at}
-use Rattle.leaf_rows.specs.Rows.{is_structured, rows_accessed, rows_of, values_at}
+use Rattle.leaf_rows.specs.Rows.{is_structured, rows_accessed, rows_of, type_at, values_at}
 use Rattle.component_states.specs.Components.{Reach, all_stored}
 use Rattle.component_states.specs.Holds.{Knows}
 use Rattle.component_states.specs.States.{State}
@@ -30,7 +30,7 @@ use Rattle.structured_states.proofs.Touched.{all_control}
 use Rattle.structured_states.specs.Loops.{Round, all_list}
 use Rattle.structured_states.specs.Pairs.{aliases_of, Listed, aliases_in}
 use Rattle.call_states.specs.Actuals.{lies_among}
-use Rattle.call_states.specs.Aliases.{reach_unless_alias, unless_alias, variable_values, with_aliases_stored}
+use Rattle.call_states.specs.Aliases.{reach_unless_alias, unless_alias, variable_type, variable_values, with_aliases_stored}
 use Rattle.call_states.specs.Starts.{is_own}
 use Rattle.call_states.specs.Environments.{Fine, Proper}
 use Rattle.call_states.proofs.AliasedStores.{AreWritten, Pairs, at-head, head-or_tail, in-tail, none-written}
@@ -87,7 +87,7 @@ module _ (world : World) (limits_are : world.limits ≡ all_limits world.tree) (
         let goes = here.stands.goes in
         let assigned = λ (tree : Tree) (listed : Listed) (b : ℕ).
         walk.assigned_to root range (unless_alias (aliases_in listed b root) form)
-        (with_aliases_stored tree (aliases_in listed b root) (record { values = variable_values tree root; range = range } ∷ []) state) in
+        (with_aliases_stored tree (aliases_in listed b root) (record { type_id = variable_type tree root; range = range } ∷ []) state) in
         let K = λ (after_state : State). Knows (parts_in world) (variables_in world) env after_state after in
         subst (λ (tree : Tree). K (assigned tree context.pairs context.block)) (sym goes.tree_is)
         (subst (λ (listed : Listed). K (assigned world.tree listed context.block)) (sym goes.pairs_are)
@@ -244,7 +244,7 @@ module _ (world : World) (limits_are : world.limits ≡ all_limits world.tree) (
         let goes = here.stands.goes in
         let own = aliases root in
         let reached_own = reached-unless env s.store selectors way own reach reached in
-        let told = λ (tree : Tree). map (λ (one : ℕ × Interval). record { values = values_at (rows_of tree) one.0; range = one.1 }) stores in
+        let told = λ (tree : Tree). map (λ (one : ℕ × Interval). record { type_id = type_at (rows_of tree) one.0; range = one.1 }) stores in
         let ready = λ (tree : Tree) (own : List ℕ). with_aliases_stored tree own (told tree) state in
         let made : Tree → List ℕ → List Interval → State =
         λ tree own limits. record {

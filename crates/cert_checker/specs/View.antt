@@ -15,7 +15,7 @@ use Rattle.expression_checker.specs.declared.fault.CheckFault.TheVariants.{Memor
 use Rattle.expression_checker.specs.declared.grounds.Grounds.{Grounds}
 use Rattle.component_states.specs.declared.state.State.{State as Kept}
 use Rattle.component_states.specs.View.{viewed}
-use Rattle.leaf_rows.specs.Rows.{rows_of, values_at}
+use Rattle.leaf_rows.specs.Rows.{rows_of, type_at}
 use Rattle.structured_states.specs.View.{all_loop_aliases, loop_of_round, said_claims, said_way}
 use Rattle.expression_checker.specs.Visits.{Visits, all_counted}
 use Rattle.cert_checker.specs.declared.walk.Walk.{Walk}
@@ -171,7 +171,7 @@ LeavesLoop number place behind old (Err fault) new = AreLoops (context_of old) o
 
 -- an ordinal of the type of a row
 abbrev pub row_stored : Tree → ℕ × Interval → Stored
-row_stored tree one = record { values = values_at (rows_of tree) one.0; range = one.1 }
+row_stored tree one = record { type_id = type_at (rows_of tree) one.0; range = one.1 }
 
 -- the checker before the first block, by these grounds and claims, and with these aliases of the loops
 pub record IsBegun (grounds : Grounds) (claims : VecIn (Option (Bor LoopClaims)) Global) (aliases : List (Vec ℕ))

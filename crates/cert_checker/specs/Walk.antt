@@ -37,7 +37,7 @@ use Rattle.abstract_state.specs.Conditions.{bound_form, branched, condition_of}
 use Rattle.abstract_state.specs.Forms.{root_of}
 use Rattle.abstract_state.specs.Loops.{with_touched, with_undefined}
 use Rattle.leaf_rows.specs.Limits.{all_limits, limits_at}
-use Rattle.leaf_rows.specs.Rows.{rows_accessed, rows_of, values_at}
+use Rattle.leaf_rows.specs.Rows.{rows_accessed, rows_of, type_at, values_at}
 use Rattle.component_states.specs.Components.{At, Inside, Reach, all_stored}
 use Rattle.component_states.specs.States.{State, dead, joined_states, over_bound, over_change, over_variables}
 use Rattle.structured_states.specs.Cases.{arm_start, constants_before}
@@ -48,7 +48,7 @@ use Rattle.structured_states.specs.Ways.{where_counts, with_values}
 use Rattle.structured_states.specs.Pairs.{aliases_in}
 use Rattle.call_states.specs.Sections.{BlockClaims, all_block_claims, all_pairs, block_claims_at}
 use Rattle.call_states.specs.Starts.{block_start}
-use Rattle.call_states.specs.Aliases.{Stored, reach_unless_alias, unless_alias, variable_values, with_aliases_stored}
+use Rattle.call_states.specs.Aliases.{Stored, reach_unless_alias, unless_alias, variable_type, with_aliases_stored}
 use Rattle.call_states.specs.Actuals.{lies_among, unknown_reach}
 use Rattle.expression_checker.specs.declared.fault.Rule.{Rule}
 use Rattle.expression_checker.specs.declared.fault.Rule.TheVariants.{LoopEntry, LoopTurn, Exit, Changes}
@@ -75,7 +75,7 @@ with_aliases context root stored state =
 
 -- an ordinal of a variable's type
 abbrev pub stored_in : Context → ℕ → Interval → Stored
-stored_in context root range = record { values = variable_values context.tree root; range = range }
+stored_in context root range = record { type_id = variable_type context.tree root; range = range }
 
 -- what is known behind the assignment of a value of a range to a variable, perhaps of a bound form
 abbrev pub assigned_to : ℕ → Interval → Option Bound → State → State
@@ -106,7 +106,7 @@ component_change place root fits stores context =
 -- ordinals of the types of rows
 abbrev pub stored_in_rows : Context → Stores → List Stored
 stored_in_rows context stores =
-    map (λ one. record { values = values_at (rows_of context.tree) one.0; range = one.1 }) stores
+    map (λ one. record { type_id = type_at (rows_of context.tree) one.0; range = one.1 }) stores
 
 -- values were stored to what is reached of a variable
 abbrev pub stored_to : ℕ → Reach → Stores → Context → State → State

@@ -24,7 +24,7 @@ use crate::walk::Walk;
 use abstract_state::{Known, bound_form, limits};
 use call_states::actuals::{lies_among, unknown_reach};
 use call_states::aliases;
-use call_states::aliases::{Stored, form_unless_alias, reach_unless_alias, variable_values};
+use call_states::aliases::{Stored, form_unless_alias, reach_unless_alias, variable_type};
 use component_states::{Index, Reach, State};
 use domain::Domain;
 use domain::facts::Bound;
@@ -210,7 +210,7 @@ impl<'a> Walk<'a> {
         let block = flow.grounds.block;
         let aliases = flow.grounds.pairs.aliases_in(self.alloc, block, root)?;
         let stored = Stored {
-            values: variable_values(rows.tree(), root),
+            type_id: variable_type(rows.tree(), root),
             range,
         };
         aliases::store(&mut flow.state, rows, &aliases, &[stored])?;
@@ -323,7 +323,7 @@ fn stored_in_rows(
     for store in stores {
         let (row, range) = *store;
         stored.push(Stored {
-            values: rows.values(row),
+            type_id: rows.type_id(row),
             range,
         })?;
     }

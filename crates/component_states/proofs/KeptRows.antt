@@ -30,7 +30,7 @@ said-at rows row = get_or-map said_row rows row none
 
 -- what stands for a leaf that isn't there
 abbrev pub no_leaf : LeafRow
-no_leaf = record { root = 0; leaf = record { steps = []; values = None; index = None } }
+no_leaf = record { root = 0; leaf = record { steps = []; type_id = None; values = None; index = None } }
 
 -- what types tell
 said-typed : (leaves : List LeafRow) → said_rows (map type_row leaves) ≡ map row_of_type leaves

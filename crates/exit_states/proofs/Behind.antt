@@ -1,16 +1,13 @@
 -- What is known behind a call, but for the facts that are claimed of its end, holds there.
 use Rattle.std.proofs.Common.{arith, ◌≡◌, ⊎_elim, ◌⊎◌, inl, inr, ◌∙◌, sym, ap, refl, subst, ℕ, zero, suc, ◌<◌, ◌≤◌, Bool, true, false, cond}
 use Rattle.std.proofs.Common.{filter, get_or, nat_eq, List, [], ◌∷◌, ◌++◌, length, Option, Some, None}
-use Rattle.std.specs.Cmp.{int_eq_equiv}
 use Rattle.std.specs.List.{Contains, filter_map}
-use Rattle.std.specs.Ordering.{int_eq}
-use Rattle.std.specs.Prelude.{slice_index_or}
-use Rattle.std.proofs.lemmas.Bool.{and_from, cases_Bool, eqb-true, eqb-false, false≢true, or_cases}
+use Rattle.std.specs.Prelude.{is_some, slice_index_or}
+use Rattle.std.proofs.lemmas.Bool.{cases_Bool, eqb-true, eqb-false, false≢true, or_cases}
 use Rattle.std.proofs.lemmas.List.{get_or-set_other, get_or-set_same, length-set}
 use Rattle.std.proofs.lemmas.List.Elements.{All-nil}
 use Rattle.std.proofs.lemmas.Option.{slice_get_within}
-use Rattle.types.specs.Types.{range_of}
-use Rattle.types.specs.declared.form.OrdinalRange.{OrdinalRange}
+use Rattle.types.specs.Types.{is_ordinal}
 use Rattle.types.specs.declared.form.Step.{Step}
 use Rattle.types.specs.declared.form.TypeId.{TypeId}
 use Rattle.typed_tree.specs.declared.tree.Block.{Block}
@@ -31,7 +28,7 @@ use Rattle.abstract_state.specs.State.{Dead, Facts, Live, integer, is_dead, with
 use Rattle.abstract_state.proofs.Given.{named-entire}
 use Rattle.abstract_state.proofs.Looped.{turned-known}
 use Rattle.abstract_state.proofs.Ranged.{common-in}
-use Rattle.leaf_rows.specs.Rows.{all_parts, no_parts, rows_of, rows_touched, rows_under, values_at}
+use Rattle.leaf_rows.specs.Rows.{all_parts, no_parts, rows_of, rows_touched, rows_under, type_at}
 use Rattle.leaf_rows.proofs.Accessed.{IsOf, components-inner}
 use Rattle.leaf_rows.proofs.Numbered.{number-under, root-of_row, row-at}
 use Rattle.component_states.specs.Components as components
@@ -44,45 +41,40 @@ use Rattle.component_states.proofs.Looped.{heads-hold}
 use Rattle.component_states.proofs.Rows.{of_row-within, with_range-defined, with_range-index}
 use Rattle.call_states.specs.Actuals.{Actual, Bearer, Passed, Variable, bound_to}
 use Rattle.call_states.specs.Actuals as bearing
-use Rattle.call_states.specs.Aliases.{all_dropped, same_values, variable_values}
+use Rattle.call_states.specs.Aliases.{all_dropped, same_types, variable_type}
 use Rattle.call_states.specs.Environments.{place_type}
 use Rattle.exit_states.specs.Exit.{Change, all_common, all_joined, is_row, is_variable, range_behind, row_behind, rows_behind, touched_behind, variable_behind}
 use Rattle.exit_states.specs.Exit.{variables_behind}
 use Rattle.call_states.specs.Sections.{BlockClaims}
-use Rattle.call_states.proofs.AliasedTypes.{in-types, row-type, seen, declared, shows, stored-of, whole-type}
+use Rattle.call_states.proofs.AliasedTypes.{both-same, in-types, row-type, seen, declared, shows, stored-of, whole-type}
 use Rattle.exit_states.proofs.CallChanges.{HasReturned, defined-kept, same-or_changed, touched, untouched-kept}
 use Rattle.exit_states.proofs.CallLeaves.{IsExact, changed-told, changes, changes-exact}
 use Rattle.call_states.proofs.Lists.{among-contains, contains-among, contains-more, filtered, in-flat}
 
 -- ---- ranges behind a call
 
-same-itself : (values : Option OrdinalRange) → same_values values values ≡ true
-same-itself None = refl
-same-itself (Some range) =
-    and_from (int_eq range.first range.first) (int_eq range.last range.last) (int_eq_equiv.refl range.first) (int_eq_equiv.refl range.last)
-
 -- a change of a type has a value
-abbrev pub Told : List Change → Option OrdinalRange → Value → Type 0
-Told all values v = (change : Change) × Contains all change × (same_values values change.values ≡ true) × IsIn change.range v
+abbrev pub Told : List Change → Option TypeId → Value → Type 0
+Told all type_id v = (change : Change) × Contains all change × (same_types type_id change.type_id ≡ true) × IsIn change.range v
 
-joined-keeps : (values : Option OrdinalRange) (all : List Change) (range : Interval) (v : Value) → IsIn range v → IsIn (all_joined values all range) v
-joined-keeps values [] range v inside = inside
-joined-keeps values (change ∷ all) range v inside =
-    joined-keeps values all (cond (same_values values change.values) (joined range change.range) range) v (by (same_values values change.values))
+joined-keeps : (type_id : Option TypeId) (all : List Change) (range : Interval) (v : Value) → IsIn range v → IsIn (all_joined type_id all range) v
+joined-keeps type_id [] range v inside = inside
+joined-keeps type_id (change ∷ all) range v inside =
+    joined-keeps type_id all (cond (same_types type_id change.type_id) (joined range change.range) range) v (by (same_types type_id change.type_id))
   where
     by : (b : Bool) → IsIn (cond b (joined range change.range) range) v
     by true = in-left range change.range v inside
     by false = inside
 
-joined-told : (values : Option OrdinalRange) (all : List Change) (range : Interval) (v : Value) → Told all values v → IsIn (all_joined values all range) v
-joined-told values [] range v (change, inside, same, lies) = absurd (omega (arith, inside.1))
-joined-told values (first ∷ all) range v (change, (zero, within, at), same, lies) =
-    let own : same_values values first.values ≡ true = ap (λ (c : Change). same_values values c.values) at ∙ same in
-    joined-keeps values all (cond (same_values values first.values) (joined range first.range) range) v
+joined-told : (type_id : Option TypeId) (all : List Change) (range : Interval) (v : Value) → Told all type_id v → IsIn (all_joined type_id all range) v
+joined-told type_id [] range v (change, inside, same, lies) = absurd (omega (arith, inside.1))
+joined-told type_id (first ∷ all) range v (change, (zero, within, at), same, lies) =
+    let own : same_types type_id first.type_id ≡ true = ap (λ (c : Change). same_types type_id c.type_id) at ∙ same in
+    joined-keeps type_id all (cond (same_types type_id first.type_id) (joined range first.range) range) v
     (subst (λ (b : Bool). IsIn (cond b (joined range first.range) range) v) (sym own)
     (in-right range first.range v (subst (λ (c : Change). IsIn c.range v) (sym at) lies)))
-joined-told values (first ∷ all) range v (change, (suc k, within, at), same, lies) =
-    joined-told values all (cond (same_values values first.values) (joined range first.range) range) v (change, (k, omega (arith, within), at), same, lies)
+joined-told type_id (first ∷ all) range v (change, (suc k, within, at), same, lies) =
+    joined-told type_id all (cond (same_types type_id first.type_id) (joined range first.range) range) v (change, (k, omega (arith, within), at), same, lies)
 
 common-keeps : (all : List Change) (range : Interval) (v : Value) → IsIn range v → ((change : Change) → Contains all change → IsIn change.range v)
     → IsIn (all_common all range) v
@@ -91,10 +83,10 @@ common-keeps (change ∷ all) range v inside each =
     common-keeps all (common range change.range) v (common-in range change.range v inside (each change (0, omega arith, refl)))
     (λ other later. each other (contains-more change all other later))
 
-in-behind : (values : Option OrdinalRange) (all exact : List Change) (range : Interval) (v : Value)
-    → ((change : Change) → Contains exact change → IsIn change.range v) → IsIn range v ⊎ Told all values v → IsIn (range_behind values all exact range) v
-in-behind values all [] range v each so = ⊎_elim (λ inside. joined-keeps values all range v inside) (λ told. joined-told values all range v told) so
-in-behind values all (change ∷ exact) range v each so =
+in-behind : (type_id : Option TypeId) (all exact : List Change) (range : Interval) (v : Value)
+    → ((change : Change) → Contains exact change → IsIn change.range v) → IsIn range v ⊎ Told all type_id v → IsIn (range_behind type_id all exact range) v
+in-behind type_id all [] range v each so = ⊎_elim (λ inside. joined-keeps type_id all range v inside) (λ told. joined-told type_id all range v told) so
+in-behind type_id all (change ∷ exact) range v each so =
     common-keeps exact change.range v (each change (0, omega arith, refl)) (λ other later. each other (contains-more change exact other later))
 
 -- ---- what is known of variables
@@ -222,19 +214,19 @@ module _ (tree : Tree) (all : List Change) where
   variable-in : (root : ℕ) (v : Value)
       → ((change : Change) → Contains (filter (λ change. is_variable root change.bearer) all) change → IsIn change.range v)
       → (roots : List ℕ) (state : variables.State) → root < length (ranges_of state)
-      → IsIn (variables.range_of state root) v ⊎ Told all (variable_values tree root) v
+      → IsIn (variables.range_of state root) v ⊎ Told all (variable_type tree root) v
       → (is_among root roots ≡ true) ⊎ IsIn (variables.range_of state root) v
       → IsIn (variables.range_of (variables_behind tree all roots state) root) v
   variable-in root v exact [] state within so listed = ⊎_elim (λ among. absurd (false≢true among)) (λ inside. inside) listed
   variable-in root v exact (first ∷ roots) state within so listed =
-      let count = range-count first (range_behind (variable_values tree first) all (filter (λ change. is_variable first change.bearer) all)
+      let count = range-count first (range_behind (variable_type tree first) all (filter (λ change. is_variable first change.bearer) all)
       (variables.range_of state first)) state in
       by (nat_eq first root) refl
       (λ next_so next_listed.
       variable-in root v exact roots (variable_behind tree all first state) (omega (arith, count, within)) next_so next_listed)
     where
       by : (same : Bool) → nat_eq first root ≡ same
-          → (IsIn (variables.range_of (variable_behind tree all first state) root) v ⊎ Told all (variable_values tree root) v
+          → (IsIn (variables.range_of (variable_behind tree all first state) root) v ⊎ Told all (variable_type tree root) v
           → (is_among root roots ≡ true) ⊎ IsIn (variables.range_of (variable_behind tree all first state) root) v
           → IsIn (variables.range_of (variables_behind tree all roots (variable_behind tree all first state)) root) v)
           → IsIn (variables.range_of (variables_behind tree all roots (variable_behind tree all first state)) root) v
@@ -243,12 +235,12 @@ module _ (tree : Tree) (all : List Change) where
           let inside : IsIn (variables.range_of (variable_behind tree all first state) root) v =
           subst (λ (r : ℕ). IsIn (variables.range_of (variable_behind tree all r state) root) v) (sym one)
           (subst (λ (range : Interval). IsIn range v)
-          (sym (range-same root (range_behind (variable_values tree root) all (filter (λ change. is_variable root change.bearer) all)
+          (sym (range-same root (range_behind (variable_type tree root) all (filter (λ change. is_variable root change.bearer) all)
           (variables.range_of state root)) state within))
-          (in-behind (variable_values tree root) all (filter (λ change. is_variable root change.bearer) all) (variables.range_of state root) v exact so)) in
+          (in-behind (variable_type tree root) all (filter (λ change. is_variable root change.bearer) all) (variables.range_of state root) v exact so)) in
           more (inl inside) (inr inside)
       by false other more =
-          let range = range_behind (variable_values tree first) all (filter (λ change. is_variable first change.bearer) all) (variables.range_of state first) in
+          let range = range_behind (variable_type tree first) all (filter (λ change. is_variable first change.bearer) all) (variables.range_of state first) in
           let same = range-other first root range state (λ (e : root ≡ first). eqb-false first root other (sym e)) in
           more (⊎_elim (λ inside. inl (subst (λ (r : Interval). IsIn r v) (sym same) inside)) (λ told. inr told) so)
           (⊎_elim
@@ -281,30 +273,30 @@ module _ (tree : Tree) (all : List Change) where
 
   row-in : (row : ℕ) (v : Value) → ((change : Change) → Contains (filter (λ change. is_row row change.bearer) all) change → IsIn change.range v)
       → (rows : List ℕ) (known : Components) → row < length known.rows
-      → IsIn (row_at known row).range v ⊎ Told all (values_at (rows_of tree) row) v → (is_among row rows ≡ true) ⊎ IsIn (row_at known row).range v
+      → IsIn (row_at known row).range v ⊎ Told all (type_at (rows_of tree) row) v → (is_among row rows ≡ true) ⊎ IsIn (row_at known row).range v
       → IsIn (row_at (rows_behind tree all rows known) row).range v
   row-in row v exact [] known within so listed = ⊎_elim (λ among. absurd (false≢true among)) (λ inside. inside) listed
   row-in row v exact (first ∷ rows) known within so listed =
-      let count = row-count first (range_behind (values_at (rows_of tree) first) all (filter (λ change. is_row first change.bearer) all)
+      let count = row-count first (range_behind (type_at (rows_of tree) first) all (filter (λ change. is_row first change.bearer) all)
       (row_at known first).range) known in
       by (nat_eq first row) refl
       (λ next_so next_listed. row-in row v exact rows (row_behind tree all first known) (omega (arith, count, within)) next_so next_listed)
     where
       by : (same : Bool) → nat_eq first row ≡ same
-          → (IsIn (row_at (row_behind tree all first known) row).range v ⊎ Told all (values_at (rows_of tree) row) v
+          → (IsIn (row_at (row_behind tree all first known) row).range v ⊎ Told all (type_at (rows_of tree) row) v
           → (is_among row rows ≡ true) ⊎ IsIn (row_at (row_behind tree all first known) row).range v
           → IsIn (row_at (rows_behind tree all rows (row_behind tree all first known)) row).range v)
           → IsIn (row_at (rows_behind tree all rows (row_behind tree all first known)) row).range v
       by true same more =
           let one = eqb-true first row same in
-          let range = range_behind (values_at (rows_of tree) row) all (filter (λ change. is_row row change.bearer) all) (row_at known row).range in
+          let range = range_behind (type_at (rows_of tree) row) all (filter (λ change. is_row row change.bearer) all) (row_at known row).range in
           let inside : IsIn (row_at (row_behind tree all first known) row).range v =
           subst (λ (r : ℕ). IsIn (row_at (row_behind tree all r known) row).range v) (sym one)
           (subst (λ (s : RowState). IsIn s.range v) (sym (get_or-set_same known.rows row (record (row_at known row) { range = range }) no_row within))
-          (in-behind (values_at (rows_of tree) row) all (filter (λ change. is_row row change.bearer) all) (row_at known row).range v exact so)) in
+          (in-behind (type_at (rows_of tree) row) all (filter (λ change. is_row row change.bearer) all) (row_at known row).range v exact so)) in
           more (inl inside) (inr inside)
       by false other more =
-          let range = range_behind (values_at (rows_of tree) first) all (filter (λ change. is_row first change.bearer) all) (row_at known first).range in
+          let range = range_behind (type_at (rows_of tree) first) all (filter (λ change. is_row first change.bearer) all) (row_at known first).range in
           let same : row_at (row_behind tree all first known) row ≡ row_at known row =
           get_or-set_other known.rows first row (record (row_at known first) { range = range }) no_row
           (λ (e : row ≡ first). eqb-false first row other (sym e)) in
@@ -371,11 +363,11 @@ module _ (tree : Tree) (pairs : List (ℕ × ℕ)) (number : ℕ) (block : Block
   integers root steps v is = (in-types tree pairs from activations caller after back.call.proper back.typed).integers root steps v is
 
   -- a value of the caller's is as it was, or a change of its type tells it
-  told-value : (root : ℕ) (steps : List Step) (v : Value) (values : Option OrdinalRange)
+  told-value : (root : ℕ) (steps : List Step) (v : Value) (type_id : Option TypeId)
       → ((home : Place) (own : TypeId) → caller.variables root ≡ Some home → place_type tree (record home { steps = home.steps ++ steps }) ≡ Some own
-      → values ≡ range_of tree.types own)
-      → value_at outer root steps ≡ Some v → (value_at (moment caller store) root steps ≡ Some v) ⊎ Told all values v
-  told-value root steps v values values_are is =
+      → is_ordinal tree.types own ≡ true → type_id ≡ Some own)
+      → value_at outer root steps ≡ Some v → (value_at (moment caller store) root steps ≡ Some v) ⊎ Told all type_id v
+  told-value root steps v type_id type_is is =
       let at = stored-of after (caller.variables root) steps v is in
       let home = at.0 in
       let place : Place = record home { steps = home.steps ++ steps } in
@@ -385,8 +377,8 @@ module _ (tree : Tree) (pairs : List (ℕ × ℕ)) (number : ℕ) (block : Block
       let own = back.typed place v at.2 in
       let told = changed-told tree pairs number block arguments caller activations from store actuals claims after back place own.0 v
       (back.call.proper.begun root home at.1) changed_so at.2 own.1 own.2 in
-      let equal : values ≡ told.change.values = values_are home own.0 at.1 own.1 ∙ sym told.values_are in
-      inr (told.change, told.inside, subst (λ (r : Option OrdinalRange). same_values values r ≡ true) equal (same-itself values), told.in_range))
+      let same = both-same type_id told.change.type_id own.0 (type_is home own.0 at.1 own.1 (ap is_some own.2.1)) told.type_is in
+      inr (told.change, told.inside, same, told.in_range))
       (same-or_changed tree pairs number block arguments caller activations from store actuals claims after back.left place
       (back.call.proper.begun root home at.1))
 
@@ -440,8 +432,8 @@ module _ (tree : Tree) (pairs : List (ℕ × ℕ)) (number : ℕ) (block : Block
       variable-exact change.bearer change.range root v (exact-change change both.0) both.1 is)
       roots dropped.variables (omega (arith, within, count, long))
       (⊎_elim (λ same. inl (dropped-in root v same)) (λ told. inr told)
-      (told-value root [] v (variable_values tree root)
-      (λ home own home_is own_is. whole-type tree pairs from activations caller back.call.proper root home own home_is own_is) is))
+      (told-value root [] v (variable_type tree root)
+      (λ home own home_is own_is ordinal. whole-type tree pairs from activations caller back.call.proper root home own home_is own_is) is))
       (⊎_elim (λ among. inl among)
       (λ apart.
       inr (dropped-in root v
@@ -493,8 +485,8 @@ module _ (tree : Tree) (pairs : List (ℕ × ℕ)) (number : ℕ) (block : Block
       row-exact change.bearer change.range row steps v (exact-change change both.0) both.1 of_row is)
       rows dropped.components (omega (arith, within, count, long))
       (⊎_elim (λ same. inl (before same)) (λ told. inr told)
-      (told-value root steps v (values_at (rows_of tree) row)
-      (λ home own home_is own_is. row-type tree pairs from activations caller back.call.proper row steps home own of_row home_is own_is) is))
+      (told-value root steps v (type_at (rows_of tree) row)
+      (λ home own home_is own_is ordinal. row-type tree pairs from activations caller back.call.proper row steps home own of_row home_is own_is ordinal) is))
       (⊎_elim (λ among. inl (contains-among rows row (rows-touched tree roots row within among)))
       (λ apart.
       inr (before (sym (untouched-kept tree pairs number block arguments caller activations from store actuals claims after back.left root apart steps) ∙ is)))

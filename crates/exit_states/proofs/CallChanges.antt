@@ -18,7 +18,6 @@ use Rattle.meaning.specs.Store.{Environment, Place, Store, is_beginning, overlap
 use Rattle.abstract_state.specs.Holds.{HasValue, part_of, value_at}
 use Rattle.abstract_state.specs.Knows.{moment}
 use Rattle.abstract_state.specs.Loops.{is_among}
-use Rattle.leaf_rows.specs.Limits.{all_limits}
 use Rattle.structured_states.specs.Pairs.{all_aliases_in}
 use Rattle.call_states.specs.Actuals.{Actual, Binding, OfRows, OfValue, OfVariable, actual_of, are_of_types, bound_to}
 use Rattle.call_states.specs.Environments.{Begun, Leaves, Proper, Typed}
@@ -64,7 +63,7 @@ pub record HasLeft (tree : Tree) (pairs : List (ℕ × ℕ)) (number : ℕ) (blo
   pub call : IsCalled tree pairs number block arguments caller activations from
   pub begun : Begun activations store
   pub are : AreArguments tree caller store block.heading.parameters.items actuals arguments
-  pub of_types : are_of_types tree (all_limits tree) (bound_to block.heading.parameters.items actuals) ≡ true
+  pub of_types : are_of_types tree (bound_to block.heading.parameters.items actuals) ≡ true
   pub proper : Proper tree pairs number (suc activations) (environment_of tree (activation_of number block arguments caller activations))
   pub leaves : Leaves activations claims.changes (environment_of tree (activation_of number block arguments caller activations)) store after
   pub outward : (root : ℕ) → Contains claims.changes root → IsOutward tree number root

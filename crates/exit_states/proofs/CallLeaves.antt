@@ -3,14 +3,14 @@
 use Rattle.std.proofs.Common.{arith, ◌≡◌, ⊎_elim, ◌∙◌, sym, ap, refl, subst, ℕ, zero, suc, ◌<◌, Bool, true, false, cond, ◌&&◌}
 use Rattle.std.proofs.Common.{nat_eq, List, [], ◌∷◌, ◌++◌, length, Option, Some, None}
 use Rattle.std.specs.List.{Contains, filter_map, flat_map}
-use Rattle.std.specs.Option.{option_and_then}
+use Rattle.std.specs.Option.{option_map}
 use Rattle.std.specs.Prelude.{is_some, slice_get}
 use Rattle.std.proofs.lemmas.Bool.{and_parts, eqb-true, false≢true}
 use Rattle.std.proofs.lemmas.List.{length-map}
 use Rattle.std.proofs.lemmas.List.Elements.{All-contains}
 use Rattle.std.proofs.lemmas.Option.{none-some, same_Some, slice_get_within}
 use Rattle.types.specs.Forms.{Form}
-use Rattle.types.specs.Types.{element_of, field_at, is_ordinal, range_of}
+use Rattle.types.specs.Types.{element_of, field_at, is_ordinal}
 use Rattle.types.specs.declared.form.ArrayElement.{ArrayElement}
 use Rattle.types.specs.declared.form.RecordField.{RecordField}
 use Rattle.types.specs.declared.form.Step.{Step}
@@ -208,7 +208,7 @@ module _ (tree : Tree) (pairs : List (ℕ × ℕ)) (number : ℕ) (block : Block
   pub record HasChange (all : List Change) (own : TypeId) (v : Value) : Type 0 where
     pub change : Change
     pub inside : Contains all change
-    pub values_are : change.values ≡ range_of tree.types own
+    pub type_is : change.type_id ≡ Some own
     pub in_range : IsIn change.range v
 
   leaf-change : (root : ℕ) (variable : DeclaredVariable) (bearers : List Bearer) (home : Place) (rest : List Step) (own : TypeId) (v : Value)
@@ -228,7 +228,7 @@ module _ (tree : Tree) (pairs : List (ℕ × ℕ)) (number : ℕ) (block : Block
           record {
             change = variable_change tree claims.exit root bearer.0;
             inside = in-map (variable_change tree claims.exit root) bearers bearer.0 bearer.1;
-            values_are = ap (option_and_then (λ (x : DeclaredVariable). range_of tree.types x.type_id)) is ∙ ap (range_of tree.types) still.1;
+            type_is = ap (option_map (λ (x : DeclaredVariable). x.type_id)) is ∙ ap Some still.1;
             in_range = variable-exit root variable v is (subst (λ (s : List Step). value_at inner root s ≡ Some v) still.0 at) bearer.0;
           }
       by false plain_root =
@@ -245,9 +245,9 @@ module _ (tree : Tree) (pairs : List (ℕ × ℕ)) (number : ℕ) (block : Block
           record {
             change = row_change tree claims.exit found.0 bearer.0;
             inside = row-change_at tree claims.exit (rows_under (rows_of tree) root []) bearers there.0 found.0 bearer.0 there.1 bearer.1;
-            values_are = row-type tree pairs number (suc activations) callee back.proper found.0 rest home own found.2
+            type_is = row-type tree pairs number (suc activations) callee back.proper found.0 rest home own found.2
                 (ap callee.variables root_is ∙ home_is)
-                (part-type tree pairs number (suc activations) callee back.proper root home variable rest home_is is ∙ leads);
+                (part-type tree pairs number (suc activations) callee back.proper root home variable rest home_is is ∙ leads) ordinal_own;
             in_range = component-exit found.0 rest v found.2 component bearer.0;
           }
         where
@@ -318,7 +318,7 @@ module _ (tree : Tree) (pairs : List (ℕ × ℕ)) (number : ℕ) (block : Block
   in-changes root own v listed has = record {
     change = has.change;
     inside = in-flat changes_at claims.changes root has.change listed has.inside;
-    values_are = has.values_are;
+    type_is = has.type_is;
     in_range = has.in_range;
   }
 

@@ -6,7 +6,7 @@ use Rattle.std.proofs.lemmas.List.{drop_all, drop_more}
 use Rattle.typed_tree.specs.declared.tree.Tree.{Tree}
 use Rattle.domain.specs.Interval.{Interval}
 use Rattle.domain.specs.Facts.{Fact}
-use Rattle.leaf_rows.specs.Rows.{rows_of, rows_touched, rows_under, values_at}
+use Rattle.leaf_rows.specs.Rows.{rows_of, rows_touched, rows_under, type_at}
 use Rattle.component_states.specs.Components.{Components, row_at, with_range}
 use Rattle.component_states.specs.States.{State, over_components}
 use Rattle.structured_states.proofs.Rowed.{rows-next, rows_to}
@@ -17,7 +17,7 @@ use Rattle.call_states.proofs.Rows.{bearers_from}
 
 -- a row more, where its values lie behind a call
 pub behind-next : (tree : Tree) (changes : List Change) (row last : ℕ) (range : Interval) (old new whole : State) → row < last
-    → range ≡ range_behind (values_at (rows_of tree) row) changes (filter (λ change. is_row row change.bearer) changes) (row_at old.components row).range
+    → range ≡ range_behind (type_at (rows_of tree) row) changes (filter (λ change. is_row row change.bearer) changes) (row_at old.components row).range
     → new ≡ over_components (λ _. with_range row range) old
     → over_components (λ _. rows_behind tree changes (rows_to row last)) old ≡ whole
     → over_components (λ _. rows_behind tree changes (rows_to (row + 1) last)) new ≡ whole

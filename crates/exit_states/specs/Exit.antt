@@ -4,7 +4,7 @@
 use Rattle.std.specs.Prelude.{ℕ, ℤ, pos, ◌-ℤ◌, Bool, true, false, not, ◌&&◌, ◌||◌, List, [], ◌∷◌, ◌++◌, Option}
 use Rattle.std.specs.Prelude.{Some, None, if◌then◌else◌, filter, flat_map, map, nat_eq, slice_get}
 use Rattle.std.specs.List.{list_any}
-use Rattle.types.specs.declared.form.OrdinalRange.{OrdinalRange}
+use Rattle.types.specs.declared.form.TypeId.{TypeId}
 use Rattle.typed_tree.specs.declared.tree.Tree.{Tree}
 use Rattle.typed_tree.specs.declared.tree.Variable.{Variable as DeclaredVariable}
 use Rattle.domain.specs.Interval.{Interval, common, joined}
@@ -13,14 +13,14 @@ use Rattle.abstract_state.specs.State as variables
 use Rattle.abstract_state.specs.Changes.{ordered, with_some}
 use Rattle.abstract_state.specs.Loops.{is_among}
 use Rattle.leaf_rows.specs.Limits.{limits_or_integer}
-use Rattle.leaf_rows.specs.Rows.{index_at, rows_of, rows_touched, rows_under, values_at}
+use Rattle.leaf_rows.specs.Rows.{index_at, rows_of, rows_touched, rows_under, type_at, values_at}
 use Rattle.component_states.specs.Components as components
 use Rattle.component_states.specs.Components.{Entire, At, Inside, moved_bound, row_at}
 use Rattle.component_states.specs.States.{State, all_of_row, over_components, over_variables}
 use Rattle.structured_states.specs.Loops.{is_ordinal_variable, names_entire, rows_named}
 use Rattle.structured_states.specs.Pairs.{Listed, all_aliases_in}
 use Rattle.call_states.specs.Sections.{BlockClaims}
-use Rattle.call_states.specs.Aliases.{all_dropped, same_values, variable_values}
+use Rattle.call_states.specs.Aliases.{all_dropped, same_types, variable_type, variable_values}
 use Rattle.call_states.specs.Actuals.{Actual, OfValue, OfRows, OfVariable, Bearer, Passed, Variable, Components}
 use Rattle.call_states.specs.Actuals.{Binding}
 use Rattle.call_states.specs.Actuals.{actual_of, all_of_rows, bearers_named, bearers_of}
@@ -39,11 +39,11 @@ root_changed root (Some (OfVariable other selectors reach)) = other ∷ []
 abbrev pub roots_changed : List Binding → List ℕ → List ℕ
 roots_changed bindings changes = flat_map (λ root. root_changed root (actual_of bindings root)) changes
 
--- a leaf of a variable that the callee may change: what bears it for the caller, the values of its type, and where its
--- values lie where the callee ends
+-- a leaf of a variable that the callee may change: what bears it for the caller, its type, if that is there, and where
+-- its values lie where the callee ends
 pub record Change : Type 0 where
   pub bearer : Bearer
-  pub values : Option OrdinalRange
+  pub type_id : Option TypeId
   pub range : Interval
 
 -- a claim on where values lie, if it is on an entire variable, or on a row
@@ -69,14 +69,14 @@ row_exit_range tree row (fact ∷ facts) known = row_exit_range tree row facts (
 abbrev pub variable_change : Tree → List Fact → ℕ → Bearer → Change
 variable_change tree facts root bearer = record {
   bearer = bearer;
-  values = variable_values tree root;
+  type_id = variable_type tree root;
   range = exit_range tree root facts (limits_or_integer (variable_values tree root));
 }
 
 abbrev pub row_change : Tree → List Fact → ℕ → Bearer → Change
 row_change tree facts row bearer = record {
   bearer = bearer;
-  values = values_at (rows_of tree) row;
+  type_id = type_at (rows_of tree) row;
   range = row_exit_range tree row facts (limits_or_integer (values_at (rows_of tree) row));
 }
 
@@ -127,20 +127,20 @@ all_common [] range = range
 all_common (change ∷ changes) range = all_common changes (common range change.range)
 
 -- the values of those of one type beside others
-abbrev pub all_joined : Option OrdinalRange → List Change → Interval → Interval
-all_joined values [] range = range
-all_joined values (change ∷ changes) range =
-    all_joined values changes (if same_values values change.values then joined range change.range else range)
+abbrev pub all_joined : Option TypeId → List Change → Interval → Interval
+all_joined type_id [] range = range
+all_joined type_id (change ∷ changes) range =
+    all_joined type_id changes (if same_types type_id change.type_id then joined range change.range else range)
 
 -- where the values lie of what was in a range, by the changes of just this, or else by all
-abbrev pub range_behind : Option OrdinalRange → List Change → (exact : List Change) → Interval → Interval
-range_behind values changes [] range = all_joined values changes range
-range_behind values changes (change ∷ exact) range = all_common exact change.range
+abbrev pub range_behind : Option TypeId → List Change → (exact : List Change) → Interval → Interval
+range_behind type_id changes [] range = all_joined type_id changes range
+range_behind type_id changes (change ∷ exact) range = all_common exact change.range
 
 abbrev pub variable_behind : Tree → List Change → ℕ → variables.State → variables.State
 variable_behind tree changes root state =
     variables.with_range root
-    (range_behind (variable_values tree root) changes (filter (λ change. is_variable root change.bearer) changes)
+    (range_behind (variable_type tree root) changes (filter (λ change. is_variable root change.bearer) changes)
     (variables.range_of state root)) state
 
 abbrev pub variables_behind : Tree → List Change → List ℕ → variables.State → variables.State
@@ -151,7 +151,7 @@ variables_behind tree changes (root ∷ roots) state =
 abbrev pub row_behind : Tree → List Change → ℕ → components.Components → components.Components
 row_behind tree changes row known =
     components.with_range row
-    (range_behind (values_at (rows_of tree) row) changes (filter (λ change. is_row row change.bearer) changes)
+    (range_behind (type_at (rows_of tree) row) changes (filter (λ change. is_row row change.bearer) changes)
     (row_at known row).range) known
 
 abbrev pub rows_behind : Tree → List Change → List ℕ → components.Components → components.Components

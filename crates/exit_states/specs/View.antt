@@ -1,7 +1,7 @@
 -- What calls change as the definitions see it. It does not say what is known of it.
 use Rattle.std.specs.Prelude.{ℕ, ℤ, Bool, false, List, [], ◌∷◌, ◌++◌, Option, Some, None}
 use Rattle.std.specs.Prelude.{if◌then◌else◌, filter, map}
-use Rattle.types.specs.declared.form.OrdinalRange.{OrdinalRange}
+use Rattle.types.specs.declared.form.TypeId.{TypeId}
 use Rattle.typed_tree.specs.declared.tree.Tree.{Tree}
 use Rattle.domain.specs.Interval.{Interval, common}
 use Rattle.domain.specs.Facts.{Bound, Fact, Plus}
@@ -17,7 +17,7 @@ use Rattle.call_states.specs.View.{said_bearer}
 
 abbrev pub said_change : KeptChange → Change
 said_change change =
-    record { bearer = said_bearer change.bearer; values = change.values; range = change.range }
+    record { bearer = said_bearer change.bearer; type_id = change.type_id; range = change.range }
 
 -- the variables of the caller that a call may change, and their aliases there
 abbrev pub touched_by : Listed → ℕ → List Binding → List ℕ → List ℕ
@@ -49,9 +49,9 @@ common_of [] = None
 common_of (change ∷ changes) = Some (all_common changes change.range)
 
 -- where the values lie of what was in a range
-abbrev pub behind : Option OrdinalRange → List Change → Bearer → Interval → Interval
-behind values changes subject range =
-    range_behind values changes (filter (λ change. is_of subject change.bearer) changes) range
+abbrev pub behind : Option TypeId → List Change → Bearer → Interval → Interval
+behind type_id changes subject range =
+    range_behind type_id changes (filter (λ change. is_of subject change.bearer) changes) range
 
 -- a variable with a number more, if it is steady
 abbrev pub steady_at : Touches → ℕ → ℤ → Option Bound

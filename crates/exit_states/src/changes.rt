@@ -10,7 +10,7 @@ ghost use Rattle.call_states.specs.View.{said_actual, said_bearer, said_bindings
 ghost use Rattle.exit_states.specs.View.{said_change};
 
 use call_states::actuals::{Actual, Bearer, Bindings, all_bearers, borne_by, has};
-use call_states::aliases::variable_values;
+use call_states::aliases::{variable_type, variable_values};
 use certificate::Fact as Claim;
 use domain::Domain;
 use domain::interval::Interval;
@@ -18,15 +18,15 @@ use leaf_rows::{Rows, Span, limits_or_integer};
 use std::alloc::{AllocError, Global};
 use structured_states::kept_claims::{is_ordinal_variable, names_entire, rows_named};
 use typed_tree::tree::Tree;
-use types::OrdinalRange;
+use types::TypeId;
 
 /// A leaf of a variable that a callee may change.
 #[derive(Clone, Copy)]
 pub(crate) struct Change {
     /// What bears it for the caller.
     pub(crate) bearer: Bearer,
-    /// The values of its type.
-    pub(crate) values: Option<OrdinalRange>,
+    /// Its type, if that is there.
+    pub(crate) type_id: Option<TypeId>,
     /// Where its values lie where the callee ends.
     pub(crate) range: Interval,
 }
@@ -162,11 +162,11 @@ fn add_ordinals(
 fn variable_change(tree: &Tree, exit: &[Claim], root: u32, bearer: Bearer) -> Change
     ensures { said_change result ≡ variable_change tree.now (map said_fact exit.now) root (said_bearer bearer) }
 {
-    let values = variable_values(tree, root);
+    let limits = limits_or_integer(variable_values(tree, root));
     Change {
         bearer,
-        values,
-        range: exit_range(tree, root, exit, limits_or_integer(values)),
+        type_id: variable_type(tree, root),
+        range: exit_range(tree, root, exit, limits),
     }
 }
 
@@ -194,7 +194,7 @@ fn row_change(rows: &Rows, exit: &[Claim], row: u32, bearer: Bearer) -> Change
 {
     Change {
         bearer,
-        values: rows.values(row),
+        type_id: rows.type_id(row),
         range: row_exit_range(rows, row, exit, rows.row_limits(row)),
     }
 }

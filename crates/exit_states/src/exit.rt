@@ -21,7 +21,7 @@ ghost use Rattle.typed_tree.specs.declared.tree.Tree.{Tree};
 
 use crate::changes::{Change, all_changes, exit_range, roots_changed};
 use call_states::actuals::{Actual, Bearer, Bindings, bearers_named, is_entire};
-use call_states::aliases::{drop_all, is_among, is_same, variable_values};
+use call_states::aliases::{drop_all, is_among, is_same, variable_type, variable_values};
 use call_states::sections;
 use certificate::{Fact as Claim, Path, Section};
 use component_states::{ComponentFact, Reach, State, Stretch, all_of_row, moved};
@@ -32,7 +32,7 @@ use leaf_rows::{Rows, Span, limits_or_integer};
 use std::alloc::{AllocError, Global};
 use structured_states::pairs::Pairs;
 use typed_tree::tree::Tree;
-use types::OrdinalRange;
+use types::TypeId;
 
 /// What a call touches.
 #[derive(Clone, Copy)]
@@ -137,8 +137,8 @@ fn touch_variables(
 {
     for root in touched {
         let range = state.variables.range(rows.limits(), *root);
-        let values = variable_values(rows.tree(), *root);
-        let range = behind(values, changes, &Bearer::Variable(*root), range);
+        let type_id = variable_type(rows.tree(), *root);
+        let range = behind(type_id, changes, &Bearer::Variable(*root), range);
         state.variables.set_range(rows.limits(), *root, range)?;
     }
     Ok(())
@@ -174,7 +174,7 @@ fn touch_span(
             row,
             reach: Reach::Entire,
         };
-        let range = behind(rows.values(row), changes, &all, state.row_range(rows, row));
+        let range = behind(rows.type_id(row), changes, &all, state.row_range(rows, row));
         state.touch_row(rows, row, range)?;
     }
     Ok(())
@@ -182,16 +182,16 @@ fn touch_span(
 
 /// Where the values lie of what was in a range, by the changes of just this, or else by all.
 fn behind(
-    values: Option<OrdinalRange>,
+    type_id: Option<TypeId>,
     changes: &[Change],
     subject: &Bearer,
     range: Interval,
 ) -> Interval
-    ensures { result ≡ behind values (map said_change changes.now) (said_bearer subject.now) range }
+    ensures { result ≡ behind type_id (map said_change changes.now) (said_bearer subject.now) range }
 {
     match common(changes, subject) {
         Some(range) => range,
-        None => joined(values, changes, range),
+        None => joined(type_id, changes, range),
     }
 }
 
@@ -236,12 +236,12 @@ fn is_of(subject: &Bearer, bearer: &Bearer) -> bool
 }
 
 /// A range with the values of those of a type.
-fn joined(values: Option<OrdinalRange>, changes: &[Change], range: Interval) -> Interval
-    ensures { result ≡ all_joined values (map said_change changes.now) range }
+fn joined(type_id: Option<TypeId>, changes: &[Change], range: Interval) -> Interval
+    ensures { result ≡ all_joined type_id (map said_change changes.now) range }
 {
     let mut all = range;
     for change in changes {
-        if is_same(values, change.values) {
+        if is_same(type_id, change.type_id) {
             all = all.join(&change.range);
         }
     }

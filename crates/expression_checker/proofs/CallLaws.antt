@@ -9,7 +9,6 @@ use Rattle.typed_tree.specs.declared.tree.Tree.{Tree}
 use Rattle.typed_tree.specs.declared.tree.Variable.{Variable}
 use Rattle.types.specs.declared.form.Step.{Step}
 use Rattle.domain.specs.Facts.{Fact}
-use Rattle.domain.specs.Interval.{Interval}
 use Rattle.meaning.specs.declared.store.Value.{Value}
 use Rattle.meaning.specs.Effect as effect
 use Rattle.meaning.specs.Meaning as meaning
@@ -20,7 +19,6 @@ use Rattle.abstract_state.specs.Knows.{moment}
 use Rattle.abstract_state.specs.Loops.{is_among}
 use Rattle.component_states.specs.Holds.{Knows}
 use Rattle.component_states.specs.States.{State}
-use Rattle.leaf_rows.specs.Limits.{all_limits}
 use Rattle.structured_states.specs.Pairs.{aliases_of}
 use Rattle.call_states.specs.Actuals.{Actual, OfRows, OfValue, OfVariable, are_of_types, bound_to, is_of_type}
 use Rattle.call_states.specs.Environments.{Fine, Proper, Typed}
@@ -52,7 +50,7 @@ pub record AreClaims (world : World) : Type 0 where
   pub exit : (number : ℕ) (one : Fact) → Contains (block_claims_at world.blocks number).exit one
       → MayEnd world.tree number (block_claims_at world.blocks number).changes one
 
-module _ (world : World) (well : IsWellFormed world.tree) (limits_are : world.limits ≡ all_limits world.tree) (are_claims : AreClaims world) where
+module _ (world : World) (well : IsWellFormed world.tree) (are_claims : AreClaims world) where
   abbrev tree : Tree
   tree = world.tree
 
@@ -70,7 +68,7 @@ module _ (world : World) (well : IsWellFormed world.tree) (limits_are : world.li
 
   module _ (block activations : ℕ) (visible : Environment) (proper : Proper tree world.pairs block activations visible) (store : Store) where
     one-fits : (root : ℕ) (formal : Variable) (actual : Actual) (argument : Argument) → slice_get tree.variables.items root ≡ Some formal
-        → IsArgument tree visible store formal actual argument → IsOfKind world formal argument → is_of_type tree (all_limits tree) root actual ≡ true
+        → IsArgument tree visible store formal actual argument → IsOfKind world formal argument → is_of_type tree root actual ≡ true
         → Fits tree activations argument formal
     one-fits root formal actual (meaning.OfValue v) is known kind typed = kind
     one-fits root formal (OfRows ranges) (meaning.OfRow numbers) is known kind typed =
@@ -85,14 +83,14 @@ module _ (world : World) (well : IsWellFormed world.tree) (limits_are : world.li
     one-fits root formal (OfRows ranges) (meaning.OfPlace (Some place)) is known kind typed = absurd known
 
     all-fit : (roots : List ℕ) (actuals : List Actual) (arguments : List Argument) → ArePassed world visible roots actuals arguments store
-        → are_of_types tree (all_limits tree) (bound_to roots actuals) ≡ true → AllFit tree activations roots arguments
+        → are_of_types tree (bound_to roots actuals) ≡ true → AllFit tree activations roots arguments
     all-fit [] [] [] are typed = tt
     all-fit [] [] (argument ∷ arguments) are typed = absurd are
     all-fit [] (actual ∷ actuals) arguments are typed = absurd are
     all-fit (root ∷ roots) [] arguments are typed = absurd are
     all-fit (root ∷ roots) (actual ∷ actuals) [] are typed = absurd are
     all-fit (root ∷ roots) (actual ∷ actuals) (argument ∷ arguments) (formal, is, passed, others) typed =
-        let parts = and_parts (is_of_type tree (all_limits tree) root actual) (are_of_types tree (all_limits tree) (bound_to roots actuals)) typed in
+        let parts = and_parts (is_of_type tree root actual) (are_of_types tree (bound_to roots actuals)) typed in
         (formal, is, one-fits root formal actual argument is passed.known passed.kind parts.0, all-fit roots actuals arguments others parts.1)
 
   -- ---- a call that may be made
@@ -108,8 +106,8 @@ module _ (world : World) (well : IsWellFormed world.tree) (limits_are : world.li
     are-arguments : AreArguments tree visible s.store roots actuals arguments
     are-arguments = arguments-are visible s.store roots actuals arguments may.passed
 
-    of-types : are_of_types tree (all_limits tree) (bound_to roots actuals) ≡ true
-    of-types = subst (λ (limits : List Interval). are_of_types tree limits (bound_to roots actuals) ≡ true) limits_are may.typed
+    of-types : are_of_types tree (bound_to roots actuals) ≡ true
+    of-types = may.typed
 
     is-called : IsCalled tree world.pairs number callee arguments visible s.activations block
     is-called = record {

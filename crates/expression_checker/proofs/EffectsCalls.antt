@@ -383,7 +383,7 @@ module _ (tree : Tree) (blocks : List BlockClaims) (declares : DeclareTheirs tre
       (λ _. call_change call.name bound claims >>= λ _. call_behind call bound claims) tt one.2 in
       let three = yields-then context (call_change call.name bound claims) (λ _. call_behind call bound claims) tt two.2 in
       let changes = list_all (may_change context) (roots_changed bound claims.changes) in
-      let typed = are_of_types context.tree context.limits bound in
+      let typed = are_of_types context.tree bound in
       let rule : Yields context (asked (changes && typed) Changes call.name) three.0 =
       record { state = three.1.state; unbroken = three.1.unbroken; value_is = three.1.value_is } in
       let kept = (and_parts changes typed (yields-asked context (changes && typed) Changes call.name three.0 rule)).0 in

@@ -81,7 +81,7 @@ pub record MayCall (world : World) (block number : ℕ) (callee : Block) (visibl
   pub passed : ArePassed world visible callee.heading.parameters.items actuals arguments s.store
   pub separate : are_separate (listed_in world) block callee.heading.around.items (bound_to callee.heading.parameters.items actuals) ≡ true
   pub given : are_given world.tree (bound_to callee.heading.parameters.items actuals) state (block_claims_at world.blocks number).entry ≡ true
-  pub typed : are_of_types world.tree world.limits (bound_to callee.heading.parameters.items actuals) ≡ true
+  pub typed : are_of_types world.tree (bound_to callee.heading.parameters.items actuals) ≡ true
 
 -- the variables that it may change, as the caller knows them
 abbrev pub changed_by_call : World → ℕ → Block → List Actual → List ℕ
@@ -343,7 +343,7 @@ module _ (world : World) (block : ℕ) (env : Surroundings) where
         let separate = are_separate (listed_in world) context.block (walk.around_of (slice_get world.tree.blocks.items call.block)) bindings in
         let given = are_given world.tree bindings state claims.entry in
         let lists = list_all (may_change own) changed in
-        let typed = are_of_types world.tree world.limits bindings in
+        let typed = are_of_types world.tree bindings in
         let first = walk.breach_unless separate Aliases call.name in
         let second = walk.breach_unless given CallEntry call.name in
         let third = walk.breach_unless (lists && typed) Changes call.name in

@@ -518,7 +518,7 @@ abbrev pub call_change : Place → List Binding → BlockClaims → Walking (Uni
 call_change place bindings claims context =
     asked
     (list_all (may_change context) (roots_changed bindings claims.changes)
-    && are_of_types context.tree context.limits bindings)
+    && are_of_types context.tree bindings)
     Changes place context
 
 -- what is passed makes listed aliases alone

@@ -116,10 +116,10 @@ impl<'a> Grounds<'a> {
     ) -> Result<bool, AllocError>
         ensures { IfOk result (λ may. may
             ≡ (list_all (may_change (context_of self.now [])) (roots_changed (said_bindings bindings.entry) listed.now)
-            && are_of_types self.now.rows.now (context_of self.now []).limits (said_bindings bindings.entry))) }
+            && are_of_types self.now.rows.now (said_bindings bindings.entry))) }
     {
         let roots = roots_changed(alloc, bindings, listed)?;
-        Ok(self.may_change_all(&roots) && are_of_types(self.rows, self.rows.limits(), bindings))
+        Ok(self.may_change_all(&roots) && are_of_types(self.rows, bindings))
     }
 
     /// Whether each of some variables may be changed.

@@ -139,19 +139,23 @@ of-field_leaf before position (first ∷ fields) (suc n) field own is of_field =
 
 -- ---- what is so of each type, if it is so of scalars, and of arrays and records by their parts
 
-module _ (types : List Form) (Q : List Steps → List Leaf → Type 0) (of_scalar : (values : Option OrdinalRange) → Q ([] ∷ []) (scalar values ∷ []))
+module _ (types : List Form) (Q : List Steps → List Leaf → Type 0)
+    (of_scalar : (own : Option TypeId) (values : Option OrdinalRange) → Q ([] ∷ []) (scalar own values ∷ []))
     (of_array : (id index : TypeId) (rows : List Steps) (leaves : List Leaf) → Q rows leaves
     → Q (elements_components rows (values_at (laid_before types id) index)) (map (behind_elements (range_at (leafed_before types id) index)) leaves))
     (of_record : (laid : List LaidOut) (before : List Leafed) (fields : List FieldForm)
     → ((field : FieldForm) → Q (components_at laid field.type_id) (leaves_at before field.type_id))
     → Q (fields_components laid 0 fields) (fields_leaves before 0 fields)) where
+  abbrev own-type : TypeId → Option TypeId
+  own-type id = Some (record { index = length (leafed_before types id) })
+
   of_form : (id : TypeId) → ((part : TypeId) → Q (components_at (laid_before types id) part) (leaves_at (leafed_before types id) part)) → (form : Form)
       → Q (form_components (laid_before types id) form) (form_leaves (leafed_before types id) form)
-  of_form id each Integer = of_scalar (form_range Integer)
-  of_form id each Boolean = of_scalar (form_range Boolean)
-  of_form id each Char = of_scalar (form_range Char)
-  of_form id each (Enumeration last) = of_scalar (form_range (Enumeration last))
-  of_form id each (Subrange host first last) = of_scalar (form_range (Subrange host first last))
+  of_form id each Integer = of_scalar (own-type id) (form_range Integer)
+  of_form id each Boolean = of_scalar (own-type id) (form_range Boolean)
+  of_form id each Char = of_scalar (own-type id) (form_range Char)
+  of_form id each (Enumeration last) = of_scalar (own-type id) (form_range (Enumeration last))
+  of_form id each (Subrange host first last) = of_scalar (own-type id) (form_range (Subrange host first last))
   of_form id each (Array packed index element) =
       of_array id index (components_at (laid_before types id) element) (leaves_at (leafed_before types id) element) (each element)
   of_form id each (Record packed fields) = of_record (laid_before types id) (leafed_before types id) fields (λ field. each field.type_id)
@@ -162,8 +166,8 @@ module _ (types : List Form) (Q : List Steps → List Leaf → Type 0) (of_scala
   of_entry : (id : TypeId) → ((part : TypeId) → Q (components_at (laid_before types id) part) (leaves_at (leafed_before types id) part))
       → (form : Option Form) → form_at types id ≡ form → Q (components_of types id) (leaves_of types id)
   of_entry id each None is =
-      as-both (components_of types id) ([] ∷ []) (leaves_of types id) (scalar None ∷ []) (components_of_none types id is) (leaves_of_none types id is)
-      (of_scalar None)
+      as-both (components_of types id) ([] ∷ []) (leaves_of types id) (scalar None None ∷ []) (components_of_none types id is) (leaves_of_none types id is)
+      (of_scalar None None)
   of_entry id each (Some form) is =
       as-both (components_of types id) (form_components (laid_before types id) form) (leaves_of types id) (form_leaves (leafed_before types id) form)
       (components_of_form types id form is) (leaves_of_form types id form is) (of_form id each form)
@@ -174,8 +178,8 @@ module _ (types : List Form) (Q : List Steps → List Leaf → Type 0) (of_scala
       ⊎_elim
       (λ less. as-both (components_at (laid_before types id) part) (components_of types part) (leaves_at (leafed_before types id) part) (leaves_of types part)
       (components_before types id part less) (leaves_before types id part less) (each less))
-      (λ more. as-both (components_at (laid_before types id) part) ([] ∷ []) (leaves_at (leafed_before types id) part) (scalar None ∷ [])
-      (components_not_before types id part more) (leaves_not_before types id part more) (of_scalar None))
+      (λ more. as-both (components_at (laid_before types id) part) ([] ∷ []) (leaves_at (leafed_before types id) part) (scalar None None ∷ [])
+      (components_not_before types id part more) (leaves_not_before types id part more) (of_scalar None None))
       (cases_lt part.index id.index)
 
   below : (bound : ℕ) (id : TypeId) → id.index < bound → Q (components_of types id) (leaves_of types id)
@@ -202,8 +206,8 @@ named-field position path rest is = ap (λ (b : Bool). b && is_named path rest) 
 pub each-named : (types : List Form) (id : TypeId) → AreNamed (components_of types id) (leaves_of types id)
 each-named types =
     of_each types AreNamed
-    (λ values steps has.
-    (scalar values, (0, refl), ap (is_named []) (sym (only [] steps has))))
+    (λ own values steps has.
+    (scalar own values, (0, refl), ap (is_named []) (sym (only [] steps has))))
     (λ id index rows leaves each steps has.
     let found = in-element rows (values_at (laid_before types id) index) has.0 steps has.1 in
     let leaf = each found.1 found.4 in
@@ -315,8 +319,8 @@ own-field laid before fields leaf steps of_row of_leaf named =
 pub each-indexed : (types : List Form) (id : TypeId) → HaveIndexes (components_of types id) (leaves_of types id)
 each-indexed types =
     of_each types HaveIndexes
-    (λ values steps leaf range of_row of_leaf named is.
-    absurd (none-some range (ap (λ (l : Leaf). l.index) (only (scalar values) leaf of_leaf) ∙ is)))
+    (λ own values steps leaf range of_row of_leaf named is.
+    absurd (none-some range (ap (λ (l : Leaf). l.index) (only (scalar own values) leaf of_leaf) ∙ is)))
     (λ id index rows leaves each steps leaf range of_row of_leaf named is.
     let found = in-element rows (values_at (laid_before types id) index) of_row.0 steps of_row.1 in
     let own = mapped-at (behind_elements (range_at (leafed_before types id) index)) leaves of_leaf.0 leaf of_leaf.1 in
@@ -392,9 +396,9 @@ module _ (before : List Leafed) (each : (field : FieldForm) → NameAlone [] (le
 pub each-alone : (types : List Form) (id : TypeId) → NameAlone (components_of types id) (leaves_of types id)
 each-alone types =
     of_each types NameAlone
-    (λ values j k a b steps of_a of_b one two.
-    let first = slice_get_within (scalar values ∷ []) j a of_a in
-    let second = slice_get_within (scalar values ∷ []) k b of_b in
+    (λ own values j k a b steps of_a of_b one two.
+    let first = slice_get_within (scalar own values ∷ []) j a of_a in
+    let second = slice_get_within (scalar own values ∷ []) k b of_b in
     omega (arith, first, second))
     (λ id index rows leaves each j k a b steps of_a of_b one two.
     let range = range_at (leafed_before types id) index in

@@ -21,9 +21,10 @@ use Rattle.leaf_rows.specs.declared.leaf.Way.{Way}
 use Rattle.leaf_rows.specs.declared.leaf.Way.TheVariants.{Direct, Indexed}
 use Rattle.leaf_rows.specs.Leaves.{Leaf, Leafed, behind_elements, behind_field, entry_leaves, fields_leaves, form_leaves, leaf_next}
 use Rattle.leaf_rows.specs.Leaves.{leafed, leaves_at, leaves_of}
-use Rattle.leaf_rows.specs.Leaves.{range_at, scalar}
+use Rattle.leaf_rows.specs.Leaves.{range_at, scalar, scalar_leaves}
 use Rattle.leaf_rows.specs.View.{count_at, count_in, form_count, leaf_counts, own_type, part_count, part_leaves, ranges_on, way_behind}
-use Rattle.leaf_rows.proofs.Leafed.{leafed_before, leaves_before, leaves_not_before, leaves_of_form, leaves_of_none, range_before, range_not_before}
+use Rattle.leaf_rows.proofs.Leafed.{leafed_before, leafed_many, leaves_before, leaves_not_before, leaves_of_form, leaves_of_none, range_before}
+use Rattle.leaf_rows.proofs.Leafed.{range_not_before}
 
 count_of_entry : (entry : Option Leafed) → count_in (option_map (λ entry. length entry.leaves) entry) ≡ length (entry_leaves entry)
 count_of_entry None = refl
@@ -213,18 +214,25 @@ array_ranges types id way packed index element is =
     ∙ ap (map (ranges_on (way_behind way (option_and_then (range_of types) (own_type id index))))) (part_before types id element)
 
 module _ (types : List Form) (way : Way) (id : TypeId) where
-  pub none_ranges : form_at types id ≡ None → map (ranges_on way) (leaves_of types id) ≡ ranges_on way (scalar None) ∷ []
+  pub none_ranges : form_at types id ≡ None → map (ranges_on way) (leaves_of types id) ≡ ranges_on way (scalar None None) ∷ []
   none_ranges is = ap (map (ranges_on way)) (leaves_of_none types id is)
 
   -- a form that is neither an array nor a record
   pub scalar_ranges : (form : TypeForm) → form_at types id ≡ Some (form_of form)
       → ((packed : Bool) (index element : TypeId) → form ≡ kept.Array packed index element → ⊥)
       → ((packed : Bool) (fields : Vec Field Global) → form ≡ kept.Record packed fields → ⊥)
-      → map (ranges_on way) (leaves_of types id) ≡ ranges_on way (scalar (form_range (form_of form))) ∷ []
-  scalar_ranges kept.Integer is no_array no_record = ap (map (ranges_on way)) (leaves_of_form types id Integer is)
-  scalar_ranges kept.Boolean is no_array no_record = ap (map (ranges_on way)) (leaves_of_form types id Boolean is)
-  scalar_ranges kept.Char is no_array no_record = ap (map (ranges_on way)) (leaves_of_form types id Char is)
-  scalar_ranges (kept.Enumeration last) is no_array no_record = ap (map (ranges_on way)) (leaves_of_form types id (Enumeration last) is)
-  scalar_ranges (kept.Subrange host first last) is no_array no_record = ap (map (ranges_on way)) (leaves_of_form types id (Subrange host first last) is)
-  scalar_ranges (kept.Array packed index element) is no_array no_record = absurd (no_array packed index element refl)
-  scalar_ranges (kept.Record packed fields) is no_array no_record = absurd (no_record packed fields refl)
+      → map (ranges_on way) (leaves_of types id) ≡ ranges_on way (scalar (Some id) (form_range (form_of form))) ∷ []
+  scalar_ranges form is no_array no_record =
+      ap (map (ranges_on way)) (leaves_of_form types id (form_of form) is ∙ by form no_array no_record)
+      ∙ ap (λ (n : ℕ). ranges_on way (scalar (Some (record { index = n })) (form_range (form_of form))) ∷ []) (leafed_many types id (form_of form) is)
+    where
+      by : (form : TypeForm) → ((packed : Bool) (index element : TypeId) → form ≡ kept.Array packed index element → ⊥)
+          → ((packed : Bool) (fields : Vec Field Global) → form ≡ kept.Record packed fields → ⊥)
+          → form_leaves (leafed_before types id) (form_of form) ≡ scalar_leaves (leafed_before types id) (form_of form)
+      by kept.Integer no_array no_record = refl
+      by kept.Boolean no_array no_record = refl
+      by kept.Char no_array no_record = refl
+      by (kept.Enumeration last) no_array no_record = refl
+      by (kept.Subrange host first last) no_array no_record = refl
+      by (kept.Array packed index element) no_array no_record = absurd (no_array packed index element refl)
+      by (kept.Record packed fields) no_array no_record = absurd (no_record packed fields refl)

@@ -1,7 +1,7 @@
 -- The leaves of the types of a table: those of a form over the types before it.
 use Rattle.std.proofs.Common.{◌≡◌, ℕ, ◌<◌, ◌≤◌, List, [], ◌∷◌, length, take, Option, Some, None, refl, ap, ◌∙◌, arith}
 use Rattle.std.proofs.lemmas.List.{length-take}
-use Rattle.std.proofs.lemmas.Option.{slice_get_past}
+use Rattle.std.proofs.lemmas.Option.{slice_get_past, slice_get_within}
 use Rattle.std.specs.Option.{option_map, option_and_then}
 use Rattle.std.specs.Prelude.{slice_get}
 use Rattle.types.specs.Forms.{Form}
@@ -29,8 +29,17 @@ pub leaves_of_form : (types : List Form) (id : TypeId) (form : Form) → form_at
     → leaves_of types id ≡ form_leaves (leafed_before types id) form
 leaves_of_form types id form is = ap entry_leaves (leafed_at types id ∙ ap (option_map (leafed_over (leafed_before types id))) is)
 
+-- its number is how many types stand before it
+pub leafed_many : (types : List Form) (id : TypeId) (form : Form) → form_at types id ≡ Some form → length (leafed_before types id) ≡ id.index
+leafed_many types id form is =
+    let within = slice_get_within (leafed types) id.index (leafed_over (leafed_before types id) form)
+    (leafed_at types id ∙ ap (option_map (leafed_over (leafed_before types id))) is) in
+    let long = length-take id.index (leafed types) in
+    let same = ap length (first_leafed types id.index) in
+    omega (arith, within, long, same)
+
 -- a number that is no type's stands for one leaf
-pub leaves_of_none : (types : List Form) (id : TypeId) → form_at types id ≡ None → leaves_of types id ≡ scalar None ∷ []
+pub leaves_of_none : (types : List Form) (id : TypeId) → form_at types id ≡ None → leaves_of types id ≡ scalar None None ∷ []
 leaves_of_none types id is = ap entry_leaves (leafed_at types id ∙ ap (option_map (leafed_over (leafed_before types id))) is)
 
 few : (entries : List Leafed) (n m : ℕ) → n ≤ m → length (take n entries) ≤ m
@@ -43,7 +52,7 @@ leaves_before types id part h =
     ap (λ entries. leaves_at entries part) (first_leafed types id.index) ∙ ap entry_leaves (slice_get-take (leafed types) id.index part.index h)
 
 -- another part is none of the types before, and has one
-pub leaves_not_before : (types : List Form) (id part : TypeId) → id.index ≤ part.index → leaves_at (leafed_before types id) part ≡ scalar None ∷ []
+pub leaves_not_before : (types : List Form) (id part : TypeId) → id.index ≤ part.index → leaves_at (leafed_before types id) part ≡ scalar None None ∷ []
 leaves_not_before types id part h =
     ap (λ entries. leaves_at entries part) (first_leafed types id.index)
     ∙ ap entry_leaves (slice_get_past (take id.index (leafed types)) part.index (few (leafed types) id.index part.index h))

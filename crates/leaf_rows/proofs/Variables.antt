@@ -219,9 +219,6 @@ module _ (types : List Form) where
         ∙ ap (leaves_under rest (first + skipped (leafed_before types id) fields position)) (part_before types id field.type_id)
         ∙ ap (part_under rest) (sym (fields_under id first fields position rest position first field at))
 
-    one_scalar : (step : LeafStep) (values : Option OrdinalRange) → leaves_under (step ∷ rest) first (scalar values ∷ []) ≡ []
-    one_scalar step values = refl
-
     form_under : (form : Option Form) → form_at types id ≡ form → (step : LeafStep)
         → leaves_under (step ∷ rest) first (leaves_of types id) ≡ part_under rest (form_part (leaf_counts types) id first form step)
     form_under None is step = ap (leaves_under (step ∷ rest) first) (leaves_of_none types id is)

@@ -1,7 +1,7 @@
 -- The leaves of a type: its scalar components, of which those that differ in indexes alone are one (ISO 7185:1990,
 -- 6.4.3.2, 6.4.3.3), in the order of the text. It says nothing of what they hold.
 use Rattle.std.specs.Prelude.{ℕ, ◌+◌, Bool, true, false, ◌&&◌, List, [], ◌∷◌, ◌++◌, Option, Some, None, fold, map}
-use Rattle.std.specs.Prelude.{nat_eq, slice_get}
+use Rattle.std.specs.Prelude.{length, nat_eq, slice_get}
 use Rattle.types.specs.Forms.{FieldForm, Form}
 use Rattle.types.specs.Forms.{Integer, Boolean, Char, Enumeration, Subrange, Array, Record}
 use Rattle.types.specs.Types.{form_range}
@@ -15,9 +15,11 @@ pub data LeafStep : Type 0 where
   Elements : LeafStep
   FieldAt : (position : ℕ) → LeafStep
 
--- a leaf: the steps to it, the values of its type, and those of the first index on the way to it, where there is one
+-- a leaf: the steps to it, its type, if that is there, the values of its type, and those of the first index on the way
+-- to it, where there is one
 pub record Leaf : Type 0 where
   pub steps : List LeafStep
+  pub type_id : Option TypeId
   pub values : Option OrdinalRange
   pub index : Option OrdinalRange
 
@@ -27,11 +29,11 @@ pub record Leafed : Type 0 where
   pub leaves : List Leaf
 
 -- a scalar is its own leaf
-abbrev pub scalar : Option OrdinalRange → Leaf
-scalar values = record { steps = []; values = values; index = None }
+abbrev pub scalar : Option TypeId → Option OrdinalRange → Leaf
+scalar type_id values = record { steps = []; type_id = type_id; values = values; index = None }
 
 abbrev pub entry_leaves : Option Leafed → List Leaf
-entry_leaves None = scalar None ∷ []
+entry_leaves None = scalar None None ∷ []
 entry_leaves (Some entry) = entry.leaves
 
 abbrev pub entry_range : Option Leafed → Option OrdinalRange
@@ -47,7 +49,7 @@ range_at entries id = entry_range (slice_get entries id.index)
 
 -- a leaf behind the elements of an array, or behind a field
 abbrev pub behind_elements : Option OrdinalRange → Leaf → Leaf
-behind_elements index leaf = record { steps = Elements ∷ leaf.steps; values = leaf.values; index = index }
+behind_elements index leaf = record leaf { steps = Elements ∷ leaf.steps; index = index }
 
 abbrev pub behind_field : ℕ → Leaf → Leaf
 behind_field position leaf = record leaf { steps = FieldAt position ∷ leaf.steps }
@@ -58,13 +60,17 @@ fields_leaves before position [] = []
 fields_leaves before position (field ∷ fields) =
     map (behind_field position) (leaves_at before field.type_id) ++ fields_leaves before (position + 1) fields
 
+-- that of a scalar form, whose number is that of the types before it
+abbrev pub scalar_leaves : List Leafed → Form → List Leaf
+scalar_leaves before form = scalar (Some (record { index = length before })) (form_range form) ∷ []
+
 -- those of a form over types that have theirs
 abbrev pub form_leaves : List Leafed → Form → List Leaf
-form_leaves before Integer = scalar (form_range Integer) ∷ []
-form_leaves before Boolean = scalar (form_range Boolean) ∷ []
-form_leaves before Char = scalar (form_range Char) ∷ []
-form_leaves before (Enumeration last) = scalar (form_range (Enumeration last)) ∷ []
-form_leaves before (Subrange host first last) = scalar (form_range (Subrange host first last)) ∷ []
+form_leaves before Integer = scalar_leaves before Integer
+form_leaves before Boolean = scalar_leaves before Boolean
+form_leaves before Char = scalar_leaves before Char
+form_leaves before (Enumeration last) = scalar_leaves before (Enumeration last)
+form_leaves before (Subrange host first last) = scalar_leaves before (Subrange host first last)
 form_leaves before (Array packed index element) =
     map (behind_elements (range_at before index)) (leaves_at before element)
 form_leaves before (Record packed fields) = fields_leaves before 0 fields

@@ -79,6 +79,9 @@ abbrev pub rows_touched : List Row → List ℕ → List ℕ
 rows_touched rows roots = flat_map (λ root. rows_under rows root []) roots
 
 -- what is known of a row by its number
+abbrev pub type_at : List Row → ℕ → Option TypeId
+type_at rows number = option_and_then (λ row. row.leaf.type_id) (slice_get rows number)
+
 abbrev pub values_at : List Row → ℕ → Option OrdinalRange
 values_at rows number = option_and_then (λ row. row.leaf.values) (slice_get rows number)
 

@@ -34,12 +34,12 @@ IsAnswerOf tree root (Some named) (Some found) =
 -- ---- ranges
 
 abbrev pub ranges_of : Leaf → RowRanges
-ranges_of leaf = record { values = leaf.values; index = leaf.index }
+ranges_of leaf = record { type_id = leaf.type_id; values = leaf.values; index = leaf.index }
 
 -- those of a leaf on a way from a variable
 abbrev pub ranges_on : Way → Leaf → RowRanges
 ranges_on Direct leaf = ranges_of leaf
-ranges_on (Indexed index) leaf = record { values = leaf.values; index = index }
+ranges_on (Indexed index) leaf = record { type_id = leaf.type_id; values = leaf.values; index = index }
 
 -- those of the rows of a variable
 abbrev pub variable_ranges : List Form → Variable → List RowRanges
@@ -74,7 +74,7 @@ abbrev pub own_type : (whole part : TypeId) → Option TypeId
 own_type whole part = if nat_lt part.index whole.index then Some part else None
 
 abbrev pub part_leaves : List Form → Option TypeId → List Leaf
-part_leaves types None = scalar None ∷ []
+part_leaves types None = scalar None None ∷ []
 part_leaves types (Some id) = leaves_of types id
 
 abbrev pub part_count : List ℕ → Option TypeId → ℕ

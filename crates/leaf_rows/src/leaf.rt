@@ -11,6 +11,8 @@ use types::{Field, OrdinalRange, TypeForm, TypeId, TypeTable};
 /// What is known of a row by its type.
 #[derive(Clone, Copy)]
 pub(crate) struct RowRanges {
+    /// The type of its components, if that is there.
+    pub type_id: Option<TypeId>,
     /// The values of its components.
     pub values: Option<OrdinalRange>,
     /// The values of the first index on the way to them.
@@ -38,15 +40,20 @@ impl Way {
     }
 
     // The row of a scalar there.
-    fn scalar(self, values: Option<OrdinalRange>) -> RowRanges
-        ensures { result ≡ ranges_on self (scalar values) }
+    fn scalar(self, type_id: Option<TypeId>, values: Option<OrdinalRange>) -> RowRanges
+        ensures { result ≡ ranges_on self (scalar type_id values) }
     {
         match self {
             Way::Direct => RowRanges {
+                type_id,
                 values,
                 index: None,
             },
-            Way::Indexed(index) => RowRanges { values, index },
+            Way::Indexed(index) => RowRanges {
+                type_id,
+                values,
+                index,
+            },
         }
     }
 }
@@ -61,10 +68,10 @@ pub(crate) fn add_leaves(
     ensures { OnOk result (rows.new.items ≡ rows.old.items ++ map (ranges_on way) (part_leaves types.now part)) }
 {
     let Some(id) = part else {
-        return add_row(way.scalar(None), rows);
+        return add_row(way.scalar(None, None), rows);
     };
     let Some(form) = types.form(id) else {
-        return add_row(way.scalar(None), rows);
+        return add_row(way.scalar(None, None), rows);
     };
     match form {
         TypeForm::Array { index, element, .. } => {
@@ -77,7 +84,7 @@ pub(crate) fn add_leaves(
             }
             Ok(())
         }
-        _ => add_row(way.scalar(form.range()), rows),
+        _ => add_row(way.scalar(part, form.range()), rows),
     }
 }
 

@@ -4,7 +4,7 @@ ghost use Rattle.certificate.specs.Contents.{said_path};
 ghost use Rattle.leaf_rows.specs.Leaves.{Elements, FieldAt};
 ghost use Rattle.leaf_rows.specs.Limits.{all_limits, row_limits};
 ghost use Rattle.leaf_rows.specs.Rows.{index_at, is_structured, leaf_step, part_named, rows_accessed};
-ghost use Rattle.leaf_rows.specs.Rows.{rows_of, rows_under, values_at};
+ghost use Rattle.leaf_rows.specs.Rows.{rows_of, rows_under, type_at, values_at};
 ghost use Rattle.leaf_rows.specs.View.{AreKept, IsAnswerOf, end_of, next_part, numbers, part_by, part_rows};
 ghost use Rattle.leaf_rows.specs.View.{variable_part, variable_ranges};
 
@@ -94,6 +94,13 @@ impl<'a> Rows<'a> {
         ensures { result ≡ length (rows_of self.now) }
     {
         self.rows.len()
+    }
+
+    /// The type of the components of a row, if that is there.
+    pub fn type_id(&self, row: u32) -> Option<TypeId>
+        ensures { result ≡ type_at (rows_of self.now) row }
+    {
+        self.rows.get(row as usize)?.type_id
     }
 
     /// The values of the components of a row, if they are ordinal.

@@ -3,7 +3,7 @@ use Rattle.domain.specs.Interval.{joined}
 use Rattle.component_states.specs.Components.{with_joined, with_range}
 use Rattle.component_states.specs.States.{over_components}
 use Rattle.component_states.specs.View.{viewed}
-use Rattle.call_states.specs.Aliases.{same_values}
+use Rattle.call_states.specs.Aliases.{same_types}
 use Rattle.call_states.specs.View.{said_stored}
 use Rattle.call_states.proofs.Rows.{join-next}
 use Rattle.call_states.proofs.aliases.join_rows.Goals.{then-is_same+in_ok-touch_row, else-is_same}
@@ -16,7 +16,7 @@ loop-row-preserved c =
     let row = c.loop-row.row in
     let old = viewed tree c.loop-row.state in
     let more = over_components (λ known. with_joined row stored.range) old in
-    let same = c.is_same.ensures ∙ ap (same_values stored.values) c.values.ensures in
+    let same = c.is_same.ensures ∙ ap (same_types stored.type_id) c.type_id.ensures in
     join-next tree stored row c.end-row-end.result old (viewed tree c.if-is_same.state) _ c.loop-row-test.true
     (elim c.if-is_same.branch [
       | then-is_same+in_ok-touch_row w ↦

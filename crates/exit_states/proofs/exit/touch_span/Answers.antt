@@ -15,6 +15,6 @@ loop-row-preserved c =
     behind-next tree changes row c.end-row-end.result c.behind-range.result (viewed tree c.loop-row.state)
     (viewed tree c.touch_row.new.self) _ c.loop-row-test.true
     (c.behind-range.ensures
-    ∙ ap (λ values. behind values changes (Components row components.Entire) c.row_range.result) c.values.ensures
+    ∙ ap (λ type_id. behind type_id changes (Components row components.Entire) c.row_range.result) c.type_id.ensures
     ∙ ap (behind _ changes (Components row components.Entire)) c.row_range.ensures)
     c.in_ok-touch_row.ensures c.loop-row.invariant

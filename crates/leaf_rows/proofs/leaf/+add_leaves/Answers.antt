@@ -60,6 +60,7 @@ returns-in_default-form-2 n c =
     let all : map (ranges_on c.args.way) (part_leaves types c.args.part) ≡ c.scalar-in_default-form-2.result ∷ [] =
     ap (λ part. map (ranges_on c.args.way) (part_leaves types part)) c.in-Some.is
     ∙ scalar_ranges types c.args.way c.in-Some.id form is c.in_default-form-2.not-Array c.in_default-form-2.not-Record
-    ∙ ap (λ values. ranges_on c.args.way (scalar values) ∷ []) (sym c.range.ensures) ∙ ap (λ r. r ∷ []) (sym c.scalar-in_default-form-2.ensures) in
+    ∙ ap (λ values. ranges_on c.args.way (scalar (Some c.in-Some.id) values) ∷ []) (sym c.range.ensures)
+    ∙ ap (λ r. r ∷ []) (sym c.scalar-in_default-form-2.ensures) in
     subst (λ l. OnOk c.add_row-in_default-form-2.result (c.add_row-in_default-form-2.new.rows.items ≡ c.args.rows.now.items ++ l)) (sym all)
     c.add_row-in_default-form-2.ensures
