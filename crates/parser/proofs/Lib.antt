@@ -2,6 +2,7 @@ pub mod Blocks
 pub mod Definitions
 pub mod Denoters
 pub mod ExactPrograms
+pub mod Faults
 pub mod FormalParameters
 pub mod Order
 pub mod Programs

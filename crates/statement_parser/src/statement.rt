@@ -15,7 +15,7 @@ use place::Place;
 use std::alloc::Global;
 use syntax_tree::{Constant, Direction, Expr, Name, Stmt};
 use token_cursor::cursor::Cursor;
-use token_cursor::fault::ParseFault;
+use token_cursor::refusal::Refusal;
 use token_cursor::nesting::inside;
 use token_cursor::operator::Level;
 
@@ -27,7 +27,7 @@ pub fn compound<'a>(
     alloc: Global,
     cursor: &mut Cursor<'_, 'a>,
     levels: u32,
-) -> Result<(Vec<Stmt<'a>>, Place), ParseFault>
+) -> Result<(Vec<Stmt<'a>>, Place), Refusal>
     ensures given { MatchResult result
         (λ found. Read (BeginsCompound levels) cursor.old cursor.new (found.0.items, found.1))
         (Refused (levels + 1) cursor.old) }
@@ -45,7 +45,7 @@ fn statements<'a>(
     alloc: Global,
     cursor: &mut Cursor<'_, 'a>,
     levels: u32,
-) -> Result<Vec<Stmt<'a>>, ParseFault>
+) -> Result<Vec<Stmt<'a>>, Refusal>
     ensures given { MatchResult result
         (λ found. Read (BeginsStatements levels) cursor.old cursor.new found.items) (Refused levels cursor.old) }
     ensures exact { ReadsDeep levels BeginsStatements EndsStatements cursor.old cursor.new result }
@@ -66,7 +66,7 @@ fn statement<'a>(
     alloc: Global,
     cursor: &mut Cursor<'_, 'a>,
     levels: u32,
-) -> Result<Stmt<'a>, ParseFault>
+) -> Result<Stmt<'a>, Refusal>
     ensures given { MatchResult result (Read (BeginsStmt levels) cursor.old cursor.new) (Refused levels cursor.old) }
     ensures exact { ReadsDeep levels BeginsStmt EndsStmt cursor.old cursor.new result }
 {
@@ -93,7 +93,7 @@ fn simple<'a>(
     alloc: Global,
     cursor: &mut Cursor<'_, 'a>,
     levels: u32,
-) -> Result<Stmt<'a>, ParseFault>
+) -> Result<Stmt<'a>, Refusal>
     ensures given { MatchResult result (Read (BeginsStmt (levels + 1)) cursor.old cursor.new)
         (Refused (levels + 1) cursor.old) }
     ensures exact { next_kind cursor.old.rest.now ≡ Some Kind.Identifier →
@@ -112,7 +112,7 @@ fn simple<'a>(
         });
     }
     if !selectors.is_empty() {
-        return Err(cursor.no_program());
+        return Err(Refusal::NoProgram);
     }
     let actuals = actuals(alloc, cursor, levels)?;
     Ok(Stmt::Call { name, actuals })
@@ -125,7 +125,7 @@ fn conditional<'a>(
     alloc: Global,
     cursor: &mut Cursor<'_, 'a>,
     levels: u32,
-) -> Result<Stmt<'a>, ParseFault>
+) -> Result<Stmt<'a>, Refusal>
     ensures given { MatchResult result (Read (BeginsStmt (levels + 1)) cursor.old cursor.new)
         (Refused (levels + 1) cursor.old) }
     ensures exact { next_kind cursor.old.rest.now ≡ Some (Kind.Word Word.If) →
@@ -150,7 +150,7 @@ fn alternative<'a>(
     alloc: Global,
     cursor: &mut Cursor<'_, 'a>,
     levels: u32,
-) -> Result<Option<Box<Stmt<'a>>>, ParseFault>
+) -> Result<Option<Box<Stmt<'a>>>, Refusal>
     ensures given { MatchResult result (Read (BeginsAlternative levels) cursor.old cursor.new)
         (Refused levels cursor.old) }
     ensures exact { ReadsDeep levels BeginsAlternative EndsStmt cursor.old cursor.new result }
@@ -168,7 +168,7 @@ fn while_loop<'a>(
     alloc: Global,
     cursor: &mut Cursor<'_, 'a>,
     levels: u32,
-) -> Result<Stmt<'a>, ParseFault>
+) -> Result<Stmt<'a>, Refusal>
     ensures given { MatchResult result (Read (BeginsStmt (levels + 1)) cursor.old cursor.new)
         (Refused (levels + 1) cursor.old) }
     ensures exact { next_kind cursor.old.rest.now ≡ Some (Kind.Word Word.While) →
@@ -191,7 +191,7 @@ fn repeat_loop<'a>(
     alloc: Global,
     cursor: &mut Cursor<'_, 'a>,
     levels: u32,
-) -> Result<Stmt<'a>, ParseFault>
+) -> Result<Stmt<'a>, Refusal>
     ensures given { MatchResult result (Read (BeginsStmt (levels + 1)) cursor.old cursor.new)
         (Refused (levels + 1) cursor.old) }
     ensures exact { next_kind cursor.old.rest.now ≡ Some (Kind.Word Word.Repeat) →
@@ -215,7 +215,7 @@ fn for_loop<'a>(
     alloc: Global,
     cursor: &mut Cursor<'_, 'a>,
     levels: u32,
-) -> Result<Stmt<'a>, ParseFault>
+) -> Result<Stmt<'a>, Refusal>
     ensures given { MatchResult result (Read (BeginsStmt (levels + 1)) cursor.old cursor.new)
         (Refused (levels + 1) cursor.old) }
     ensures exact { next_kind cursor.old.rest.now ≡ Some (Kind.Word Word.For) →
@@ -237,7 +237,7 @@ fn for_loop<'a>(
 
 // control = "for" name ":="
 /// The place of a for statement, and its control variable.
-fn control<'a>(cursor: &mut Cursor<'_, 'a>) -> Result<(Place, Name<'a>), ParseFault>
+fn control<'a>(cursor: &mut Cursor<'_, 'a>) -> Result<(Place, Name<'a>), Refusal>
     ensures given { MatchResult result (Read BeginsControl cursor.old cursor.new) IsPlain }
     ensures exact { ReadsEach BeginsControl Anything cursor.old cursor.new result }
 {
@@ -253,7 +253,7 @@ fn initial<'a>(
     alloc: Global,
     cursor: &mut Cursor<'_, 'a>,
     levels: u32,
-) -> Result<(Expr<'a>, Direction), ParseFault>
+) -> Result<(Expr<'a>, Direction), Refusal>
     ensures given { MatchResult result (Read (BeginsInitial levels) cursor.old cursor.new)
         (Refused (levels + 1) cursor.old) }
     ensures exact { ReadsDeep levels BeginsInitial Anything cursor.old cursor.new result }
@@ -270,7 +270,7 @@ fn case_of<'a>(
     alloc: Global,
     cursor: &mut Cursor<'_, 'a>,
     levels: u32,
-) -> Result<Stmt<'a>, ParseFault>
+) -> Result<Stmt<'a>, Refusal>
     ensures given { MatchResult result (Read (BeginsStmt (levels + 1)) cursor.old cursor.new)
         (Refused (levels + 1) cursor.old) }
     ensures exact { next_kind cursor.old.rest.now ≡ Some (Kind.Word Word.Case) →
@@ -296,7 +296,7 @@ fn arms<'a>(
     alloc: Global,
     cursor: &mut Cursor<'_, 'a>,
     levels: u32,
-) -> Result<(Vec<Vec<Constant<'a>>>, Vec<Stmt<'a>>, bool), ParseFault>
+) -> Result<(Vec<Vec<Constant<'a>>>, Vec<Stmt<'a>>, bool), Refusal>
     ensures given { MatchResult result
         (λ found. ReadArms levels cursor.old cursor.new found.0.items found.1.items found.2)
         (Refused levels cursor.old) }
@@ -319,7 +319,7 @@ fn body<'a>(
     alloc: Global,
     cursor: &mut Cursor<'_, 'a>,
     levels: u32,
-) -> Result<Box<Stmt<'a>>, ParseFault>
+) -> Result<Box<Stmt<'a>>, Refusal>
     ensures given { MatchResult result
         (λ found. Read (BeginsStmt levels) cursor.old cursor.new found.value) (Refused levels cursor.old) }
     ensures exact { ReadsDeep levels BeginsStmt EndsStmt cursor.old cursor.new result }
@@ -334,7 +334,7 @@ fn guard<'a>(
     cursor: &mut Cursor<'_, 'a>,
     levels: u32,
     word: Word,
-) -> Result<Expr<'a>, ParseFault>
+) -> Result<Expr<'a>, Refusal>
     ensures given { MatchResult result (Read (BeginsGuard word levels) cursor.old cursor.new)
         (Refused (levels + 1) cursor.old) }
     ensures exact { EndsEach word → ReadsDeep levels (BeginsGuard word) Anything cursor.old cursor.new result }
