@@ -4,7 +4,6 @@ pub mod Denoters
 pub mod ExactPrograms
 pub mod Faults
 pub mod FormalParameters
-pub mod Order
 pub mod Programs
 pub mod Routines
 pub mod Structured
