@@ -16,9 +16,9 @@ use place::Place;
 use std::alloc::Global;
 use syntax_tree::{Actual, Expr, Link, Operator, Selector};
 use token_cursor::cursor::Cursor;
-use token_cursor::refusal::Refusal;
 use token_cursor::nesting::inside;
 use token_cursor::operator::Level;
+use token_cursor::refusal::Refusal;
 
 // expression = simple [relation simple]
 // simple = signed {("+" | "-" | "or") term}
@@ -116,11 +116,7 @@ fn operand<'a>(
 
 // signed = [sign] term
 #[cycle(expression)]
-fn signed<'a>(
-    alloc: Global,
-    cursor: &mut Cursor<'_, 'a>,
-    levels: u32,
-) -> Result<Expr<'a>, Refusal>
+fn signed<'a>(alloc: Global, cursor: &mut Cursor<'_, 'a>, levels: u32) -> Result<Expr<'a>, Refusal>
     ensures given { MatchResult result
         (Read (BeginsExpr signed_level levels) cursor.old cursor.new) (Refused (levels + 1) cursor.old) }
     ensures exact { ReadsDeep levels (BeginsExpr signed_level) (Ends signed_level)
@@ -138,11 +134,7 @@ fn signed<'a>(
 
 // factor = number | string | named | "not" factor | parenthesized
 #[cycle(expression)]
-fn factor<'a>(
-    alloc: Global,
-    cursor: &mut Cursor<'_, 'a>,
-    levels: u32,
-) -> Result<Expr<'a>, Refusal>
+fn factor<'a>(alloc: Global, cursor: &mut Cursor<'_, 'a>, levels: u32) -> Result<Expr<'a>, Refusal>
     ensures given { MatchResult result
         (Read (BeginsExpr factor_level levels) cursor.old cursor.new) (Refused (levels + 1) cursor.old) }
     ensures exact { ReadsDeep levels (BeginsExpr factor_level) (Ends factor_level)
@@ -168,11 +160,7 @@ fn factor<'a>(
 // named = name (selectors | actuals)
 /// A variable, a constant or the call of a function (6.5.1, 6.3, 6.7.3).
 #[cycle(expression)]
-fn named<'a>(
-    alloc: Global,
-    cursor: &mut Cursor<'_, 'a>,
-    levels: u32,
-) -> Result<Expr<'a>, Refusal>
+fn named<'a>(alloc: Global, cursor: &mut Cursor<'_, 'a>, levels: u32) -> Result<Expr<'a>, Refusal>
     ensures given { MatchResult result
         (Read (BeginsExpr factor_level levels) cursor.old cursor.new) (Refused (levels + 1) cursor.old) }
     ensures exact { next_kind cursor.old.rest.now ≡ Some Kind.Identifier →
@@ -246,11 +234,7 @@ fn selector<'a>(
 
 /// An index expression, which is a level of its own.
 #[cycle(expression)]
-fn index<'a>(
-    alloc: Global,
-    cursor: &mut Cursor<'_, 'a>,
-    levels: u32,
-) -> Result<Expr<'a>, Refusal>
+fn index<'a>(alloc: Global, cursor: &mut Cursor<'_, 'a>, levels: u32) -> Result<Expr<'a>, Refusal>
     ensures given { MatchResult result (Read (BeginsIndex levels) cursor.old cursor.new) (Refused levels cursor.old) }
     ensures exact { ReadsDeep levels BeginsIndex (Ends relation_level) cursor.old cursor.new result }
 {

@@ -17,8 +17,8 @@ use statement_parser::statement::compound;
 use std::alloc::Global;
 use syntax_tree::{Block, Routine};
 use token_cursor::cursor::Cursor;
-use token_cursor::refusal::Refusal;
 use token_cursor::nesting::inside;
+use token_cursor::refusal::Refusal;
 
 // block = constants types variables routines compound
 /// A block (6.2.1), below which `levels` levels are left.

@@ -18,8 +18,8 @@ use statement_parser::arm::behind_arm;
 use std::alloc::Global;
 use syntax_tree::{Name, TypeDenoter};
 use token_cursor::cursor::Cursor;
-use token_cursor::refusal::Refusal;
 use token_cursor::nesting::inside;
+use token_cursor::refusal::Refusal;
 
 // denoter = enumerated | structured | name_or_subrange
 /// A type denoter (6.4.1) in something below which `levels` levels are left.

@@ -32,9 +32,7 @@ pub(crate) fn enumerated<'a>(
 // name_or_subrange = name | constant ".." constant
 /// A name, or a subrange type (6.4.2.4), which is one level: a name is one alone, another constant
 /// only before `..`.
-pub(crate) fn name_or_subrange<'a>(
-    cursor: &mut Cursor<'_, 'a>,
-) -> Result<TypeDenoter<'a>, Refusal>
+pub(crate) fn name_or_subrange<'a>(cursor: &mut Cursor<'_, 'a>) -> Result<TypeDenoter<'a>, Refusal>
     ensures given { MatchResult result (Read (BeginsDenoter 1) cursor.old cursor.new) IsPlain }
     ensures exact { NoNext (Kind.Symbol Symbol.OpenParenthesis) cursor.old.rest.now → NoWord cursor.old.rest.now
         → (depth : ℕ) → ReadsEach (BeginsDenoter depth) EndsDenoter cursor.old cursor.new result }

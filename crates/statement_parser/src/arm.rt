@@ -29,10 +29,7 @@ pub(crate) fn row<'a>(
 }
 
 // constants = constant {"," constant}
-fn constants<'a>(
-    alloc: Global,
-    cursor: &mut Cursor<'_, 'a>,
-) -> Result<Vec<Constant<'a>>, Refusal>
+fn constants<'a>(alloc: Global, cursor: &mut Cursor<'_, 'a>) -> Result<Vec<Constant<'a>>, Refusal>
     ensures given { MatchResult result (λ found. Read BeginsConstants cursor.old cursor.new found.items) IsPlain }
     ensures exact { ReadsEach BeginsConstants (NoNext (Kind.Symbol Symbol.Comma)) cursor.old cursor.new result }
 {

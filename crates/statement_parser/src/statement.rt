@@ -15,9 +15,9 @@ use place::Place;
 use std::alloc::Global;
 use syntax_tree::{Constant, Direction, Expr, Name, Stmt};
 use token_cursor::cursor::Cursor;
-use token_cursor::refusal::Refusal;
 use token_cursor::nesting::inside;
 use token_cursor::operator::Level;
+use token_cursor::refusal::Refusal;
 
 // compound = "begin" statements "end"
 /// The statements of a compound statement (6.8.3.2), and its `end`. Below it `levels` levels are
@@ -89,11 +89,7 @@ fn statement<'a>(
 // simple = name selectors ":=" expression | name actuals
 /// An assignment (6.8.2.2) or the call of a procedure (6.8.2.3), below which `levels` levels are
 /// left.
-fn simple<'a>(
-    alloc: Global,
-    cursor: &mut Cursor<'_, 'a>,
-    levels: u32,
-) -> Result<Stmt<'a>, Refusal>
+fn simple<'a>(alloc: Global, cursor: &mut Cursor<'_, 'a>, levels: u32) -> Result<Stmt<'a>, Refusal>
     ensures given { MatchResult result (Read (BeginsStmt (levels + 1)) cursor.old cursor.new)
         (Refused (levels + 1) cursor.old) }
     ensures exact { next_kind cursor.old.rest.now ≡ Some Kind.Identifier →
@@ -266,11 +262,7 @@ fn initial<'a>(
 // case_of = "case" expression "of" arms
 /// A case statement (6.8.3.5), below which `levels` levels are left.
 #[cycle(statement)]
-fn case_of<'a>(
-    alloc: Global,
-    cursor: &mut Cursor<'_, 'a>,
-    levels: u32,
-) -> Result<Stmt<'a>, Refusal>
+fn case_of<'a>(alloc: Global, cursor: &mut Cursor<'_, 'a>, levels: u32) -> Result<Stmt<'a>, Refusal>
     ensures given { MatchResult result (Read (BeginsStmt (levels + 1)) cursor.old cursor.new)
         (Refused (levels + 1) cursor.old) }
     ensures exact { next_kind cursor.old.rest.now ≡ Some (Kind.Word Word.Case) →
