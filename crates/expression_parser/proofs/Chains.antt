@@ -2,7 +2,7 @@
 use Rattle.std.proofs.Common.{◌≡◌, ℕ, List, [], ◌∷◌, ◌++◌, Result, Ok, Err, MatchResult, subst, sym, ap, ◌∙◌, refl, arith}
 use Rattle.place.specs.declared.Place.{Place}
 use Rattle.lexer.specs.declared.token.Token.{Token}
-use Rattle.token_cursor.specs.declared.fault.ParseFault.{ParseFault}
+use Rattle.token_cursor.specs.declared.refusal.Refusal.{Refusal}
 use Rattle.token_cursor.specs.declared.cursor.Cursor.{Cursor}
 use Rattle.token_cursor.specs.declared.operator.Level.{Level}
 use Rattle.syntax_tree.specs.declared.Operator.{Operator}
@@ -50,7 +50,7 @@ links_more level levels a b c d rest grown o p operand read on given reads is = 
 }
 
 -- the fault of an operand is theirs
-pub operand_stops : (level : Level) (levels : ℕ) (a b c d : Cursor) (rest : List Link) (o : Operator) (p : Place) (fault : ParseFault)
+pub operand_stops : (level : Level) (levels : ℕ) (a b c d : Cursor) (rest : List Link) (o : Operator) (p : Place) (fault : Refusal)
     → LinksRead level levels a b rest → LinksGoOn level rest b c o p
     → ReadsDeep {A = Expr} {B = Expr} levels (BeginsExpr (operand_level (level_number level))) (Ends (operand_level (level_number level))) c d (Err fault)
     → (depth : ℕ) (links : List Link) (others : List Token) → BeginsLinks (level_number level) depth a.rest.now others links → Ends (level_number level) others
@@ -81,7 +81,7 @@ links_given level levels a b c rest read (related same z some) = record {
 }
 
 -- the fault of the first operand is the chain's
-first_stops : (level : Level) (levels : ℕ) (a b : Cursor) (fault : ParseFault)
+first_stops : (level : Level) (levels : ℕ) (a b : Cursor) (fault : Refusal)
     → ReadsDeep {A = Expr} {B = Expr} levels (BeginsExpr (first_level (level_number level))) (Ends (first_level (level_number level))) a b (Err fault)
     → (depth : ℕ) (e : Expr) (others : List Token) → BeginsExpr (level_number level) depth a.rest.now others e → Ends (level_number level) others
     → Stops levels depth fault
@@ -100,19 +100,19 @@ first_alone level levels a b first reads none depth e others h ends =
     (level_is level) reads h ends)
 
 -- the answer of the first operand is the chain's
-pub alone_given : (P : ParseFault → Type 0) (level levels : ℕ) (a b : Cursor) (found : Result Expr ParseFault)
+pub alone_given : (P : Refusal → Type 0) (level levels : ℕ) (a b : Cursor) (found : Result Expr Refusal)
     → MatchResult found (Read (BeginsExpr (first_level level) levels) a b) P → MatchResult found (Read (BeginsExpr level levels) a b) P
 alone_given P level levels a b (Ok first) h = gives-Alone level levels a b first h
 alone_given P level levels a b (Err fault) h = h
 
-pub alone_exact : (level : Level) (levels : ℕ) (a b : Cursor) (found : Result Expr ParseFault)
+pub alone_exact : (level : Level) (levels : ℕ) (a b : Cursor) (found : Result Expr Refusal)
     → ReadsDeep levels (BeginsExpr (first_level (level_number level))) (Ends (first_level (level_number level))) a b found
     → NoOperator (level_number level) b.rest.now → ReadsDeep levels (BeginsExpr (level_number level)) (Ends (level_number level)) a b found
 alone_exact level levels a b (Ok first) reads none = first_alone level levels a b first reads none
 alone_exact level levels a b (Err fault) reads none = first_stops level levels a b fault reads
 
 -- where an operator comes behind it more of the chain comes
-pub chain_from : (level : Level) (levels depth : ℕ) (a b : Cursor) (found : Result Expr ParseFault) (first e : Expr) (others : List Token) → found ≡ Ok first
+pub chain_from : (level : Level) (levels depth : ℕ) (a b : Cursor) (found : Result Expr Refusal) (first e : Expr) (others : List Token) → found ≡ Ok first
     → ReadsDeep levels (BeginsExpr (first_level (level_number level))) (Ends (first_level (level_number level))) a b found
     → BeginsExpr (level_number level) depth a.rest.now others e → Ends (level_number level) others → Chain (level_number level) depth b.rest.now others
 chain_from level levels depth a b found first e others is reads h ends =

@@ -3,7 +3,7 @@ use Rattle.std.proofs.Common.{◌≡◌, ℕ, ◌+◌, List, [], ◌∷◌, Resu
 use Rattle.lexer.specs.declared.token.Kind.TheVariants as kind
 use Rattle.lexer.specs.declared.token.Symbol.TheVariants as symbol
 use Rattle.lexer.specs.declared.token.Token.{Token}
-use Rattle.token_cursor.specs.declared.fault.ParseFault.{ParseFault}
+use Rattle.token_cursor.specs.declared.refusal.Refusal.{Refusal}
 use Rattle.token_cursor.specs.declared.cursor.Cursor.{Cursor}
 use Rattle.syntax_tree.specs.declared.Expr.{Expr}
 use Rattle.syntax_tree.specs.declared.Actual.{Actual}
@@ -21,7 +21,7 @@ use Rattle.grammar.proofs.Actuals.{IsWidth, IsValue, actual_parts, ends_expressi
 use Rattle.grammar.proofs.Actuals.{ActualNext}
 
 -- what the rule of expressions answers to the value
-pub value_answer : (levels inner depth : ℕ) (a b : Cursor) (others : List Token) (answer : Result Expr ParseFault) → inner + 1 ≡ levels → EndsActual others
+pub value_answer : (levels inner depth : ℕ) (a b : Cursor) (others : List Token) (answer : Result Expr Refusal) → inner + 1 ≡ levels → EndsActual others
     → (v : IsValue depth a.rest.now others) → ReadsDeep inner (BeginsExpr relation_level) (Ends relation_level) a b answer
     → ReadWithin levels depth v.middle b answer
 value_answer levels inner depth a b others answer less ends v reads =
@@ -38,7 +38,7 @@ width_left levels inner depth a b value x others less reads h ends =
     subst (λ t. IsWidth depth t others) (sym (value_answer levels inner depth a b others (Ok value) less ends v reads)) v.width
 
 -- what the rule of expressions answers to it
-pub width_answer : (levels inner depth : ℕ) (a b : Cursor) (others : List Token) (answer : Result Expr ParseFault) → inner + 1 ≡ levels → EndsActual others
+pub width_answer : (levels inner depth : ℕ) (a b : Cursor) (others : List Token) (answer : Result Expr Refusal) → inner + 1 ≡ levels → EndsActual others
     → IsWide depth a.rest.now others → ReadsDeep inner (BeginsExpr relation_level) (Ends relation_level) a b answer → ReadWithin levels depth others b answer
 width_answer levels inner depth a b others answer less ends w reads =
     let below = expr_levels w.width in
@@ -46,7 +46,7 @@ width_answer levels inner depth a b others answer less ends w reads =
     (reads below w.width others (record { spelled = w.spelled; formed = w.formed; nests = omega arith }) (ends_expression others ends))
 
 -- what the rule of actuals answers there
-pub actual_answer : (levels depth : ℕ) (a b : Cursor) (others : List Token) (answer : Result Actual ParseFault)
+pub actual_answer : (levels depth : ℕ) (a b : Cursor) (others : List Token) (answer : Result Actual Refusal)
     → (p : PartThenOthers Actual actual_list_parts depth a.rest.now others) → Closes others
     → ReadsDeep levels BeginsActual EndsActual a b answer → ReadWithin levels depth p.middle b answer
 actual_answer levels depth a b others answer p closes reads =

@@ -3,7 +3,7 @@
 use Rattle.std.proofs.Common.{◌≡◌, ℕ, List, [], ◌∷◌, Result, Ok, subst, sym, ◌∙◌, arith}
 use Rattle.place.specs.declared.Place.{Place}
 use Rattle.lexer.specs.declared.token.Token.{Token}
-use Rattle.token_cursor.specs.declared.fault.ParseFault.{ParseFault}
+use Rattle.token_cursor.specs.declared.refusal.Refusal.{Refusal}
 use Rattle.token_cursor.specs.declared.cursor.Cursor.{Cursor}
 use Rattle.token_cursor.specs.declared.operator.Level.{Level}
 use Rattle.token_cursor.specs.declared.operator.Level.TheVariants.{Relation, Sum, Product}
@@ -25,7 +25,7 @@ level_is Sum = sum
 level_is Product = product
 
 -- what the rule of first operands answers there
-pub first_answer : (level levels depth : ℕ) (a b : Cursor) (others : List Token) (answer : Result Expr ParseFault) → IsLevel level
+pub first_answer : (level levels depth : ℕ) (a b : Cursor) (others : List Token) (answer : Result Expr Refusal) → IsLevel level
     → (p : IsChained level depth a.rest.now others) → Ends level others
     → ReadsDeep levels (BeginsExpr (first_level level)) (Ends (first_level level)) a b answer → ReadWithin levels depth p.middle b answer
 first_answer level levels depth a b others answer is p ends reads =
@@ -33,7 +33,7 @@ first_answer level levels depth a b others answer is p ends reads =
     (omega arith) ends p.chain)
 
 -- and the rule of the others
-pub operand_answer : (level levels depth : ℕ) (a b : Cursor) (others : List Token) (answer : Result Expr ParseFault) → IsLevel level
+pub operand_answer : (level levels depth : ℕ) (a b : Cursor) (others : List Token) (answer : Result Expr Refusal) → IsLevel level
     → (g : GoesOn level depth a.rest.now others) → Ends level others
     → ReadsDeep levels (BeginsExpr (operand_level level)) (Ends (operand_level level)) a b answer → ReadWithin levels depth g.middle b answer
 operand_answer level levels depth a b others answer is g ends reads =

@@ -5,7 +5,7 @@ use Rattle.lexer.specs.declared.token.Kind.TheVariants as kind
 use Rattle.lexer.specs.declared.token.Symbol.TheVariants as symbol
 use Rattle.lexer.specs.declared.token.Word.TheVariants as word
 use Rattle.lexer.specs.declared.token.Token.{Token}
-use Rattle.token_cursor.specs.declared.fault.ParseFault.{ParseFault}
+use Rattle.token_cursor.specs.declared.refusal.Refusal.{Refusal}
 use Rattle.token_cursor.specs.declared.cursor.Cursor.{Cursor}
 use Rattle.syntax_tree.specs.declared.Expr.{Expr}
 use Rattle.grammar.specs.Spelling.{Reads, of_kind_at, character_string}
@@ -22,7 +22,7 @@ use Rattle.grammar.proofs.Expressions.{factor_parts, string_read, begins_parenth
 use Rattle.grammar.proofs.Expressions.{sign_missed}
 
 -- what the rule of parentheses answers there
-pub parenthesized_answer : (levels depth : ℕ) (a b c d : Cursor) (e : Expr) (others : List Token) (answer : Result Expr ParseFault) → b ≡ a → c ≡ b
+pub parenthesized_answer : (levels depth : ℕ) (a b c d : Cursor) (e : Expr) (others : List Token) (answer : Result Expr Refusal) → b ≡ a → c ≡ b
     → ((v : ℕ) → ¬ (next_kind a.rest.now ≡ Some (kind.Number v))) → NoNext kind.Text b.rest.now → NoNext kind.Identifier b.rest.now
     → NoNext (kind.Word word.Not) b.rest.now
     → BeginsExpr factor_level depth a.rest.now others e → Ends factor_level others
@@ -49,7 +49,7 @@ negated_behind levels p a b c others e same taken h =
     taken) (factor_parts levels a.rest.now others e h)
 
 -- what the rule of factors answers there
-pub negated_answer : (levels inner depth : ℕ) (b c : Cursor) (others : List Token) (answer : Result Expr ParseFault) → inner + 1 ≡ levels
+pub negated_answer : (levels inner depth : ℕ) (b c : Cursor) (others : List Token) (answer : Result Expr Refusal) → inner + 1 ≡ levels
     → IsNegated depth b.rest.now others → Ends factor_level others → ReadsDeep inner (BeginsExpr factor_level) (Ends factor_level) b c answer
     → ReadWithin levels depth others c answer
 negated_answer levels inner depth b c others answer less o ends reads =
@@ -58,7 +58,7 @@ negated_answer levels inner depth b c others answer less o ends reads =
     (reads below o.operand others (record { spelled = o.spelled; formed = o.formed; nests = omega arith }) ends)
 
 -- what the rule of expressions answers there
-pub inner_answer : (levels inner depth : ℕ) (b c : Cursor) (others : List Token) (answer : Result Expr ParseFault) → inner + 1 ≡ levels
+pub inner_answer : (levels inner depth : ℕ) (b c : Cursor) (others : List Token) (answer : Result Expr Refusal) → inner + 1 ≡ levels
     → (o : Opened depth b.rest.now others) → ReadsDeep inner (BeginsExpr relation_level) (Ends relation_level) b c answer
     → ReadWithin levels depth o.middle c answer
 inner_answer levels inner depth b c others answer less o reads =
@@ -73,7 +73,7 @@ sign_missed_at levels a b e others same none h = subst (λ (k : Cursor). IsBehin
     (sign_missed levels a.rest.now others none (signed_parts levels a.rest.now others e h))
 
 -- what the rule of terms answers there
-pub term_answer : (levels depth : ℕ) (a b : Cursor) (others : List Token) (answer : Result Expr ParseFault) → IsBehindSign depth a.rest.now others
+pub term_answer : (levels depth : ℕ) (a b : Cursor) (others : List Token) (answer : Result Expr Refusal) → IsBehindSign depth a.rest.now others
     → Ends signed_level others
     → ReadsDeep levels (BeginsExpr product_level) (Ends product_level) a b answer → ReadWithin levels depth others b answer
 term_answer levels depth a b others answer t ends reads = reads depth t.term others t.begun (ends_above signed_level product_level others (omega arith) ends)

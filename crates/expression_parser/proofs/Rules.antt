@@ -13,7 +13,7 @@ use Rattle.lexer.specs.declared.token.Kind.TheVariants as kind
 use Rattle.lexer.specs.declared.token.Symbol.TheVariants as symbol
 use Rattle.lexer.specs.declared.token.Word.TheVariants as word
 use Rattle.lexer.specs.declared.token.Token.{Token}
-use Rattle.token_cursor.specs.declared.fault.ParseFault.{ParseFault}
+use Rattle.token_cursor.specs.declared.refusal.Refusal.{Refusal}
 use Rattle.token_cursor.specs.declared.cursor.Cursor.{Cursor}
 use Rattle.syntax_tree.specs.declared.Name.{Name}
 use Rattle.syntax_tree.specs.declared.Selector.{Selector}
@@ -104,7 +104,7 @@ gives-Signed levels a b c s p box term taken given e = record {
 }
 
 -- and one without
-pub gives-Unsigned : (levels : ℕ) (a b c : Cursor) (answer : Result Expr ParseFault) → b ≡ a
+pub gives-Unsigned : (levels : ℕ) (a b c : Cursor) (answer : Result Expr Refusal) → b ≡ a
     → MatchResult answer (Read (BeginsExpr product_level levels) b c) (Refused (levels + 1) b)
     → MatchResult answer (Read (BeginsExpr signed_level levels) a c) (Refused (levels + 1) a)
 gives-Unsigned levels a b c (Ok e) same given = record {

@@ -6,7 +6,7 @@ use Rattle.place.specs.declared.Place.{Place}
 use Rattle.lexer.specs.declared.token.Kind.TheVariants as kind
 use Rattle.lexer.specs.declared.token.Symbol.TheVariants as symbol
 use Rattle.lexer.specs.declared.token.Token.{Token}
-use Rattle.token_cursor.specs.declared.fault.ParseFault.{ParseFault}
+use Rattle.token_cursor.specs.declared.refusal.Refusal.{Refusal}
 use Rattle.token_cursor.specs.declared.cursor.Cursor.{Cursor}
 use Rattle.token_cursor.specs.Cursor.{Took}
 use Rattle.syntax_tree.specs.declared.Name.{Name}
@@ -31,7 +31,7 @@ use Rattle.expression_parser.proofs.Deep.{front_of, front_opens, opened_both, re
 
 -- ---- where no selector may come
 
-pub if_fault : {A X : Type 0} (answer : Result A ParseFault) → X → IfErr answer (λ _. X)
+pub if_fault : {A X : Type 0} (answer : Result A Refusal) → X → IfErr answer (λ _. X)
 if_fault (Ok item) h = tt
 if_fault (Err fault) h = h
 
@@ -41,7 +41,7 @@ missed_name p a c d same taken missed levels found others h ends =
     name_missed levels p a.rest.now d.rest.now others found.0 found.1
     (subst (λ (k : Cursor). Reads k.rest.now (of_kind_at (kind.Symbol symbol.Period) p ∷ []) d.rest.now) same taken) missed ends h
 
-pub missed_unjoined : {A : Type 0} (b : Bool) (a : Cursor) (answer : Result A ParseFault) → b ≡ false → IfErr answer (λ _. NoSelectors false a)
+pub missed_unjoined : {A : Type 0} (b : Bool) (a : Cursor) (answer : Result A Refusal) → b ≡ false → IfErr answer (λ _. NoSelectors false a)
     → IfErr answer (λ _. NoSelectors b a)
 missed_unjoined false a answer e h = h
 missed_unjoined true a answer e h = cc
@@ -60,7 +60,7 @@ missed_from p a c d same taken missed levels found others h ends =
     (bracket_taken levels p a.rest.now d.rest.now others found.0 found.1
     (subst (λ (k : Cursor). Reads k.rest.now (of_kind_at (kind.Symbol symbol.CloseBracket) p ∷ []) d.rest.now) same taken) h) ends
 
-pub missed_behind : {A : Type 0} (b : Bool) (p : Place) (a c d : Cursor) (answer : Result A ParseFault) → b ≡ true → c ≡ a
+pub missed_behind : {A : Type 0} (b : Bool) (p : Place) (a c d : Cursor) (answer : Result A Refusal) → b ≡ true → c ≡ a
     → Took c d (of_kind_at (kind.Symbol symbol.CloseBracket) p ∷ []) → IfErr answer (λ _. NoSelectors false d) → IfErr answer (λ _. NoSelectors b a)
 missed_behind false p a c d answer e same taken h = cc
 missed_behind true p a c d (Ok found) e same taken h = tt
@@ -69,7 +69,7 @@ missed_behind true p a c d (Err fault) e same taken h = missed_from p a c d same
 -- ---- a selector
 
 -- a level is opened by a bracket, or was by one before it
-pub index_refused : (b j : Bool) (levels : ℕ) (p : Place) (a c : Cursor) (fault : ParseFault) → Read (BeginsSelector b) a c (Some (Index p j))
+pub index_refused : (b j : Bool) (levels : ℕ) (p : Place) (a c : Cursor) (fault : Refusal) → Read (BeginsSelector b) a c (Some (Index p j))
     → Refused levels c fault → Refused (least_opened b levels) a fault
 index_refused true j levels p a c fault s h = refused_behind levels a c (selector_spelling true (Index p j)) fault s.spelled h
 index_refused false true levels p a c fault s h = let no : false ≡ true = s.may in cc
@@ -77,14 +77,14 @@ index_refused false false levels p a c fault s h =
     refused_behind_opening levels (levels + 1) a c (kind.Symbol symbol.OpenBracket) p fault refl refl s.spelled h
 
 -- what the rule of indexes answers there
-pub index_answer : (levels depth : ℕ) (a b : Cursor) (others : List Token) (answer : Result Expr ParseFault) → (x : IndexThen depth a.rest.now others)
+pub index_answer : (levels depth : ℕ) (a b : Cursor) (others : List Token) (answer : Result Expr Refusal) → (x : IndexThen depth a.rest.now others)
     → ReadsDeep levels BeginsIndex (Ends relation_level) a b answer → ReadWithin levels depth x.middle b answer
 index_answer levels depth a b others answer x reads =
     reads depth x.index x.middle (record { spelled = x.spelled; formed = x.formed; nests = x.nests })
     (index_ends depth x.middle others x.left.selectors x.left.indexes x.left.begun)
 
 -- what the rule of expressions answers to an index
-pub index_reads : (levels inner depth : ℕ) (a b : Cursor) (e : Expr) (others : List Token) (answer : Result Expr ParseFault) → inner + 1 ≡ levels
+pub index_reads : (levels inner depth : ℕ) (a b : Cursor) (e : Expr) (others : List Token) (answer : Result Expr Refusal) → inner + 1 ≡ levels
     → BeginsIndex depth a.rest.now others e → Ends relation_level others → ReadsDeep inner (BeginsExpr relation_level) (Ends relation_level) a b answer
     → ReadWithin levels depth others b answer
 index_reads levels inner depth a b e others answer less h ends reads =
@@ -229,14 +229,14 @@ selectors_given levels b a c d selectors before after read one =
 
 -- what the rule of a selector answers there
 pub selectors_answer : (levels depth : ℕ) (b : Bool) (a c d : Cursor) (selectors : List Selector) (before : List Expr)
-    (answer : Result (Option Selector) ParseFault) (found : List Selector × List Expr) (others : List Token) → SelectorsRead levels b a c selectors before
+    (answer : Result (Option Selector) Refusal) (found : List Selector × List Expr) (others : List Token) → SelectorsRead levels b a c selectors before
     → ReadsSelector levels b c d answer → BeginsSelectors depth a.rest.now others found → NoSelector others
     → MatchResult answer (SelectorsGoOn depth d others) (Stops levels depth)
 selectors_answer levels depth b a c d selectors before answer found others read reads h ends =
     let x = read.left depth found others h ends in reads depth (x.selectors, x.indexes) others x.begun ends
 
 -- the fault of a selector is theirs
-pub selectors_refused : (levels : ℕ) (b : Bool) (a c : Cursor) (selectors : List Selector) (before : List Expr) (fault : ParseFault)
+pub selectors_refused : (levels : ℕ) (b : Bool) (a c : Cursor) (selectors : List Selector) (before : List Expr) (fault : Refusal)
     → SelectorsRead levels b a c selectors before → Refused (least_opened b levels) c fault → Refused (levels + 1) a fault
 selectors_refused levels true a c selectors before fault read h =
     let many = read.opens refl in refused_behind_levels levels (levels + 1) a c read.front fault read.are (omega arith) h

@@ -1,14 +1,14 @@
 -- The words and symbols that open a level of nesting, and what stands up to the place of a fault that tells of nesting.
 -- This doesn't say how deep a tree nests: see Nesting.
-use Rattle.std.specs.Prelude.{◌≡◌, ℕ, ◌+◌, ◌≤◌, List, [], ◌∷◌, ◌++◌}
+use Rattle.std.specs.Prelude.{◌≡◌, ℕ, ◌+◌, ◌≤◌, List, [], ◌∷◌, ◌++◌, Option, Some, None}
 use Rattle.place.specs.declared.Place.{Place}
 use Rattle.lexer.specs.declared.token.Kind.{Kind}
 use Rattle.lexer.specs.declared.token.Kind.TheVariants as kind
 use Rattle.lexer.specs.declared.token.Symbol.TheVariants as symbol
 use Rattle.lexer.specs.declared.token.Word.TheVariants as word
 use Rattle.lexer.specs.declared.token.Token.{Token}
-use Rattle.token_cursor.specs.declared.fault.ParseFault.{ParseFault}
-use Rattle.token_cursor.specs.declared.fault.ParseFault.TheVariants.{TooDeep}
+use Rattle.token_cursor.specs.declared.refusal.Refusal.{Refusal}
+use Rattle.token_cursor.specs.declared.refusal.Refusal.TheVariants.{TooDeep}
 
 -- how many levels a token of this kind opens: `procedure`, `function`, `begin`, `if`, `while`, `repeat`, `for`, `case`,
 -- `array`, `record`, `not`, the opening parenthesis and the opening bracket open one
@@ -33,16 +33,17 @@ abbrev pub opened : List Token → ℕ
 opened [] = 0
 opened (token ∷ others) = opens token.kind + opened others
 
--- the place of the last of some tokens, or of the first of those behind them; none is named where none stands behind
-pub data StandsBetween (place : Place) (before behind : List Token) : Type 0 where
+-- the place of the last of some tokens, or of the first of those behind them; the end, which has none, where none stands
+-- behind
+pub data StandsBetween (place : Option Place) (before behind : List Token) : Type 0 where
   last : (front : List Token) (token : Token)
-      → before ≡ front ++ token ∷ [] → token.place ≡ place → StandsBetween place before behind
+      → before ≡ front ++ token ∷ [] → Some token.place ≡ place → StandsBetween place before behind
   next : (token : Token) (others : List Token)
-      → behind ≡ token ∷ others → token.place ≡ place → StandsBetween place before behind
-  end : behind ≡ [] → StandsBetween place before behind
+      → behind ≡ token ∷ others → Some token.place ≡ place → StandsBetween place before behind
+  end : behind ≡ [] → place ≡ None → StandsBetween place before behind
 
--- the tokens up to this place open at least so many levels
-pub record OpensUpTo (least : ℕ) (place : Place) (tokens : List Token) : Type 0 where
+-- the tokens up to this place, or up to the end where there is none, open at least so many levels
+pub record OpensUpTo (least : ℕ) (place : Option Place) (tokens : List Token) : Type 0 where
   pub before : List Token
   pub behind : List Token
   pub are : tokens ≡ before ++ behind
@@ -50,5 +51,5 @@ pub record OpensUpTo (least : ℕ) (place : Place) (tokens : List Token) : Type 
   pub stands : StandsBetween place before behind
 
 -- nesting is told only where the tokens up to its place open at least so many levels
-abbrev pub IsDeep : ℕ → List Token → ParseFault → Type 0
-IsDeep least tokens fault = (place : Place) → fault ≡ TooDeep place → OpensUpTo least place tokens
+abbrev pub IsDeep : ℕ → List Token → Refusal → Type 0
+IsDeep least tokens refusal = (place : Option Place) → refusal ≡ TooDeep place → OpensUpTo least place tokens

@@ -10,7 +10,7 @@ use Rattle.grammar.specs.Spelling.{expr_spelling, joined, selector_spelling}
 use Rattle.grammar.specs.Following.{NoSelector}
 use Rattle.grammar.specs.Begins.{MaySelect, BeginsSelectorsIn, SelectorsThen}
 use Rattle.token_cursor.specs.declared.cursor.Cursor.{Cursor}
-use Rattle.token_cursor.specs.declared.fault.ParseFault.{ParseFault}
+use Rattle.token_cursor.specs.declared.refusal.Refusal.{Refusal}
 use Rattle.token_cursor.specs.Cursor.{Took}
 use Rattle.expression_parser.specs.Reading.{Stops}
 
@@ -54,7 +54,7 @@ SelectorsGoOn depth new others None = new.rest.now ≡ others
 SelectorsGoOn depth new others (Some selector) = SelectorsThen (is_index selector) depth new.rest.now others
 
 -- where selectors come, of whatever depth, their first is read, or their end, or the rule stops
-abbrev pub ReadsSelector : ℕ → Bool → Cursor → Cursor → Result (Option Selector) ParseFault → Type 0
+abbrev pub ReadsSelector : ℕ → Bool → Cursor → Cursor → Result (Option Selector) Refusal → Type 0
 ReadsSelector levels within old new answer =
     (depth : ℕ) (found : List Selector × List Expr) (others : List Token)
     → BeginsSelectorsIn within depth old.rest.now others found → NoSelector others

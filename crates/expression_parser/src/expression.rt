@@ -16,9 +16,9 @@ use place::Place;
 use std::alloc::Global;
 use syntax_tree::{Actual, Expr, Link, Operator, Selector};
 use token_cursor::cursor::Cursor;
-use token_cursor::fault::ParseFault;
 use token_cursor::nesting::inside;
 use token_cursor::operator::Level;
+use token_cursor::refusal::Refusal;
 
 // expression = simple [relation simple]
 // simple = signed {("+" | "-" | "or") term}
@@ -31,7 +31,7 @@ pub fn expression<'a>(
     cursor: &mut Cursor<'_, 'a>,
     levels: u32,
     level: Level,
-) -> Result<Expr<'a>, ParseFault>
+) -> Result<Expr<'a>, Refusal>
     ensures given { MatchResult result
         (Read (BeginsExpr (level_number level) levels) cursor.old cursor.new) (Refused (levels + 1) cursor.old) }
     ensures exact { ReadsDeep levels (BeginsExpr (level_number level)) (Ends (level_number level))
@@ -53,7 +53,7 @@ fn links<'a>(
     cursor: &mut Cursor<'_, 'a>,
     levels: u32,
     level: Level,
-) -> Result<Vec<Link<'a>>, ParseFault>
+) -> Result<Vec<Link<'a>>, Refusal>
     ensures given { MatchResult result
         (λ found. ReadLinks level levels cursor.old cursor.new found.items) (Refused (levels + 1) cursor.old) }
     ensures exact { ReadsDeep levels (BeginsLinks (level_number level)) (Ends (level_number level))
@@ -79,7 +79,7 @@ fn first_operand<'a>(
     cursor: &mut Cursor<'_, 'a>,
     levels: u32,
     level: Level,
-) -> Result<Expr<'a>, ParseFault>
+) -> Result<Expr<'a>, Refusal>
     ensures given { MatchResult result
         (Read (BeginsExpr (first_level (level_number level)) levels) cursor.old cursor.new)
         (Refused (levels + 1) cursor.old) }
@@ -100,7 +100,7 @@ fn operand<'a>(
     cursor: &mut Cursor<'_, 'a>,
     levels: u32,
     level: Level,
-) -> Result<Expr<'a>, ParseFault>
+) -> Result<Expr<'a>, Refusal>
     ensures given { MatchResult result
         (Read (BeginsExpr (operand_level (level_number level)) levels) cursor.old cursor.new)
         (Refused (levels + 1) cursor.old) }
@@ -116,11 +116,7 @@ fn operand<'a>(
 
 // signed = [sign] term
 #[cycle(expression)]
-fn signed<'a>(
-    alloc: Global,
-    cursor: &mut Cursor<'_, 'a>,
-    levels: u32,
-) -> Result<Expr<'a>, ParseFault>
+fn signed<'a>(alloc: Global, cursor: &mut Cursor<'_, 'a>, levels: u32) -> Result<Expr<'a>, Refusal>
     ensures given { MatchResult result
         (Read (BeginsExpr signed_level levels) cursor.old cursor.new) (Refused (levels + 1) cursor.old) }
     ensures exact { ReadsDeep levels (BeginsExpr signed_level) (Ends signed_level)
@@ -138,11 +134,7 @@ fn signed<'a>(
 
 // factor = number | string | named | "not" factor | parenthesized
 #[cycle(expression)]
-fn factor<'a>(
-    alloc: Global,
-    cursor: &mut Cursor<'_, 'a>,
-    levels: u32,
-) -> Result<Expr<'a>, ParseFault>
+fn factor<'a>(alloc: Global, cursor: &mut Cursor<'_, 'a>, levels: u32) -> Result<Expr<'a>, Refusal>
     ensures given { MatchResult result
         (Read (BeginsExpr factor_level levels) cursor.old cursor.new) (Refused (levels + 1) cursor.old) }
     ensures exact { ReadsDeep levels (BeginsExpr factor_level) (Ends factor_level)
@@ -168,11 +160,7 @@ fn factor<'a>(
 // named = name (selectors | actuals)
 /// A variable, a constant or the call of a function (6.5.1, 6.3, 6.7.3).
 #[cycle(expression)]
-fn named<'a>(
-    alloc: Global,
-    cursor: &mut Cursor<'_, 'a>,
-    levels: u32,
-) -> Result<Expr<'a>, ParseFault>
+fn named<'a>(alloc: Global, cursor: &mut Cursor<'_, 'a>, levels: u32) -> Result<Expr<'a>, Refusal>
     ensures given { MatchResult result
         (Read (BeginsExpr factor_level levels) cursor.old cursor.new) (Refused (levels + 1) cursor.old) }
     ensures exact { next_kind cursor.old.rest.now ≡ Some Kind.Identifier →
@@ -203,7 +191,7 @@ pub fn selectors<'a>(
     alloc: Global,
     cursor: &mut Cursor<'_, 'a>,
     levels: u32,
-) -> Result<(Vec<Selector<'a>>, Vec<Expr<'a>>), ParseFault>
+) -> Result<(Vec<Selector<'a>>, Vec<Expr<'a>>), Refusal>
     ensures given { MatchResult result
         (λ found. Read (BeginsSelectors levels) cursor.old cursor.new (found.0.items, found.1.items))
         (Refused (levels + 1) cursor.old) }
@@ -228,7 +216,7 @@ fn selector<'a>(
     levels: u32,
     within: bool,
     indexes: &mut Vec<Expr<'a>>,
-) -> Result<Option<Selector<'a>>, ParseFault>
+) -> Result<Option<Selector<'a>>, Refusal>
     ensures given { MatchResult result
         (ReadSelector levels within cursor.old cursor.new indexes.old.items indexes.new.items)
         (Refused (least_opened within levels) cursor.old) }
@@ -246,11 +234,7 @@ fn selector<'a>(
 
 /// An index expression, which is a level of its own.
 #[cycle(expression)]
-fn index<'a>(
-    alloc: Global,
-    cursor: &mut Cursor<'_, 'a>,
-    levels: u32,
-) -> Result<Expr<'a>, ParseFault>
+fn index<'a>(alloc: Global, cursor: &mut Cursor<'_, 'a>, levels: u32) -> Result<Expr<'a>, Refusal>
     ensures given { MatchResult result (Read (BeginsIndex levels) cursor.old cursor.new) (Refused levels cursor.old) }
     ensures exact { ReadsDeep levels BeginsIndex (Ends relation_level) cursor.old cursor.new result }
 {
@@ -264,7 +248,7 @@ fn parenthesized<'a>(
     alloc: Global,
     cursor: &mut Cursor<'_, 'a>,
     levels: u32,
-) -> Result<Expr<'a>, ParseFault>
+) -> Result<Expr<'a>, Refusal>
     ensures given { MatchResult result
         (Read (BeginsExpr factor_level levels) cursor.old cursor.new) (Refused (levels + 1) cursor.old) }
     ensures exact { next_kind cursor.old.rest.now ≡ Some (Kind.Symbol Symbol.OpenParenthesis) →
@@ -272,7 +256,7 @@ fn parenthesized<'a>(
         cursor.old cursor.new result }
 {
     let open = cursor.expect_symbol(Symbol::OpenParenthesis)?;
-    let levels = inside(levels, open)?;
+    let levels = inside(levels, Some(open))?;
     let inner = boxed(alloc, expression(alloc, cursor, levels, Level::Relation))?;
     cursor.expect_symbol(Symbol::CloseParenthesis)?;
     Ok(Expr::Parenthesized { open, inner })
@@ -285,7 +269,7 @@ pub fn actuals<'a>(
     alloc: Global,
     cursor: &mut Cursor<'_, 'a>,
     levels: u32,
-) -> Result<Vec<Actual<'a>>, ParseFault>
+) -> Result<Vec<Actual<'a>>, Refusal>
     ensures given { MatchResult result
         (λ found. Read (BeginsActuals levels) cursor.old cursor.new found.items) (Refused (levels + 1) cursor.old) }
     ensures exact { ReadsDeep levels BeginsActuals (NoNext (Kind.Symbol Symbol.OpenParenthesis))
@@ -305,7 +289,7 @@ fn actual_list<'a>(
     alloc: Global,
     cursor: &mut Cursor<'_, 'a>,
     levels: u32,
-) -> Result<Vec<Actual<'a>>, ParseFault>
+) -> Result<Vec<Actual<'a>>, Refusal>
     ensures given { MatchResult result
         (λ found. Read (BeginsActualList levels) cursor.old cursor.new found.items) (Refused levels cursor.old) }
     ensures exact { ReadsDeep levels BeginsActualList Closes cursor.old cursor.new result }
@@ -326,7 +310,7 @@ fn actual<'a>(
     alloc: Global,
     cursor: &mut Cursor<'_, 'a>,
     levels: u32,
-) -> Result<Actual<'a>, ParseFault>
+) -> Result<Actual<'a>, Refusal>
     ensures given { MatchResult result (Read (BeginsActual levels) cursor.old cursor.new) (Refused levels cursor.old) }
     ensures exact { ReadsDeep levels BeginsActual EndsActual cursor.old cursor.new result }
 {

@@ -7,14 +7,14 @@ ghost use Rattle.expression_parser.specs.Selecting.{NoSelectors};
 use lexer::token::Symbol;
 use syntax_tree::Selector;
 use token_cursor::cursor::Cursor;
-use token_cursor::fault::ParseFault;
+use token_cursor::refusal::Refusal;
 
 /// The selector that comes next, if one does, up to its index expression (6.5.3); where the brackets of an index are
 /// open, what ends them or goes on in them.
 pub fn next_selector<'a>(
     cursor: &mut Cursor<'_, 'a>,
     within: bool,
-) -> Result<Option<Selector<'a>>, ParseFault>
+) -> Result<Option<Selector<'a>>, Refusal>
     ensures given { MatchResult result (Read (BeginsSelector within) cursor.old cursor.new) IsPlain }
     ensures missed { IfErr result (λ _. NoSelectors within cursor.old) }
 {
@@ -33,7 +33,7 @@ pub fn next_selector<'a>(
 
 // unjoined = ["[" | "." name]
 /// The selector that comes next where no brackets are open.
-fn unjoined<'a>(cursor: &mut Cursor<'_, 'a>) -> Result<Option<Selector<'a>>, ParseFault>
+fn unjoined<'a>(cursor: &mut Cursor<'_, 'a>) -> Result<Option<Selector<'a>>, Refusal>
     ensures given { MatchResult result (Read (BeginsSelector false) cursor.old cursor.new) IsPlain }
     ensures missed { IfErr result (λ _. NoSelectors false cursor.old) }
 {

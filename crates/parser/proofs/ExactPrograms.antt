@@ -12,8 +12,8 @@ use Rattle.syntax_tree.specs.declared.TypeDefinition.{TypeDefinition}
 use Rattle.syntax_tree.specs.declared.VariableGroup.{VariableGroup}
 use Rattle.syntax_tree.specs.declared.Block.{Block}
 use Rattle.syntax_tree.specs.declared.Program.{Program}
-use Rattle.token_cursor.specs.declared.fault.ParseFault.{ParseFault}
-use Rattle.token_cursor.specs.declared.fault.ParseFault.TheVariants.{Memory, NoProgram, TooDeep, LeftOut}
+use Rattle.token_cursor.specs.declared.refusal.Refusal.{Refusal}
+use Rattle.token_cursor.specs.declared.refusal.Refusal.TheVariants.{Memory, NoProgram, TooDeep}
 use Rattle.grammar.specs.Spelling.{Reads, mark, denoter_spelling}
 use Rattle.grammar.specs.Nesting.{nesting}
 use Rattle.grammar.specs.Begins.{BeginsNames, BeginsParameters, BeginsGroup, BeginsConstantPart, BeginsTypePart, BeginsVariables, BeginsCompound}
@@ -77,10 +77,9 @@ program_behind_block levels depth a b others block reads h =
     let same : b.rest.now ≡ h.middle = reads depth h.block h.middle h.begun tt in subst (λ x. Reads x (mark symbol.Period ∷ []) others) (sym same) h.period
 
 -- a fault where each spelling of a program would be read, if it isn't too deep
-pub refused : (tokens : List Token) (fault : ParseFault) → ((depth : ℕ) (tree : Program) → BeginsProgram depth tokens [] tree → Stops most depth fault)
+pub refused : (tokens : List Token) (fault : Refusal) → ((depth : ℕ) (tree : Program) → BeginsProgram depth tokens [] tree → Stops most depth fault)
     → IsRefused tokens fault
 refused tokens Memory f = tt
-refused tokens (NoProgram place) f = λ tree formed spelled. f (nesting tree) tree (record { spelled = spelled; formed = formed; nests = omega arith })
+refused tokens NoProgram f = λ tree formed spelled. f (nesting tree) tree (record { spelled = spelled; formed = formed; nests = omega arith })
 refused tokens (TooDeep place) f = λ tree h. let deep = f most tree (record { spelled = h.spelled; formed = h.well_formed; nests = h.nests }) in absurd
     (omega arith)
-refused tokens (LeftOut place) f = λ tree formed spelled. f (nesting tree) tree (record { spelled = spelled; formed = formed; nests = omega arith })

@@ -2,8 +2,8 @@ pub mod Blocks
 pub mod Definitions
 pub mod Denoters
 pub mod ExactPrograms
+pub mod Faults
 pub mod FormalParameters
-pub mod Order
 pub mod Programs
 pub mod Routines
 pub mod Structured

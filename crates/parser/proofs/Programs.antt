@@ -10,7 +10,7 @@ use Rattle.lexer.specs.declared.token.Kind.TheVariants as kind
 use Rattle.lexer.specs.declared.token.Symbol.TheVariants as symbol
 use Rattle.lexer.specs.declared.token.Word.TheVariants as word
 use Rattle.token_cursor.specs.declared.cursor.Cursor.{Cursor}
-use Rattle.token_cursor.specs.declared.fault.ParseFault.{ParseFault}
+use Rattle.token_cursor.specs.declared.refusal.Refusal.{Refusal}
 use Rattle.syntax_tree.specs.declared.ConstantDefinition.{ConstantDefinition}
 use Rattle.syntax_tree.specs.declared.Name.{Name}
 use Rattle.syntax_tree.specs.declared.Stmt.{Stmt}
@@ -110,7 +110,7 @@ variable_part_read levels a b c p (g ∷ gs) taken given = record {
   nests = given.nests;
 }
 
-pub variables_answer : (levels : ℕ) (a b c : Cursor) (p : Place) (answer : Result (Vec VariableGroup Global) ParseFault)
+pub variables_answer : (levels : ℕ) (a b c : Cursor) (p : Place) (answer : Result (Vec VariableGroup Global) Refusal)
     → Took a b (of_kind_at (kind.Word word.Var) p ∷ [])
     → MatchResult answer (λ found. Read (BeginsGroups levels) b c found.items) (Refused levels b)
     → MatchResult answer (λ found. Read (BeginsVariables levels) a c found.items) (Refused levels a)

@@ -13,7 +13,7 @@ use Rattle.syntax_tree.specs.declared.Block.{Block}
 use Rattle.syntax_tree.specs.declared.Block.TheViews.{roll-Routine}
 use Rattle.syntax_tree.specs.declared.Routine.{Routine}
 use Rattle.token_cursor.specs.declared.cursor.Cursor.{Cursor}
-use Rattle.token_cursor.specs.declared.fault.ParseFault.{ParseFault}
+use Rattle.token_cursor.specs.declared.refusal.Refusal.{Refusal}
 use Rattle.token_cursor.specs.Cursor.{Took}
 use Rattle.grammar.specs.Spelling.{Reads, of_kind_at, mark, forward, joined, heading_spelling, body_spelling, block_spelling, routine_spelling}
 use Rattle.grammar.specs.WellFormed.{is_heading, takes_directive, is_body, is_block, is_routine}
@@ -59,7 +59,7 @@ heading_opens (Function name formals result) = omega arith
 heading_opens (Resumed name) = omega arith
 
 -- behind a heading one level more is opened
-pub refused_behind_heading : (levels : ℕ) (a b : Cursor) (h : Heading) (fault : ParseFault) → Read BeginsHeading a b h → Refused (levels - 1) b fault
+pub refused_behind_heading : (levels : ℕ) (a b : Cursor) (h : Heading) (fault : Refusal) → Read BeginsHeading a b h → Refused (levels - 1) b fault
     → Refused levels a fault
 refused_behind_heading levels a b h fault headed refused =
     let f = front_of (heading_spelling h) a.rest.now b.rest.now headed.spelled in

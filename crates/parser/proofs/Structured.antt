@@ -16,7 +16,7 @@ use Rattle.syntax_tree.specs.declared.TypeDenoter.{TypeDenoter}
 use Rattle.syntax_tree.specs.declared.TypeDenoter.TheVariants as denoter
 use Rattle.syntax_tree.specs.Places.{fields_of}
 use Rattle.token_cursor.specs.declared.cursor.Cursor.{Cursor}
-use Rattle.token_cursor.specs.declared.fault.ParseFault.{ParseFault}
+use Rattle.token_cursor.specs.declared.refusal.Refusal.{Refusal}
 use Rattle.token_cursor.specs.Cursor.{Took}
 use Rattle.grammar.specs.Spelling.{Spelling, of_kind_at, mark, word_symbol, identifier, identifiers, separated, case_end, denoter_spelling, packed_spelling}
 use Rattle.grammar.specs.Spelling.{array_spelling, field_spelling, record_spelling}
@@ -41,7 +41,7 @@ use Rattle.parser.specs.Fields.{ReadFields, ReadRecord}
 
 -- ---- a denoter of one level where more are left
 
-pub each_within : (levels depth : ℕ) (others : List Token) (new : Cursor) (answer : Result TypeDenoter ParseFault) → ReadTo others new answer
+pub each_within : (levels depth : ℕ) (others : List Token) (new : Cursor) (answer : Result TypeDenoter Refusal) → ReadTo others new answer
     → ReadWithin levels depth others new answer
 each_within levels depth others new (Ok d) h = h
 each_within levels depth others new (Err fault) h = stops_memory levels depth fault h
@@ -73,7 +73,7 @@ indexes_grow levels a b c indexes p list comma e d given = record {
 }
 
 -- what the rule of denoters answers there
-pub index_answer : (levels depth : ℕ) (a b : Cursor) (others : List Token) (answer : Result TypeDenoter ParseFault)
+pub index_answer : (levels depth : ℕ) (a b : Cursor) (others : List Token) (answer : Result TypeDenoter Refusal)
     → (p : PartThenOthers TypeDenoter index_list_parts depth a.rest.now others) → EndsIndexes others
     → ReadsDeep levels BeginsDenoter EndsDenoter a b answer → ReadWithin levels depth p.middle b answer
 index_answer levels depth a b others answer p ends reads =

@@ -11,7 +11,7 @@ use Rattle.syntax_tree.specs.declared.Name.{Name}
 use Rattle.syntax_tree.specs.declared.TypeDefinition.{TypeDefinition}
 use Rattle.syntax_tree.specs.declared.TypeDenoter.{TypeDenoter}
 use Rattle.token_cursor.specs.declared.cursor.Cursor.{Cursor}
-use Rattle.token_cursor.specs.declared.fault.ParseFault.{ParseFault}
+use Rattle.token_cursor.specs.declared.refusal.Refusal.{Refusal}
 use Rattle.token_cursor.specs.Cursor.{Took}
 use Rattle.grammar.specs.Spelling.{Reads, of_kind_at, mark, word_symbol, identifier, joined, denoter_spelling, type_definition_spelling}
 use Rattle.grammar.specs.WellFormed.{is_type_definition}
@@ -94,7 +94,7 @@ type_part_read levels a b c p (d ∷ ds) taken given = record {
   nests = given.nests;
 }
 
-pub types_answer : (levels : ℕ) (a b c : Cursor) (p : Place) (answer : Result (Vec TypeDefinition Global) ParseFault)
+pub types_answer : (levels : ℕ) (a b c : Cursor) (p : Place) (answer : Result (Vec TypeDefinition Global) Refusal)
     → Took a b (of_kind_at (kind.Word word.Type) p ∷ [])
     → MatchResult answer (λ found. Read (BeginsTypeDefinitions levels) b c found.items) (Refused levels b)
     → MatchResult answer (λ found. Read (BeginsTypePart levels) a c found.items) (Refused levels a)

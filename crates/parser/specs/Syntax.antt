@@ -1,15 +1,20 @@
 -- Which tree a list of tokens has, and why it has none (ISO 7185:1990, 6.2 to 6.10).
 -- This doesn't say at which token a list goes wrong, nor whether P1 or P2 is told of a list that has no tree however
 -- deep.
-use Rattle.std.specs.Prelude.{◌≡◌, ℕ, ◌≤◌, List, IsTrue, Some, None, Result, MatchResult}
+use Rattle.std.specs.Prelude.{◌≡◌, ℕ, ◌≤◌, List, IsTrue, Option, Some, None, Result, MatchResult}
+use Rattle.place.specs.declared.Place.{Place}
 use Rattle.lexer.specs.declared.token.Token.{Token}
 use Rattle.token_cursor.specs.declared.fault.ParseFault.{ParseFault}
 use Rattle.token_cursor.specs.declared.fault.ParseFault.TheVariants.{Memory, NoProgram, TooDeep, LeftOut}
+use Rattle.token_cursor.specs.declared.refusal.Refusal.{Refusal}
+use Rattle.token_cursor.specs.declared.refusal.Refusal.TheVariants as refusal
 use Rattle.syntax_tree.specs.declared.Program.{Program}
 use Rattle.grammar.specs.Spelling.{Spells, program_spelling}
 use Rattle.grammar.specs.WellFormed.{is_program}
 use Rattle.grammar.specs.Nesting.{nesting}
 use Rattle.token_cursor.specs.LeftOut.{first_left_out}
+use Rattle.token_cursor.specs.Refusal.{place_at, place_or_end}
+use Rattle.expression_parser.specs.Deep.{OpensUpTo}
 
 -- how deep a program may nest
 abbrev pub most : ℕ
@@ -30,18 +35,35 @@ abbrev pub HasNoTreeAtAll : List Token → Type 0
 HasNoTreeAtAll tokens = (tree : Program) → IsTrue (is_program tree) → ¬ Spells tokens (program_spelling tree)
 
 -- memory ran out, or there is no tree, or each is too deep
-abbrev pub IsRefused : List Token → ParseFault → Type 0
-IsRefused tokens Memory = Unit {0}
-IsRefused tokens (TooDeep place) = HasNoTree tokens
-IsRefused tokens _ = HasNoTreeAtAll tokens
+abbrev pub IsRefused : List Token → Refusal → Type 0
+IsRefused tokens refusal.Memory = Unit {0}
+IsRefused tokens refusal.NoProgram = HasNoTreeAtAll tokens
+IsRefused tokens (refusal.TooDeep place) = HasNoTree tokens
+
+-- one of the tokens stands at the place, or the last ends just before it
+abbrev pub StandsAt : List Token → Place → Type 0
+StandsAt tokens place = (number : ℕ) × (place ≡ place_at tokens number)
 
 -- The fault is one of these tokens: a form left out before all others, at its first token. Nesting is told only where
--- it keeps the tokens from having a tree that is allowed, and P1 never for nesting alone.
+-- it keeps the tokens from having a tree that is allowed, and P1 never for nesting alone, and at a token or the end.
 abbrev pub IsFaultOf : ParseFault → List Token → Type 0
 IsFaultOf Memory tokens = Unit {0}
 IsFaultOf (LeftOut place) tokens = first_left_out tokens ≡ Some place
-IsFaultOf (NoProgram place) tokens = (first_left_out tokens ≡ None) × HasNoTreeAtAll tokens
+IsFaultOf (NoProgram place) tokens = (first_left_out tokens ≡ None) × HasNoTreeAtAll tokens × StandsAt tokens place
 IsFaultOf (TooDeep place) tokens = (first_left_out tokens ≡ None) × HasNoTree tokens
+
+-- a fault that a rule of the grammar tells: a form left out is told before any rule is tried
+abbrev pub IsOfRules : ParseFault → Type 0
+IsOfRules (LeftOut place) = ⊥
+IsOfRules _ = Unit {0}
+
+-- the tokens up to this place open at least so many levels, and where it is that of no token all of them, up to the end
+abbrev pub OpensTo : ℕ → Place → List Token → Type 0
+OpensTo least place tokens = (at : Option Place) × (place ≡ place_or_end tokens at) × OpensUpTo least at tokens
+
+-- nesting is told only where the tokens up to its place open at least so many levels
+abbrev pub IsDeep : ℕ → List Token → ParseFault → Type 0
+IsDeep least tokens fault = (place : Place) → fault ≡ TooDeep place → OpensTo least place tokens
 
 -- an exact answer: a tree of the tokens, or a fault of theirs
 abbrev pub Answers : Result Program ParseFault → List Token → Type 0

@@ -17,8 +17,8 @@ use statement_parser::statement::compound;
 use std::alloc::Global;
 use syntax_tree::{Block, Routine};
 use token_cursor::cursor::Cursor;
-use token_cursor::fault::ParseFault;
 use token_cursor::nesting::inside;
+use token_cursor::refusal::Refusal;
 
 // block = constants types variables routines compound
 /// A block (6.2.1), below which `levels` levels are left.
@@ -27,7 +27,7 @@ pub(crate) fn block<'a>(
     alloc: Global,
     cursor: &mut Cursor<'_, 'a>,
     levels: u32,
-) -> Result<Block<'a>, ParseFault>
+) -> Result<Block<'a>, Refusal>
     ensures given { MatchResult result (Read (BeginsBlock levels) cursor.old cursor.new) (Refused levels cursor.old) }
     ensures exact { ReadsDeep levels BeginsBlock Anything cursor.old cursor.new result }
 {
@@ -54,7 +54,7 @@ fn routines<'a>(
     alloc: Global,
     cursor: &mut Cursor<'_, 'a>,
     levels: u32,
-) -> Result<Vec<Routine<'a>>, ParseFault>
+) -> Result<Vec<Routine<'a>>, Refusal>
     ensures given { MatchResult result (λ found. Read (BeginsRoutines levels) cursor.old cursor.new found.items)
         (Refused levels cursor.old) }
     ensures exact { ReadsDeep levels BeginsRoutines BeginsStatementPart cursor.old cursor.new result }
@@ -83,7 +83,7 @@ fn routine<'a>(
     alloc: Global,
     cursor: &mut Cursor<'_, 'a>,
     levels: u32,
-) -> Result<Routine<'a>, ParseFault>
+) -> Result<Routine<'a>, Refusal>
     ensures given { MatchResult result (Read (BeginsRoutine levels) cursor.old cursor.new)
         (Refused levels cursor.old) }
     ensures exact { ReadsDeep levels BeginsRoutine Anything cursor.old cursor.new result }
@@ -103,7 +103,7 @@ fn body<'a>(
     cursor: &mut Cursor<'_, 'a>,
     levels: u32,
     directive: bool,
-) -> Result<Option<Block<'a>>, ParseFault>
+) -> Result<Option<Block<'a>>, Refusal>
     ensures given { MatchResult result (Read (BeginsBody directive levels) cursor.old cursor.new)
         (Refused (levels - 1) cursor.old) }
     ensures exact { ReadsDeep levels (BeginsBody directive) Anything cursor.old cursor.new result }

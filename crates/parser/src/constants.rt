@@ -11,14 +11,14 @@ use statement_parser::constant::constant;
 use std::alloc::Global;
 use syntax_tree::ConstantDefinition;
 use token_cursor::cursor::Cursor;
-use token_cursor::fault::ParseFault;
+use token_cursor::refusal::Refusal;
 
 // constants = ["const" definitions]
 /// The constant definition part of a block (6.2.1), which may be left out.
 pub(crate) fn constants<'a>(
     alloc: Global,
     cursor: &mut Cursor<'_, 'a>,
-) -> Result<Vec<ConstantDefinition<'a>>, ParseFault>
+) -> Result<Vec<ConstantDefinition<'a>>, Refusal>
     ensures given { MatchResult result (λ found. Read BeginsConstantPart cursor.old cursor.new found.items) IsPlain }
     ensures exact { ReadsEach BeginsConstantPart EndsConstants cursor.old cursor.new result }
 {
@@ -32,7 +32,7 @@ pub(crate) fn constants<'a>(
 fn definitions<'a>(
     alloc: Global,
     cursor: &mut Cursor<'_, 'a>,
-) -> Result<Vec<ConstantDefinition<'a>>, ParseFault>
+) -> Result<Vec<ConstantDefinition<'a>>, Refusal>
     ensures given { MatchResult result (λ found. Read BeginsDefinitions cursor.old cursor.new found.items) IsPlain }
     ensures exact { ReadsEach BeginsDefinitions (NoNext Kind.Identifier) cursor.old cursor.new result }
 {
@@ -47,7 +47,7 @@ fn definitions<'a>(
 
 // definition = name "=" constant ";"
 /// The definition of a constant (6.3).
-fn definition<'a>(cursor: &mut Cursor<'_, 'a>) -> Result<ConstantDefinition<'a>, ParseFault>
+fn definition<'a>(cursor: &mut Cursor<'_, 'a>) -> Result<ConstantDefinition<'a>, Refusal>
     ensures given { MatchResult result (Read BeginsDefinition cursor.old cursor.new) IsPlain }
     ensures exact { ReadsEach BeginsDefinition Anything cursor.old cursor.new result }
 {

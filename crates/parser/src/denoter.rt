@@ -18,8 +18,8 @@ use statement_parser::arm::behind_arm;
 use std::alloc::Global;
 use syntax_tree::{Name, TypeDenoter};
 use token_cursor::cursor::Cursor;
-use token_cursor::fault::ParseFault;
 use token_cursor::nesting::inside;
+use token_cursor::refusal::Refusal;
 
 // denoter = enumerated | structured | name_or_subrange
 /// A type denoter (6.4.1) in something below which `levels` levels are left.
@@ -28,7 +28,7 @@ pub(crate) fn denoter<'a>(
     alloc: Global,
     cursor: &mut Cursor<'_, 'a>,
     levels: u32,
-) -> Result<TypeDenoter<'a>, ParseFault>
+) -> Result<TypeDenoter<'a>, Refusal>
     ensures given { MatchResult result (Read (BeginsDenoter levels) cursor.old cursor.new)
         (Refused levels cursor.old) }
     ensures exact { ReadsDeep levels BeginsDenoter EndsDenoter cursor.old cursor.new result }
@@ -49,7 +49,7 @@ fn structured<'a>(
     alloc: Global,
     cursor: &mut Cursor<'_, 'a>,
     levels: u32,
-) -> Result<TypeDenoter<'a>, ParseFault>
+) -> Result<TypeDenoter<'a>, Refusal>
     ensures given { MatchResult result (Read (BeginsDenoter (levels + 1)) cursor.old cursor.new)
         (Refused (levels + 1) cursor.old) }
     ensures exact { (word : Word) → Next (Kind.Word word) cursor.old.rest.now
@@ -95,7 +95,7 @@ fn array<'a>(
     alloc: Global,
     cursor: &mut Cursor<'_, 'a>,
     levels: u32,
-) -> Result<(Place, Vec<TypeDenoter<'a>>, Box<TypeDenoter<'a>>), ParseFault>
+) -> Result<(Place, Vec<TypeDenoter<'a>>, Box<TypeDenoter<'a>>), Refusal>
     ensures given { MatchResult result
         (λ found. Read (BeginsArray levels) cursor.old cursor.new (found.0, found.1.items, found.2.value))
         (Refused (levels + 1) cursor.old) }
@@ -110,7 +110,7 @@ fn array<'a>(
 
 // opening = "array" "["
 /// The place of an array type.
-fn opening(cursor: &mut Cursor<'_, '_>) -> Result<Place, ParseFault>
+fn opening(cursor: &mut Cursor<'_, '_>) -> Result<Place, Refusal>
     ensures given { MatchResult result (Read BeginsOpening cursor.old cursor.new) IsPlain }
     ensures exact { ReadsEach BeginsOpening Anything cursor.old cursor.new result }
 {
@@ -125,7 +125,7 @@ fn indexes<'a>(
     alloc: Global,
     cursor: &mut Cursor<'_, 'a>,
     levels: u32,
-) -> Result<Vec<TypeDenoter<'a>>, ParseFault>
+) -> Result<Vec<TypeDenoter<'a>>, Refusal>
     ensures given { MatchResult result
         (λ found. Read (BeginsIndexes levels) cursor.old cursor.new found.items) (Refused levels cursor.old) }
     ensures exact { ReadsDeep levels BeginsIndexes EndsIndexes cursor.old cursor.new result }
@@ -141,7 +141,7 @@ fn indexes<'a>(
 }
 
 // closing = "]" "of"
-fn closing(cursor: &mut Cursor<'_, '_>) -> Result<(), ParseFault>
+fn closing(cursor: &mut Cursor<'_, '_>) -> Result<(), Refusal>
     ensures given { MatchResult result (λ _. BeginsClosing cursor.old.rest.now cursor.new.rest.now) IsPlain }
     ensures exact { (others : List Token) → BeginsClosing cursor.old.rest.now others
         → ReadTo others cursor.new result }
@@ -159,7 +159,7 @@ fn record<'a>(
     alloc: Global,
     cursor: &mut Cursor<'_, 'a>,
     levels: u32,
-) -> Result<(Place, Vec<Vec<Name<'a>>>, Vec<TypeDenoter<'a>>, bool), ParseFault>
+) -> Result<(Place, Vec<Vec<Name<'a>>>, Vec<TypeDenoter<'a>>, bool), Refusal>
     ensures given { MatchResult result
         (λ found. ReadRecord levels cursor.old cursor.new found.0 found.1.items found.2.items found.3)
         (Refused (levels + 1) cursor.old) }
@@ -181,7 +181,7 @@ fn fields<'a>(
     alloc: Global,
     cursor: &mut Cursor<'_, 'a>,
     levels: u32,
-) -> Result<(Vec<Vec<Name<'a>>>, Vec<TypeDenoter<'a>>, bool), ParseFault>
+) -> Result<(Vec<Vec<Name<'a>>>, Vec<TypeDenoter<'a>>, bool), Refusal>
     ensures given { MatchResult result
         (λ found. ReadFields levels cursor.old cursor.new found.0.items found.1.items found.2)
         (Refused levels cursor.old) }

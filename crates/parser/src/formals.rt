@@ -13,14 +13,14 @@ use lexer::token::{Kind, Symbol, Word};
 use std::alloc::Global;
 use syntax_tree::{FormalGroup, Passing};
 use token_cursor::cursor::Cursor;
-use token_cursor::fault::ParseFault;
+use token_cursor::refusal::Refusal;
 
 // formals = ["(" formal_list ")"]
 /// The formal parameters of a procedure or function (6.6.3.1), which may be left out.
 pub(crate) fn formals<'a>(
     alloc: Global,
     cursor: &mut Cursor<'_, 'a>,
-) -> Result<Vec<FormalGroup<'a>>, ParseFault>
+) -> Result<Vec<FormalGroup<'a>>, Refusal>
     ensures given { MatchResult result (λ found. Read BeginsFormals cursor.old cursor.new found.items) IsPlain }
     ensures exact { ReadsEach BeginsFormals (NoNext (Kind.Symbol Symbol.OpenParenthesis))
         cursor.old cursor.new result }
@@ -37,7 +37,7 @@ pub(crate) fn formals<'a>(
 fn formal_list<'a>(
     alloc: Global,
     cursor: &mut Cursor<'_, 'a>,
-) -> Result<Vec<FormalGroup<'a>>, ParseFault>
+) -> Result<Vec<FormalGroup<'a>>, Refusal>
     ensures given { MatchResult result (λ found. Read BeginsFormalList cursor.old cursor.new found.items) IsPlain }
     ensures exact { ReadsEach BeginsFormalList (NoNext (Kind.Symbol Symbol.Semicolon)) cursor.old cursor.new result }
 {
@@ -52,7 +52,7 @@ fn formal_list<'a>(
 
 // formal = passing field_names name
 /// Formal parameters that are declared together, and the name of their type.
-fn formal<'a>(alloc: Global, cursor: &mut Cursor<'_, 'a>) -> Result<FormalGroup<'a>, ParseFault>
+fn formal<'a>(alloc: Global, cursor: &mut Cursor<'_, 'a>) -> Result<FormalGroup<'a>, Refusal>
     ensures given { MatchResult result (Read BeginsFormal cursor.old cursor.new) IsPlain }
     ensures exact { ReadsEach BeginsFormal Anything cursor.old cursor.new result }
 {

@@ -11,14 +11,14 @@ use lexer::token::{Kind, Symbol, Word};
 use std::alloc::Global;
 use syntax_tree::{FormalGroup, Heading, Name};
 use token_cursor::cursor::Cursor;
-use token_cursor::fault::ParseFault;
+use token_cursor::refusal::Refusal;
 
 // heading = procedure | function
 /// The heading of a procedure (6.6.1) or of a function (6.6.2), with its semicolon.
 pub(crate) fn heading<'a>(
     alloc: Global,
     cursor: &mut Cursor<'_, 'a>,
-) -> Result<Heading<'a>, ParseFault>
+) -> Result<Heading<'a>, Refusal>
     ensures given { MatchResult result (Read BeginsHeading cursor.old cursor.new) IsPlain }
     ensures exact { ReadsEach BeginsHeading Anything cursor.old cursor.new result }
 {
@@ -29,7 +29,7 @@ pub(crate) fn heading<'a>(
 }
 
 // procedure = "procedure" name formals ";"
-fn procedure<'a>(alloc: Global, cursor: &mut Cursor<'_, 'a>) -> Result<Heading<'a>, ParseFault>
+fn procedure<'a>(alloc: Global, cursor: &mut Cursor<'_, 'a>) -> Result<Heading<'a>, Refusal>
     ensures given { MatchResult result (Read BeginsHeading cursor.old cursor.new) IsPlain }
     ensures exact { Next (Kind.Word Word.Procedure) cursor.old.rest.now
         → ReadsEach BeginsHeading Anything cursor.old cursor.new result }
@@ -42,7 +42,7 @@ fn procedure<'a>(alloc: Global, cursor: &mut Cursor<'_, 'a>) -> Result<Heading<'
 }
 
 // function = "function" name (";" | signature)
-fn function<'a>(alloc: Global, cursor: &mut Cursor<'_, 'a>) -> Result<Heading<'a>, ParseFault>
+fn function<'a>(alloc: Global, cursor: &mut Cursor<'_, 'a>) -> Result<Heading<'a>, Refusal>
     ensures given { MatchResult result (Read BeginsHeading cursor.old cursor.new) IsPlain }
     ensures exact { NoNext (Kind.Word Word.Procedure) cursor.old.rest.now
         → ReadsEach BeginsHeading Anything cursor.old cursor.new result }
@@ -65,7 +65,7 @@ fn function<'a>(alloc: Global, cursor: &mut Cursor<'_, 'a>) -> Result<Heading<'a
 fn signature<'a>(
     alloc: Global,
     cursor: &mut Cursor<'_, 'a>,
-) -> Result<(Vec<FormalGroup<'a>>, Name<'a>), ParseFault>
+) -> Result<(Vec<FormalGroup<'a>>, Name<'a>), Refusal>
     ensures given { MatchResult result
         (λ found. Read BeginsSignature cursor.old cursor.new (found.0.items, found.1)) IsPlain }
     ensures exact { ReadsEach BeginsSignature Anything cursor.old cursor.new result }

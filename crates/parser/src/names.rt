@@ -10,13 +10,13 @@ use lexer::token::{Kind, Symbol};
 use std::alloc::Global;
 use syntax_tree::Name;
 use token_cursor::cursor::Cursor;
-use token_cursor::fault::ParseFault;
+use token_cursor::refusal::Refusal;
 
 // names = name {"," name}
 pub(crate) fn names<'a>(
     alloc: Global,
     cursor: &mut Cursor<'_, 'a>,
-) -> Result<Vec<Name<'a>>, ParseFault>
+) -> Result<Vec<Name<'a>>, Refusal>
     ensures given { MatchResult result (λ found. Read BeginsNames cursor.old cursor.new found.items) IsPlain }
     ensures exact { ReadsEach BeginsNames (NoNext (Kind.Symbol Symbol.Comma)) cursor.old cursor.new result }
 {
@@ -34,7 +34,7 @@ pub(crate) fn names<'a>(
 pub(crate) fn field_names<'a>(
     alloc: Global,
     cursor: &mut Cursor<'_, 'a>,
-) -> Result<Vec<Name<'a>>, ParseFault>
+) -> Result<Vec<Name<'a>>, Refusal>
     ensures given { MatchResult result (λ found. Read BeginsFieldNames cursor.old cursor.new found.items) IsPlain }
     ensures exact { ReadsEach BeginsFieldNames Anything cursor.old cursor.new result }
 {

@@ -11,7 +11,7 @@ use lexer::token::{Kind, Symbol, Word};
 use std::alloc::Global;
 use syntax_tree::TypeDefinition;
 use token_cursor::cursor::Cursor;
-use token_cursor::fault::ParseFault;
+use token_cursor::refusal::Refusal;
 
 // types = ["type" definitions]
 /// The type definition part of a block (6.2.1), which may be left out. In a denoter `levels` levels
@@ -20,7 +20,7 @@ pub(crate) fn types<'a>(
     alloc: Global,
     cursor: &mut Cursor<'_, 'a>,
     levels: u32,
-) -> Result<Vec<TypeDefinition<'a>>, ParseFault>
+) -> Result<Vec<TypeDefinition<'a>>, Refusal>
     ensures given { MatchResult result (λ found. Read (BeginsTypePart levels) cursor.old cursor.new found.items)
         (Refused levels cursor.old) }
     ensures exact { ReadsDeep levels BeginsTypePart EndsTypes cursor.old cursor.new result }
@@ -36,7 +36,7 @@ fn definitions<'a>(
     alloc: Global,
     cursor: &mut Cursor<'_, 'a>,
     levels: u32,
-) -> Result<Vec<TypeDefinition<'a>>, ParseFault>
+) -> Result<Vec<TypeDefinition<'a>>, Refusal>
     ensures given { MatchResult result
         (λ found. Read (BeginsTypeDefinitions levels) cursor.old cursor.new found.items) (Refused levels cursor.old) }
     ensures exact { ReadsDeep levels BeginsTypeDefinitions (NoNext Kind.Identifier) cursor.old cursor.new result }
@@ -56,7 +56,7 @@ fn definition<'a>(
     alloc: Global,
     cursor: &mut Cursor<'_, 'a>,
     levels: u32,
-) -> Result<TypeDefinition<'a>, ParseFault>
+) -> Result<TypeDefinition<'a>, Refusal>
     ensures given { MatchResult result (Read (BeginsTypeDefinition levels) cursor.old cursor.new)
         (Refused levels cursor.old) }
     ensures exact { ReadsDeep levels BeginsTypeDefinition Anything cursor.old cursor.new result }

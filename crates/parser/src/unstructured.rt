@@ -11,14 +11,14 @@ use statement_parser::constant::constant;
 use std::alloc::Global;
 use syntax_tree::{Constant, ConstantValue, Name, TypeDenoter};
 use token_cursor::cursor::Cursor;
-use token_cursor::fault::ParseFault;
+use token_cursor::refusal::Refusal;
 
 // enumerated = "(" names ")"
 /// An enumerated type (6.4.2.3), which is one level.
 pub(crate) fn enumerated<'a>(
     alloc: Global,
     cursor: &mut Cursor<'_, 'a>,
-) -> Result<TypeDenoter<'a>, ParseFault>
+) -> Result<TypeDenoter<'a>, Refusal>
     ensures given { MatchResult result (Read (BeginsDenoter 1) cursor.old cursor.new) IsPlain }
     ensures exact { Next (Kind.Symbol Symbol.OpenParenthesis) cursor.old.rest.now
         → (depth : ℕ) → ReadsEach (BeginsDenoter depth) EndsDenoter cursor.old cursor.new result }
@@ -32,16 +32,14 @@ pub(crate) fn enumerated<'a>(
 // name_or_subrange = name | constant ".." constant
 /// A name, or a subrange type (6.4.2.4), which is one level: a name is one alone, another constant
 /// only before `..`.
-pub(crate) fn name_or_subrange<'a>(
-    cursor: &mut Cursor<'_, 'a>,
-) -> Result<TypeDenoter<'a>, ParseFault>
+pub(crate) fn name_or_subrange<'a>(cursor: &mut Cursor<'_, 'a>) -> Result<TypeDenoter<'a>, Refusal>
     ensures given { MatchResult result (Read (BeginsDenoter 1) cursor.old cursor.new) IsPlain }
     ensures exact { NoNext (Kind.Symbol Symbol.OpenParenthesis) cursor.old.rest.now → NoWord cursor.old.rest.now
         → (depth : ℕ) → ReadsEach (BeginsDenoter depth) EndsDenoter cursor.old cursor.new result }
 {
     let first = constant(cursor)?;
     let Some(between) = cursor.take_symbol(Symbol::Range) else {
-        let name = name_of(&first).ok_or(cursor.no_program())?;
+        let name = name_of(&first).ok_or(Refusal::NoProgram)?;
         return Ok(TypeDenoter::Name(name));
     };
     let last = constant(cursor)?;

@@ -12,7 +12,7 @@ use lexer::token::{Kind, Symbol, Word};
 use std::alloc::Global;
 use syntax_tree::VariableGroup;
 use token_cursor::cursor::Cursor;
-use token_cursor::fault::ParseFault;
+use token_cursor::refusal::Refusal;
 
 // variables = ["var" groups]
 /// The variable declaration part of a block (6.2.1), which may be left out. In a denoter `levels`
@@ -21,7 +21,7 @@ pub(crate) fn variables<'a>(
     alloc: Global,
     cursor: &mut Cursor<'_, 'a>,
     levels: u32,
-) -> Result<Vec<VariableGroup<'a>>, ParseFault>
+) -> Result<Vec<VariableGroup<'a>>, Refusal>
     ensures given { MatchResult result (λ found. Read (BeginsVariables levels) cursor.old cursor.new found.items)
         (Refused levels cursor.old) }
     ensures exact { ReadsDeep levels BeginsVariables EndsVariables cursor.old cursor.new result }
@@ -37,7 +37,7 @@ fn groups<'a>(
     alloc: Global,
     cursor: &mut Cursor<'_, 'a>,
     levels: u32,
-) -> Result<Vec<VariableGroup<'a>>, ParseFault>
+) -> Result<Vec<VariableGroup<'a>>, Refusal>
     ensures given { MatchResult result (λ found. Read (BeginsGroups levels) cursor.old cursor.new found.items)
         (Refused levels cursor.old) }
     ensures exact { ReadsDeep levels BeginsGroups (NoNext Kind.Identifier) cursor.old cursor.new result }
@@ -56,7 +56,7 @@ fn group<'a>(
     alloc: Global,
     cursor: &mut Cursor<'_, 'a>,
     levels: u32,
-) -> Result<VariableGroup<'a>, ParseFault>
+) -> Result<VariableGroup<'a>, Refusal>
     ensures given { MatchResult result (Read (BeginsGroup levels) cursor.old cursor.new)
         (Refused levels cursor.old) }
     ensures exact { ReadsDeep levels BeginsGroup Anything cursor.old cursor.new result }

@@ -8,7 +8,7 @@ use Rattle.lexer.specs.declared.token.Kind.TheVariants as kind
 use Rattle.lexer.specs.declared.token.Symbol.TheVariants as symbol
 use Rattle.lexer.specs.declared.token.Word.TheVariants as word
 use Rattle.lexer.specs.declared.token.Token.{Token}
-use Rattle.token_cursor.specs.declared.fault.ParseFault.{ParseFault}
+use Rattle.token_cursor.specs.declared.refusal.Refusal.{Refusal}
 use Rattle.token_cursor.specs.declared.cursor.Cursor.{Cursor}
 use Rattle.syntax_tree.specs.declared.Direction.{Direction}
 use Rattle.syntax_tree.specs.declared.Expr.{Expr}
@@ -59,7 +59,7 @@ no_else a c (no_more e) (compound h) k = let no : Some (kind.Word word.End) ≡ 
 no_else a c (no_more e) (repeated h) k = let no : Some (kind.Word word.Until) ≡ Some (kind.Word word.Else) = sym (e ∙ h) ∙ k in cc
 
 -- what the rule of statements answers there
-pub statement_answer : (levels depth : ℕ) (a b : Cursor) (others : List Token) (answer : Result Stmt ParseFault)
+pub statement_answer : (levels depth : ℕ) (a b : Cursor) (others : List Token) (answer : Result Stmt Refusal)
     → (p : PartThenOthers Stmt statement_list_parts depth a.rest.now others) → EndsStatements others
     → ReadsDeep levels BeginsStmt EndsStmt a b answer → ReadWithin levels depth p.middle b answer
 statement_answer levels depth a b others answer p ends reads =

@@ -12,14 +12,14 @@ use lexer::token::{Kind, Symbol, Word};
 use std::alloc::Global;
 use syntax_tree::Constant;
 use token_cursor::cursor::Cursor;
-use token_cursor::fault::ParseFault;
+use token_cursor::refusal::Refusal;
 
 // row = constants ":"
 /// The constants before an arm of a case (6.8.3.5), and their colon.
 pub(crate) fn row<'a>(
     alloc: Global,
     cursor: &mut Cursor<'_, 'a>,
-) -> Result<Vec<Constant<'a>>, ParseFault>
+) -> Result<Vec<Constant<'a>>, Refusal>
     ensures given { MatchResult result (λ found. Read BeginsRow cursor.old cursor.new found.items) IsPlain }
     ensures exact { ReadsEach BeginsRow Anything cursor.old cursor.new result }
 {
@@ -29,10 +29,7 @@ pub(crate) fn row<'a>(
 }
 
 // constants = constant {"," constant}
-fn constants<'a>(
-    alloc: Global,
-    cursor: &mut Cursor<'_, 'a>,
-) -> Result<Vec<Constant<'a>>, ParseFault>
+fn constants<'a>(alloc: Global, cursor: &mut Cursor<'_, 'a>) -> Result<Vec<Constant<'a>>, Refusal>
     ensures given { MatchResult result (λ found. Read BeginsConstants cursor.old cursor.new found.items) IsPlain }
     ensures exact { ReadsEach BeginsConstants (NoNext (Kind.Symbol Symbol.Comma)) cursor.old cursor.new result }
 {
@@ -49,7 +46,7 @@ fn constants<'a>(
 // behind_arm = ";" | [";"] "end"
 /// Behind an arm of a case, or behind fields of a record: whether a semicolon stands before the
 /// `end`, or none where more arms or fields follow.
-pub fn behind_arm(cursor: &mut Cursor<'_, '_>) -> Result<Option<bool>, ParseFault>
+pub fn behind_arm(cursor: &mut Cursor<'_, '_>) -> Result<Option<bool>, Refusal>
     ensures given { MatchResult result (ReadBehindArm cursor.old cursor.new) IsPlain }
     ensures missed { IfErr result (λ _.
         NoNext (Kind.Symbol Symbol.Semicolon) cursor.old.rest.now × NoNext (Kind.Word Word.End) cursor.old.rest.now) }

@@ -11,11 +11,11 @@ ghost use Rattle.expression_parser.specs.Rules.{Read};
 
 use syntax_tree::{Constant, ConstantValue, SignAt};
 use token_cursor::cursor::Cursor;
-use token_cursor::fault::ParseFault;
+use token_cursor::refusal::Refusal;
 
 // constant = string | [sign] value
 /// A constant (6.3): a string, or a number or a name with a sign or none.
-pub fn constant<'a>(cursor: &mut Cursor<'_, 'a>) -> Result<Constant<'a>, ParseFault>
+pub fn constant<'a>(cursor: &mut Cursor<'_, 'a>) -> Result<Constant<'a>, Refusal>
     ensures given { MatchResult result (Read BeginsConstant cursor.old cursor.new) IsPlain }
     ensures exact { ReadsEach BeginsConstant Anything cursor.old cursor.new result }
 {
@@ -41,7 +41,7 @@ fn sign(cursor: &mut Cursor<'_, '_>) -> Option<SignAt>
 
 // value = number | name
 /// A value before which a sign may stand.
-fn value<'a>(cursor: &mut Cursor<'_, 'a>) -> Result<ConstantValue<'a>, ParseFault>
+fn value<'a>(cursor: &mut Cursor<'_, 'a>) -> Result<ConstantValue<'a>, Refusal>
     ensures given { MatchResult result (λ found. Took cursor.old cursor.new (value_lexeme found ∷ [])) IsPlain }
     ensures signed { IfOk result (λ found. takes_sign found ≡ true) }
     ensures missed { IfErr result (λ _. (v : ConstantValue) → takes_sign v ≡ true

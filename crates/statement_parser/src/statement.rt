@@ -15,9 +15,9 @@ use place::Place;
 use std::alloc::Global;
 use syntax_tree::{Constant, Direction, Expr, Name, Stmt};
 use token_cursor::cursor::Cursor;
-use token_cursor::fault::ParseFault;
 use token_cursor::nesting::inside;
 use token_cursor::operator::Level;
+use token_cursor::refusal::Refusal;
 
 // compound = "begin" statements "end"
 /// The statements of a compound statement (6.8.3.2), and its `end`. Below it `levels` levels are
@@ -27,7 +27,7 @@ pub fn compound<'a>(
     alloc: Global,
     cursor: &mut Cursor<'_, 'a>,
     levels: u32,
-) -> Result<(Vec<Stmt<'a>>, Place), ParseFault>
+) -> Result<(Vec<Stmt<'a>>, Place), Refusal>
     ensures given { MatchResult result
         (λ found. Read (BeginsCompound levels) cursor.old cursor.new (found.0.items, found.1))
         (Refused (levels + 1) cursor.old) }
@@ -45,7 +45,7 @@ fn statements<'a>(
     alloc: Global,
     cursor: &mut Cursor<'_, 'a>,
     levels: u32,
-) -> Result<Vec<Stmt<'a>>, ParseFault>
+) -> Result<Vec<Stmt<'a>>, Refusal>
     ensures given { MatchResult result
         (λ found. Read (BeginsStatements levels) cursor.old cursor.new found.items) (Refused levels cursor.old) }
     ensures exact { ReadsDeep levels BeginsStatements EndsStatements cursor.old cursor.new result }
@@ -66,7 +66,7 @@ fn statement<'a>(
     alloc: Global,
     cursor: &mut Cursor<'_, 'a>,
     levels: u32,
-) -> Result<Stmt<'a>, ParseFault>
+) -> Result<Stmt<'a>, Refusal>
     ensures given { MatchResult result (Read (BeginsStmt levels) cursor.old cursor.new) (Refused levels cursor.old) }
     ensures exact { ReadsDeep levels BeginsStmt EndsStmt cursor.old cursor.new result }
 {
@@ -89,11 +89,7 @@ fn statement<'a>(
 // simple = name selectors ":=" expression | name actuals
 /// An assignment (6.8.2.2) or the call of a procedure (6.8.2.3), below which `levels` levels are
 /// left.
-fn simple<'a>(
-    alloc: Global,
-    cursor: &mut Cursor<'_, 'a>,
-    levels: u32,
-) -> Result<Stmt<'a>, ParseFault>
+fn simple<'a>(alloc: Global, cursor: &mut Cursor<'_, 'a>, levels: u32) -> Result<Stmt<'a>, Refusal>
     ensures given { MatchResult result (Read (BeginsStmt (levels + 1)) cursor.old cursor.new)
         (Refused (levels + 1) cursor.old) }
     ensures exact { next_kind cursor.old.rest.now ≡ Some Kind.Identifier →
@@ -112,7 +108,7 @@ fn simple<'a>(
         });
     }
     if !selectors.is_empty() {
-        return Err(cursor.no_program());
+        return Err(Refusal::NoProgram);
     }
     let actuals = actuals(alloc, cursor, levels)?;
     Ok(Stmt::Call { name, actuals })
@@ -125,7 +121,7 @@ fn conditional<'a>(
     alloc: Global,
     cursor: &mut Cursor<'_, 'a>,
     levels: u32,
-) -> Result<Stmt<'a>, ParseFault>
+) -> Result<Stmt<'a>, Refusal>
     ensures given { MatchResult result (Read (BeginsStmt (levels + 1)) cursor.old cursor.new)
         (Refused (levels + 1) cursor.old) }
     ensures exact { next_kind cursor.old.rest.now ≡ Some (Kind.Word Word.If) →
@@ -150,7 +146,7 @@ fn alternative<'a>(
     alloc: Global,
     cursor: &mut Cursor<'_, 'a>,
     levels: u32,
-) -> Result<Option<Box<Stmt<'a>>>, ParseFault>
+) -> Result<Option<Box<Stmt<'a>>>, Refusal>
     ensures given { MatchResult result (Read (BeginsAlternative levels) cursor.old cursor.new)
         (Refused levels cursor.old) }
     ensures exact { ReadsDeep levels BeginsAlternative EndsStmt cursor.old cursor.new result }
@@ -168,7 +164,7 @@ fn while_loop<'a>(
     alloc: Global,
     cursor: &mut Cursor<'_, 'a>,
     levels: u32,
-) -> Result<Stmt<'a>, ParseFault>
+) -> Result<Stmt<'a>, Refusal>
     ensures given { MatchResult result (Read (BeginsStmt (levels + 1)) cursor.old cursor.new)
         (Refused (levels + 1) cursor.old) }
     ensures exact { next_kind cursor.old.rest.now ≡ Some (Kind.Word Word.While) →
@@ -191,7 +187,7 @@ fn repeat_loop<'a>(
     alloc: Global,
     cursor: &mut Cursor<'_, 'a>,
     levels: u32,
-) -> Result<Stmt<'a>, ParseFault>
+) -> Result<Stmt<'a>, Refusal>
     ensures given { MatchResult result (Read (BeginsStmt (levels + 1)) cursor.old cursor.new)
         (Refused (levels + 1) cursor.old) }
     ensures exact { next_kind cursor.old.rest.now ≡ Some (Kind.Word Word.Repeat) →
@@ -215,7 +211,7 @@ fn for_loop<'a>(
     alloc: Global,
     cursor: &mut Cursor<'_, 'a>,
     levels: u32,
-) -> Result<Stmt<'a>, ParseFault>
+) -> Result<Stmt<'a>, Refusal>
     ensures given { MatchResult result (Read (BeginsStmt (levels + 1)) cursor.old cursor.new)
         (Refused (levels + 1) cursor.old) }
     ensures exact { next_kind cursor.old.rest.now ≡ Some (Kind.Word Word.For) →
@@ -237,7 +233,7 @@ fn for_loop<'a>(
 
 // control = "for" name ":="
 /// The place of a for statement, and its control variable.
-fn control<'a>(cursor: &mut Cursor<'_, 'a>) -> Result<(Place, Name<'a>), ParseFault>
+fn control<'a>(cursor: &mut Cursor<'_, 'a>) -> Result<(Place, Name<'a>), Refusal>
     ensures given { MatchResult result (Read BeginsControl cursor.old cursor.new) IsPlain }
     ensures exact { ReadsEach BeginsControl Anything cursor.old cursor.new result }
 {
@@ -253,7 +249,7 @@ fn initial<'a>(
     alloc: Global,
     cursor: &mut Cursor<'_, 'a>,
     levels: u32,
-) -> Result<(Expr<'a>, Direction), ParseFault>
+) -> Result<(Expr<'a>, Direction), Refusal>
     ensures given { MatchResult result (Read (BeginsInitial levels) cursor.old cursor.new)
         (Refused (levels + 1) cursor.old) }
     ensures exact { ReadsDeep levels BeginsInitial Anything cursor.old cursor.new result }
@@ -266,11 +262,7 @@ fn initial<'a>(
 // case_of = "case" expression "of" arms
 /// A case statement (6.8.3.5), below which `levels` levels are left.
 #[cycle(statement)]
-fn case_of<'a>(
-    alloc: Global,
-    cursor: &mut Cursor<'_, 'a>,
-    levels: u32,
-) -> Result<Stmt<'a>, ParseFault>
+fn case_of<'a>(alloc: Global, cursor: &mut Cursor<'_, 'a>, levels: u32) -> Result<Stmt<'a>, Refusal>
     ensures given { MatchResult result (Read (BeginsStmt (levels + 1)) cursor.old cursor.new)
         (Refused (levels + 1) cursor.old) }
     ensures exact { next_kind cursor.old.rest.now ≡ Some (Kind.Word Word.Case) →
@@ -296,7 +288,7 @@ fn arms<'a>(
     alloc: Global,
     cursor: &mut Cursor<'_, 'a>,
     levels: u32,
-) -> Result<(Vec<Vec<Constant<'a>>>, Vec<Stmt<'a>>, bool), ParseFault>
+) -> Result<(Vec<Vec<Constant<'a>>>, Vec<Stmt<'a>>, bool), Refusal>
     ensures given { MatchResult result
         (λ found. ReadArms levels cursor.old cursor.new found.0.items found.1.items found.2)
         (Refused levels cursor.old) }
@@ -319,7 +311,7 @@ fn body<'a>(
     alloc: Global,
     cursor: &mut Cursor<'_, 'a>,
     levels: u32,
-) -> Result<Box<Stmt<'a>>, ParseFault>
+) -> Result<Box<Stmt<'a>>, Refusal>
     ensures given { MatchResult result
         (λ found. Read (BeginsStmt levels) cursor.old cursor.new found.value) (Refused levels cursor.old) }
     ensures exact { ReadsDeep levels BeginsStmt EndsStmt cursor.old cursor.new result }
@@ -334,7 +326,7 @@ fn guard<'a>(
     cursor: &mut Cursor<'_, 'a>,
     levels: u32,
     word: Word,
-) -> Result<Expr<'a>, ParseFault>
+) -> Result<Expr<'a>, Refusal>
     ensures given { MatchResult result (Read (BeginsGuard word levels) cursor.old cursor.new)
         (Refused (levels + 1) cursor.old) }
     ensures exact { EndsEach word → ReadsDeep levels (BeginsGuard word) Anything cursor.old cursor.new result }

@@ -2,3 +2,4 @@ pub mod Cursor
 pub mod LeftOut
 pub mod Level
 pub mod ParseFault
+pub mod Refusal

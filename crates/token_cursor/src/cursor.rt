@@ -1,10 +1,9 @@
 ghost use Rattle.std.specs.Prelude.{◌≡◌, false, [], ◌∷◌, IfSome, IfOk, ℕ, ◌↔◌, IsTrue, IfErr, IfNone, MatchBool};
 ghost use Rattle.std.specs.Prelude.{MatchResult};
 ghost use Rattle.grammar.specs.Spelling.{IsSpelledBy, forward};
-ghost use Rattle.token_cursor.specs.Cursor.{end_of};
 
-use crate::fault::ParseFault;
 use crate::operator::{Level, level_of, operator_of};
+use crate::refusal::Refusal;
 use lexer::token::{Kind, Symbol, Token, Word};
 use place::Place;
 use syntax_tree::{Direction, Name, Operator, Sign};
@@ -13,8 +12,6 @@ use syntax_tree::{Direction, Name, Operator, Sign};
 #[derive(Clone, Copy)]
 pub struct Cursor<'t, 'a> {
     pub rest: &'t [Token<'a>],
-    /// Just past the last token of all.
-    pub end: Place,
 }
 
 impl<'t, 'a> Cursor<'t, 'a> {
@@ -27,13 +24,9 @@ impl<'t, 'a> Cursor<'t, 'a> {
     ghost use Rattle.grammar.specs.Following.{next_kind, NoSign, NoOperator, NoForward};
 
     pub fn new(tokens: &'t [Token<'a>]) -> Self
-        ensures rest { result.rest.now ≡ tokens.now }
-        ensures end { result.end ≡ end_of tokens.now }
+        ensures { result.rest.now ≡ tokens.now }
     {
-        Cursor {
-            rest: tokens,
-            end: end_of(tokens),
-        }
+        Cursor { rest: tokens }
     }
 
     /// The kind of the next token.
@@ -46,21 +39,14 @@ impl<'t, 'a> Cursor<'t, 'a> {
         }
     }
 
-    /// Where the next token stands, or the end.
-    pub fn place(&self) -> Place
+    /// Where the next token stands, if there is one.
+    pub fn place(&self) -> Option<Place>
         ensures { result ≡ place_of_next self.now }
     {
         match self.rest {
-            [] => self.end,
-            [token, ..] => token.place,
+            [] => None,
+            [token, ..] => Some(token.place),
         }
-    }
-
-    /// P1, at the next token.
-    pub fn no_program(&self) -> ParseFault
-        ensures { result ≡ ParseFault.NoProgram (place_of_next self.now) }
-    {
-        ParseFault::NoProgram(self.place())
     }
 
     /// Takes the next token if it is of this kind, and answers its place.
@@ -98,24 +84,24 @@ impl<'t, 'a> Cursor<'t, 'a> {
         self.take(Kind::Symbol(symbol))
     }
 
-    pub fn expect_word(&mut self, word: Word) -> Result<Place, ParseFault>
+    pub fn expect_word(&mut self, word: Word) -> Result<Place, Refusal>
         ensures kept { IfErr result
-            (λ fault. (self.new ≡ self.old) × (fault ≡ ParseFault.NoProgram (place_of_next self.old))) }
+            (λ refusal. (self.new ≡ self.old) × (refusal ≡ Refusal.NoProgram)) }
         ensures missed { IfErr result (λ _. ¬ (next_kind self.old.rest.now ≡ Some (Kind.Word word))) }
         ensures spelled { IfOk result
             (λ place. Took self.old self.new (of_kind_at (Kind.Word word) place ∷ [])) }
     {
-        self.take_word(word).ok_or(self.no_program())
+        self.take_word(word).ok_or(Refusal::NoProgram)
     }
 
-    pub fn expect_symbol(&mut self, symbol: Symbol) -> Result<Place, ParseFault>
+    pub fn expect_symbol(&mut self, symbol: Symbol) -> Result<Place, Refusal>
         ensures kept { IfErr result
-            (λ fault. (self.new ≡ self.old) × (fault ≡ ParseFault.NoProgram (place_of_next self.old))) }
+            (λ refusal. (self.new ≡ self.old) × (refusal ≡ Refusal.NoProgram)) }
         ensures missed { IfErr result (λ _. ¬ (next_kind self.old.rest.now ≡ Some (Kind.Symbol symbol))) }
         ensures spelled { IfOk result
             (λ place. Took self.old self.new (of_kind_at (Kind.Symbol symbol) place ∷ [])) }
     {
-        self.take_symbol(symbol).ok_or(self.no_program())
+        self.take_symbol(symbol).ok_or(Refusal::NoProgram)
     }
 
     /// Takes an identifier, if one is next.
@@ -143,13 +129,13 @@ impl<'t, 'a> Cursor<'t, 'a> {
         }
     }
 
-    pub fn expect_name(&mut self) -> Result<Name<'a>, ParseFault>
+    pub fn expect_name(&mut self) -> Result<Name<'a>, Refusal>
         ensures kept { IfErr result
-            (λ fault. (self.new ≡ self.old) × (fault ≡ ParseFault.NoProgram (place_of_next self.old))) }
+            (λ refusal. (self.new ≡ self.old) × (refusal ≡ Refusal.NoProgram)) }
         ensures missed { IfErr result (λ _. ¬ (next_kind self.old.rest.now ≡ Some Kind.Identifier)) }
         ensures spelled { IfOk result (λ name. Took self.old self.new (identifier name ∷ [])) }
     {
-        self.take_name().ok_or(self.no_program())
+        self.take_name().ok_or(Refusal::NoProgram)
     }
 
     /// Whether the directive `forward` (6.1.4) is next, which is taken.
@@ -238,15 +224,15 @@ impl<'t, 'a> Cursor<'t, 'a> {
         Some(Direction::DownTo)
     }
 
-    pub fn expect_direction(&mut self) -> Result<Direction, ParseFault>
+    pub fn expect_direction(&mut self) -> Result<Direction, Refusal>
         ensures kept { IfErr result
-            (λ fault. (self.new ≡ self.old) × (fault ≡ ParseFault.NoProgram (place_of_next self.old))) }
+            (λ refusal. (self.new ≡ self.old) × (refusal ≡ Refusal.NoProgram)) }
         ensures missed { IfErr result (λ _.
             (direction : Direction) → ¬ (next_kind self.old.rest.now ≡ Some (Kind.Word (direction_word direction)))) }
         ensures spelled { IfOk result
             (λ direction. Took self.old self.new (word_symbol (direction_word direction) ∷ [])) }
     {
-        self.take_direction().ok_or(self.no_program())
+        self.take_direction().ok_or(Refusal::NoProgram)
     }
 
     /// Whether an operator of this level is next.
@@ -280,15 +266,15 @@ impl<'t, 'a> Cursor<'t, 'a> {
     }
 
     /// Takes the period of a program, behind which nothing may stand.
-    pub fn stop(&mut self) -> Result<(), ParseFault>
+    pub fn stop(&mut self) -> Result<(), Refusal>
         ensures given { MatchResult result (λ _. Stop self.old.rest.now)
-            (λ fault. fault ≡ ParseFault.NoProgram (place_of_next self.new)) }
+            (λ refusal. refusal ≡ Refusal.NoProgram) }
         ensures missed { IfErr result (λ _. ¬ Stop self.old.rest.now) }
     {
         self.expect_symbol(Symbol::Period)?;
         match self.peek() {
             None => Ok(()),
-            Some(_) => Err(self.no_program()),
+            Some(_) => Err(Refusal::NoProgram),
         }
     }
 }
@@ -304,20 +290,4 @@ fn is_forward(token: &Token<'_>) -> bool
     ensures { IsTrue result ↔ IsSpelledBy forward token.now }
 {
     token.kind == Kind::Identifier && token.text.eq_ignore_ascii_case(b"forward")
-}
-
-/// Just past the last token, or where a text begins if there is none.
-fn end_of(tokens: &[Token<'_>]) -> Place
-    ensures { result ≡ end_of tokens.now }
-{
-    match tokens.last() {
-        None => Place::START,
-        Some(token) => {
-            let length = u32::try_from(token.text.len()).unwrap_or(u32::MAX);
-            Place {
-                line: token.place.line,
-                column: token.place.column.saturating_add(length),
-            }
-        }
-    }
 }

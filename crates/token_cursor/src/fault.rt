@@ -1,8 +1,6 @@
 ghost use Rattle.std.specs.Prelude.{◌≡◌};
-ghost use Rattle.token_cursor.specs.declared.fault.ParseFault.TheVariants.{Memory};
 
 use place::Place;
-use std::alloc::{AllocError, AllocFailed};
 use thiserror::Error;
 
 /// Why a list of tokens has no syntax tree.
@@ -46,21 +44,5 @@ impl ParseFault {
             | ParseFault::TooDeep(place)
             | ParseFault::LeftOut(place) => Some(*place),
         }
-    }
-}
-
-impl From<AllocError> for ParseFault {
-    ghost from_gives = { λ _ e. e ≡ Memory };
-
-    fn from(_error: AllocError) -> ParseFault {
-        ParseFault::Memory
-    }
-}
-
-impl<T: Drop> From<AllocFailed<T>> for ParseFault {
-    ghost from_gives = { λ _ e. e ≡ Memory };
-
-    fn from(_error: AllocFailed<T>) -> ParseFault {
-        ParseFault::Memory
     }
 }

@@ -7,3 +7,4 @@ pub mod fault;
 pub mod left_out;
 pub mod nesting;
 pub mod operator;
+pub mod refusal;

@@ -1,7 +1,6 @@
-ghost use Rattle.std.specs.Prelude.{◌≡◌, ◌+◌, IfErr, MatchResult};
-ghost use Rattle.token_cursor.specs.Cursor.{IsOfRules};
+ghost use Rattle.std.specs.Prelude.{◌≡◌, ◌+◌, IfErr, IfOk};
 
-use crate::fault::ParseFault;
+use crate::refusal::Refusal;
 use place::Place;
 
 /// How deep a program may nest. Its own compound statement is the first level; each statement in
@@ -11,10 +10,11 @@ use place::Place;
 /// function is one level below the block that it is declared in.
 pub const MAX_NESTING: u32 = 128;
 
-/// The levels that are left inside the next one, which begins at `place`, or P2.
-pub fn inside(levels: u32, place: Place) -> Result<u32, ParseFault>
-    ensures left { MatchResult result (λ left. left + 1 ≡ levels) IsOfRules }
-    ensures spent { IfErr result (λ fault. (levels ≡ 0) × (fault ≡ ParseFault.TooDeep place)) }
+/// The levels that are left inside the next one, which begins at `place`, or at the end of the text where there is no
+/// place; P2 where none is left.
+pub fn inside(levels: u32, place: Option<Place>) -> Result<u32, Refusal>
+    ensures left { IfOk result (λ left. left + 1 ≡ levels) }
+    ensures spent { IfErr result (λ refusal. (levels ≡ 0) × (refusal ≡ Refusal.TooDeep place)) }
 {
-    levels.checked_sub(1).ok_or(ParseFault::TooDeep(place))
+    levels.checked_sub(1).ok_or(Refusal::TooDeep(place))
 }

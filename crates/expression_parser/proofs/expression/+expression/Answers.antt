@@ -13,7 +13,7 @@ use Rattle.expression_parser.specs.Rules.{Read, LinksEnd, LinksGoOn}
 use Rattle.grammar.specs.Begins.{BeginsExpr, BeginsActual, BeginsActualList, BeginsIndex, BeginsSelector}
 use Rattle.expression_parser.specs.Selecting.{ReadSelector, ReadsSelector}
 use Rattle.syntax_tree.specs.declared.Selector.TheVariants.{Index, Field}
-use Rattle.token_cursor.specs.declared.fault.ParseFault.TheVariants.{TooDeep}
+use Rattle.token_cursor.specs.declared.refusal.Refusal.TheVariants.{TooDeep}
 use Rattle.grammar.specs.Spelling.{Reads, mark, of_kind_at, sign, operator, identifier, joined, expr_spelling, actual_spelling, link_spelling}
 use Rattle.grammar.specs.Following.{next_kind, NoOperator, NoSign, NoNext, Ends, EndsActual}
 use Rattle.expression_parser.specs.Reading.{Stops, ReadsDeep}

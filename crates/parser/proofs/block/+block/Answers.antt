@@ -2,7 +2,7 @@ use Rattle.std.proofs.Common.{rules, ◌≡◌, true, false, [], ◌∷◌, ◌-
 use Rattle.grammar.specs.Spelling.{joined, forward, constants_spelling, types_spelling, variables_spelling, routine_spelling}
 use Rattle.expression_parser.specs.Refusing.{Refused}
 use Rattle.expression_parser.proofs.Deep.{refused_behind, refused_spent}
-use Rattle.token_cursor.specs.declared.fault.ParseFault.TheVariants.{Memory, TooDeep}
+use Rattle.token_cursor.specs.declared.refusal.Refusal.TheVariants.{Memory, TooDeep}
 use Rattle.expression_parser.specs.Reading.{Stops}
 use Rattle.expression_parser.proofs.Exact.{stops_above}
 use Rattle.expression_parser.proofs.Kept.{handed_on}

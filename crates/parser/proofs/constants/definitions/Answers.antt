@@ -1,6 +1,6 @@
 use Rattle.std.proofs.Common.{rules, ◌≡◌, refl, subst}
 use Rattle.lexer.specs.declared.token.Kind.TheVariants as kind
-use Rattle.token_cursor.specs.declared.fault.ParseFault.TheVariants.{Memory}
+use Rattle.token_cursor.specs.declared.refusal.Refusal.TheVariants.{Memory}
 use Rattle.expression_parser.specs.Refusing.{IsPlain}
 use Rattle.grammar.specs.Following.{Next, NoNext, Anything}
 use Rattle.expression_parser.specs.Reading.{ReadsEach}

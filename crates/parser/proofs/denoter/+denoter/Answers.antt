@@ -3,7 +3,7 @@ use Rattle.lexer.specs.declared.token.Kind.TheVariants as kind
 use Rattle.lexer.specs.declared.token.Symbol.TheVariants as symbol
 use Rattle.lexer.specs.declared.token.Word.TheVariants as word
 use Rattle.token_cursor.specs.declared.cursor.Cursor.{Cursor}
-use Rattle.token_cursor.specs.declared.fault.ParseFault.TheVariants.{Memory, TooDeep}
+use Rattle.token_cursor.specs.declared.refusal.Refusal.TheVariants.{Memory, TooDeep}
 use Rattle.grammar.specs.Spelling.{of_kind_at, word_symbol, mark, identifiers, separated, denoter_spelling, packed_spelling}
 use Rattle.grammar.specs.Following.{Next, NoNext, NoWord, Anything, EndsDenoter}
 use Rattle.grammar.specs.Begins.{BeginsDenoter, BeginsIndexes, BeginsFieldNames}

@@ -1,5 +1,5 @@
 use Rattle.std.proofs.Common.{◌≡◌, [], arith, ◌∙◌, ap, subst, refl}
-use Rattle.token_cursor.specs.declared.fault.ParseFault.TheVariants.{Memory}
+use Rattle.token_cursor.specs.declared.refusal.Refusal.TheVariants.{Memory}
 use Rattle.expression_parser.specs.Refusing.{IsPlain}
 use Rattle.expression_parser.specs.Reading.{ReadsEach}
 use Rattle.expression_parser.specs.Rules.{Read}

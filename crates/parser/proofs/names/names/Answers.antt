@@ -42,7 +42,7 @@ loop-names-smaller c =
 pub returns-in_err-put-clause-given : goal.returns-in_err-put-clause-given
 returns-in_err-put-clause-given c =
     handed_on _ _ c.from_residual.result c.in_err-put.field-0.0 c.from_residual.ensures
-    (rules_of _ _ c.expect_name.result c.in_err-put.field-0.0 c.expect_name.ensures.kept c.in_err-put.ensures.given)
+    (rules_of _ c.expect_name.result c.in_err-put.field-0.0 c.expect_name.ensures.kept c.in_err-put.ensures.given)
 
 pub returns-in_err-put-clause-exact : goal.returns-in_err-put-clause-exact
 returns-in_err-put-clause-exact c = λ names others h ends.

@@ -1,6 +1,6 @@
 use Rattle.std.proofs.Common.{rules, ◌≡◌, [], ◌∷◌, subst, sym}
 use Rattle.lexer.specs.declared.token.Symbol.TheVariants as symbol
-use Rattle.token_cursor.specs.declared.fault.ParseFault.TheVariants.{Memory}
+use Rattle.token_cursor.specs.declared.refusal.Refusal.TheVariants.{Memory}
 use Rattle.expression_parser.specs.Reading.{Stops}
 use Rattle.lexer.specs.declared.token.Kind.TheVariants as kind
 use Rattle.lexer.specs.declared.token.Word.TheVariants as word

@@ -3,7 +3,7 @@ use Rattle.lexer.specs.declared.token.Kind.TheVariants as kind
 use Rattle.lexer.specs.declared.token.Word.TheVariants as word
 use Rattle.syntax_tree.specs.declared.Stmt.{Stmt}
 use Rattle.lexer.specs.declared.token.Symbol.TheVariants as symbol
-use Rattle.token_cursor.specs.declared.fault.ParseFault.TheVariants.{TooDeep}
+use Rattle.token_cursor.specs.declared.refusal.Refusal.TheVariants.{TooDeep}
 use Rattle.grammar.specs.Spelling.{Reads, of_kind_at, word_symbol, mark, identifier, direction_word, expr_spelling, stmt_spelling, separated}
 use Rattle.grammar.specs.Following.{next_kind, EndsStmt}
 use Rattle.grammar.specs.Following as following
@@ -31,7 +31,7 @@ use Rattle.grammar.specs.Begins.{BeginsRow}
 use Rattle.expression_parser.specs.Refusing.{IsPlain}
 use Rattle.expression_parser.specs.Reading.{ReadsEach}
 use Rattle.statement_parser.specs.Arms.{ReadBehindArm}
-use Rattle.token_cursor.specs.declared.fault.ParseFault.TheVariants.{Memory}
+use Rattle.token_cursor.specs.declared.refusal.Refusal.TheVariants.{Memory}
 use Rattle.grammar.specs.Following.{Anything}
 use Rattle.std.proofs.Common.{None}
 use Rattle.grammar.specs.Spelling.{constant_spelling}
