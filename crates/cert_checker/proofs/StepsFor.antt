@@ -32,7 +32,7 @@ use Rattle.cert_checker.proofs.Steps.{Does, Stops, branches-stopped, goes-as, go
 use Rattle.cert_checker.proofs.Steps.{walks-give}
 use Rattle.expression_checker.proofs.Begun.{begun-all}
 use Rattle.expression_checker.proofs.Steps.{left-same, left-stays}
-use Rattle.expression_checker.specs.View.{state_of}
+use Rattle.expression_checker.specs.View.{IsLeft, state_of}
 
 pub statement-For : (number loop_number : ℕ) (place : SourcePlace) (control : ℕ) (first : Expr) (first_fits : RangeTest) (direction : Direction) (last : Expr)
     (last_fits : RangeTest) (body : Box Stmt Global)
@@ -330,7 +330,7 @@ module _ (way : Way) (old moved new : Walk) (visits : Visits) (is : IsMoved (ove
     visits_are = went.visits_are ∙ ap (λ w. all_counted (numbers_of w.linked) visits) start-same;
     unbroken = ap (λ w. w.broken) (sym start-same) ∙ went.unbroken;
   }
-  way-went (Err fault) breach = subst (λ (w : Walked (Unit {0})). IsBreachOf w fault) start-same breach
+  way-went (Err fault) left = subst (λ (w : Walked (Unit {0})). IsLeft w visits visits fault) start-same left
 
   pub way-begun : (result : Result (Unit {0}) CheckFault) → Goes first_value moved visits result new visits → Goes (begin_way way) old visits result new visits
   way-begun result goes = λ ready. way-went result (goes (moved-loops way_start old moved is ready))
