@@ -95,9 +95,9 @@ returns-in_err-blocks-clause-entries c =
     let pairs_are = c.in_ok-pairs.ensures ∙ ap₂ listed_pairs c.tree-tree.ensures c.in_ok-all_pairs.ensures in
     let context_is = c.new-walk.ensures.context_is
     ∙ program-context tree c.tree-tree.result.now certificate
-    (map said_claims c.in_ok-all_block_claims.field-0.items) c.in_ok-pairs.pairs (map kept_round c.new.result.items)
+    (map said_claims c.in_ok-all_block_claims.field-0.items) c.in_ok-pairs.pairs (map loop_of_round c.new.result.items)
     (map said_loop c.in_ok-claims.claims.items) c.tree-tree.ensures c.in_ok-all_block_claims.ensures pairs_are
-    (ap (map kept_round) c.new.ensures.items) c.in_ok-claims.ensures in
+    (ap (map loop_of_round) c.new.ensures.items) c.in_ok-claims.ensures in
     let loops = program-loops tree c.tree-tree.result.now certificate (context_of walk) c.in_ok-pairs.pairs (map said_loop c.deref.result.now)
     walk.aliases.now context_is c.tree-tree.ensures pairs_are (ap (map said_loop) c.deref.ensures.value ∙ c.in_ok-claims.ensures)
     (ap (map (λ (row : Vec ℕ). row.items)) (c.new-walk.ensures.aliases_are ∙ c.deref-2.ensures.value) ∙ c.in_ok-aliases.ensures) in
