@@ -29,7 +29,7 @@ NAME = re.compile(r'=>\s*"([a-z][a-z ]*)"')
 KIND = re.compile(r'\bSiteKind::\w+ =>\s*"([a-z ]+)"')
 # A whole line, and a line that ends with a path.
 LINE = re.compile(r'\bsentence\([^;"]*"([a-z][a-z ]*[a-z])", ""\)')
-PATH_LINE = re.compile(r'"([a-z][a-z ]*) ", path\b')
+PATH_LINE = re.compile(r'\bput\("([a-z][a-z ]*) "\.as_bytes\(\), errors\) && put\(path\b')
 # So many are there at the least. Where fewer are found they moved to where this test doesn't look.
 LEAST = {"L": 8, "P": 3, "S": 4, "K": 10, "Y": 2, "G": 1, "F": 5, "C": 7, "M": 4, "names": 19, "lines": 6}
 
@@ -47,7 +47,7 @@ NEW_SOURCE = """
         ReadFault::New { line } => (line, 6),
         Rule::New => 8,
         Stop::New => (sentence(empty, "time up", ""), 3),
-    for part in ["cannot write ", path, "\\n"] {
+    if put("cannot write ".as_bytes(), errors) && put(path.as_bytes(), errors) {
     pub fn name(self) -> &'static str
         ensures short { length result.now ≤ 19 }
     {
