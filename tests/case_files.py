@@ -27,8 +27,8 @@ r"""Reads the cases of tests/cases, for `tests/run` and `tests/refuse_memory`. A
 Behind `source`, `certificate`, `input`, `writes` and `tells` stand the lines of the text. `|TEXT` is a line with its
 end, and without its end where the last character is `\`. `N|TEXT` is TEXT N times, without a line end, and `\#` in it
 is the number of the copy: `3|x\#+` is `x1+x2+x3+`. `\xHH` is a byte, `\\` is a backslash, and a blank at the end of a
-line is `\x20`. An empty line or a comment ends a text. Comments begin with `#` and may stand between all lines. In a word
-too `\xHH` is a byte and `\\` is a backslash."""
+line is `\x20`. An empty line or a comment ends a text. Comments begin with `#` and may stand between all lines. In a
+word too `\xHH` is a byte and `\\` is a backslash."""
 
 import os
 import re

@@ -1,4 +1,5 @@
-ghost use Rattle.std.specs.Prelude.{◌≡◌, ◌<◌, ◌≤◌, ◌^◌, [], IfOk, IsOk, MatchResult, length, map, replicate, slice_get, suc};
+ghost use Rattle.std.specs.Prelude.{◌≡◌, ◌<◌, ◌≤◌, ◌^◌, [], IfOk, IsOk, MatchResult, length, map, replicate};
+ghost use Rattle.std.specs.Prelude.{slice_get, suc};
 ghost use Rattle.typed_tree.specs.WellFormed.{IsWellFormed};
 ghost use Rattle.certificate.specs.Contents.{said_fact};
 ghost use Rattle.component_states.specs.Components.{with_touched};

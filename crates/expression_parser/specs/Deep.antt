@@ -33,8 +33,8 @@ abbrev pub opened : List Token → ℕ
 opened [] = 0
 opened (token ∷ others) = opens token.kind + opened others
 
--- the place of the last of some tokens, or of the first of those behind them; the end, which has none, where none stands
--- behind
+-- the place of the last of some tokens, or of the first of those behind them; the end, which has none, where none
+-- stands behind
 pub data StandsBetween (place : Option Place) (before behind : List Token) : Type 0 where
   last : (front : List Token) (token : Token)
       → before ≡ front ++ token ∷ [] → Some token.place ≡ place → StandsBetween place before behind
